@@ -9,8 +9,9 @@ use Rattle.sym_model.specs.PlaceOrders.{orders, places, sign}
 use Rattle.sym_model.specs.Alternant.{rearranged, alternant}
 use Rattle.sym_model.proofs.Polynomials.{same_from_pair, pair_negate, In_map}
 use Rattle.alternant_laws.proofs.Alternating.{alternating, alternating_exchange}
-use Rattle.alternant_laws.proofs.OrderSums.{KeptByExchanges, orders_reach, pair_alternant}
+use Rattle.alternant_laws.proofs.OrderSums.{orders_reach, pair_alternant}
 use Rattle.sym_model.proofs.AfterLists.{length_after}
+use Rattle.beta_list_laws.proofs.NeighbourExchanges.{KeptByExchanges}
 
 pub alternant_exchange : (left middle right : List ℕ) (a b : ℕ)
     → Same (alternant (left ++ (a ∷ (middle ++ (b ∷ right))))) (negate (alternant (left ++ (b ∷ (middle ++ (a ∷ right))))))

@@ -1,7 +1,7 @@
 -- The classical product has the Schur coefficients of the product of its factors, at all partitions with at most k rows.
-use Rattle.std.proofs.Common.{◌≡◌, ℕ, ◌+◌, ◌≤◌, Bool, true, false, cond, ltb, leb, eqb, List, [], ◌∷◌, map, ℤ, pos, negsuc, nat_abs, ◌+ℤ◌, refl, sym, ap, ◌∙◌, subst, arith}
+use Rattle.std.proofs.Common.{◌≡◌, ℕ, ◌+◌, ◌≤◌, Bool, true, false, cond, ltb, leb, eqb, List, [], ◌∷◌, map, ℤ, pos, negsuc, nat_abs, ◌+ℤ◌, refl, sym, ap, ◌∙◌, subst, arith, filter}
 use Rattle.std.proofs.lemmas.Bool.{cond-true, cond-false, ltb-false, leb-true, le-leb, eq-eqb, eqb-true}
-use Rattle.sym_model.specs.Sum.{total, select, Among, Once}
+use Rattle.sym_model.specs.Sum.{total, Among, Once}
 use Rattle.sym_model.specs.Polynomial.{Poly, same, join, coefficient, times}
 use Rattle.sym_model.specs.Partition.{IsPartition, size, rows}
 use Rattle.sym_model.specs.PartitionList.{partitions_of}
@@ -34,7 +34,7 @@ coefficient-nonzero (t ∷ terms) α = by (ltb 0 (nat_abs t.1)) refl (coefficien
 
 -- the partitions of the degree with at most k rows
 abbrev candidates : ℕ → List (List ℕ) → List (List ℕ)
-candidates k factors = select (λ parts. leb (rows parts) k) (partitions_of (size (map size factors)))
+candidates k factors = filter (λ parts. leb (rows parts) k) (partitions_of (size (map size factors)))
 
 candidates-once : (k : ℕ) (factors : List (List ℕ)) → Once (candidates k factors)
 candidates-once k factors =

@@ -1,9 +1,9 @@
 -- The Schur coefficients of products and of skew Schur polynomials are counts of good tableaux, in every number of variables;
 -- so a list with these counts as its coefficients stands for the polynomial in every number of variables.
-use Rattle.std.proofs.Common.{◌≡◌, ℕ, ◌+◌, ◌<◌, ◌≤◌, ◌⊎◌, Bool, true, false, cond, List, [], ◌∷◌, map, length, nat_le, sym, ◌∙◌, ap, subst, inl, inr, arith, pos, ◌*ℤ◌, Option, Some, None}
+use Rattle.std.proofs.Common.{◌≡◌, ℕ, ◌+◌, ◌<◌, ◌≤◌, ◌⊎◌, Bool, true, false, cond, List, [], ◌∷◌, map, length, nat_le, sym, ◌∙◌, ap, subst, inl, inr, arith, pos, ◌*ℤ◌, Option, Some, None, filter, flat_map}
 use Rattle.std.proofs.lemmas.Int.{ints}
 use Rattle.std.proofs.lemmas.Bool.{cases_lt, cases_Bool, both_ways, lt-leb}
-use Rattle.sym_model.specs.Sum.{total, each, select, Among}
+use Rattle.sym_model.specs.Sum.{total, Among}
 use Rattle.sym_model.specs.Partition.{Falls, IsPartition, rows, without_last_zeros}
 use Rattle.sym_model.specs.Polynomial.{Poly, Term, Same, same, coefficient, nothing, join, resize, times, pair, fits_in, restrict}
 use Rattle.sym_model.specs.Schur.{contains, tableaux, content, letters_of, skew_schur, schur}
@@ -68,25 +68,25 @@ coefficient_good_terms : (n : ℕ) (start outer inner ν : List ℕ) → coeffic
 coefficient_good_terms n start outer inner ν = total_map (λ (t : Term). cond (same t.0 ν) t.1 (pos 0)) (λ (T : List (List ℕ)). (start_plus_content n start T, pos 1)) (good_tableaux n start outer inner)
 
 -- in n ≤ m variables the labels of the good tableaux with entries up to m stand for the product
-restrict_each : {A : Type 0} (n : ℕ) (h g : A → Poly) (xs : List A) → ((x : A) → Same (restrict n (h x)) (g x)) → Same (restrict n (each h xs)) (each g xs)
+restrict_each : {A : Type 0} (n : ℕ) (h g : A → Poly) (xs : List A) → ((x : A) → Same (restrict n (h x)) (g x)) → Same (restrict n (flat_map h xs)) (flat_map g xs)
 restrict_each {A} n h g xs e =
-    same_from_pair (restrict n (each h xs)) (each g xs) (λ φ.
-    pair_restrict n (each h xs) φ
+    same_from_pair (restrict n (flat_map h xs)) (flat_map g xs) (λ φ.
+    pair_restrict n (flat_map h xs) φ
     ∙ pair_each h xs (λ α. cond (fits_in n α) (φ (resize n α)) (pos 0))
     ∙ total_ext (λ (x : A). pair (h x) (λ α. cond (fits_in n α) (φ (resize n α)) (pos 0))) (λ (x : A). pair (g x) φ) (λ x. sym (pair_restrict n (h x) φ) ∙ pair_determined (restrict n (h x)) (g x) φ (e x)) xs
     ∙ sym (pair_each g xs φ))
 
 pub product_of_labels : (n m : ℕ) (start outer inner : List ℕ) → n ≤ m → IsPartition start → IsPartition outer → IsPartition inner
-    → Same (each (λ (T : List (List ℕ)). schur (start_plus_content m start T) n) (good_tableaux m start outer inner)) (times (schur start n) (skew_schur outer inner n))
+    → Same (flat_map (λ (T : List (List ℕ)). schur (start_plus_content m start T) n) (good_tableaux m start outer inner)) (times (schur start n) (skew_schur outer inner n))
 product_of_labels n m start outer inner h p o i =
-    Same_sym (times (schur start n) (skew_schur outer inner n)) (each (λ (T : List (List ℕ)). schur (start_plus_content m start T) n) (good_tableaux m start outer inner))
-    (Same_trans (times (schur start n) (skew_schur outer inner n)) (times (restrict n (schur start m)) (restrict n (skew_schur outer inner m))) (each (λ (T : List (List ℕ)). schur (start_plus_content m start T) n) (good_tableaux m start outer inner))
+    Same_sym (times (schur start n) (skew_schur outer inner n)) (flat_map (λ (T : List (List ℕ)). schur (start_plus_content m start T) n) (good_tableaux m start outer inner))
+    (Same_trans (times (schur start n) (skew_schur outer inner n)) (times (restrict n (schur start m)) (restrict n (skew_schur outer inner m))) (flat_map (λ (T : List (List ℕ)). schur (start_plus_content m start T) n) (good_tableaux m start outer inner))
     (times_respects (schur start n) (restrict n (schur start m)) (skew_schur outer inner n) (restrict n (skew_schur outer inner m))
     (Same_sym (restrict n (schur start m)) (schur start n) (restrict-skew_schur start [] n m h IsPartition-none))
     (Same_sym (restrict n (skew_schur outer inner m)) (skew_schur outer inner n) (restrict-skew_schur outer inner n m h i)))
-    (Same_trans (times (restrict n (schur start m)) (restrict n (skew_schur outer inner m))) (restrict n (times (schur start m) (skew_schur outer inner m))) (each (λ (T : List (List ℕ)). schur (start_plus_content m start T) n) (good_tableaux m start outer inner))
+    (Same_trans (times (restrict n (schur start m)) (restrict n (skew_schur outer inner m))) (restrict n (times (schur start m) (skew_schur outer inner m))) (flat_map (λ (T : List (List ℕ)). schur (start_plus_content m start T) n) (good_tableaux m start outer inner))
     (Same_sym (restrict n (times (schur start m) (skew_schur outer inner m))) (times (restrict n (schur start m)) (restrict n (skew_schur outer inner m))) (restrict-times n (schur start m) (skew_schur outer inner m)))
-    (Same_trans (restrict n (times (schur start m) (skew_schur outer inner m))) (restrict n (good_schurs m start outer inner)) (each (λ (T : List (List ℕ)). schur (start_plus_content m start T) n) (good_tableaux m start outer inner))
+    (Same_trans (restrict n (times (schur start m) (skew_schur outer inner m))) (restrict n (good_schurs m start outer inner)) (flat_map (λ (T : List (List ℕ)). schur (start_plus_content m start T) n) (good_tableaux m start outer inner))
     (restrict_respects n (times (schur start m) (skew_schur outer inner m)) (good_schurs m start outer inner) (product-good_schurs m start outer inner p o i))
     (restrict_each n (λ (T : List (List ℕ)). schur (start_plus_content m start T) m) (λ (T : List (List ℕ)). schur (start_plus_content m start T) n) (good_tableaux m start outer inner)
     (λ T. restrict-skew_schur (start_plus_content m start T) [] n m h IsPartition-none)))))
@@ -94,8 +94,8 @@ product_of_labels n m start outer inner h p o i =
 pub combined_good_terms : (n m : ℕ) (start outer inner : List ℕ) → n ≤ m → IsPartition start → IsPartition outer → IsPartition inner
     → Same (combined (λ label. schur label n) (good_terms m start outer inner)) (times (schur start n) (skew_schur outer inner n))
 combined_good_terms n m start outer inner h p o i =
-    Same_trans (combined (λ label. schur label n) (good_terms m start outer inner)) (each (λ (T : List (List ℕ)). schur (start_plus_content m start T) n) (good_tableaux m start outer inner)) (times (schur start n) (skew_schur outer inner n))
-    (same_from_pair (combined (λ label. schur label n) (good_terms m start outer inner)) (each (λ (T : List (List ℕ)). schur (start_plus_content m start T) n) (good_tableaux m start outer inner)) (λ φ.
+    Same_trans (combined (λ label. schur label n) (good_terms m start outer inner)) (flat_map (λ (T : List (List ℕ)). schur (start_plus_content m start T) n) (good_tableaux m start outer inner)) (times (schur start n) (skew_schur outer inner n))
+    (same_from_pair (combined (λ label. schur label n) (good_terms m start outer inner)) (flat_map (λ (T : List (List ℕ)). schur (start_plus_content m start T) n) (good_tableaux m start outer inner)) (λ φ.
     pair_of_combined (λ label. schur label n) (good_terms m start outer inner) φ
     ∙ total_map (λ (t : Term). t.1 *ℤ pair (schur t.0 n) φ) (λ (T : List (List ℕ)). (start_plus_content m start T, pos 1)) (good_tableaux m start outer inner)
     ∙ total_ext (λ (T : List (List ℕ)). pos 1 *ℤ pair (schur (start_plus_content m start T) n) φ) (λ (T : List (List ℕ)). pair (schur (start_plus_content m start T) n) φ) (λ T. one-product (pair (schur (start_plus_content m start T) n) φ)) (good_tableaux m start outer inner)
@@ -106,9 +106,9 @@ combined_good_terms n m start outer inner h p o i =
 pub coefficient_counts : (n m : ℕ) (start outer inner ν : List ℕ) → n ≤ m → IsPartition start → IsPartition outer → IsPartition inner → IsPartition ν → rows ν ≤ n
     → schur_coefficient n ν (times (schur start n) (skew_schur outer inner n)) ≡ coefficient (good_terms m start outer inner) ν
 coefficient_counts n m start outer inner ν h p o i q l =
-    times_respects (alternant (staircase n)) (alternant (staircase n)) (times (schur start n) (skew_schur outer inner n)) (each (λ (T : List (List ℕ)). schur (start_plus_content m start T) n) (good_tableaux m start outer inner))
-    (Same_refl (alternant (staircase n))) (Same_sym (each (λ (T : List (List ℕ)). schur (start_plus_content m start T) n) (good_tableaux m start outer inner)) (times (schur start n) (skew_schur outer inner n)) (product_of_labels n m start outer inner h p o i)) (join ν (staircase n))
-    ∙ coefficient_pair (times (alternant (staircase n)) (each (λ (T : List (List ℕ)). schur (start_plus_content m start T) n) (good_tableaux m start outer inner))) (join ν (staircase n))
+    times_respects (alternant (staircase n)) (alternant (staircase n)) (times (schur start n) (skew_schur outer inner n)) (flat_map (λ (T : List (List ℕ)). schur (start_plus_content m start T) n) (good_tableaux m start outer inner))
+    (Same_refl (alternant (staircase n))) (Same_sym (flat_map (λ (T : List (List ℕ)). schur (start_plus_content m start T) n) (good_tableaux m start outer inner)) (times (schur start n) (skew_schur outer inner n)) (product_of_labels n m start outer inner h p o i)) (join ν (staircase n))
+    ∙ coefficient_pair (times (alternant (staircase n)) (flat_map (λ (T : List (List ℕ)). schur (start_plus_content m start T) n) (good_tableaux m start outer inner))) (join ν (staircase n))
     ∙ pair_times_each (alternant (staircase n)) (λ (T : List (List ℕ)). schur (start_plus_content m start T) n) (good_tableaux m start outer inner) (at_only (join ν (staircase n)))
     ∙ total_among (λ (T : List (List ℕ)). pair (times (alternant (staircase n)) (schur (start_plus_content m start T) n)) (at_only (join ν (staircase n)))) (λ (T : List (List ℕ)). cond (same (start_plus_content m start T) ν) (pos 1) (pos 0)) (good_tableaux m start outer inner)
     (λ T k. sym (coefficient_pair (times (alternant (staircase n)) (schur (start_plus_content m start T) n)) (join ν (staircase n)))
@@ -227,7 +227,7 @@ combined_always n count terms start outer inner p o i holds c e =
 few_rows : (n : ℕ) (start outer inner : List ℕ) (T : List (List ℕ)) → Among T (good_tableaux n start outer inner) → rows (start_plus_content n start T) ≤ n
 few_rows n start outer inner T m = by (cases_lt n (rows start))
   where
-    none : (b : Bool) → b ≡ false → Among T (cond b (select (is_good n start outer inner) (tableaux n outer inner)) []) → ⊥
+    none : (b : Bool) → b ≡ false → Among T (cond b (filter (is_good n start outer inner) (tableaux n outer inner)) []) → ⊥
     none true e k = absurd (cc)
     none false e k = k
 

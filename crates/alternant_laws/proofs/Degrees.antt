@@ -1,17 +1,19 @@
 -- Homogeneous polynomials: their products, alternants and Schur polynomials.
-use Rattle.std.proofs.Common.{◌≡◌, ℕ, zero, suc, ◌+◌, ◌<◌, ◌≤◌, Bool, true, false, cond, eqb, List, [], ◌∷◌, ◌++◌, map, length, replicate, length-append, pos, ◌*ℤ◌, refl, sym, ap, ◌∙◌, subst, inl, inr, arith}
-use Rattle.std.proofs.lemmas.Bool.{cond-true, cond-false, eq-eqb, eqb-true, ne_eqb}
+use Rattle.std.proofs.Common.{◌≡◌, ℕ, zero, suc, ◌+◌, cond, List, [], ◌∷◌, ◌++◌, map, length, replicate, length-append, pos, ◌*ℤ◌, refl, sym, ap, ◌∙◌, subst, inl, inr, arith}
+use Rattle.std.proofs.lemmas.Bool.{cond-false}
 use Rattle.sym_model.specs.Sum.{Among}
 use Rattle.sym_model.specs.Polynomial.{Term, Poly, same, join, coefficient, one, times}
-use Rattle.sym_model.specs.Partition.{size, part, after}
+use Rattle.sym_model.specs.Partition.{size, part}
 use Rattle.sym_model.specs.PlaceOrders.{insertions, orders, places, sign}
-use Rattle.sym_model.specs.Schur.{words, row_lengths, fillings_of, semistandard, letters_of, times_in, content, schur}
+use Rattle.sym_model.specs.Schur.{words, row_lengths, fillings_of, semistandard, letters_of, content, schur}
 use Rattle.sym_model.specs.Alternant.{rearranged, alternant}
 use Rattle.sym_model.specs.Target.{schur_product}
 use Rattle.sym_model.proofs.Sums.{total_none, Among_from_map, Among_from_each, Among_from_select}
 use Rattle.sym_model.proofs.Exponents.{same_apart, size-join}
-use Rattle.sym_model.proofs.Parts.{size-map_add}
 use Rattle.alternant_laws.proofs.OrderSums.{rearranged_places}
+use Rattle.sym_model.specs.Bounded.{AreLetters}
+use Rattle.sym_model.proofs.Contents.{size-content}
+use Rattle.sym_model.proofs.Tableaux.{word_tells}
 
 -- each term has the degree d
 abbrev pub OfDegree : ℕ → Poly → Type 0
@@ -71,72 +73,9 @@ alternant-of_degree β t m =
 
 -- ---- Schur polynomials
 
--- each letter is from 1 to n
-abbrev AreLetters : ℕ → List ℕ → Type 0
-AreLetters n [] = Unit {0}
-AreLetters n (a ∷ w) = ((1 ≤ a) × (a ≤ n)) × AreLetters n w
-
 are_letters-append : (n : ℕ) (v w : List ℕ) → AreLetters n v → AreLetters n w → AreLetters n (v ++ w)
 are_letters-append n [] w h k = k
 are_letters-append n (a ∷ v) w h k = (h.0, are_letters-append n v w h.1 k)
-
--- one where the letter is the number
-one_at : ℕ → ℕ → ℕ
-one_at a j = cond (eqb a j) 1 0
-
-none-after : (a m k : ℕ) → a ≤ m → size (map (one_at a) (after m k)) ≡ 0
-unfolding one_at
-none-after a m zero h = refl
-none-after a m (suc k) h =
-    let rest = none-after a (m + 1) k (omega arith) in
-    let first : cond {A = ℕ} (eqb a (m + 1)) 1 0 ≡ 0 = cond-false (eqb a (m + 1)) 1 0 (ne_eqb a (m + 1) (λ e. omega arith)) in
-    omega arith
-
-one-after : (a m k : ℕ) → m < a → a ≤ m + k → size (map (one_at a) (after m k)) ≡ 1
-unfolding one_at
-one-after a m zero h l = absurd (omega arith)
-one-after a m (suc k) h l = by (eqb a (m + 1)) refl (λ high. one-after a (m + 1) k high (omega arith))
-  where
-    by : (b : Bool) → eqb a (m + 1) ≡ b → (m + 1 < a → size (map (one_at a) (after (m + 1) k)) ≡ 1)
-        → cond {A = ℕ} (eqb a (m + 1)) 1 0 + size (map (one_at a) (after (m + 1) k)) ≡ 1
-    by true e later =
-        let is : a ≡ m + 1 = eqb-true a (m + 1) e in
-        let first : cond {A = ℕ} (eqb a (m + 1)) 1 0 ≡ 1 = cond-true (eqb a (m + 1)) 1 0 e in
-        let rest = none-after a (m + 1) k (omega arith) in
-        omega arith
-    by false e later =
-        let differ : a ≡ m + 1 → ⊥ = λ is. let same = eq-eqb a (m + 1) is in cc in
-        let first : cond {A = ℕ} (eqb a (m + 1)) 1 0 ≡ 0 = cond-false (eqb a (m + 1)) 1 0 e in
-        let rest = later (omega (arith, differ)) in
-        omega arith
-
-content-size : (n : ℕ) (w : List ℕ) → AreLetters n w → size (content n w) ≡ length w
-unfolding one_at
-content-size n [] h = zeros (after 0 n)
-  where
-    zeros : (ks : List ℕ) → size (map (λ j. times_in j []) ks) ≡ 0
-    zeros [] = refl
-    zeros (k ∷ ks) = let h = zeros ks in omega arith
-content-size n (a ∷ w) h =
-    let rest = content-size n w h.1 in
-    let first = one-after a 0 n (omega (arith, h.0.0)) (omega (arith, h.0.1)) in
-    size-map_add (one_at a) (λ j. times_in j w) (after 0 n) ∙ (omega arith)
-
-among-after : (a m k : ℕ) → Among a (after m k) → (m + 1 ≤ a) × (a ≤ m + k)
-among-after a m zero h = absurd h
-among-after a m (suc k) (inl e) = (omega arith, omega arith)
-among-after a m (suc k) (inr h) = let p = among-after a (m + 1) k h in (omega (arith, p.0), omega (arith, p.1))
-
-words-letters : (n k : ℕ) (w : List ℕ) → Among w (words n k) → (length w ≡ k) × AreLetters n w
-words-letters n zero w (inl e) = subst (λ v. (length v ≡ 0) × AreLetters n v) (sym e) (refl, tt)
-words-letters n zero w (inr m) = absurd m
-words-letters n (suc k) w m =
-    let a = Among_from_each (λ (a : ℕ). map (λ (v : List ℕ). a ∷ v) (words n k)) w (after 0 n) m in
-    let v = Among_from_map (λ (v : List ℕ). a.0 ∷ v) w (words n k) a.2 in
-    let rest = words-letters n k v.0 v.1 in
-    let bounds = among-after a.0 0 n a.1 in
-    let long : suc (length v.0) ≡ suc k = ap suc rest.0 in
-    subst (λ u. (length u ≡ suc k) × AreLetters n u) (sym v.2) (long, ((omega (arith, bounds.0), omega (arith, bounds.1)), rest.1))
 
 fillings-letters : (n : ℕ) (lengths : List ℕ) (filling : List (List ℕ)) → Among filling (fillings_of n lengths) → (length (letters_of filling) ≡ size lengths) × AreLetters n (letters_of filling)
 fillings-letters n [] filling (inl e) = subst (λ v. (length (letters_of v) ≡ 0) × AreLetters n (letters_of v)) (sym e) (refl, tt)
@@ -144,7 +83,7 @@ fillings-letters n [] filling (inr m) = absurd m
 fillings-letters n (k ∷ lengths) filling m =
     let row = Among_from_each (λ (row : List ℕ). map (λ (rest : List (List ℕ)). row ∷ rest) (fillings_of n lengths)) filling (words n k) m in
     let rest = Among_from_map (λ (rest : List (List ℕ)). row.0 ∷ rest) filling (fillings_of n lengths) row.2 in
-    let first = words-letters n k row.0 row.1 in
+    let first = word_tells n k row.0 row.1 in
     let others = fillings-letters n lengths rest.0 rest.1 in
     let long : length (row.0 ++ letters_of rest.0) ≡ k + size lengths = length-append row.0 (letters_of rest.0) ∙ (let a = first.0 in let b = others.0 in omega arith) in
     subst (λ v. (length (letters_of v) ≡ k + size lengths) × AreLetters n (letters_of v)) (sym rest.2) (long, are_letters-append n row.0 (letters_of rest.0) first.1 others.1)
@@ -158,7 +97,7 @@ schur-of_degree parts n t m =
     let filling = Among_from_map (λ (filling : List (List ℕ)). (content n (letters_of filling), pos 1)) t _ m in
     let letters = fillings-letters n (row_lengths parts []) filling.0 (Among_from_select (semistandard []) filling.0 (fillings_of n (row_lengths parts [])) filling.1).0 in
     ap (λ (v : Term). size v.0) filling.2
-    ∙ (content-size n (letters_of filling.0) letters.1 ∙ (letters.0 ∙ row_lengths-size parts))
+    ∙ (size-content n (letters_of filling.0) letters.1 ∙ (letters.0 ∙ row_lengths-size parts))
 
 pub schur_product-of_degree : (factors : List (List ℕ)) (n : ℕ) → OfDegree (size (map size factors)) (schur_product factors n)
 schur_product-of_degree [] n t m = one-of_degree n t m

@@ -15,12 +15,12 @@ use Rattle.tableau_laws.specs.PaddedRows.{transposed}
 use Rattle.tableau_laws.specs.Grid.{may_precede, is_chain, may_stand_above}
 use Rattle.tableau_laws.proofs.ColumnCounts.{sum_at_start}
 use Rattle.alternant_laws.proofs.Exchanges.{exchanged, exchanged-join, length_content}
-use Rattle.alternant_laws.proofs.Stacks.{Misses}
 use Rattle.alternant_laws.proofs.SymmetricSums.{left_tableaux, total_exchanged}
 use Rattle.alternant_laws.proofs.Alternants.{opposite_is_zero}
 use Rattle.alternant_laws.proofs.Alternating.{inserting, alternating, alternating_swap}
 use Rattle.alternant_laws.proofs.OrderSums.{pair_alternant}
 use Rattle.alternant_laws.proofs.LeftColumns.{over_all, AreLong, over_all-rows, falls-transposed}
+use Rattle.sym_model.specs.Bounded.{Lacks}
 
 -- ---- a column holds each letter at most once
 
@@ -48,7 +48,7 @@ at_most_once k (a ∷ w) p e =
         let d : cond {A = ℕ} (a == k) 1 0 ≡ 0 = ap (λ (c : Bool). cond {A = ℕ} c 1 0) (ne_eqb a k n) in
         omega arith
 
-misses : (k : ℕ) (w : List ℕ) → times_in k w ≡ 0 → Misses k w
+misses : (k : ℕ) (w : List ℕ) → times_in k w ≡ 0 → Lacks k w
 misses k [] e = tt
 misses k (a ∷ w) e = (λ i. absurd (taken i), misses k w (omega arith))
   where
@@ -105,7 +105,7 @@ pub column_fails : (n : ℕ) (ν c : List ℕ) → length ν ≡ n → is_chain 
 column_fails n ν c l e f g =
     fails ν (content n c) (l ∙ sym (length_content n c)) (λ i. at_most_ones (λ k. times_in k c) 0 n i (λ j. at_most_once (0 + suc j) c (omega arith) e)) f g
 
-pub column_misses : (n i : ℕ) (c : List ℕ) → i < n → get_or (content n c) i 0 ≡ 0 → Misses (suc i) c
+pub column_misses : (n i : ℕ) (c : List ℕ) → i < n → get_or (content n c) i 0 ≡ 0 → Lacks (suc i) c
 column_misses n i c h e =
     let k : 0 + suc i ≡ suc i = omega arith in
     misses (suc i) c (ap (λ j. times_in j c) (sym k) ∙ sym (at_letter (λ j. times_in j c) 0 n i h) ∙ e)
@@ -166,7 +166,7 @@ turned n i ν κ φ l m h r =
 
 -- the sum over all tableaux left of the column vanishes
 pub vanishes : (n i : ℕ) (lines : List (List Bool)) (right ν : List ℕ) (φ : List ℕ → ℤ) → Falls (map length lines) → AreLong (length right) lines
-    → length ν ≡ n → suc i < n → get_or ν (suc i) 0 ≡ suc (get_or ν i 0) → Misses (suc i) right
+    → length ν ≡ n → suc i < n → get_or ν (suc i) 0 ≡ suc (get_or ν i 0) → Lacks (suc i) right
     → over_all n lines (λ s c. at_sum n φ s) ν right ≡ pos 0
 vanishes n i lines right ν φ f long l h r m =
     ap (λ s. over_all n lines (λ s' c. at_sum n φ s') s right) (sym (sum_at_start n ν (omega arith) ∙ resize_same n ν l))

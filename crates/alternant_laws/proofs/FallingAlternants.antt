@@ -1,4 +1,4 @@
--- An alternant of exponents that fall strictly has at lists that fall strictly one coefficient that is not 0, at its own
+-- An alternant of exponents that are strictly decreasing has at lists that are strictly decreasing one coefficient that is not 0, at its own
 -- exponents; and lists of falling numbers against partitions, zeros at the end being left out.
 use Rattle.std.proofs.Common.{◌≡◌, ℕ, zero, suc, ◌+◌, ◌<◌, ◌≤◌, true, cond, List, [], ◌∷◌, length, nat_le, sym, ◌∙◌, ap, ap₂, subst, refl, inl, inr, arith, ℤ, pos, ◌-ℤ◌}
 use Rattle.std.proofs.lemmas.Int.{ints}
@@ -13,7 +13,8 @@ use Rattle.sym_model.proofs.Polynomials.{at_only, coefficient_pair}
 use Rattle.sym_model.proofs.Parts.{length-staircase}
 use Rattle.alternant_laws.proofs.Alternating.{inserting, alternating}
 use Rattle.alternant_laws.proofs.OrderSums.{pair_alternant}
-use Rattle.alternant_laws.proofs.Staircase.{AreBelow, alternating_below, below_weaken}
+use Rattle.alternant_laws.proofs.Staircase.{alternating_below, below_weaken}
+use Rattle.sym_model.specs.Bounded.{AreAtMost, AreBelow}
 
 -- ---- strictly falling exponents
 
@@ -30,7 +31,7 @@ is_below a x [] b m = absurd m
 is_below a x (y ∷ l) b (inl e) = let h = b.0 in omega arith
 is_below a x (y ∷ l) b (inr m) = is_below a x l b.1 m
 
--- the test function is 0 at lists that do not fall strictly
+-- the test function is 0 at lists that are not strictly decreasing
 abbrev OnlyDescending : (List ℕ → ℤ) → Type 0
 OnlyDescending φ = (l : List ℕ) → (Descends l → ⊥) → φ l ≡ pos 0
 
@@ -54,19 +55,14 @@ coefficient_descending α β d e =
 
 -- ---- falling numbers plus the staircase
 
--- no number is greater than c
-abbrev AreUpTo : ℕ → List ℕ → Type 0
-AreUpTo c [] = Unit {0}
-AreUpTo c (a ∷ α) = (a ≤ c) × AreUpTo c α
-
-up_to_first : (a : ℕ) (α : List ℕ) → is_falling (a ∷ α) ≡ true → AreUpTo a α
+up_to_first : (a : ℕ) (α : List ℕ) → is_falling (a ∷ α) ≡ true → AreAtMost a α
 up_to_first a [] e = tt
 up_to_first a (b ∷ α) e =
     let p = and_parts (nat_le b a) (is_falling (b ∷ α)) e in
     let h = leb-true b a p.0 in
     (h, weaken b α h (up_to_first b α p.1))
   where
-    weaken : (c : ℕ) (β : List ℕ) → c ≤ a → AreUpTo c β → AreUpTo a β
+    weaken : (c : ℕ) (β : List ℕ) → c ≤ a → AreAtMost c β → AreAtMost a β
     weaken c [] h u = tt
     weaken c (d ∷ β) h u = let g = u.0 in (omega arith, weaken c β h u.1)
 
@@ -74,7 +70,7 @@ pub falling_rest : (a : ℕ) (α : List ℕ) → is_falling (a ∷ α) ≡ true 
 falling_rest a [] e = refl
 falling_rest a (b ∷ α) e = let p = and_parts (nat_le b a) (is_falling (b ∷ α)) e in p.1
 
-below_sum : (c n : ℕ) (α : List ℕ) → length α ≡ n → AreUpTo c α → AreBelow (c + n) (join α (staircase n))
+below_sum : (c n : ℕ) (α : List ℕ) → length α ≡ n → AreAtMost c α → AreBelow (c + n) (join α (staircase n))
 below_sum c zero [] l u = tt
 below_sum c zero (a ∷ α) l u = absurd (omega arith)
 below_sum c (suc n) [] l u = absurd (omega arith)

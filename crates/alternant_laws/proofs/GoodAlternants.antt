@@ -1,8 +1,8 @@
 -- Stembridge's identity: an alternant times a skew Schur polynomial is the sum over the good tableaux of alternants.
-use Rattle.std.proofs.Common.{◌≡◌, ℕ, suc, ◌<◌, ◌≤◌, ◌⊎◌, Bool, true, false, cond, ◌&&◌, List, [], ◌∷◌, ◌++◌, map, length, reverse, nat_le, sym, ◌∙◌, ap, subst, refl, inl, inr, arith, ℤ, pos}
+use Rattle.std.proofs.Common.{◌≡◌, ℕ, suc, ◌<◌, ◌≤◌, ◌⊎◌, Bool, true, false, cond, ◌&&◌, List, [], ◌∷◌, ◌++◌, map, length, reverse, nat_le, sym, ◌∙◌, ap, subst, refl, inl, inr, arith, ℤ, pos, filter}
 use Rattle.std.proofs.lemmas.Bool.{le-leb, cases_Bool}
 use Rattle.std.proofs.lemmas.List.{reverse-append, reverse-reverse}
-use Rattle.sym_model.specs.Sum.{total, select}
+use Rattle.sym_model.specs.Sum.{total}
 use Rattle.sym_model.specs.Partition.{Falls, IsPartition, rows}
 use Rattle.sym_model.specs.Polynomial.{Same, In, join, resize, times, pair}
 use Rattle.sym_model.specs.Schur.{row_lengths, fillings_of, semistandard, contains, tableaux, content, letters_of, skew_schur}
@@ -105,8 +105,8 @@ good_sums n g start outer inner s h falls inner_falls holds =
 
 no_tableaux : (n : ℕ) (start outer inner : List ℕ) (f : List (List ℕ) → ℤ) → contains outer inner ≡ false → total f (tableaux n outer inner) ≡ total f (good_tableaux n start outer inner)
 no_tableaux n start outer inner f e =
-    ap (λ (b : Bool). total f (cond b (select (semistandard inner) (fillings_of n (row_lengths outer inner))) [])) e
-    ∙ sym (ap (λ (b : Bool). total f (cond (nat_le (rows start) n) (select (is_good n start outer inner) (cond b (select (semistandard inner) (fillings_of n (row_lengths outer inner))) [])) [])) e ∙ none (nat_le (rows start) n))
+    ap (λ (b : Bool). total f (cond b (filter (semistandard inner) (fillings_of n (row_lengths outer inner))) [])) e
+    ∙ sym (ap (λ (b : Bool). total f (cond (nat_le (rows start) n) (filter (is_good n start outer inner) (cond b (filter (semistandard inner) (fillings_of n (row_lengths outer inner))) [])) [])) e ∙ none (nat_le (rows start) n))
   where
     none : (b : Bool) → total f (cond b [] []) ≡ pos 0
     none true = refl

@@ -15,12 +15,9 @@ use Rattle.sym_model.proofs.Ring.{product_assoc, negation-product, distributes_l
 use Rattle.sym_model.proofs.Sums.{total_among, total_map, total_each, total_scale, total_neg, Among_from_map, Among_from_each}
 use Rattle.sym_model.proofs.Exponents.{get_or-join}
 use Rattle.alternant_laws.proofs.Alternating.{inserting, alternating, alternating_map}
+use Rattle.beta_list_laws.proofs.NeighbourExchanges.{KeptByExchanges}
 
 -- ---- neighbouring exchanges
-
--- the property holds on after an exchange of two neighbours
-abbrev pub KeptByExchanges : (List ℕ → Type 0) → Type 0
-KeptByExchanges P = (l : List ℕ) (a b : ℕ) (r : List ℕ) → P (l ++ (a ∷ b ∷ r)) → P (l ++ (b ∷ a ∷ r))
 
 insertions_reach : (P : List ℕ → Type 0) → KeptByExchanges P → (l : List ℕ) (x : ℕ) (v w : List ℕ) → P (l ++ (x ∷ v)) → Among w (insertions x v) → P (l ++ w)
 insertions_reach P k l x [] w p (inl e) = subst (λ z. P (l ++ z)) (sym e) p
@@ -51,7 +48,7 @@ abbrev pub AreAbove : ℕ → List ℕ → Type 0
 AreAbove x [] = Unit {0}
 AreAbove x (y ∷ v) = (x < y) × AreAbove x v
 
--- the list rises strictly
+-- the list is strictly increasing
 abbrev pub Rises : List ℕ → Type 0
 Rises [] = Unit {0}
 Rises (x ∷ xs) = AreAbove x xs × Rises xs

@@ -5,13 +5,10 @@ use Rattle.sym_model.specs.PlaceOrders.{smaller}
 use Rattle.sym_model.specs.Schur.{times_in}
 use Rattle.tableau_laws.specs.Grid.{is_chain}
 use Rattle.tableau_laws.proofs.PatternFillings.{MayStand, Fits}
+use Rattle.sym_model.specs.Bounded.{AreAtMost}
+use Rattle.tableau_laws.specs.Rows.{RisesFrom}
 
 -- ---- rows that rise
-
--- no letter is smaller than the one before it, and the first not smaller than this
-abbrev pub RisesFrom : ℕ → List ℕ → Type 0
-RisesFrom lo [] = Unit {0}
-RisesFrom lo (a ∷ w) = (lo ≤ a) × RisesFrom a w
 
 chain_from : (a : ℕ) (w : List ℕ) → is_chain nat_le (a ∷ w) ≡ true → RisesFrom a w
 chain_from a [] e = tt
@@ -48,14 +45,6 @@ none_smaller j lo (a ∷ w) r h =
     let e = none_smaller j a w r.1 (omega arith) in
     let p = passes j a (omega arith) in
     omega arith
-
-pub smaller_within : (j : ℕ) (w : List ℕ) → smaller j w ≤ length w
-smaller_within j [] = omega arith
-smaller_within j (a ∷ w) = let e = smaller_within j w in let o = at_most (cases_lt a j) in omega arith
-  where
-    at_most : (a < j) ⊎ (j ≤ a) → is_smaller j a ≤ 1
-    at_most (inl h) = omega (arith, counts j a h)
-    at_most (inr h) = omega (arith, passes j a h)
 
 pub smaller_next : (j : ℕ) (w : List ℕ) → smaller (suc j) w ≡ smaller j w + times_in j w
 smaller_next j [] = omega arith
@@ -204,7 +193,7 @@ smaller-recut_middle k s lo (a ∷ w) r h g = by (cut k s a) (cases_cut k s a) (
         let t = passes (suc k) c (omega arith) in
         omega arith
 
--- cut again at the first place, the row is had back
+-- cut again at the first place, the row is the same again
 pub recut_twice : (k s lo : ℕ) (w : List ℕ) → RisesFrom lo w → recut k (smaller (suc k) w) (recut k s w) ≡ w
 recut_twice k s lo [] r = refl
 recut_twice k s lo (a ∷ w) r =
@@ -261,11 +250,6 @@ recut_fits n k s [] [] h g f = tt
 recut_fits n k s [] (a ∷ w) h g f = absurd f
 recut_fits n k s (p ∷ line) [] h g f = absurd f
 recut_fits n k s (p ∷ line) (a ∷ w) h g f = (letter_fits n k s p a h g f.0, recut_fits n k (s - 1) line w h g f.1)
-
--- no letter is greater than c
-abbrev pub AreAtMost : ℕ → List ℕ → Type 0
-AreAtMost c [] = Unit {0}
-AreAtMost c (a ∷ w) = (a ≤ c) × AreAtMost c w
 
 pub recut_at_most : (k s c : ℕ) (w : List ℕ) → (c ≡ k → ⊥) → AreAtMost c w → AreAtMost c (recut k s w)
 recut_at_most k s c [] d b = tt

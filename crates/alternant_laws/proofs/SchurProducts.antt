@@ -1,8 +1,8 @@
 -- The Littlewood–Richardson rule: products of Schur polynomials and skew Schur polynomials as sums of Schur polynomials over
 -- good tableaux, and their Schur coefficients as counts.
-use Rattle.std.proofs.Common.{◌≡◌, ℕ, ◌<◌, ◌≤◌, ◌⊎◌, Bool, true, false, cond, ◌&&◌, List, [], ◌∷◌, length, nat_le, sym, ◌∙◌, ap, inl, inr, arith, pos}
+use Rattle.std.proofs.Common.{◌≡◌, ℕ, ◌<◌, ◌≤◌, ◌⊎◌, Bool, true, false, cond, ◌&&◌, List, [], ◌∷◌, length, nat_le, sym, ◌∙◌, ap, inl, inr, arith, pos, filter, flat_map}
 use Rattle.std.proofs.lemmas.Bool.{cases_lt, and_left, lt-leb}
-use Rattle.sym_model.specs.Sum.{each, select, Among}
+use Rattle.sym_model.specs.Sum.{Among}
 use Rattle.sym_model.specs.Partition.{Falls, IsPartition, rows}
 use Rattle.sym_model.specs.Polynomial.{Same, In, coefficient, nothing, join, times, pair}
 use Rattle.sym_model.specs.Schur.{tableaux, content, letters_of, skew_schur, schur}
@@ -117,8 +117,8 @@ pub product-good_schurs : (n : ℕ) (start outer inner : List ℕ) → IsPartiti
     → Same (times (schur start n) (skew_schur outer inner n)) (good_schurs n start outer inner)
 product-good_schurs n start outer inner p o i = by (cases_lt n (rows start))
   where
-    none : (b : Bool) → b ≡ false → each (λ (T : List (List ℕ)). schur (start_plus_content n start T) n) (cond b (select (is_good n start outer inner) (tableaux n outer inner)) []) ≡ []
-    none b e = ap (λ (c : Bool). each (λ (T : List (List ℕ)). schur (start_plus_content n start T) n) (cond c (select (is_good n start outer inner) (tableaux n outer inner)) [])) e
+    none : (b : Bool) → b ≡ false → flat_map (λ (T : List (List ℕ)). schur (start_plus_content n start T) n) (cond b (filter (is_good n start outer inner) (tableaux n outer inner)) []) ≡ []
+    none b e = ap (λ (c : Bool). flat_map (λ (T : List (List ℕ)). schur (start_plus_content n start T) n) (cond c (filter (is_good n start outer inner) (tableaux n outer inner)) [])) e
 
     by : (n < rows start) ⊎ (rows start ≤ n) → Same (times (schur start n) (skew_schur outer inner n)) (good_schurs n start outer inner)
     by (inl h) = λ α.

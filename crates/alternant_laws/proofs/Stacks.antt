@@ -9,7 +9,10 @@ use Rattle.sym_model.proofs.Contents.{times_in-append}
 use Rattle.tableau_laws.specs.Grid.{is_chain, pass_by_place, first_line, may_stand_above, is_padded_tableau}
 use Rattle.tableau_laws.proofs.Grids.{falls_below}
 use Rattle.tableau_laws.proofs.PatternFillings.{AllFit}
-use Rattle.alternant_laws.proofs.Rows.{RisesFrom, chain_tells, rises_chain, counts, passes, none_smaller, smaller_within, smaller_next, recut, length-recut, recut_rises, smaller-recut, smaller-recut_middle, recut_twice, recut_fits, AreAtMost, recut_at_most}
+use Rattle.alternant_laws.proofs.Rows.{chain_tells, rises_chain, counts, passes, none_smaller, smaller_next, recut, length-recut, recut_rises, smaller-recut, smaller-recut_middle, recut_twice, recut_fits, recut_at_most}
+use Rattle.sym_model.specs.Bounded.{AreAtMost, Lacks}
+use Rattle.tableau_laws.specs.Rows.{RisesFrom}
+use Rattle.sym_model.proofs.Lists.{smaller-within}
 
 -- ---- two rows
 
@@ -255,18 +258,18 @@ abbrev pub toggle : ℕ → List (List ℕ) → List (List ℕ)
 toggle k rows = toggled k (length (first_line rows)) rows
 
 pub toggle_stack : (k : ℕ) (rows : List (List ℕ)) → 0 < k → IsStack rows → IsStack (toggle k rows)
-toggle_stack k rows p s = toggled_stack k (length (first_line rows)) rows p s (smaller_within (suc k) (first_line rows))
+toggle_stack k rows p s = toggled_stack k (length (first_line rows)) rows p s (smaller-within (suc k) (first_line rows))
 
 pub toggle_twice : (k : ℕ) (rows : List (List ℕ)) → 0 < k → IsStack rows → toggle k (toggle k rows) ≡ rows
 toggle_twice k rows p s =
     ap (λ c. toggled k c (toggle k rows)) (length_first k (length (first_line rows)) rows)
-    ∙ toggled_twice k (length (first_line rows)) rows p s (smaller_within (suc k) (first_line rows))
+    ∙ toggled_twice k (length (first_line rows)) rows p s (smaller-within (suc k) (first_line rows))
 
 all_smaller_toggle : (k : ℕ) (rows : List (List ℕ)) → 0 < k → IsStack rows
     → all_smaller (suc k) (toggle k rows) + all_smaller (suc k) rows ≡ all_smaller (suc (suc k)) rows + all_smaller k rows
 all_smaller_toggle k rows p s =
-    let e = all_smaller_middle k (length (first_line rows)) rows p s (smaller_within (suc k) (first_line rows)) in
-    let b = smaller_within (suc (suc k)) (first_line rows) in
+    let e = all_smaller_middle k (length (first_line rows)) rows p s (smaller-within (suc k) (first_line rows)) in
+    let b = smaller-within (suc (suc k)) (first_line rows) in
     omega arith
 
 -- the numbers of k and k + 1 are exchanged, those of other letters stay
@@ -317,12 +320,7 @@ AreLeftOf column [] = Unit {0}
 AreLeftOf [] (w ∷ ws) = Unit {0}
 AreLeftOf (x ∷ column) (w ∷ ws) = AreAtMost x w × AreLeftOf column ws
 
--- a letter other than k for each row
-abbrev pub Misses : ℕ → List ℕ → Type 0
-Misses k [] = Unit {0}
-Misses k (x ∷ column) = (x ≡ k → ⊥) × Misses k column
-
-pub toggled_left : (k c : ℕ) (column : List ℕ) (rows : List (List ℕ)) → Misses k column → AreLeftOf column rows → AreLeftOf column (toggled k c rows)
+pub toggled_left : (k c : ℕ) (column : List ℕ) (rows : List (List ℕ)) → Lacks k column → AreLeftOf column rows → AreLeftOf column (toggled k c rows)
 toggled_left k c column [] m l = tt
 toggled_left k c [] (w ∷ ws) m l = tt
 toggled_left k c (x ∷ column) (w ∷ ws) m l =

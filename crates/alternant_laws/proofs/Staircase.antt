@@ -11,13 +11,9 @@ use Rattle.sym_model.proofs.Parts.{length-staircase}
 use Rattle.alternant_laws.proofs.Alternating.{inserting, alternating}
 use Rattle.alternant_laws.proofs.OrderSums.{pair_alternant}
 use Rattle.alternant_laws.proofs.Alternants.{In_alternant}
+use Rattle.sym_model.specs.Bounded.{AreBelow}
 
 -- ---- alternating sums look at lists of the same entries alone
-
--- each entry is less than n
-abbrev pub AreBelow : ℕ → List ℕ → Type 0
-AreBelow n [] = Unit {0}
-AreBelow n (a ∷ α) = (a < n) × AreBelow n α
 
 inserting_below : (n x : ℕ) (φ ψ : List ℕ → ℤ) → x < n → ((l : List ℕ) → AreBelow n l → φ l ≡ ψ l) → (l : List ℕ) → AreBelow n l → inserting x φ l ≡ inserting x ψ l
 inserting_below n x φ ψ h e [] b = e (x ∷ []) (h, tt)

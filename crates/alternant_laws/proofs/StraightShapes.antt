@@ -49,9 +49,9 @@ same_places [] (b ∷ β) l e = absurd (omega arith)
 same_places (a ∷ α) [] l e = absurd (omega arith)
 same_places (a ∷ α) (b ∷ β) l e = ap₂ ◌∷◌ (e 0 (omega arith)) (same_places α β (omega arith) (λ i h. e (suc i) (omega arith)))
 
--- ---- columns of letters that rise strictly
+-- ---- columns of letters that are strictly increasing
 
--- the letters are greater than a and rise strictly
+-- the letters are greater than a and are strictly increasing
 Ascends : ℕ → List ℕ → Type 0
 Ascends a [] = Unit {0}
 Ascends a (v ∷ w) = (a < v) × Ascends v w
@@ -129,7 +129,7 @@ after_past k a (suc h) p = times_in-other k (a + 1) (after (a + 1) h) (λ e. abs
 
 -- ---- the one column that may be next
 
--- the letters rise strictly, are at most their right neighbours 1, 2, .. as far as those go, and no letter past those is
+-- the letters are strictly increasing, are at most their right neighbours 1, 2, .. as far as those go, and no letter past those is
 -- without the one before it
 only_column : (a m : ℕ) (w : List ℕ) → Ascends a w → pass_by_place nat_le w (after a m) ≡ true → ((k : ℕ) → a + m < k → times_in (suc k) w ≤ times_in k w) → w ≡ after a (length w)
 unfolding Ascends

@@ -1,8 +1,8 @@
 -- Monomial symmetric polynomials as sums of Schur polynomials, by straightening each arrangement.
-use Rattle.std.proofs.Common.{◌≡◌, ℕ, Bool, true, false, cond, eqb, List, [], ◌∷◌, ◌++◌, length, refl, sym, ◌∙◌, ap, ap₂, arith, ℤ, pos, ◌+ℤ◌, ◌*ℤ◌}
+use Rattle.std.proofs.Common.{◌≡◌, ℕ, Bool, true, false, cond, eqb, List, [], ◌∷◌, ◌++◌, length, refl, sym, ◌∙◌, ap, ap₂, arith, ℤ, pos, ◌+ℤ◌, ◌*ℤ◌, flat_map}
 use Rattle.std.specs.Prelude.{Some, None}
 use Rattle.std.proofs.lemmas.Int.{ints}
-use Rattle.sym_model.specs.Sum.{total, each}
+use Rattle.sym_model.specs.Sum.{total}
 use Rattle.sym_model.specs.Partition.{IsPartition, size, insert_part, sorted_parts}
 use Rattle.sym_model.specs.Polynomial.{Poly, Same, In, same, join, pair, times, scale}
 use Rattle.sym_model.specs.Symmetric.{Symmetric}
@@ -45,12 +45,12 @@ symmetric-monomial parts n left a b right =
 -- ---- sums of products with combinations
 
 pair-times_terms : {A : Type 0} (f : Poly) (g : List ℕ → Poly) (h : A → WholeTerms) (xs : List A) (φ : List ℕ → ℤ)
-    → pair (times f (combined g (each h xs))) φ ≡ total (λ (x : A). pair (times f (combined g (h x))) φ) xs
+    → pair (times f (combined g (flat_map h xs))) φ ≡ total (λ (x : A). pair (times f (combined g (h x))) φ) xs
 pair-times_terms {A} f g h xs φ =
-    pair_times f (combined g (each h xs)) φ
-    ∙ pair_ext f (λ α. pair (combined g (each h xs)) (λ β. φ (join α β))) (λ α. total (λ (x : A). pair (combined g (h x)) (λ β. φ (join α β))) xs)
+    pair_times f (combined g (flat_map h xs)) φ
+    ∙ pair_ext f (λ α. pair (combined g (flat_map h xs)) (λ β. φ (join α β))) (λ α. total (λ (x : A). pair (combined g (h x)) (λ β. φ (join α β))) xs)
     (λ α.
-    pair_of_combined g (each h xs) (λ β. φ (join α β))
+    pair_of_combined g (flat_map h xs) (λ β. φ (join α β))
     ∙ total_each (λ (t : List ℕ × ℤ). t.1 *ℤ pair (g t.0) (λ β. φ (join α β))) h xs
     ∙ total_ext (λ (x : A). total (λ (t : List ℕ × ℤ). t.1 *ℤ pair (g t.0) (λ β. φ (join α β))) (h x)) (λ (x : A). pair (combined g (h x)) (λ β. φ (join α β)))
     (λ x. sym (pair_of_combined g (h x) (λ β. φ (join α β)))) xs)

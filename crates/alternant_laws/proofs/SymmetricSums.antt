@@ -1,7 +1,7 @@
 -- Sums over semistandard tableaux left of a column: the numbers of k and k + 1 may be exchanged where the column misses k.
-use Rattle.std.proofs.Common.{◌≡◌, ℕ, suc, ◌<◌, Bool, true, ◌&&◌, List, [], ◌∷◌, map, length, nat_le, sym, ◌∙◌, ap, subst, refl, arith, ℤ}
+use Rattle.std.proofs.Common.{◌≡◌, ℕ, suc, ◌<◌, Bool, true, ◌&&◌, List, [], ◌∷◌, map, length, nat_le, sym, ◌∙◌, ap, subst, refl, arith, ℤ, filter}
 use Rattle.std.proofs.lemmas.Bool.{and_parts, and_from, leb-true, le-leb}
-use Rattle.sym_model.specs.Sum.{total, select, Among}
+use Rattle.sym_model.specs.Sum.{total, Among}
 use Rattle.sym_model.specs.Partition.{Falls}
 use Rattle.sym_model.specs.Schur.{letters_of, content}
 use Rattle.sym_model.specs.GoodTableau.{every}
@@ -9,9 +9,9 @@ use Rattle.sym_model.proofs.Sums.{total_among, total_reindex, Among-select, Amon
 use Rattle.tableau_laws.specs.PaddedRows.{fillings_over}
 use Rattle.tableau_laws.specs.Grid.{is_padded_tableau}
 use Rattle.tableau_laws.proofs.PatternFillings.{filling_tells, filling_from, filling_lengths, fillings_once}
-use Rattle.alternant_laws.proofs.Rows.{AreAtMost}
 use Rattle.alternant_laws.proofs.Exchanges.{exchanged, content_exchanged}
-use Rattle.alternant_laws.proofs.Stacks.{IsStack, stack_tells, stack_back, toggled_fits, AreLeftOf, Misses, toggled_left, toggle, toggle_stack, toggle_twice, toggle_lower, toggle_upper, toggle_others}
+use Rattle.alternant_laws.proofs.Stacks.{IsStack, stack_tells, stack_back, toggled_fits, AreLeftOf, toggled_left, toggle, toggle_stack, toggle_twice, toggle_lower, toggle_upper, toggle_others}
+use Rattle.sym_model.specs.Bounded.{AreAtMost, Lacks}
 
 -- whether no letter of a row is greater than the letter of the column at that row, as far as both go
 abbrev pub is_left_of : List ℕ → List (List ℕ) → Bool
@@ -44,7 +44,7 @@ stands_left column rows = is_padded_tableau rows && is_left_of column rows
 
 -- the padded tableaux over a pattern that stand left of a column
 abbrev pub left_tableaux : ℕ → List (List Bool) → List ℕ → List (List (List ℕ))
-left_tableaux n pattern column = select (stands_left column) (fillings_over n pattern)
+left_tableaux n pattern column = filter (stands_left column) (fillings_over n pattern)
 
 record IsLeftTableau (n : ℕ) (pattern : List (List Bool)) (column : List ℕ) (rows : List (List ℕ)) : Type 0 where
   listed : Among rows (fillings_over n pattern)
@@ -59,7 +59,7 @@ left_gives n pattern column rows f m =
     let l = filling_lengths n pattern rows (filling_tells n pattern rows r.0) in
     record { listed = r.0; stack = stack_tells rows (subst Falls (sym l) f) p.0; left = left_tells column rows p.1 }
 
-toggle_listed : (n k : ℕ) (pattern : List (List Bool)) (column : List ℕ) (rows : List (List ℕ)) → 0 < k → k < n → Falls (map length pattern) → Misses k column
+toggle_listed : (n k : ℕ) (pattern : List (List Bool)) (column : List ℕ) (rows : List (List ℕ)) → 0 < k → k < n → Falls (map length pattern) → Lacks k column
     → Among rows (left_tableaux n pattern column) → Among (toggle k rows) (left_tableaux n pattern column)
 toggle_listed n k pattern column rows p q f m a =
     let t = left_gives n pattern column rows f a in
@@ -73,7 +73,7 @@ toggle_content n i rows h s =
     content_exchanged n i (letters_of (toggle (suc i) rows)) (letters_of rows) h
     (toggle_lower (suc i) rows (omega arith) s) (toggle_upper (suc i) rows (omega arith) s) (λ j d e. toggle_others j (suc i) rows d e)
 
-pub total_exchanged : (n i : ℕ) (pattern : List (List Bool)) (column : List ℕ) (ψ : List ℕ → ℤ) → suc i < n → Falls (map length pattern) → Misses (suc i) column
+pub total_exchanged : (n i : ℕ) (pattern : List (List Bool)) (column : List ℕ) (ψ : List ℕ → ℤ) → suc i < n → Falls (map length pattern) → Lacks (suc i) column
     → total (λ (rows : List (List ℕ)). ψ (exchanged i (content n (letters_of rows)))) (left_tableaux n pattern column)
     ≡ total (λ (rows : List (List ℕ)). ψ (content n (letters_of rows))) (left_tableaux n pattern column)
 total_exchanged n i pattern column ψ h f m =

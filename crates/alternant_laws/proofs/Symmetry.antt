@@ -9,7 +9,8 @@ use Rattle.sym_model.specs.Alternant.{rearranged}
 use Rattle.sym_model.proofs.Sums.{total_ext, total_map}
 use Rattle.sym_model.proofs.Polynomials.{pair_in, pair_ext, pair_determined}
 use Rattle.alternant_laws.proofs.Exchanges.{exchanged, same_exchanged}
-use Rattle.alternant_laws.proofs.OrderSums.{KeptByExchanges, orders_reach, rearranged_places}
+use Rattle.alternant_laws.proofs.OrderSums.{orders_reach, rearranged_places}
+use Rattle.beta_list_laws.proofs.NeighbourExchanges.{KeptByExchanges}
 
 symmetric_after : (f : Poly) → Symmetric f → (left : List ℕ) (k : ℕ) (α : List ℕ) → coefficient f (left ++ exchanged k α) ≡ coefficient f (left ++ α)
 symmetric_after f s left k [] = refl

@@ -1,9 +1,9 @@
 -- The involution on semistandard tableaux as they are defined, and the symmetry of skew Schur polynomials.
-use Rattle.std.proofs.Common.{◌≡◌, ℕ, zero, suc, ◌-◌, ◌<◌, ◌≤◌, ◌⊎◌, Bool, true, false, cond, ◌&&◌, List, [], ◌∷◌, ◌++◌, map, length, replicate, drop, sym, ◌∙◌, ap, ap₂, subst, refl, inl, inr, arith, ℤ, pos}
+use Rattle.std.proofs.Common.{◌≡◌, ℕ, zero, suc, ◌-◌, ◌<◌, ◌≤◌, ◌⊎◌, Bool, true, false, cond, ◌&&◌, List, [], ◌∷◌, ◌++◌, map, length, replicate, drop, sym, ◌∙◌, ap, ap₂, subst, refl, inl, inr, arith, ℤ, pos, filter}
 use Rattle.std.proofs.lemmas.Bool.{cases_Bool, cases_lt, cases_eq}
 use Rattle.std.proofs.lemmas.List.{length-append}
 use Rattle.std.proofs.Math.Bool.{and-true}
-use Rattle.sym_model.specs.Sum.{total, select, Among}
+use Rattle.sym_model.specs.Sum.{total, Among}
 use Rattle.sym_model.specs.Partition.{Falls, IsPartition, part}
 use Rattle.sym_model.specs.Polynomial.{Term, same, coefficient}
 use Rattle.sym_model.specs.Schur.{row_lengths, fillings_of, semistandard, contains, tableaux, times_in, letters_of, content, skew_schur}
@@ -23,6 +23,7 @@ use Rattle.alternant_laws.proofs.Rows.{cut, recut, Cut, cases_cut, low, first, s
 use Rattle.alternant_laws.proofs.Exchanges.{exchanged, exchanged_at, same_exchanged, length_content}
 use Rattle.alternant_laws.proofs.Stacks.{IsStack, stack_tells, stack_back, toggled, toggled_fits, toggle, toggle_stack, toggle_twice, toggle_lower, toggle_upper}
 use Rattle.alternant_laws.proofs.SymmetricSums.{is_left_of, stands_left, left_tableaux, total_exchanged}
+use Rattle.sym_model.proofs.Polynomials.{at_only}
 
 -- ---- padding taken away
 
@@ -88,7 +89,7 @@ record HasPartner (n k : ℕ) (outer inner : List ℕ) (T : List (List ℕ)) : T
 tableau_back : (n : ℕ) (outer inner : List ℕ) (T : List (List ℕ)) → Among T (fillings_of n (row_lengths outer inner)) → semistandard inner T ≡ true → contains outer inner ≡ true
     → Among T (tableaux n outer inner)
 tableau_back n outer inner T m s e =
-    subst (λ b. Among T (cond b (select (semistandard inner) (fillings_of n (row_lengths outer inner))) [])) (sym e)
+    subst (λ b. Among T (cond b (filter (semistandard inner) (fillings_of n (row_lengths outer inner))) [])) (sym e)
     (Among-select (semistandard inner) T (fillings_of n (row_lengths outer inner)) m s)
 
 partner : (n k : ℕ) (outer inner : List ℕ) (T : List (List ℕ)) → 0 < k → k < n → Falls outer → Falls inner → Among T (tableaux n outer inner) → HasPartner n k outer inner T
@@ -142,44 +143,37 @@ total_left_of_nothing n pattern g =
     (fillings_over n pattern)
     ∙ sym (total_select g (stands_left []) (fillings_over n pattern))
 
--- 1 where the content is α
-is_content : List ℕ → List ℕ → ℤ
-is_content α κ = cond (same κ α) (pos 1) (pos 0)
-
 coefficient_rows : (n : ℕ) (outer inner α : List ℕ) → IsPartition inner → contains outer inner ≡ true
     → coefficient (skew_schur outer inner n) α
-    ≡ total (λ (rows : List (List ℕ)). is_content α (content n (letters_of rows))) (left_tableaux n (pattern_of outer inner) [])
-unfolding is_content
+    ≡ total (λ (rows : List (List ℕ)). at_only α (content n (letters_of rows))) (left_tableaux n (pattern_of outer inner) [])
 coefficient_rows n outer inner α i e =
     total_map (λ (t : Term). cond (same t.0 α) t.1 (pos 0)) (λ (T : List (List ℕ)). (content n (letters_of T), pos 1)) (tableaux n outer inner)
-    ∙ total_tableaux n outer inner (λ (T : List (List ℕ)). cond (same (content n (letters_of T)) α) (pos 1) (pos 0)) (λ (rows : List (List ℕ)). is_content α (content n (letters_of rows))) i.falls e
-    (λ T m. ap (is_content α) (sym (content-padded n inner T)))
-    ∙ total_left_of_nothing n (pattern_of outer inner) (λ (rows : List (List ℕ)). is_content α (content n (letters_of rows)))
+    ∙ total_tableaux n outer inner (λ (T : List (List ℕ)). cond (same (content n (letters_of T)) α) (pos 1) (pos 0)) (λ (rows : List (List ℕ)). at_only α (content n (letters_of rows))) i.falls e
+    (λ T m. ap (at_only α) (sym (content-padded n inner T)))
+    ∙ total_left_of_nothing n (pattern_of outer inner) (λ (rows : List (List ℕ)). at_only α (content n (letters_of rows)))
 
 -- a list longer than the content is none
-too_long : (n : ℕ) (α : List ℕ) (rows : List (List ℕ)) → n < length α → is_content α (content n (letters_of rows)) ≡ pos 0
-unfolding is_content
+too_long : (n : ℕ) (α : List ℕ) (rows : List (List ℕ)) → n < length α → at_only α (content n (letters_of rows)) ≡ pos 0
 too_long n α rows h =
     ap (λ (b : Bool). cond b (pos 1) (pos 0)) (same_apart (content n (letters_of rows)) α (λ e. let l = length_content n (letters_of rows) in let d = ap length e in omega arith))
 
 rows_symmetric : (n : ℕ) (outer inner left : List ℕ) (a b : ℕ) (right : List ℕ) → IsPartition outer → contains outer inner ≡ true
-    → total (λ (rows : List (List ℕ)). is_content (left ++ (a ∷ b ∷ right)) (content n (letters_of rows))) (left_tableaux n (pattern_of outer inner) [])
-    ≡ total (λ (rows : List (List ℕ)). is_content (left ++ (b ∷ a ∷ right)) (content n (letters_of rows))) (left_tableaux n (pattern_of outer inner) [])
-unfolding is_content
+    → total (λ (rows : List (List ℕ)). at_only (left ++ (a ∷ b ∷ right)) (content n (letters_of rows))) (left_tableaux n (pattern_of outer inner) [])
+    ≡ total (λ (rows : List (List ℕ)). at_only (left ++ (b ∷ a ∷ right)) (content n (letters_of rows))) (left_tableaux n (pattern_of outer inner) [])
 rows_symmetric n outer inner left a b right o e = by (cases_lt (suc (length left)) n)
   where
     by : (suc (length left) < n) ⊎ (n ≤ suc (length left))
-        → total (λ (rows : List (List ℕ)). is_content (left ++ (a ∷ b ∷ right)) (content n (letters_of rows))) (left_tableaux n (pattern_of outer inner) [])
-        ≡ total (λ (rows : List (List ℕ)). is_content (left ++ (b ∷ a ∷ right)) (content n (letters_of rows))) (left_tableaux n (pattern_of outer inner) [])
+        → total (λ (rows : List (List ℕ)). at_only (left ++ (a ∷ b ∷ right)) (content n (letters_of rows))) (left_tableaux n (pattern_of outer inner) [])
+        ≡ total (λ (rows : List (List ℕ)). at_only (left ++ (b ∷ a ∷ right)) (content n (letters_of rows))) (left_tableaux n (pattern_of outer inner) [])
     by (inl h) =
-        sym (total_exchanged n (length left) (pattern_of outer inner) [] (is_content (left ++ (a ∷ b ∷ right))) h (subst Falls (sym (pattern_lengths outer inner e)) o.falls) tt)
-        ∙ total_ext (λ (rows : List (List ℕ)). is_content (left ++ (a ∷ b ∷ right)) (exchanged (length left) (content n (letters_of rows))))
-        (λ (rows : List (List ℕ)). is_content (left ++ (b ∷ a ∷ right)) (content n (letters_of rows)))
+        sym (total_exchanged n (length left) (pattern_of outer inner) [] (at_only (left ++ (a ∷ b ∷ right))) h (subst Falls (sym (pattern_lengths outer inner e)) o.falls) tt)
+        ∙ total_ext (λ (rows : List (List ℕ)). at_only (left ++ (a ∷ b ∷ right)) (exchanged (length left) (content n (letters_of rows))))
+        (λ (rows : List (List ℕ)). at_only (left ++ (b ∷ a ∷ right)) (content n (letters_of rows)))
         (λ rows. ap (λ (c : Bool). cond c (pos 1) (pos 0)) (same_exchanged (length left) (content n (letters_of rows)) (left ++ (a ∷ b ∷ right)) ∙ ap (same (content n (letters_of rows))) (exchanged_at left a b right)))
         (left_tableaux n (pattern_of outer inner) [])
     by (inr h) =
-        total_ext (λ (rows : List (List ℕ)). is_content (left ++ (a ∷ b ∷ right)) (content n (letters_of rows)))
-        (λ (rows : List (List ℕ)). is_content (left ++ (b ∷ a ∷ right)) (content n (letters_of rows)))
+        total_ext (λ (rows : List (List ℕ)). at_only (left ++ (a ∷ b ∷ right)) (content n (letters_of rows)))
+        (λ (rows : List (List ℕ)). at_only (left ++ (b ∷ a ∷ right)) (content n (letters_of rows)))
         (λ rows. too_long n (left ++ (a ∷ b ∷ right)) rows (omega (arith, length-append left (a ∷ b ∷ right)))
         ∙ sym (too_long n (left ++ (b ∷ a ∷ right)) rows (omega (arith, length-append left (b ∷ a ∷ right)))))
         (left_tableaux n (pattern_of outer inner) [])
@@ -196,4 +190,4 @@ symmetric-skew_schur n outer inner o i left a b right = by (cases_Bool (contains
     by (inr e) = none (left ++ (a ∷ b ∷ right)) ∙ sym (none (left ++ (b ∷ a ∷ right)))
       where
         none : (α : List ℕ) → coefficient (skew_schur outer inner n) α ≡ pos 0
-        none α = ap (λ (c : Bool). coefficient (map (λ (T : List (List ℕ)). (content n (letters_of T), pos 1)) (cond c (select (semistandard inner) (fillings_of n (row_lengths outer inner))) [])) α) e
+        none α = ap (λ (c : Bool). coefficient (map (λ (T : List (List ℕ)). (content n (letters_of T), pos 1)) (cond c (filter (semistandard inner) (fillings_of n (row_lengths outer inner))) [])) α) e

@@ -1,4 +1,5 @@
--- Bender–Knuth involutions (Bender and Knuth; Stembridge, A concise proof of the Littlewood–Richardson rule).
+-- Bender–Knuth involutions (Bender and Knuth; Stembridge, A concise proof of the
+-- Littlewood–Richardson rule).
 use Rattle.std.specs.Prelude.{◌≡◌, ◌⊎◌, ℕ, suc, List, [], ◌∷◌}
 use Rattle.sym_model.specs.Sum.{Among}
 use Rattle.sym_model.specs.Schur.{tableaux, times_in, letters_of}
@@ -23,12 +24,16 @@ FillingsAgreeBut k [] [] = Unit {0}
 FillingsAgreeBut k (v ∷ T) (w ∷ U) = RowsAgreeBut k v w × FillingsAgreeBut k T U
 FillingsAgreeBut k _ _ = ⊥
 
--- an involution on the semistandard tableaux of outer/inner with entries from 1 to n that exchanges the numbers of k and
--- k + 1, and leaves every other entry in its cell
+-- an involution on the semistandard tableaux of outer/inner with entries from 1 to n that exchanges
+-- the numbers of k and k + 1, and leaves every other entry in its cell
 pub record BenderKnuth (n k : ℕ) (outer inner : List ℕ) : Type 0 where
   pub exchange : List (List ℕ) → List (List ℕ)
-  pub into : (T : List (List ℕ)) → Among T (tableaux n outer inner) → Among (exchange T) (tableaux n outer inner)
+  pub into : (T : List (List ℕ)) → Among T (tableaux n outer inner)
+      → Among (exchange T) (tableaux n outer inner)
   pub twice : (T : List (List ℕ)) → Among T (tableaux n outer inner) → exchange (exchange T) ≡ T
-  pub lower : (T : List (List ℕ)) → Among T (tableaux n outer inner) → times_in k (letters_of (exchange T)) ≡ times_in (suc k) (letters_of T)
-  pub upper : (T : List (List ℕ)) → Among T (tableaux n outer inner) → times_in (suc k) (letters_of (exchange T)) ≡ times_in k (letters_of T)
-  pub others : (T : List (List ℕ)) → Among T (tableaux n outer inner) → FillingsAgreeBut k T (exchange T)
+  pub lower : (T : List (List ℕ)) → Among T (tableaux n outer inner)
+      → times_in k (letters_of (exchange T)) ≡ times_in (suc k) (letters_of T)
+  pub upper : (T : List (List ℕ)) → Among T (tableaux n outer inner)
+      → times_in (suc k) (letters_of (exchange T)) ≡ times_in k (letters_of T)
+  pub others : (T : List (List ℕ)) → Among T (tableaux n outer inner)
+      → FillingsAgreeBut k T (exchange T)

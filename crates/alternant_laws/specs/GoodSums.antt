@@ -1,7 +1,8 @@
--- Sums over good tableaux of alternants and of Schur polynomials (Stembridge, A concise proof of the Littlewood–Richardson
--- rule). The good tableaux of outer/inner are those for start, with entries from 1 to n; ω(T) is the content of T.
-use Rattle.std.specs.Prelude.{◌≡◌, ℕ, ◌≤◌, pos, List}
-use Rattle.sym_model.specs.Sum.{each, Among}
+-- Sums over good tableaux of alternants and of Schur polynomials (Stembridge, A concise proof of
+-- the Littlewood–Richardson rule). The good tableaux of outer/inner are those for start, with
+-- entries from 1 to n; ω(T) is the content of T.
+use Rattle.std.specs.Prelude.{◌≡◌, ℕ, ◌≤◌, pos, List, flat_map}
+use Rattle.sym_model.specs.Sum.{Among}
 use Rattle.sym_model.specs.Polynomial.{Poly, coefficient, join}
 use Rattle.sym_model.specs.Partition.{IsPartition, rows, without_last_zeros}
 use Rattle.sym_model.specs.Schur.{content, letters_of, schur}
@@ -13,20 +14,25 @@ use Rattle.sym_model.specs.GoodTableau.{good_tableaux}
 -- the sum over the good tableaux T of a_(start + ω(T) + ρ)
 abbrev pub good_alternants : ℕ → List ℕ → List ℕ → List ℕ → Poly
 good_alternants n start outer inner =
-    each (λ filling. alternant (join (join start (content n (letters_of filling))) (staircase n))) (good_tableaux n start outer inner)
+    flat_map (λ filling. alternant
+    (join (join start (content n (letters_of filling))) (staircase n)))
+    (good_tableaux n start outer inner)
 
 -- start + ω(T), without the zeros at its end
 abbrev pub start_plus_content : ℕ → List ℕ → List (List ℕ) → List ℕ
-start_plus_content n start filling = without_last_zeros (join start (content n (letters_of filling)))
+start_plus_content n start filling =
+    without_last_zeros (join start (content n (letters_of filling)))
 
 -- the sum over the good tableaux T of s_(start + ω(T)) in n variables
 abbrev pub good_schurs : ℕ → List ℕ → List ℕ → List ℕ → Poly
 good_schurs n start outer inner =
-    each (λ filling. schur (start_plus_content n start filling) n) (good_tableaux n start outer inner)
+    flat_map (λ filling. schur (start_plus_content n start filling) n)
+    (good_tableaux n start outer inner)
 
--- the terms have the counts as their coefficients: whole numbers, labels that are partitions with at most k rows, and for each
--- such partition what its terms come to is its count
+-- the terms have the counts as their coefficients: whole numbers, labels that are partitions with
+-- at most k rows, and for each such partition what its terms come to is its count
 pub record ListsCounts (k : ℕ) (count : List ℕ → ℕ) (terms : Terms (List ℕ)) : Type 0 where
   pub whole : AreWhole terms
   pub labels : (t : List ℕ × Fraction) → Among t terms → IsPartition t.0 × (rows t.0 ≤ k)
-  pub counts : (parts : List ℕ) → IsPartition parts → rows parts ≤ k → coefficient (numerators terms) parts ≡ pos (count parts)
+  pub counts : (parts : List ℕ) → IsPartition parts → rows parts ≤ k
+      → coefficient (numerators terms) parts ≡ pos (count parts)

@@ -1,6 +1,5 @@
 -- Lists of exponents straightened, as terms in Schur polynomials (Macdonald, I.3).
-use Rattle.std.specs.Prelude.{ℕ, ℤ, List, [], ◌∷◌, Option, Some, None}
-use Rattle.sym_model.specs.Sum.{each}
+use Rattle.std.specs.Prelude.{ℕ, ℤ, List, [], ◌∷◌, Option, Some, None, flat_map}
 use Rattle.sym_model.specs.Straightening.{straightened}
 use Rattle.sym_model.specs.WholeTerms.{WholeTerms}
 
@@ -11,4 +10,4 @@ straightened_term (Some s) = (s.1, s.0) ∷ []
 
 -- the terms of all lists of exponents
 abbrev pub straightened_terms : List (List ℕ) → WholeTerms
-straightened_terms lists = each (λ α. straightened_term (straightened α)) lists
+straightened_terms lists = flat_map (λ α. straightened_term (straightened α)) lists

@@ -1,22 +1,18 @@
 //! Stembridge's identity and the Littlewood–Richardson rule.
 
-ghost use Rattle.std.specs.Prelude.{◌≡◌, ℕ, ◌≤◌, ◌+◌, pos, Bool, true, false, cond, List, [], ◌∷◌, length, Option};
+ghost use Rattle.std.specs.Prelude.{◌≡◌, ℕ, ◌≤◌, ◌+◌, pos, true, cond, List, [], length};
 ghost use Rattle.sym_model.specs.Partition.{IsPartition, rows, without_last_zeros};
 ghost use Rattle.sym_model.specs.Polynomial.{Same, same, coefficient, nothing, join, times};
 ghost use Rattle.sym_model.specs.Schur.{contains, schur, skew_schur};
 ghost use Rattle.sym_model.specs.GoodTableau.{is_falling, product_count, skew_count};
 ghost use Rattle.sym_model.specs.Alternant.{alternant, staircase, schur_coefficient};
-ghost use Rattle.sym_model.specs.Expansion.{Terms};
 ghost use Rattle.sym_model.specs.Kind as kinds;
 ghost use Rattle.sym_model.specs.Command as commands;
-ghost use Rattle.sym_model.specs.Answer.{answer, number_in};
-ghost use Rattle.sym_model.specs.Target.{Meets};
-ghost use Rattle.sym_model.specs.LargeAnswer.{variables_or};
-ghost use Rattle.alternant_laws.specs.GoodSums.{good_alternants, good_schurs, ListsCounts};
+ghost use Rattle.alternant_laws.specs.GoodSums.{good_alternants, good_schurs};
 
 /// In n variables, for each partition λ with at most n rows and each skew shape μ/ν: a_(λ+ρ) times
-/// s_(μ/ν) is the sum of a_(λ+ω(T)+ρ) over the good tableaux T of the shape μ/ν for the start λ, with
-/// entries from 1 to n, where ω(T) is the content of T (Stembridge).
+/// s_(μ/ν) is the sum of a_(λ+ω(T)+ρ) over the good tableaux T of the shape μ/ν for the start λ,
+/// with entries from 1 to n, where ω(T) is the content of T (Stembridge).
 ///
 /// So a_ρ·s_μ is a_(μ+ρ), and s_μ is 0 where μ has more rows than there are variables.
 pub fn stembridge_law()
@@ -25,52 +21,39 @@ pub fn stembridge_law()
         → Same (times (alternant (join start (staircase n))) (skew_schur outer inner n))
         (good_alternants n start outer inner) }
     ensures straight { (n : ℕ) (parts : List ℕ) → IsPartition parts → rows parts ≤ n
-        → Same (times (alternant (staircase n)) (schur parts n)) (alternant (join parts (staircase n))) }
+        → Same (times (alternant (staircase n)) (schur parts n))
+        (alternant (join parts (staircase n))) }
     ensures few_variables { (n : ℕ) (parts : List ℕ) → IsPartition parts → n + 1 ≤ rows parts
         → Same (schur parts n) nothing }
 {}
 
 /// The Littlewood–Richardson rule, in every number n of variables: s_λ·s_(μ/ν) is the sum of
-/// s_(λ+ω(T)) over the good tableaux T of the shape μ/ν for the start λ, with entries from 1 to n; so
-/// s_(μ/ν) is the sum of s_(ω(T)) over those for the empty start.
+/// s_(λ+ω(T)) over the good tableaux T of the shape μ/ν for the start λ, with entries from 1 to n;
+/// so s_(μ/ν) is the sum of s_(ω(T)) over those for the empty start.
 ///
 /// So the Schur coefficients of a product and of a skew Schur polynomial are the counts of good
 /// tableaux: an alternant a_(α+ρ), α falling, has at x^(ν+ρ) the coefficient 1 where α without the
 /// zeros at its end is ν, and 0 for other partitions ν.
 pub fn littlewood_richardson_law()
-    ensures product { (n : ℕ) (start outer inner : List ℕ) → IsPartition start → IsPartition outer → IsPartition inner
-        → Same (times (schur start n) (skew_schur outer inner n)) (good_schurs n start outer inner) }
+    ensures product { (n : ℕ) (start outer inner : List ℕ) → IsPartition start → IsPartition outer
+        → IsPartition inner
+        → Same (times (schur start n) (skew_schur outer inner n))
+        (good_schurs n start outer inner) }
     ensures skew { (n : ℕ) (outer inner : List ℕ) → IsPartition outer → IsPartition inner
         → Same (skew_schur outer inner n) (good_schurs n [] outer inner) }
-    ensures alternant { (n : ℕ) (α ν : List ℕ) → length α ≡ n → is_falling α ≡ true → IsPartition ν → rows ν ≤ n
+    ensures alternant { (n : ℕ) (α ν : List ℕ) → length α ≡ n → is_falling α ≡ true → IsPartition ν
+        → rows ν ≤ n
         → coefficient (alternant (join α (staircase n))) (join ν (staircase n))
         ≡ cond (same (without_last_zeros α) ν) (pos 1) (pos 0) }
     ensures product_coefficient { (n : ℕ) (left right ν : List ℕ)
         → IsPartition left → IsPartition right → IsPartition ν → rows ν ≤ n
-        → schur_coefficient n ν (times (schur left n) (schur right n)) ≡ pos (product_count n left right ν) }
+        → schur_coefficient n ν (times (schur left n) (schur right n))
+        ≡ pos (product_count n left right ν) }
     ensures product_stable { (n m : ℕ) (left right ν : List ℕ) → n ≤ m
         → IsPartition left → IsPartition right → IsPartition ν → rows ν ≤ n
         → product_count m left right ν ≡ product_count n left right ν }
     ensures skew_coefficient { (n : ℕ) (outer inner κ : List ℕ)
-        → IsPartition outer → IsPartition inner → contains outer inner ≡ true → IsPartition κ → rows κ ≤ n
+        → IsPartition outer → IsPartition inner → contains outer inner ≡ true → IsPartition κ
+        → rows κ ≤ n
         → schur_coefficient n κ (skew_schur outer inner n) ≡ pos (skew_count outer inner κ) }
-{}
-
-/// Lists of terms with the counts of good tableaux as their coefficients are what the commands `mult`,
-/// `skew` and `coef` must answer, in every number of variables, or in the number that is given: the
-/// product and the skew Schur polynomial in Schur polynomials, and a coefficient of the product.
-pub fn counted_answers_law()
-    ensures mult { (variables : Option ℕ) (left right : List ℕ) (terms : Terms (List ℕ))
-        → IsPartition left → IsPartition right
-        → ListsCounts (variables_or variables (rows left + rows right))
-        (product_count (variables_or variables (rows left + rows right)) left right) terms
-        → Meets (commands.mult variables false (left ∷ right ∷ [])) (answer kinds.product terms) }
-    ensures skew { (variables : Option ℕ) (outer inner : List ℕ) (terms : Terms (List ℕ))
-        → IsPartition outer → IsPartition inner → contains outer inner ≡ true
-        → ListsCounts (variables_or variables (rows outer)) (skew_count outer inner) terms
-        → Meets (commands.skew variables false outer inner) (answer kinds.product terms) }
-    ensures coef { (outer left right : List ℕ) (terms : Terms (kinds.Label kinds.number))
-        → IsPartition outer → IsPartition left → IsPartition right
-        → number_in terms ≡ pos (product_count (rows outer) left right outer)
-        → Meets (commands.coef outer left right) (answer kinds.number terms) }
 {}

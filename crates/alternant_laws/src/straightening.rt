@@ -10,16 +10,19 @@ ghost use Rattle.sym_model.specs.Straightening.{straightened};
 ghost use Rattle.sym_model.specs.WholeTerms.{combined};
 ghost use Rattle.alternant_laws.specs.StraightenedTerms.{straightened_terms};
 
-/// In every number n of variables m_λ is the sum over the distinct arrangements α of λ in n places of what α straightens to: 0
-/// where two entries of α + ρ are equal, and else the sign of sorting α + ρ times the Schur polynomial of the sorted list
-/// less ρ (Macdonald, I.3). In place of n places any number may be taken that is at least the size of λ.
+/// In every number n of variables m_λ is the sum over the distinct arrangements α of λ in n places
+/// of what α straightens to: 0 where two entries of α + ρ are equal, and else the sign of sorting α
+/// + ρ times the Schur polynomial of the sorted list less ρ (Macdonald, I.3). In place of n places
+/// any number may be taken that is at least the size of λ.
 ///
 /// Example: (0,2) straightens to -s_(1,1) in two variables, so m_(2) = s_(2) - s_(1,1) there.
 pub fn straighten_law()
     ensures straightens { (n : ℕ) (parts : List ℕ) → IsPartition parts
-        → Same (monomial parts n) (combined (λ label. schur label n) (straightened_terms (arrangements parts n))) }
+        → Same (monomial parts n)
+        (combined (λ label. schur label n) (straightened_terms (arrangements parts n))) }
     ensures enough_places { (n d : ℕ) (parts : List ℕ) → IsPartition parts → size parts ≤ d
-        → Same (monomial parts n) (combined (λ label. schur label n) (straightened_terms (arrangements parts d))) }
+        → Same (monomial parts n)
+        (combined (λ label. schur label n) (straightened_terms (arrangements parts d))) }
     ensures turned { straightened (0 ∷ 2 ∷ []) ≡ Some (negsuc 0, (1 ∷ 1 ∷ [])) }
     ensures equal { straightened (0 ∷ 1 ∷ []) ≡ None }
 {}

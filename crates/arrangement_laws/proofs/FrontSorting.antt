@@ -4,12 +4,12 @@
 --     value-strict       at a strictly falling list
 --     value-front        what stands in front straightened first
 --     value-zero         a zero in a further place changes nothing
-use Rattle.std.proofs.Common.{◌≡◌, ◌⊎◌, ℕ, suc, ◌+◌, ◌-◌, ◌<◌, Bool, true, false, ◌||◌, ◌==◌, cond, List, [], ◌∷◌, ◌++◌, map, length, refl, sym, ap, ap₂, ◌∙◌, inl, inr, arith, append_assoc, length-append, ℤ, pos, neg_ℤ, ◌*ℤ◌}
+use Rattle.std.proofs.Common.{◌≡◌, ◌⊎◌, ℕ, suc, ◌+◌, ◌-◌, Bool, true, false, ◌||◌, ◌==◌, cond, List, [], ◌∷◌, ◌++◌, map, length, refl, sym, ap, ap₂, ◌∙◌, inl, inr, arith, append_assoc, length-append, ℤ, pos, neg_ℤ, ◌*ℤ◌}
 use Rattle.std.proofs.lemmas.Int.{ints}
-use Rattle.std.proofs.lemmas.Bool.{cases_eq, ne_eqb}
+use Rattle.std.proofs.lemmas.Bool.{cases_eq}
 use Rattle.std.proofs.lemmas.Bool.Decides.{nat_tests}
 use Rattle.std.proofs.lemmas.List.{map-append, length-map}
-use Rattle.sym_model.specs.Partition.{Falls, without_last_zeros}
+use Rattle.sym_model.specs.Partition.{without_last_zeros}
 use Rattle.sym_model.specs.Bases.{has}
 use Rattle.sym_model.specs.BetaList.{beta, has_equal_entries, sorted_falling, sorting_sign, less_the_rest, from_beta}
 use Rattle.sym_model.specs.PlaceOrders.{minus_one_to}
@@ -19,19 +19,15 @@ use Rattle.beta_list_laws.specs.StrictFall.{FallsStrictly}
 use Rattle.beta_list_laws.proofs.NeighbourExchanges.{sort_back, sorted-exchange, equal-exchange, sorted-falling, sorting_sign-exchange, length-sorted}
 use Rattle.beta_list_laws.proofs.SortedLists.{sorted_strict}
 use Rattle.beta_list_laws.proofs.BetaLists.{beta-from_beta}
-use Rattle.beta_list_laws.proofs.Lowest.{strict_pairs}
+use Rattle.beta_list_laws.proofs.Lowest.{strict_pairs, strict_falls}
 use Rattle.arrangement_laws.specs.SpecialRimHooks.{straight_value}
+use Rattle.beta_list_laws.proofs.BetaLowerings.{strict_distinct}
 
 -- ---- alternating functions of lists
 
 -- exchanging two different neighbours turns the sign of the value
 abbrev pub Alternates : (List ℕ → ℤ) → Type 0
 Alternates H = (left : List ℕ) (a b : ℕ) (right : List ℕ) → (a ≡ b → ⊥) → H (left ++ (a ∷ b ∷ right)) ≡ neg_ℤ (H (left ++ (b ∷ a ∷ right)))
-
-pub strict_falls : (l : List ℕ) → FallsStrictly l → Falls l
-strict_falls [] f = tt
-strict_falls (a ∷ []) f = tt
-strict_falls (a ∷ b ∷ l) f = (let h = f.0 in omega arith, strict_falls (b ∷ l) f.1)
 
 value-sorted : (H : List ℕ → ℤ) → Alternates H → (s : List ℕ) → has_equal_entries s ≡ false → H s ≡ sorting_sign s *ℤ H (sorted_falling s)
 value-sorted H t s h =
@@ -73,19 +69,9 @@ value-alternates g left a b right n =
     by true p z = refl
     by false p z = simp ring
 
--- a strictly falling list has no equal entries
-absent : (b a : ℕ) (l : List ℕ) → a < b → FallsStrictly (a ∷ l) → has b (a ∷ l) ≡ false
-absent b a [] h f = ap (λ t. t || false) (ne_eqb a b (λ e. omega arith))
-absent b a (c ∷ l) h f = let k = f.0 in ap₂ (λ t u. t || u) (ne_eqb a b (λ e. omega arith)) (absent b c l (omega arith) f.1)
-
-pub equal-strict : (l : List ℕ) → FallsStrictly l → has_equal_entries l ≡ false
-equal-strict [] f = refl
-equal-strict (b ∷ []) f = refl
-equal-strict (b ∷ a ∷ l) f = ap₂ (λ t u. t || u) (absent b a l f.0 f.1) (equal-strict (a ∷ l) f.1)
-
 pub value-strict : (g : List ℕ → ℤ) (s : List ℕ) → FallsStrictly s → straight_value g s ≡ g (from_beta s)
 value-strict g s f =
-    value-different g s (equal-strict s f)
+    value-different g s (strict_distinct s f)
     ∙ ap (λ k. minus_one_to k *ℤ g (from_beta (sorted_falling s))) (strict_pairs s f)
     ∙ one-product (g (from_beta (sorted_falling s)))
     ∙ ap (λ l. g (from_beta l)) (sorted-falling s (strict_falls s f))

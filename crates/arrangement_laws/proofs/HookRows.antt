@@ -1,6 +1,6 @@
 -- A rim hook that begins in a row after the last one of a partition: in which rows it has a place, and how many rows come of it.
 --     value-rows       as many as are counted
---     value-far        nothing comes of a row that is more than a rows further down
+--     value-far        nothing results from a row that is more than a rows further down
 --     total_after-cut  a sum over the rows with one row more
 use Rattle.std.proofs.Common.{◌≡◌, ◌⊎◌, ℕ, zero, suc, ◌+◌, ◌-◌, ◌<◌, ◌≤◌, Bool, true, false, ◌||◌, ◌==◌, cond, nat_le, List, [], ◌∷◌, ◌++◌, map, length, refl, sym, ap, ◌∙◌, inl, inr, arith, length-append, ℤ, pos, ◌+ℤ◌, ◌*ℤ◌}
 use Rattle.std.proofs.lemmas.Int.{ints}

@@ -1,6 +1,6 @@
 -- Adding a rim hook that begins in an empty row: its entry is put among the others, which fall already.
 --     beta-last          the others are the beta list without its last entry, 0
---     value-put          what comes of it
+--     value-put          the outcome of it
 --     size-put           the size
 use Rattle.std.proofs.Common.{◌≡◌, ℕ, suc, ◌+◌, ◌-◌, ◌≤◌, true, false, ◌||◌, ◌==◌, cond, nat_lt, List, [], ◌∷◌, ◌++◌, map, length, refl, sym, ap, ap₂, ◌∙◌, subst, inl, inr, arith, length-append, ℤ, pos, ◌*ℤ◌}
 use Rattle.std.proofs.lemmas.Bool.{cases_lt, or_parts, ne_eqb, both_ways, eq-eqb}
@@ -19,8 +19,10 @@ use Rattle.beta_list_laws.proofs.NeighbourExchanges.{sorted-exchange, sorted-fal
 use Rattle.beta_list_laws.proofs.SortedLists.{sorted_strict, greater_first}
 use Rattle.beta_list_laws.proofs.BetaLists.{beta_strict, strict_tail, length-beta, size-beta, size-from_beta}
 use Rattle.arrangement_laws.specs.SpecialRimHooks.{straight_value, hooked}
-use Rattle.arrangement_laws.proofs.FrontSorting.{above, strict_falls, equal-strict, value-equal, value-different}
+use Rattle.arrangement_laws.proofs.FrontSorting.{above, value-equal, value-different}
 use Rattle.arrangement_laws.proofs.HookRows.{equal-last}
+use Rattle.beta_list_laws.proofs.BetaLowerings.{strict_distinct}
+use Rattle.beta_list_laws.proofs.Lowest.{strict_falls}
 
 -- ---- the entries of the other rows
 
@@ -87,7 +89,7 @@ passed (b ∷ front) a f h =
       | inr l ↦ let x = counts-not_less b a l in let y = counts-less a b (omega (arith, n)) in omega arith
     ]
 
--- ---- what comes of it
+-- ---- the outcome of it
 
 pub value-again : (g : List ℕ → ℤ) (ν : List ℕ) (k a : ℕ) → has a (map suc (beta k ν)) ≡ true → straight_value g (hooked ν (k + 1) a) ≡ pos 0
 value-again g ν k a h =
@@ -96,7 +98,7 @@ value-again g ν k a h =
 
 module _ (ν : List ℕ) (k a : ℕ) (p : IsPartition ν) (h : has a (map suc (beta k ν)) ≡ false) where
   different : has_equal_entries (map suc (beta k ν) ++ a ∷ []) ≡ false
-  different = different-last (map suc (beta k ν)) a (equal-strict (map suc (beta k ν)) (strict-others ν k p.falls)) h
+  different = different-last (map suc (beta k ν)) a (strict_distinct (map suc (beta k ν)) (strict-others ν k p.falls)) h
 
   sorts : sorted_falling (map suc (beta k ν) ++ a ∷ []) ≡ put_falling a (map suc (beta k ν))
   sorts = sorted-last (map suc (beta k ν)) a ∙ ap (put_falling a) (sorted-falling (map suc (beta k ν)) (strict_falls (map suc (beta k ν)) (strict-others ν k p.falls)))

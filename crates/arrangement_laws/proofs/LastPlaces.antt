@@ -1,7 +1,7 @@
 -- Sums over the arrangements of a partition in places, by what stands in the last place.
 --     arrangement           what an arrangement is
 --     arrangements-last     0 or one of the different parts stands in the last place
---     arrangements-few      there are none of more parts than there are places
+--     arrangements-few      there are none with more parts than places
 --     arrangements-none     there is one of no parts
 use Rattle.std.proofs.Common.{◌≡◌, ◌⊎◌, ℕ, zero, suc, ◌+◌, ◌-◌, ◌<◌, ◌≤◌, Bool, true, false, ◌==◌, cond, eqb, nat_le, List, [], ◌∷◌, ◌++◌, map, length, replicate, refl, sym, ap, ◌∙◌, inl, inr, arith, ℤ, pos, ◌+ℤ◌}
 use Rattle.std.proofs.lemmas.Bool.{cases_eq, le-leb, eq-eqb, ne_eqb}
@@ -15,7 +15,7 @@ use Rattle.sym_model.specs.Arrangement.{arrangements}
 use Rattle.sym_model.proofs.Sums.{total_ext, total_among, total_none, total_map, total_each, total_select, total_exchange, Among_from_select}
 use Rattle.sym_model.proofs.Exponents.{tests_agree, same_from, same_true, same_apart}
 use Rattle.sym_model.proofs.Monomials.{total_down_from-only, total_exponent_lists-zero, members_of-exponent_lists}
-use Rattle.sym_model.proofs.SortedParts.{insert_part_comm, without_one-insert_part, insert_part-without_one, size-without_one, has_past, has-insert_part, has-zero, without_one-zero, zero_or_has, has-zero_or, rows-sorted_parts, sorted_parts-zeros}
+use Rattle.sym_model.proofs.SortedParts.{insert_part_comm, without_one-insert_part, insert_part-without_one, has-insert_part, has-zero, without_one-zero, zero_or_has, has-zero_or, rows-sorted_parts, sorted_parts-zeros, size-taken}
 use Rattle.monomial_laws.proofs.Arrangements.{down_from-below}
 use Rattle.monomial_laws.proofs.PowerSums.{total_distinct-only}
 use Rattle.monomial_laws.proofs.PowerSumLists.{has_from-distinct}
@@ -108,10 +108,6 @@ exponent_lists-last F (suc n) d =
     inner b a k = total (λ (α : List ℕ). F (b ∷ (α ++ a ∷ []))) (exponent_lists n k)
 
 -- ---- arrangements by the last number
-
-size-taken : (a : ℕ) (parts : List ℕ) → IsPartition parts → has a (0 ∷ parts) ≡ true → a + size (without_one a parts) ≡ size parts
-size-taken zero parts p h = omega (arith, ap size (without_one-zero parts p.positive))
-size-taken (suc a) parts p h = size-without_one (suc a) parts (sym (has_past (suc a) 0 parts (λ e. omega arith)) ∙ h)
 
 sorted_parts-last : (α : List ℕ) (a : ℕ) → sorted_parts (α ++ a ∷ []) ≡ insert_part a (sorted_parts α)
 sorted_parts-last [] a = refl

@@ -4,16 +4,20 @@ ghost use Rattle.std.specs.Prelude.{◌≡◌, ℕ, ◌<◌, ℤ, ◌*◌, pos, 
 ghost use Rattle.sym_model.specs.Polynomial.{pair};
 ghost use Rattle.sym_model.specs.Partition.{IsPartition};
 ghost use Rattle.sym_model.specs.WholeTerms.{WholeTerms};
-ghost use Rattle.arrangement_laws.specs.SpecialRimHooks.{all_hooks, AreStraightenings, IsStraightening};
+ghost use Rattle.arrangement_laws.specs.SpecialRimHooks.{all_hooks, AreStraightenings};
+ghost use Rattle.arrangement_laws.specs.SpecialRimHooks.{IsStraightening};
 
-/// What the arrangements of a partition straighten to comes of those with one part less: each has a last
-/// part a, and the arrangement of the others before it straightens first. So the list for λ adds up over the
-/// different parts a of λ, over the terms of the list for λ without one a, and over the special rim
-/// hooks of a cells that are added to them (Egecioglu and Remmel's rule for m in s).
+/// What the arrangements of a partition straighten to results from those with one part less: each
+/// has a last part a, and the arrangement of the others before it straightens first. So the list
+/// for λ adds up over the different parts a of λ, over the terms of the list for λ without one a,
+/// and over the special rim hooks of a cells that are added to them (Egecioglu and Remmel's rule
+/// for m in s).
 ///
 /// Example: the list for (2) is s_(2) - s_(1,1), of the rim hooks of two cells added to nothing.
 pub fn last_part_law()
     ensures none { IsStraightening [] (([], pos 1) ∷ []) }
-    ensures step { (parts : List ℕ) (lists : List (ℕ × WholeTerms)) (terms : WholeTerms) → IsPartition parts → 0 < length parts
-        → AreStraightenings parts lists → ((g : List ℕ → ℤ) → pair terms g ≡ all_hooks g lists) → IsStraightening parts terms }
+    ensures step { (parts : List ℕ) (lists : List (ℕ × WholeTerms)) (terms : WholeTerms)
+        → IsPartition parts → 0 < length parts
+        → AreStraightenings parts lists → ((g : List ℕ → ℤ) → pair terms g ≡ all_hooks g lists)
+        → IsStraightening parts terms }
 {}

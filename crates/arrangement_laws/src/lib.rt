@@ -1,7 +1,6 @@
 //! Laws of the arrangements of the parts of a partition.
 //!
-//! A law function takes nothing, answers nothing and does no work when it runs: its contract is
-//! the law.
+//! A law function has an empty body: its contract is the law.
 //!
 //! What is proved:
 //!

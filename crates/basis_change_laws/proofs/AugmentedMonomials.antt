@@ -1,9 +1,9 @@
 -- A power sum times an augmented monomial symmetric polynomial.
-use Rattle.std.proofs.Common.{◌≡◌, ℕ, zero, suc, ◌+◌, ◌*◌, ◌<◌, ◌≤◌, ◌⊎◌, ◌==◌, Bool, true, false, cond, List, [], ◌∷◌, map, nat_le, sym, ◌∙◌, ap, ap₂, refl, inl, inr, arith, ℤ, pos, ◌+ℤ◌, ◌*ℤ◌}
+use Rattle.std.proofs.Common.{◌≡◌, ℕ, zero, suc, ◌+◌, ◌*◌, ◌<◌, ◌≤◌, ◌⊎◌, ◌==◌, Bool, true, false, cond, List, [], ◌∷◌, map, nat_le, sym, ◌∙◌, ap, ap₂, refl, inl, inr, arith, ℤ, pos, ◌+ℤ◌, ◌*ℤ◌, flat_map}
 use Rattle.std.proofs.lemmas.Int.{ints}
 use Rattle.std.proofs.lemmas.Bool.{cases_lt, cases_eq, cases_Bool, ne_eqb, leb-false, both_ways}
 use Rattle.std.proofs.Math.Nat.{mul_left_comm}
-use Rattle.sym_model.specs.Sum.{total, each}
+use Rattle.sym_model.specs.Sum.{total}
 use Rattle.sym_model.specs.Polynomial.{Same, scale, plus, times, pair}
 use Rattle.sym_model.specs.Partition.{IsPartition, insert_part}
 use Rattle.sym_model.specs.Bases.{has, monomial, power_sum_of}
@@ -11,7 +11,6 @@ use Rattle.sym_model.specs.Schur.{times_in}
 use Rattle.sym_model.specs.Weight.{factorial}
 use Rattle.sym_model.specs.RaisedPart.{raise, distinct, without_one}
 use Rattle.sym_model.specs.WholeTerms.{combined}
-use Rattle.monomial_laws.specs.Majorant.{factorials}
 use Rattle.monomial_laws.specs.PowerSumProduct.{raised_terms}
 use Rattle.basis_change_laws.specs.AugmentedMonomial.{multiplicity_factorials, augmented}
 use Rattle.sym_model.proofs.Ring.{product_assoc, distributes_left}
@@ -25,6 +24,7 @@ use Rattle.sym_model.proofs.Contents.{times_in-here, times_in-other}
 use Rattle.sym_model.proofs.Numbers.{equal-sym}
 use Rattle.monomial_laws.proofs.PowerSums.{total_distinct-only, total_times_in, power_sum_times_monomial}
 use Rattle.monomial_laws.proofs.PowerSumLists.{has_from-distinct}
+use Rattle.sym_model.specs.ListWeight.{factorials}
 
 -- ---- multiplicities
 
@@ -152,9 +152,9 @@ total_parts g l =
 -- ---- the law
 
 pub power_sum_times_augmented : (a n : ℕ) (parts : List ℕ) → 0 < a → IsPartition parts
-    → Same (times (power_sum_of a n) (augmented parts n)) (plus (augmented (insert_part a parts) n) (each (λ b. augmented (raise a b parts) n) parts))
+    → Same (times (power_sum_of a n) (augmented parts n)) (plus (augmented (insert_part a parts) n) (flat_map (λ b. augmented (raise a b parts) n) parts))
 power_sum_times_augmented a n parts h p =
-    same_from_pair (times (power_sum_of a n) (augmented parts n)) (plus (augmented (insert_part a parts) n) (each (λ b. augmented (raise a b parts) n) parts)) (λ φ.
+    same_from_pair (times (power_sum_of a n) (augmented parts n)) (plus (augmented (insert_part a parts) n) (flat_map (λ b. augmented (raise a b parts) n) parts)) (λ φ.
     pair_determined (times (power_sum_of a n) (augmented parts n)) (scale (pos (multiplicity_factorials parts)) (times (power_sum_of a n) (monomial parts n))) φ (times-scale (pos (multiplicity_factorials parts)) (power_sum_of a n) (monomial parts n))
     ∙ pair_scale (pos (multiplicity_factorials parts)) (times (power_sum_of a n) (monomial parts n)) φ
     ∙ ap (λ x. pos (multiplicity_factorials parts) *ℤ x) (
@@ -164,7 +164,7 @@ power_sum_times_augmented a n parts h p =
     ∙ ap (λ (l : List ℕ). total (λ (b : ℕ). pos (times_in (a + b) (raise a b parts)) *ℤ pair (monomial (raise a b parts) n) φ) l) different)
     ∙ distributes_left (pos (multiplicity_factorials parts)) (pos (times_in (a + 0) (raise a 0 parts)) *ℤ pair (monomial (raise a 0 parts) n) φ) (total (λ (b : ℕ). pos (times_in (a + b) (raise a b parts)) *ℤ pair (monomial (raise a b parts) n) φ) (distinct parts))
     ∙ ap₂ ◌+ℤ◌ (put_in φ) (made_greater φ)
-    ∙ sym (pair_plus (augmented (insert_part a parts) n) (each (λ b. augmented (raise a b parts) n) parts) φ
+    ∙ sym (pair_plus (augmented (insert_part a parts) n) (flat_map (λ b. augmented (raise a b parts) n) parts) φ
     ∙ ap₂ ◌+ℤ◌ (pair_scale (pos (multiplicity_factorials (insert_part a parts))) (monomial (insert_part a parts) n) φ)
     (pair_each (λ (b : ℕ). augmented (raise a b parts) n) parts φ ∙ total_ext (λ (b : ℕ). pair (augmented (raise a b parts) n) φ) (λ (b : ℕ). pos (multiplicity_factorials (raise a b parts)) *ℤ pair (monomial (raise a b parts) n) φ) (λ b. pair_scale (pos (multiplicity_factorials (raise a b parts))) (monomial (raise a b parts) n) φ) parts)))
   where

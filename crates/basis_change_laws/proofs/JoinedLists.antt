@@ -1,6 +1,6 @@
 -- Lists of terms in a basis that is multiplied over the parts of its labels.
 --     stands-product, -plus, -scale, -raised, -weaken      what is made of such lists
-use Rattle.std.proofs.Common.{◌≡◌, ℕ, ◌+◌, ◌*◌, ◌≤◌, List, [], ◌∷◌, ◌++◌, map, refl, sym, ap, ap₂, ◌∙◌, subst, inl, inr, arith, ℤ, pos, ◌+ℤ◌, ◌*ℤ◌}
+use Rattle.std.proofs.Common.{◌≡◌, ℕ, ◌+◌, ◌*◌, ◌≤◌, List, [], ◌∷◌, map, refl, sym, ap, ap₂, ◌∙◌, subst, inl, inr, arith, ℤ, pos, ◌+ℤ◌, ◌*ℤ◌}
 use Rattle.std.specs.Prelude.{nat_abs}
 use Rattle.std.proofs.lemmas.Int.{ints, unsigned_abs-mul}
 use Rattle.std.proofs.lemmas.Nat.{mul-le}
@@ -17,6 +17,7 @@ use Rattle.monomial_laws.proofs.Powers.{In-product_over}
 use Rattle.monomial_laws.proofs.PowerSumLists.{EachLabel-append, EachLabel-scale}
 use Rattle.basis_change_laws.specs.JoinedLists.{merged, joined, IsLow, Stands}
 use Rattle.basis_change_laws.proofs.MergedParts.{IsPartition-merged, size-merged, product_over-merged}
+use Rattle.sym_model.proofs.WholeTerms.{absolute-append}
 
 -- ---- labels
 
@@ -42,10 +43,6 @@ low-joined a b (s ∷ W) V h k = EachLabel-append _ (map (λ (t : List ℕ × �
         (record { partition = IsPartition-merged s.0 t.0 k.0.partition; low = omega arith }, row U k.1)
 
 -- ---- absolute values
-
-pub absolute-append : (W V : WholeTerms) → absolute_total (W ++ V) ≡ absolute_total W + absolute_total V
-absolute-append [] V = omega arith
-absolute-append (t ∷ W) V = omega (arith, absolute-append W V)
 
 pub absolute-scale : (c : ℤ) (W : WholeTerms) → absolute_total (scale c W) ≡ nat_abs c * absolute_total W
 absolute-scale c [] = omega arith

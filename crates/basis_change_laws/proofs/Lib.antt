@@ -3,6 +3,5 @@ pub mod AugmentedMonomials
 pub mod MergedParts
 pub mod JoinedLists
 pub mod NewtonLists
-pub mod PowerLists
 pub mod GrowthBounds
 pub mod FactorialQuotients

@@ -1,9 +1,9 @@
 -- Newton's identities, coefficient by coefficient: i can be taken from as many places of α as have a number of at least i,
 -- and these add up to the size of α.
-use Rattle.std.proofs.Common.{◌≡◌, ℕ, zero, suc, ◌+◌, ◌-◌, ◌<◌, ◌≤◌, ◌⊎◌, ◌==◌, Bool, true, false, cond, ◌&&◌, List, [], ◌∷◌, map, length, nat_le, sym, ◌∙◌, ap, ap₂, subst, refl, inl, inr, arith, ℤ, pos, neg_ℤ, ◌+ℤ◌, ◌*ℤ◌}
+use Rattle.std.proofs.Common.{◌≡◌, ℕ, zero, suc, ◌+◌, ◌-◌, ◌<◌, ◌≤◌, ◌⊎◌, ◌==◌, Bool, true, false, cond, ◌&&◌, List, [], ◌∷◌, map, length, nat_le, sym, ◌∙◌, ap, ap₂, subst, refl, inl, inr, arith, ℤ, pos, neg_ℤ, ◌+ℤ◌, ◌*ℤ◌, flat_map}
 use Rattle.std.proofs.lemmas.Int.{ints}
 use Rattle.std.proofs.lemmas.Bool.{cases_lt, le-leb, lt-leb, eq-eqb, eqb-true, ne_eqb, and_parts}
-use Rattle.sym_model.specs.Sum.{total, each, Among}
+use Rattle.sym_model.specs.Sum.{total, Among}
 use Rattle.sym_model.specs.Polynomial.{Term, Same, same, coefficient, scale, times}
 use Rattle.sym_model.specs.Partition.{size, after}
 use Rattle.sym_model.specs.Bases.{monomials, at_most_one, elementary_of, complete_of, power_sum_of}
@@ -98,7 +98,7 @@ one_product test n k i α p h =
 size_of : (n k : ℕ) (α : List ℕ) → is_exponent_list n k α ≡ true → size α ≡ k
 size_of n k α e = let p = and_parts (length α == n) (size α == k) e in eqb-true (size α) k p.1
 
-pub newton_complete : (k n : ℕ) → Same (scale (pos k) (complete_of k n)) (each (λ i. times (power_sum_of i n) (complete_of (k - i) n)) (after 0 k))
+pub newton_complete : (k n : ℕ) → Same (scale (pos k) (complete_of k n)) (flat_map (λ i. times (power_sum_of i n) (complete_of (k - i) n)) (after 0 k))
 newton_complete k n α =
     coefficient_scale (pos k) (complete_of k n) α
     ∙ ap (λ x. pos k *ℤ x) (coefficient-monomials (λ β. true) n k α)
@@ -204,7 +204,7 @@ turn_inside : (b : Bool) (t x : ℤ) → t *ℤ cond b x (pos 0) ≡ cond b (t *
 turn_inside true t x = refl
 turn_inside false t x = *ℤ-zero t
 
-pub newton_elementary : (k n : ℕ) → Same (scale (pos k) (elementary_of k n)) (each (λ i. scale (minus_one_to (i - 1)) (times (power_sum_of i n) (elementary_of (k - i) n))) (after 0 k))
+pub newton_elementary : (k n : ℕ) → Same (scale (pos k) (elementary_of k n)) (flat_map (λ i. scale (minus_one_to (i - 1)) (times (power_sum_of i n) (elementary_of (k - i) n))) (after 0 k))
 newton_elementary k n α =
     coefficient_scale (pos k) (elementary_of k n) α
     ∙ ap (λ x. pos k *ℤ x) (coefficient-monomials at_most_one n k α)

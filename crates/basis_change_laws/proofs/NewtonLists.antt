@@ -1,10 +1,10 @@
 -- h_k and e_k times k! in p, in h and in e, by Newton's identities from the lists of power sums.
 --     newton-step, newton-next, newton-done      k!·G_k is the sum over i of ±(k-1)!/(k-i)!·p_i·(k-i)!·G_(k-i)
-use Rattle.std.proofs.Common.{◌≡◌, ℕ, zero, suc, ◌+◌, ◌-◌, ◌*◌, ◌^◌, ◌<◌, ◌≤◌, Bool, true, cond, List, [], ◌∷◌, replicate, refl, sym, ap, ap₂, ◌∙◌, subst, arith, ℤ, pos, neg_ℤ, ◌+ℤ◌, ◌*ℤ◌}
+use Rattle.std.proofs.Common.{◌≡◌, ℕ, zero, suc, ◌+◌, ◌-◌, ◌*◌, ◌^◌, ◌<◌, ◌≤◌, Bool, true, cond, List, [], ◌∷◌, replicate, refl, sym, ap, ap₂, ◌∙◌, subst, arith, ℤ, pos, neg_ℤ, ◌+ℤ◌, ◌*ℤ◌, filter, flat_map}
 use Rattle.std.specs.Prelude.{nat_abs}
 use Rattle.std.proofs.lemmas.Int.{ints}
 use Rattle.std.proofs.lemmas.Nat.{pow-add}
-use Rattle.sym_model.specs.Sum.{total, each, select}
+use Rattle.sym_model.specs.Sum.{total}
 use Rattle.sym_model.specs.Polynomial.{Poly, Same, In, pair, times, plus, scale, one}
 use Rattle.sym_model.specs.Partition.{after}
 use Rattle.sym_model.specs.Bases.{power_sum_of, elementary_of, complete_of, monomials, at_most_one, exponent_lists}
@@ -26,7 +26,7 @@ use lib.IntN.{+ℤ_idr}
 pub record IsNewton (G : ℕ → ℕ → Poly) (σ : ℕ → ℤ) : Type 0 where
   pub unit : (i : ℕ) → nat_abs (σ i) ≡ 1
   pub first : (n : ℕ) → Same (G 0 n) (one n)
-  pub sums : (k n : ℕ) → Same (scale (pos k) (G k n)) (each (λ i. scale (σ i) (times (power_sum_of i n) (G (k - i) n))) (after 0 k))
+  pub sums : (k n : ℕ) → Same (scale (pos k) (G k n)) (flat_map (λ i. scale (σ i) (times (power_sum_of i n) (G (k - i) n))) (after 0 k))
 
 -- ---- the two families
 
@@ -36,7 +36,7 @@ zeros_low (suc n) = zeros_low n
 
 pub one-monomials : (test : List ℕ → Bool) (n : ℕ) → test (replicate n 0) ≡ true → Same (monomials test n 0) (one n)
 one-monomials test n e = same_from_pair (monomials test n 0) (one n) (λ φ.
-    pair_monomials (select test (exponent_lists n 0)) φ
+    pair_monomials (filter test (exponent_lists n 0)) φ
     ∙ total_select φ test (exponent_lists n 0)
     ∙ total_exponent_lists-zero (λ α. cond (test α) (φ α) (pos 0)) n
     ∙ ap (λ b. cond b (φ (replicate n 0)) (pos 0)) e
@@ -61,9 +61,9 @@ newton-complete = record {
   unit = λ i. refl;
   first = λ n. one-monomials (λ α. true) n refl;
   sums = λ k n.
-      Same_trans (scale (pos k) (complete_of k n)) (each (λ i. times (power_sum_of i n) (complete_of (k - i) n)) (after 0 k)) (each (λ i. scale (pos 1) (times (power_sum_of i n) (complete_of (k - i) n))) (after 0 k))
+      Same_trans (scale (pos k) (complete_of k n)) (flat_map (λ i. times (power_sum_of i n) (complete_of (k - i) n)) (after 0 k)) (flat_map (λ i. scale (pos 1) (times (power_sum_of i n) (complete_of (k - i) n))) (after 0 k))
       (newton_complete k n)
-      (same_from_pair (each (λ i. times (power_sum_of i n) (complete_of (k - i) n)) (after 0 k)) (each (λ i. scale (pos 1) (times (power_sum_of i n) (complete_of (k - i) n))) (after 0 k)) (λ φ.
+      (same_from_pair (flat_map (λ i. times (power_sum_of i n) (complete_of (k - i) n)) (after 0 k)) (flat_map (λ i. scale (pos 1) (times (power_sum_of i n) (complete_of (k - i) n))) (after 0 k)) (λ φ.
       pair_each (λ (i : ℕ). times (power_sum_of i n) (complete_of (k - i) n)) (after 0 k) φ
       ∙ total_ext (λ (i : ℕ). pair (times (power_sum_of i n) (complete_of (k - i) n)) φ) (λ (i : ℕ). pair (scale (pos 1) (times (power_sum_of i n) (complete_of (k - i) n))) φ)
       (λ i. sym (pair_scale (pos 1) (times (power_sum_of i n) (complete_of (k - i) n)) φ ∙ one-product (pair (times (power_sum_of i n) (complete_of (k - i) n)) φ))) (after 0 k)
@@ -79,10 +79,10 @@ scale-scale x y (t ∷ W) = ap₂ ◌∷◌ (ap (λ z. (t.0, z)) (grouped x y t.
     grouped : (x y z : ℤ) → x *ℤ (y *ℤ z) ≡ (x *ℤ y) *ℤ z
     grouped x y z = simp ring (omega (arith, ints))
 
-pub each-last : (h : ℕ → Poly) (k : ℕ) → Same (plus (each h (after 0 k)) (h (suc k))) (each h (after 0 (suc k)))
-each-last h k = same_from_pair (plus (each h (after 0 k)) (h (suc k))) (each h (after 0 (suc k))) (λ φ.
+pub each-last : (h : ℕ → Poly) (k : ℕ) → Same (plus (flat_map h (after 0 k)) (h (suc k))) (flat_map h (after 0 (suc k)))
+each-last h k = same_from_pair (plus (flat_map h (after 0 k)) (h (suc k))) (flat_map h (after 0 (suc k))) (λ φ.
     let e : 0 + suc k ≡ suc k = omega arith in
-    pair_plus (each h (after 0 k)) (h (suc k)) φ
+    pair_plus (flat_map h (after 0 k)) (h (suc k)) φ
     ∙ ap (λ z. z +ℤ pair (h (suc k)) φ) (pair_each h (after 0 k) φ)
     ∙ sym (pair_each h (after 0 (suc k)) φ
     ∙ ap (total (λ (i : ℕ). pair (h i) φ)) (after-last 0 k)
@@ -128,15 +128,15 @@ module _ (P : ℕ → ℕ → Poly) (places : (n k : ℕ) → In n (P k n)) (G :
       grouped c x f y = omega arith
 
   -- one term more
-  pub newton-next : (k j A : ℕ) (S T : WholeTerms) → Stands P (factorial (k - 1)) (j * A) k (λ n. each (newton_term G σ k n) (after 0 j)) S
-      → Stands P (factorial (k - 1)) A k (λ n. newton_term G σ k n (suc j)) T → Stands P (factorial (k - 1)) (suc j * A) k (λ n. each (newton_term G σ k n) (after 0 (suc j))) (plus S T)
+  pub newton-next : (k j A : ℕ) (S T : WholeTerms) → Stands P (factorial (k - 1)) (j * A) k (λ n. flat_map (newton_term G σ k n) (after 0 j)) S
+      → Stands P (factorial (k - 1)) A k (λ n. newton_term G σ k n (suc j)) T → Stands P (factorial (k - 1)) (suc j * A) k (λ n. flat_map (newton_term G σ k n) (after 0 (suc j))) (plus S T)
   newton-next k j A S T h g =
-      stands-same P (factorial (k - 1)) (suc j * A) k (λ n. plus (each (newton_term G σ k n) (after 0 j)) (newton_term G σ k n (suc j))) (λ n. each (newton_term G σ k n) (after 0 (suc j))) (plus S T)
+      stands-same P (factorial (k - 1)) (suc j * A) k (λ n. plus (flat_map (newton_term G σ k n) (after 0 j)) (newton_term G σ k n (suc j))) (λ n. flat_map (newton_term G σ k n) (after 0 (suc j))) (plus S T)
       (λ n. each-last (newton_term G σ k n) j)
-      (stands-plus P (factorial (k - 1)) (j * A) A (suc j * A) k (λ n. each (newton_term G σ k n) (after 0 j)) (λ n. newton_term G σ k n (suc j)) S T h g (omega arith))
+      (stands-plus P (factorial (k - 1)) (j * A) A (suc j * A) k (λ n. flat_map (newton_term G σ k n) (after 0 j)) (λ n. newton_term G σ k n (suc j)) S T h g (omega arith))
 
   -- all of them
-  pub newton-done : (k : ℕ) (S : WholeTerms) → 0 < k → Stands P (factorial (k - 1)) (k * (factorial (k - 1) * 2 ^ k)) k (λ n. each (newton_term G σ k n) (after 0 k)) S
+  pub newton-done : (k : ℕ) (S : WholeTerms) → 0 < k → Stands P (factorial (k - 1)) (k * (factorial (k - 1) * 2 ^ k)) k (λ n. flat_map (newton_term G σ k n) (after 0 k)) S
       → Stands P (factorial k) (factorial k * 2 ^ k) k (λ n. G k n) S
   newton-done zero S p h = absurd (omega arith)
   newton-done (suc j) S p h =
@@ -145,8 +145,8 @@ module _ (P : ℕ → ℕ → Poly) (places : (n k : ℕ) → In n (P k n)) (G :
       let b : suc j * (factorial (suc j - 1) * 2 ^ suc j) ≡ factorial (suc j) * 2 ^ suc j = grouped (suc j) (factorial (suc j - 1)) (2 ^ suc j) ∙ ap (λ x. x * 2 ^ suc j) f in
       subst (λ m. Stands P (factorial (suc j)) m (suc j) (λ n. G (suc j) n) S) b
       (stands-divided P (factorial (suc j - 1)) (factorial (suc j)) (suc j * (factorial (suc j - 1) * 2 ^ suc j)) (suc j) (suc j) (λ n. G (suc j) n) S
-      (stands-same P (factorial (suc j - 1)) (suc j * (factorial (suc j - 1) * 2 ^ suc j)) (suc j) (λ n. each (newton_term G σ (suc j) n) (after 0 (suc j))) (λ n. scale (pos (suc j)) (G (suc j) n)) S
-      (λ n. Same_sym (scale (pos (suc j)) (G (suc j) n)) (each (newton_term G σ (suc j) n) (after 0 (suc j))) (is.sums (suc j) n)) h)
+      (stands-same P (factorial (suc j - 1)) (suc j * (factorial (suc j - 1) * 2 ^ suc j)) (suc j) (λ n. flat_map (newton_term G σ (suc j) n) (after 0 (suc j))) (λ n. scale (pos (suc j)) (G (suc j) n)) S
+      (λ n. Same_sym (scale (pos (suc j)) (G (suc j) n)) (flat_map (newton_term G σ (suc j) n) (after 0 (suc j))) (is.sums (suc j) n)) h)
       f)
     where
       grouped : (a b c : ℕ) → a * (b * c) ≡ (a * b) * c

@@ -1,6 +1,5 @@
--- Lists of terms in a basis that is multiplied over the parts of its labels (this project's own).
-use Rattle.std.specs.Prelude.{◌≡◌, ℕ, ◌≤◌, ℤ, pos, ◌*ℤ◌, List, [], ◌∷◌, map}
-use Rattle.sym_model.specs.Sum.{each}
+-- Lists of terms in a basis that is multiplied over the parts of its labels.
+use Rattle.std.specs.Prelude.{◌≡◌, ℕ, ◌≤◌, ℤ, pos, ◌*ℤ◌, List, [], ◌∷◌, map, flat_map}
 use Rattle.sym_model.specs.Polynomial.{Poly, pair}
 use Rattle.sym_model.specs.Partition.{IsPartition, size, insert_part}
 use Rattle.sym_model.specs.Bases.{product_over}
@@ -17,16 +16,18 @@ row parts z V = map (λ (t : List ℕ × ℤ). (merged parts t.0, z *ℤ t.1)) V
 
 -- the product of two lists
 abbrev pub joined : WholeTerms → WholeTerms → WholeTerms
-joined W V = each (λ (s : List ℕ × ℤ). row s.0 s.1 V) W
+joined W V = flat_map (λ (s : List ℕ × ℤ). row s.0 s.1 V) W
 
 -- a partition of at most d cells
 pub record IsLow (d : ℕ) (label : List ℕ) : Type 0 where
   pub partition : IsPartition label
   pub low : size label ≤ d
 
--- The list is q times f in every number of variables, its labels read as products over their parts of the polynomials P; the
--- absolute values of its coefficients add up to at most `most`, and no label has more than d cells.
+-- The list is q times f in every number of variables, its labels read as products over their parts
+-- of the polynomials P; the absolute values of its coefficients add up to at most `most`, and no
+-- label has more than d cells.
 pub record Stands (P : ℕ → ℕ → Poly) (q most d : ℕ) (f : ℕ → Poly) (W : WholeTerms) : Type 0 where
-  pub value : (n : ℕ) (φ : List ℕ → ℤ) → pair W (λ label. pair (product_over P label n) φ) ≡ pos q *ℤ pair (f n) φ
+  pub value : (n : ℕ) (φ : List ℕ → ℤ)
+      → pair W (λ label. pair (product_over P label n) φ) ≡ pos q *ℤ pair (f n) φ
   pub few : absolute_total W ≤ most
   pub labels : EachLabel (IsLow d) W

@@ -1,21 +1,22 @@
 //! Augmented monomial symmetric polynomials.
 
-ghost use Rattle.std.specs.Prelude.{◌≡◌, ℕ, ◌<◌, List, [], ◌∷◌};
-ghost use Rattle.sym_model.specs.Sum.{each};
+ghost use Rattle.std.specs.Prelude.{◌≡◌, ℕ, ◌<◌, List, [], ◌∷◌, flat_map};
 ghost use Rattle.sym_model.specs.Polynomial.{Same, plus, times};
 ghost use Rattle.sym_model.specs.Partition.{IsPartition, insert_part};
 ghost use Rattle.sym_model.specs.Bases.{power_sum_of};
 ghost use Rattle.sym_model.specs.RaisedPart.{raise};
 ghost use Rattle.basis_change_laws.specs.AugmentedMonomial.{multiplicity_factorials, augmented};
 
-/// p_a times the augmented monomial symmetric polynomial of λ is that of λ with a part a put in, and
-/// for each part b of λ, taken as often as it stands there, that of λ with b made a + b, in every
-/// number of variables. So the one with the part a put in is a combination of those with fewer parts.
+/// p_a times the augmented monomial symmetric polynomial of λ is that of λ with a part a put in,
+/// and for each part b of λ, taken as often as it stands there, that of λ with b made a + b, in
+/// every number of variables. So the one with the part a put in is a combination of those with
+/// fewer parts.
 ///
 /// Example: p_1 times the augmented m_(1), which is m_(1), is 2·m_(1,1) + m_(2).
 pub fn augmented_monomial_law()
     ensures power_sum { (a n : ℕ) (parts : List ℕ) → 0 < a → IsPartition parts
         → Same (times (power_sum_of a n) (augmented parts n))
-        (plus (augmented (insert_part a parts) n) (each (λ b. augmented (raise a b parts) n) parts)) }
+        (plus (augmented (insert_part a parts) n)
+        (flat_map (λ b. augmented (raise a b parts) n) parts)) }
     ensures factorials { multiplicity_factorials (3 ∷ 1 ∷ 1 ∷ 1 ∷ []) ≡ 6 }
 {}

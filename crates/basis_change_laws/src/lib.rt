@@ -1,7 +1,6 @@
 //! Laws of the changes between bases of symmetric functions, each in every number of variables.
 //!
-//! A law function takes nothing, answers nothing and does no work when it runs: its contract is
-//! the law.
+//! A law function has an empty body: its contract is the law.
 //!
 //! What is proved:
 //!

@@ -1,4 +1,5 @@
-//! Expressions expanded in a basis: the calls of `expand_in_monomials` and `expand_in_schurs`, passed on.
+//! Expressions expanded in a basis: the calls of `expand_in_monomials` and `expand_in_schurs`,
+//! passed on.
 #![tactic(auto)]
 
 pub use expand_in_monomials::to_monomial;

@@ -1,23 +1,17 @@
 -- The lines of a text, line by line, and the blocks of a batch, block by block.
-use Rattle.std.proofs.Common.{◌≡◌, ℕ, ◌==◌, ◌<◌, Bool, true, false, ◌&&◌, cond, List, [], ◌∷◌, ◌++◌, append_assoc, length, refl, sym, ap, ◌∙◌, arith, Some, ◌⊎◌, inl, inr, subst}
+use Rattle.std.proofs.Common.{◌≡◌, ℕ, ◌==◌, ◌<◌, Bool, true, false, ◌&&◌, cond, List, [], ◌∷◌, ◌++◌, append_assoc, length, refl, sym, ap, ◌∙◌, Some}
 use Rattle.std.specs.Prelude.{codes}
 use Rattle.std.proofs.lemmas.Bool.{lt-ltb, ne_eqb}
-use Rattle.std.proofs.lemmas.List.{append-nil}
 use Rattle.sym_model.specs.BatchLine.{BatchLine, too_long, passed_over, spoken, is_some_text, lines_of, batch_line, most_bytes, line_of_words, words_of_line, without_return}
 use Rattle.sym_model.specs.BatchOutcome.{Block, AreBlocks, batch_text, is_done, are_done}
 use Rattle.sym_model.specs.Entry.{Entry}
 use Rattle.sym_model.specs.NumberText.{split_at, before_first}
 use Rattle.batch_lines.specs.Feeds.{HasNoFeed}
-use Rattle.calc_base.specs.Source.{SourceSeen}
-use Rattle.batch_lines.specs.Reading.{Took, EndsAtFeed, EndsAtEnd, ReadsNext}
-use Rattle.batch_lines.specs.declared.next.Next.TheVariants.{Line, TooLong, End}
-
-abbrev Texts : Type 0
-Texts = List (List ℕ)
+use Rattle.batch_lines.specs.Reading.{Took}
 
 -- ---- the lines of a text
 
-abbrev whole_lines : Texts → Texts
+abbrev whole_lines : List (List ℕ) → List (List ℕ)
 whole_lines [] = []
 whole_lines (piece ∷ []) = cond (is_some_text piece) (piece ∷ []) []
 whole_lines (piece ∷ next ∷ pieces) = piece ∷ whole_lines (next ∷ pieces)
@@ -25,11 +19,11 @@ whole_lines (piece ∷ next ∷ pieces) = piece ∷ whole_lines (next ∷ pieces
 lines_are : (text : List ℕ) → lines_of text ≡ whole_lines (split_at 10 text)
 lines_are text = refl
 
-split_some : (text : List ℕ) → (p : List ℕ) × (ps : Texts) × (split_at 10 text ≡ p ∷ ps)
+split_some : (text : List ℕ) → (p : List ℕ) × (ps : List (List ℕ)) × (split_at 10 text ≡ p ∷ ps)
 split_some [] = ([], [], refl)
 split_some (b ∷ text) = by (b == 10) refl (split_some text)
   where
-    by : (t : Bool) → (b == 10) ≡ t → (p : List ℕ) × (ps : Texts) × (split_at 10 text ≡ p ∷ ps) → (p : List ℕ) × (ps : Texts) × (split_at 10 (b ∷ text) ≡ p ∷ ps)
+    by : (t : Bool) → (b == 10) ≡ t → (p : List ℕ) × (ps : List (List ℕ)) × (split_at 10 text ≡ p ∷ ps) → (p : List ℕ) × (ps : List (List ℕ)) × (split_at 10 (b ∷ text) ≡ p ∷ ps)
     by true e r = ([], split_at 10 text, ap (λ x. cond x ([] ∷ split_at 10 text) (before_first b (split_at 10 text))) e)
     by false e r =
         (b ∷ r.0, r.1, ap (λ x. cond x ([] ∷ split_at 10 text) (before_first b (split_at 10 text))) e ∙ ap (before_first b) r.2)
@@ -56,68 +50,13 @@ pub line_last : (text : List ℕ) → HasNoFeed text → 0 < length text → lin
 line_last text h l =
     lines_are text ∙ ap whole_lines (split_one text h) ∙ ap (λ t. cond t (text ∷ []) []) (lt-ltb 0 (length text) l)
 
--- ---- what is read of a source that tells its bytes
+-- ---- what is read of a source that records its bytes
 
 pub told : (all rest taken : List ℕ) → Took (Some all) (Some rest) taken → all ≡ taken ++ rest
 told all rest taken h = h
 
-at_feed : (pending all rest taken text behind : List ℕ) → all ≡ taken ++ rest → pending ++ taken ≡ text ++ 10 ∷ behind → HasNoFeed text
-    → lines_of (pending ++ all) ≡ text ∷ lines_of (behind ++ rest)
-at_feed pending all rest taken text behind a e h =
-    ap lines_of (ap (λ xs. pending ++ xs) a ∙ sym (append_assoc pending taken rest) ∙ ap (λ xs. xs ++ rest) e ∙ append_assoc text (10 ∷ behind) rest)
-    ∙ line_first text (behind ++ rest) h
-
-at_end : (pending all rest taken text behind : List ℕ) → all ≡ taken ++ rest → EndsAtEnd (pending ++ taken) text behind (Some rest)
-    → (pending ++ all ≡ text) × (behind ++ rest ≡ [])
-at_end pending all rest taken text behind a e = (
-  ap (λ xs. pending ++ xs) (a ∙ ap (λ xs. taken ++ xs) e.none_left ∙ append-nil taken) ∙ e.whole,
-  ap (λ xs. xs ++ rest) e.none_pending ∙ e.none_left,
-)
-
-either_way : (pending all rest taken text behind : List ℕ) → all ≡ taken ++ rest → HasNoFeed text → 0 < length text
-    → EndsAtFeed (pending ++ taken) text behind ⊎ EndsAtEnd (pending ++ taken) text behind (Some rest) → lines_of (pending ++ all) ≡ text ∷ lines_of (behind ++ rest)
-either_way pending all rest taken text behind a h l (inl e) = at_feed pending all rest taken text behind a e h
-either_way pending all rest taken text behind a h l (inr e) =
-    let x = at_end pending all rest taken text behind a e in
-    ap lines_of x.0 ∙ line_last text h l ∙ ap (λ ls. text ∷ lines_of ls) (sym x.1)
-
--- what was taken of a source that tells its bytes
-took_told : (before now : SourceSeen) (all rest taken : List ℕ) → before.left ≡ Some all → now.left ≡ Some rest → Took before.left now.left taken
-    → Took (Some all) (Some rest) taken
-took_told before now all rest taken was is took =
-    subst (λ left. Took (Some all) left taken) is (subst (λ left. Took left now.left taken) was took)
-
-pub read_line : (before now : SourceSeen) (all rest pending behind line : List ℕ) (ended : Bool) → before.left ≡ Some all → now.left ≡ Some rest
-    → ReadsNext before now pending behind line ended Line
-    → lines_of (pending ++ all) ≡ line ∷ lines_of (behind ++ rest)
-read_line before now all rest pending behind line ended was is r = by r.is_next.2 ∙ ap (λ t. t ∷ lines_of (behind ++ rest)) (sym r.is_next.0)
-  where
-    took : all ≡ r.taken ++ rest
-    took = told all rest r.taken (took_told before now all rest r.taken was is r.took)
-
-    by : EndsAtFeed (pending ++ r.taken) r.text behind ⊎ (EndsAtEnd (pending ++ r.taken) r.text behind now.left × (0 < length r.text))
-        → lines_of (pending ++ all) ≡ r.text ∷ lines_of (behind ++ rest)
-    by (inl e) = at_feed pending all rest r.taken r.text behind took e r.no_feed
-    by (inr e) = either_way pending all rest r.taken r.text behind took r.no_feed e.1 (inr (subst (EndsAtEnd (pending ++ r.taken) r.text behind) is e.0))
-
 pub long_is : (text : List ℕ) → most_bytes < length text → batch_line text ≡ too_long
 long_is text h = ap (λ t. cond t too_long (line_of_words (words_of_line (without_return text)))) (lt-ltb most_bytes (length text) h)
-
-pub read_long : (before now : SourceSeen) (all rest pending behind line : List ℕ) (ended : Bool) → before.left ≡ Some all → now.left ≡ Some rest
-    → ReadsNext before now pending behind line ended TooLong
-    → (text : List ℕ) × (batch_line text ≡ too_long) × (lines_of (pending ++ all) ≡ text ∷ lines_of (behind ++ rest))
-read_long before now all rest pending behind line ended was is r =
-    let l = r.is_next.0 in
-    let ends = subst (λ left. EndsAtFeed (pending ++ r.taken) r.text behind ⊎ EndsAtEnd (pending ++ r.taken) r.text behind left) is r.is_next.1 in
-    (r.text, long_is r.text l, either_way pending all rest r.taken r.text behind (told all rest r.taken (took_told before now all rest r.taken was is r.took)) r.no_feed (omega (arith, l)) ends)
-
-pub read_end : (before now : SourceSeen) (all rest pending behind line : List ℕ) (ended : Bool) → before.left ≡ Some all → now.left ≡ Some rest
-    → ReadsNext before now pending behind line ended End
-    → (pending ++ all ≡ []) × (behind ++ rest ≡ [])
-read_end before now all rest pending behind line ended was is r =
-    let x = at_end pending all rest r.taken r.text behind (told all rest r.taken (took_told before now all rest r.taken was is r.took))
-    (subst (EndsAtEnd (pending ++ r.taken) r.text behind) is r.is_next.1) in
-    (x.0 ∙ r.is_next.0, x.1)
 
 -- ---- blocks
 
@@ -130,9 +69,6 @@ more_blocks entries (too_long ∷ lines) more [] others h k = absurd h
 more_blocks entries (too_long ∷ lines) more (b ∷ blocks) others h k = (h.0, more_blocks entries lines more blocks others h.1 k)
 more_blocks entries (spoken words ∷ lines) more [] others h k = absurd h
 more_blocks entries (spoken words ∷ lines) more (b ∷ blocks) others h k = (h.0, more_blocks entries lines more blocks others h.1 k)
-
-pub one_text : (b : Block) → batch_text (b ∷ []) ≡ b.0
-one_text b = refl
 
 pub more_text : (first : Block) (blocks : List Block) (b : Block) → batch_text ((first ∷ blocks) ++ b ∷ []) ≡ batch_text (first ∷ blocks) ++ (codes "--\n" ++ b.0)
 more_text first [] b = refl

@@ -1,8 +1,7 @@
 -- The words of a line, piece by piece.
-use Rattle.std.proofs.Common.{◌≡◌, ◌≤◌, ◌<◌, ℕ, zero, suc, ◌+◌, ◌-◌, min, max, List, [], ◌∷◌, ◌++◌, append_assoc, append-nil, map, length, refl, sym, ap, ◌∙◌, arith}
+use Rattle.std.proofs.Common.{◌≡◌, ◌≤◌, ◌<◌, ℕ, zero, suc, ◌+◌, ◌-◌, min, max, List, [], ◌∷◌, ◌++◌, append_assoc, append-nil, map, length, refl, sym, ap, ◌∙◌, arith, flat_map}
 use Rattle.std.specs.Prelude.{codes, decimal}
 use Rattle.std.proofs.lemmas.Fmt.{length-decimal-le}
-use Rattle.sym_model.specs.Sum.{each}
 use Rattle.sym_model.specs.TableauText.{separated}
 use Rattle.sym_model.specs.Permutation.{letters_by_code}
 use Rattle.sym_model.specs.PlaceOrders.{places}
@@ -12,25 +11,23 @@ use Rattle.batch_lines.specs.Parts.{behind_spaces, past}
 pub one_digit : (n : ℕ) → n < 10 → length (decimal n) ≤ 1
 one_digit n h = length-decimal-le 1 n (omega arith) h (omega (arith, h))
 
--- ---- three numbers that fall, without the zeros at their end
-
--- ---- words with a space between them are a word and further ones behind spaces
+-- ---- words with a space between them are a word and further ones after spaces
 
 abbrev pub word : ℕ → List ℕ
 word n = codes " " ++ decimal n
 
-spaced : (first : List ℕ) (words : List (List ℕ)) → separated (codes " ") (first ∷ words) ≡ first ++ each (λ w. codes " " ++ w) words
+spaced : (first : List ℕ) (words : List (List ℕ)) → separated (codes " ") (first ∷ words) ≡ first ++ flat_map (λ w. codes " " ++ w) words
 spaced first [] = sym (append-nil first)
 spaced first (w ∷ words) =
     ap (λ t. first ++ (codes " " ++ t)) (spaced w words)
-    ∙ ap (λ t. first ++ t) (sym (append_assoc (codes " ") w (each (λ v. codes " " ++ v) words)))
+    ∙ ap (λ t. first ++ t) (sym (append_assoc (codes " ") w (flat_map (λ v. codes " " ++ v) words)))
 
-each_numbers : (numbers : List ℕ) (more : List (List ℕ)) → each (λ w. codes " " ++ w) (map decimal numbers ++ more)
-    ≡ behind_spaces numbers ++ each (λ w. codes " " ++ w) more
+each_numbers : (numbers : List ℕ) (more : List (List ℕ)) → flat_map (λ w. codes " " ++ w) (map decimal numbers ++ more)
+    ≡ behind_spaces numbers ++ flat_map (λ w. codes " " ++ w) more
 each_numbers [] more = refl
 each_numbers (n ∷ numbers) more =
     ap (λ t. (codes " " ++ decimal n) ++ t) (each_numbers numbers more)
-    ∙ sym (append_assoc (codes " " ++ decimal n) (behind_spaces numbers) (each (λ w. codes " " ++ w) more))
+    ∙ sym (append_assoc (codes " " ++ decimal n) (behind_spaces numbers) (flat_map (λ w. codes " " ++ w) more))
 
 -- a name, numbers, a sign and other numbers
 pub between_text : (name sign : List ℕ) (first second : List ℕ)
@@ -41,7 +38,7 @@ between_text name sign first second =
     ∙ ap (λ t. name ++ t) (each_numbers first (sign ∷ map decimal second))
     ∙ ap (λ t. name ++ (behind_spaces first ++ ((codes " " ++ sign) ++ t))) (last second)
   where
-    last : (numbers : List ℕ) → each (λ w. codes " " ++ w) (map decimal numbers) ≡ behind_spaces numbers
+    last : (numbers : List ℕ) → flat_map (λ w. codes " " ++ w) (map decimal numbers) ≡ behind_spaces numbers
     last [] = refl
     last (n ∷ numbers) = ap (λ t. (codes " " ++ decimal n) ++ t) (last numbers)
 

@@ -1,4 +1,4 @@
--- How far a batch is, and how it ends (this project's own).
+-- How far a batch is, and how it ends.
 use Rattle.std.specs.Prelude.{◌≡◌, ℕ, List, [], Bool, true, false, ◌&&◌, codes, cond}
 use Rattle.calc_base.specs.declared.status.Status.{Status}
 use Rattle.calc_base.specs.declared.status.Status.TheVariants as status
@@ -6,7 +6,8 @@ use Rattle.calc_base.specs.Puts.{Puts}
 use Rattle.calc_base.specs.Sink.{SinkSeen}
 use Rattle.batch_lines.specs.declared.progress.Progress.{Progress}
 
--- what stands in front of a block: nothing in front of the first one, and the line `--` in front of the others
+-- what stands in front of a block: nothing in front of the first one,
+-- and the line `--` in front of the others
 abbrev pub separator : Bool → List ℕ
 separator true = []
 separator false = codes "--\n"
@@ -24,7 +25,8 @@ is_done_status status.NoMemory = false
 
 -- how far a batch is, after one block more
 abbrev pub progress_after : Progress → Status → Progress
-progress_after progress answer = record { is_first = false; is_done = progress.is_done && is_done_status answer }
+progress_after progress answer =
+    record { is_first = false; is_done = progress.is_done && is_done_status answer }
 
 -- the status at the end, where neither the source nor the sink fails
 abbrev pub end_status : Progress → Status

@@ -1,4 +1,4 @@
--- Texts without a line feed (this project's own).
+-- Texts without a line feed.
 use Rattle.std.specs.Prelude.{◌≡◌, ℕ, List, [], ◌∷◌}
 
 -- no byte is a line feed

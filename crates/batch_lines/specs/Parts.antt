@@ -1,12 +1,12 @@
--- The numbers of a line of `work`, as they are drawn and written (this project's own).
+-- The numbers of a line of `work`, as they are drawn and written.
 use Rattle.std.specs.Prelude.{ℕ, ◌+◌, ◌≤◌, nat_le, cond, List, [], ◌∷◌, ◌++◌, codes, decimal}
-use Rattle.sym_model.specs.Sum.{each}
+use Rattle.std.specs.Prelude.{flat_map}
 use Rattle.sym_model.specs.Workload.{drawn}
 use Rattle.batch_lines.specs.declared.draws.Parts.{Parts}
 
--- numbers, each behind a space
+-- numbers, each after a space
 abbrev pub behind_spaces : List ℕ → List ℕ
-behind_spaces numbers = each (λ n. codes " " ++ decimal n) numbers
+behind_spaces numbers = flat_map (λ n. codes " " ++ decimal n) numbers
 
 -- three numbers that fall, each below 10
 pub record AreFalling (p : Parts) : Type 0 where

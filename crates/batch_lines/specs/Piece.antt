@@ -1,4 +1,4 @@
--- What is kept of a piece of bytes (this project's own).
+-- What is kept of a piece of bytes.
 use Rattle.std.specs.Prelude.{ℕ, ◌≤◌, List, length}
 
 -- a part of the bytes from one place to another

@@ -1,5 +1,6 @@
--- What a reader of lines has, and what it is to read the next line (this project's own).
-use Rattle.std.specs.Prelude.{◌≡◌, ◌⊎◌, ◌<◌, ◌≤◌, ℕ, ◌+◌, Bool, true, false, List, [], ◌∷◌, ◌++◌, length, Option, IfSome, Result, Ok, Err}
+-- What a reader of lines has, and what it is to read the next line.
+use Rattle.std.specs.Prelude.{◌≡◌, ◌⊎◌, ◌<◌, ◌≤◌, ℕ, ◌+◌, Bool, true, false, List, [], ◌∷◌, ◌++◌}
+use Rattle.std.specs.Prelude.{length, Option, IfSome, Result, Ok, Err}
 use Rattle.std.specs.Io.KnownBytes.{Consumes}
 use Rattle.sym_model.specs.BatchLine.{most_bytes}
 use Rattle.calc_base.specs.Fault.{Rose}
@@ -14,7 +15,8 @@ use Rattle.batch_lines.specs.declared.next.LineFault.TheVariants.{SourceFault, N
 abbrev pub most_pending : ℕ
 most_pending = 4096
 
--- the bytes that were taken from the source and not yet read, the last line, and whether the source was found at its end
+-- the bytes that were taken from the source and not yet read, the last line,
+-- and whether the source was found at its end
 pub record Reading : Type 0 where
   pub pending : List ℕ
   pub line : List ℕ
@@ -24,7 +26,7 @@ pub record Reading : Type 0 where
 abbrev pub Took : Option (List ℕ) → Option (List ℕ) → List ℕ → Type 0
 Took before now taken = Consumes before now taken
 
--- the bytes are the text of a line without its line feed, and what stands behind that
+-- the bytes are the text of a line without its line feed, and what comes after that
 abbrev pub EndsAtFeed : List ℕ → List ℕ → List ℕ → Type 0
 EndsAtFeed all text pending = all ≡ text ++ 10 ∷ pending
 
@@ -44,15 +46,19 @@ abbrev pub EndsBy : Bool → (all text pending : List ℕ) → Option (List ℕ)
 EndsBy false all text pending left = EndsAtFeed all text pending
 EndsBy true all text pending left = EndsAtEnd all text pending left
 
--- what is read next: a line of at most 4,096 bytes, one with more, or none; the last line is one only where it has a byte
+-- what is read next: a line of at most 4,096 bytes, one with more, or none; the last line is one
+-- only where it has a byte
 abbrev pub IsNext : Next → (all text pending : List ℕ) → Option (List ℕ) → (line : List ℕ) → Type 0
 IsNext Line all text pending left line =
-    (line ≡ text) × (length text ≤ most_bytes) × (EndsAtFeed all text pending ⊎ (EndsAtEnd all text pending left × (0 < length text)))
-IsNext TooLong all text pending left line = (most_bytes < length text) × (EndsAtFeed all text pending ⊎ EndsAtEnd all text pending left)
+    (line ≡ text) × (length text ≤ most_bytes)
+    × (EndsAtFeed all text pending ⊎ (EndsAtEnd all text pending left × (0 < length text)))
+IsNext TooLong all text pending left line =
+    (most_bytes < length text) × (EndsAtFeed all text pending ⊎ EndsAtEnd all text pending left)
 IsNext End all text pending left line = (text ≡ []) × EndsAtEnd all text pending left
 
 -- these bytes were taken, and of them and those that were pending the next line was read
-pub record ReadsNext (before now : SourceSeen) (pending left_pending line : List ℕ) (has_ended : Bool) (next : Next) : Type 0 where
+pub record ReadsNext (before now : SourceSeen) (pending left_pending line : List ℕ)
+    (has_ended : Bool) (next : Next) : Type 0 where
   pub taken : List ℕ
   pub took : Took before.left now.left taken
   pub spent : now.allowance + length taken ≤ before.allowance
@@ -85,7 +91,9 @@ pub record TookPart (before now : Option (List ℕ)) (pending : List ℕ) : Type
   pub no_feed : HasNoFeed (pending ++ taken)
 
 -- where a fault of the source came, it was not at its end, and no line ends in what was taken
-abbrev pub CutsLine : (before now : Option (List ℕ)) → List ℕ → (had_ended : Bool) → Result Next LineFault → Type 0
+abbrev pub CutsLine : (before now : Option (List ℕ)) → List ℕ → (had_ended : Bool)
+    → Result Next LineFault → Type 0
 CutsLine before now pending had_ended (Ok next) = Unit {0}
-CutsLine before now pending had_ended (Err SourceFault) = (had_ended ≡ false) × TookPart before now pending
+CutsLine before now pending had_ended (Err SourceFault) =
+    (had_ended ≡ false) × TookPart before now pending
 CutsLine before now pending had_ended (Err NoMemory) = Unit {0}

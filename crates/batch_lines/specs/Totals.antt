@@ -1,4 +1,4 @@
--- The sums over blocks (this project's own).
+-- The sums over blocks.
 use Rattle.std.specs.Prelude.{ℕ, ◌+◌, ◌*◌, ◌^◌, ◌≤◌, List, ◌++◌, map, length, codes, decimal}
 use Rattle.sym_model.specs.Partition.{size}
 use Rattle.sym_model.specs.Workload.{terms_in}
@@ -6,11 +6,17 @@ use Rattle.batch_lines.specs.declared.sums.Sums.{Sums}
 
 -- the sums over blocks: how many blocks, terms and bytes there are
 abbrev pub sums_over : List (List ℕ) → Sums
-sums_over blocks = record { lines = length blocks; terms = size (map terms_in blocks); bytes = size (map length blocks) }
+sums_over blocks =
+    record {
+      lines = length blocks;
+      terms = size (map terms_in blocks);
+      bytes = size (map length blocks);
+    }
 
 -- sums with one block more
 abbrev pub sums_with : Sums → List ℕ → Sums
-sums_with s block = record { lines = s.lines + 1; terms = s.terms + terms_in block; bytes = s.bytes + length block }
+sums_with s block =
+    record { lines = s.lines + 1; terms = s.terms + terms_in block; bytes = s.bytes + length block }
 
 -- no more terms and bytes than so many blocks in memory can have
 pub record AreSmall (s : Sums) : Type 0 where
@@ -22,4 +28,5 @@ abbrev pub sums_text : Sums → List ℕ
 sums_text s =
     codes "lines "
     ++ (decimal s.lines
-    ++ (codes "\nterms " ++ (decimal s.terms ++ (codes "\nbytes " ++ (decimal s.bytes ++ codes "\n")))))
+    ++ (codes "\nterms " ++ (decimal s.terms
+    ++ (codes "\nbytes " ++ (decimal s.bytes ++ codes "\n")))))

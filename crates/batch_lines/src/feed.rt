@@ -5,7 +5,8 @@ ghost use Rattle.batch_lines.specs.Feeds.{HasNoFeed};
 /// The place of the first line feed.
 pub(crate) fn first_feed(bytes: &[u8]) -> Option<usize>
     ensures { MatchOption result (HasNoFeed bytes.now)
-        (λ at. (at < length bytes.now) × HasNoFeed (take at bytes.now) × (slice_index bytes.now at ≡ 10)) }
+        (λ at. (at < length bytes.now) × HasNoFeed (take at bytes.now)
+        × (slice_index bytes.now at ≡ 10)) }
 {
     for (at, byte) in bytes.iter().enumerate() {
         if *byte == b'\n' {

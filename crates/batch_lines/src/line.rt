@@ -1,17 +1,19 @@
 //! One line.
 
 ghost use Rattle.std.specs.Prelude.{◌≡◌, ◌≤◌, ◌<◌, ◌++◌, [], length};
-ghost use Rattle.sym_model.specs.Workload.{work_line as line_from, after_line, after_draws, partition_drawn};
+ghost use Rattle.sym_model.specs.Workload.{work_line as line_from, after_line, after_draws};
+ghost use Rattle.sym_model.specs.Workload.{partition_drawn};
 ghost use Rattle.batch_lines.specs.Parts.{behind_spaces};
 
 use crate::LineBuf;
 use crate::draws::{draw_below, draw_parts};
 use crate::numbers::{put_list, put_partition, put_permutation};
 
-/// Writes the line that begins at the state, and moves the state on to the next one. No memory is taken.
+/// Writes the line that begins at the state, and moves the state on to the next one. No memory is
+/// taken.
 ///
-/// A draw modulo 5 picks the command, `mult`, `skew`, `coprod`, `schubmult` or `expand p m[..]`, and further draws its
-/// partitions, of at most three parts, or its permutations of four letters. (The generator is this project's own.)
+/// A draw modulo 5 picks the command, `mult`, `skew`, `coprod`, `schubmult` or `expand p m[..]`,
+/// and further draws its partitions, of at most three parts, or its permutations of four letters.
 pub fn work_line(state: &mut u32, out: &mut LineBuf)
     requires { state.old ≤ 65536 }
     ensures line { out.new ≡ line_from state.old }

@@ -11,7 +11,7 @@ ghost use Rattle.batch_lines.specs.Parts.{AreFalling, behind_spaces, numbers_of,
 use crate::LineBuf;
 use crate::draws::{Parts, draw_below, draw_parts};
 
-/// Draws a partition and appends its parts, each behind a space.
+/// Draws a partition and appends its parts, each after a space.
 pub(crate) fn put_partition(state: &mut u32, modulus: u8, out: &mut LineBuf)
     requires within { state.old ≤ 65536 }
     requires some { 0 < modulus }
@@ -26,7 +26,7 @@ pub(crate) fn put_partition(state: &mut u32, modulus: u8, out: &mut LineBuf)
     put_parts(parts, out);
 }
 
-/// Appends the parts that are not 0, each behind a space.
+/// Appends the parts that are not 0, each after a space.
 fn put_parts(parts: Parts, out: &mut LineBuf)
     requires falling { AreFalling parts }
     requires room { length out.old ≤ 58 }
@@ -70,11 +70,12 @@ pub(crate) fn put_list(parts: Parts, out: &mut LineBuf)
     out.put_digit(parts.third);
 }
 
-/// Draws a code of four letters and appends the letters of its permutation, each behind a space.
+/// Draws a code of four letters and appends the letters of its permutation, each after a space.
 pub(crate) fn put_permutation(state: &mut u32, out: &mut LineBuf)
     requires within { state.old ≤ 65536 }
     requires room { length out.old ≤ 56 }
-    ensures text { out.new ≡ out.old ++ behind_spaces (letters_by_code (code_drawn state.old) (places 4)) }
+    ensures text { out.new ≡ out.old
+        ++ behind_spaces (letters_by_code (code_drawn state.old) (places 4)) }
     ensures short { length out.new ≤ length out.old + 8 }
     ensures moved { state.new ≡ after_draws 3 state.old }
     ensures still_within { state.new ≤ 65536 }
@@ -85,13 +86,14 @@ pub(crate) fn put_permutation(state: &mut u32, out: &mut LineBuf)
     put_letters(first, second, third, out);
 }
 
-/// Appends the letters of the permutation with this code, each behind a space.
+/// Appends the letters of the permutation with this code, each after a space.
 fn put_letters(first: u8, second: u8, third: u8, out: &mut LineBuf)
     requires below_4 { first < 4 }
     requires below_3 { second < 3 }
     requires below_2 { third < 2 }
     requires room { length out.old ≤ 56 }
-    ensures text { out.new ≡ out.old ++ behind_spaces (letters_by_code (first ∷ second ∷ third ∷ 0 ∷ []) (places 4)) }
+    ensures text { out.new ≡ out.old
+        ++ behind_spaces (letters_by_code (first ∷ second ∷ third ∷ 0 ∷ []) (places 4)) }
     ensures short { length out.new ≤ length out.old + 8 }
 {
     let a = first + 1;

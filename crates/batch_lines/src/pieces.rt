@@ -61,7 +61,8 @@ impl Pieces {
     /// Takes the next bytes of the source, in place of those that are there, and answers how many.
     pub(crate) fn refill<S: Source>(&mut self, source: &mut S) -> Result<usize, SourceFault>
         ensures count { IfOk result (λ count. count ≡ length self.new) }
-        ensures taken { IfOk result (λ _. Consumes (S.seen source.old).left (S.seen source.new).left self.new) }
+        ensures taken { IfOk result (λ _.
+            Consumes (S.seen source.old).left (S.seen source.new).left self.new) }
         ensures ended { IfOk result (λ count. count ≡ 0 → IsAtEnd (S.seen source.new).left) }
         ensures spends { Spends (S.seen source.old).allowance (S.seen source.new).allowance result }
         ensures kept { OnErr result (Keeps (S.seen source.old).left (S.seen source.new).left) }

@@ -30,7 +30,8 @@ fn is_done(status: Status) -> bool
     matches!(status, Status::Done)
 }
 
-/// The status where all lines were read and put: `Done` where none was refused, and `SomeRefused` otherwise.
+/// The status where all lines were read and put: `Done` where none was refused,
+/// and `SomeRefused` otherwise.
 pub fn at_end(progress: Progress) -> Status
     ensures { result ≡ end_status progress }
 {

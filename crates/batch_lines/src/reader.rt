@@ -1,8 +1,10 @@
 //! A reader of lines.
-ghost use Rattle.std.specs.Prelude.{◌≡◌, ◌≤◌, ℕ, List, [], true, false, length, IfOk, OnErr, vec_len};
+ghost use Rattle.std.specs.Prelude.{◌≡◌, ◌≤◌, ℕ, List, [], true, false, length, IfOk, OnErr};
+ghost use Rattle.std.specs.Prelude.{vec_len};
 ghost use Rattle.sym_model.specs.BatchLine.{most_bytes};
 ghost use Rattle.batch_lines.specs.Feeds.{HasNoFeed};
-ghost use Rattle.batch_lines.specs.Reading.{Took, IsAtEnd, ReadsNext, CutsLine, CountsLine, most_pending, next_at_feed, next_at_end};
+ghost use Rattle.batch_lines.specs.Reading.{Took, IsAtEnd, ReadsNext, CutsLine, CountsLine};
+ghost use Rattle.batch_lines.specs.Reading.{most_pending, next_at_feed, next_at_end};
 
 use crate::feed::first_feed;
 use crate::heard::hear;
@@ -46,14 +48,16 @@ impl LineReader {
         })
     }
 
-    /// The line that was read last, where it was one of at most 4,096 bytes: its bytes before the line feed.
+    /// The line that was read last, where it was one of at most 4,096 bytes:
+    /// its bytes before the line feed.
     pub fn line(&self) -> &[u8]
         ensures { result.now ≡ self.now.line }
     {
         self.line.as_slice()
     }
 
-    /// Whether a whole line was taken that is still to be read, so that it is read without a call of the source.
+    /// Whether a whole line was taken that is still to be read,
+    /// so that it is read without a call of the source.
     pub fn has_line(&self) -> bool
         ensures some { result ≡ true → HasNoFeed self.now.pending → ⊥ }
         ensures none { result ≡ false → HasNoFeed self.now.pending }
@@ -61,21 +65,27 @@ impl LineReader {
         first_feed(self.pieces.front()).is_some()
     }
 
-    /// Reads the next line. Bytes behind the last line feed of the source are a line, where there are any.
+    /// Reads the next line. Bytes after the last line feed of the source are a line,
+    /// where there are any.
     ///
-    /// A line of more than 4,096 bytes is passed over as `TooLong`, and no more bytes of it are kept. `SourceFault` comes exactly where a call of the source
-    /// failed, and then no line ends among the bytes that were taken. After an error bytes may be lost, and the reader is
-    /// not to be used. Where the source was found at its end no call of it is made, and the answer is `End`; what is read is told
-    /// of a source in which nothing is left then, and so of the one that was found there.
+    /// A line of more than 4,096 bytes is skipped as `TooLong`, and no more bytes of it are kept.
+    /// `SourceFault` comes exactly where a call of the source failed, and then no line ends among
+    /// the bytes that were taken. After an error bytes may be lost, and the reader is not to be
+    /// used. Where the source was found at its end no call of it is made, and the answer is `End`;
+    /// what is read is told of a source in which nothing is left then,
+    /// and so of the one that was found there.
     pub fn next<S: Source>(&mut self, source: &mut S) -> Result<Next, LineFault>
         ensures reads { IsAtEnd self.old.has_ended (S.seen source.old).left
             → IfOk result (ReadsNext (S.seen source.old) (S.seen source.new)
             self.old.pending self.new.pending self.new.line self.new.has_ended) }
-        ensures takes { (taken : List ℕ) × Took (S.seen source.old).left (S.seen source.new).left taken }
-        ensures cuts { CutsLine (S.seen source.old).left (S.seen source.new).left self.old.pending self.old.has_ended result }
+        ensures takes { (taken : List ℕ)
+            × Took (S.seen source.old).left (S.seen source.new).left taken }
+        ensures cuts { CutsLine (S.seen source.old).left
+            (S.seen source.new).left self.old.pending self.old.has_ended result }
         ensures counts { CountsLine (S.seen source.old).faults (S.seen source.new).faults result }
         ensures later { (S.seen source.old).faults ≤ (S.seen source.new).faults }
-        ensures rests { self.old.has_ended ≡ true → (source.new ≡ source.old) × (result ≡ Ok Next.End) }
+        ensures rests { self.old.has_ended ≡ true
+            → (source.new ≡ source.old) × (result ≡ Ok Next.End) }
         ensures short { IfOk result (λ _. length self.new.pending ≤ most_pending) }
         ensures little { IfOk result (λ _. length self.new.line ≤ most_bytes) }
     {
@@ -123,8 +133,10 @@ fn read_next<S: Source>(
     ensures reads { IfOk result (ReadsNext (S.seen source.old) (S.seen source.new)
         pieces.old pieces.new line.new.items has_ended.new) }
     ensures goes_on { OnErr result (has_ended.new ≡ false) }
-    ensures takes { (taken : List ℕ) × Took (S.seen source.old).left (S.seen source.new).left taken }
-    ensures cuts { CutsLine (S.seen source.old).left (S.seen source.new).left pieces.old has_ended.old result }
+    ensures takes { (taken : List ℕ)
+        × Took (S.seen source.old).left (S.seen source.new).left taken }
+    ensures cuts { CutsLine (S.seen source.old).left
+        (S.seen source.new).left pieces.old has_ended.old result }
     ensures counts { CountsLine (S.seen source.old).faults (S.seen source.new).faults result }
     ensures later { (S.seen source.old).faults ≤ (S.seen source.new).faults }
     ensures short { IfOk result (λ _. length pieces.new ≤ most_pending) }

@@ -12,7 +12,7 @@ use Rattle.sym_model.specs.BetaList.{has_equal_entries, sorted_falling, rising_p
 use Rattle.sym_model.specs.AlcoveReduction.{spread, squares, last_raised, reflected, with_sign, reflected_into_alcove}
 use Rattle.sym_model.proofs.Signs.{minus_one_to_add}
 use Rattle.sym_model.proofs.SortedParts.{has_here, has_past}
-use Rattle.strip_laws.proofs.Reflections.{reflect_stays, reflect_wall, reflect_equal, reflect_again, squares_fall, squares_sorted}
+use Rattle.strip_laws.proofs.Reflections.{reflect_stays, reflect_wall, reflect_equal, reflect_again, squares_fall, squares_sorted, last_of}
 use Rattle.beta_list_laws.specs.StrictFall.{FallsStrictly}
 use Rattle.beta_list_laws.proofs.BetaLists.{strict_tail}
 use Rattle.beta_list_laws.proofs.NeighbourExchanges.{KeptByExchanges, sort_reach, equal-exchange, has-sorted, size-sorted, resorts_exchange, same_sign}
@@ -20,7 +20,7 @@ use Rattle.beta_list_laws.proofs.SortedLists.{sorted_strict}
 use Rattle.beta_list_laws.specs.AlcoveEnd.{remainders, match_in, IsAlcoveEnd, up}
 use Rattle.beta_list_laws.proofs.Remainders.{alike_same, test_unlike}
 use Rattle.beta_list_laws.proofs.Lowest.{strict_pairs}
-use Rattle.beta_list_laws.proofs.Windows.{LieIn, up_low, up_high, up-remainder, up_is, sorted-map-sorted, last_of, spread_is, last_below, narrow_lie, alcove_only}
+use Rattle.beta_list_laws.proofs.Windows.{LieIn, up_low, up_high, up-remainder, up_is, sorted-map-sorted, spread_is, last_below, narrow_lie, alcove_only}
 use Rattle.beta_list_laws.proofs.BetaLowerings.{map_append}
 
 -- ---- equal entries

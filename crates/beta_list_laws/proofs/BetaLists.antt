@@ -1,6 +1,6 @@
 -- Beta lists back and forth.
---     beta_strict            the beta list of a falling list falls strictly
---     from_beta-beta         a partition is had back from its beta list
+--     beta_strict            the beta list of a falling list is strictly decreasing
+--     from_beta-beta         a partition is determined by its beta list
 --     beta-from_beta         and a strictly falling list from its partition
 use Rattle.std.proofs.Common.{◌≡◌, ℕ, zero, suc, ◌+◌, ◌-◌, ◌<◌, ◌≤◌, List, [], ◌∷◌, ◌++◌, map, length, get_or, replicate, refl, ◌∙◌, ap, ap₂, arith}
 use Rattle.std.proofs.lemmas.List.{length-map}
@@ -11,7 +11,7 @@ use Rattle.sym_model.proofs.SortedParts.{IsPartition-without_last_zeros, size-wi
 use Rattle.strip_laws.proofs.Strips.{falls_part}
 use Rattle.beta_list_laws.specs.StrictFall.{FallsStrictly}
 use Rattle.sym_model.proofs.AfterLists.{length_after}
-use Rattle.sym_model.proofs.Parts.{length-without_last_zeros, get_or-without_last_zeros}
+use Rattle.sym_model.proofs.Parts.{length-without_last_zeros, get_or-without_last_zeros, in_front-positive}
 
 -- ---- lists of values at the places
 
@@ -76,13 +76,9 @@ zeros_dropped : (n : ℕ) → without_last_zeros (replicate n 0) ≡ []
 zeros_dropped zero = refl
 zeros_dropped (suc n) = ap (in_front 0) (zeros_dropped n)
 
-front_positive : (x : ℕ) (l : List ℕ) → 0 < x → in_front x l ≡ x ∷ l
-front_positive zero l h = absurd (omega arith)
-front_positive (suc x) l h = refl
-
 padding_dropped : (parts : List ℕ) (n : ℕ) → ArePositive parts → without_last_zeros (parts ++ replicate n 0) ≡ parts
 padding_dropped [] n p = zeros_dropped n
-padding_dropped (x ∷ parts) n p = ap (in_front x) (padding_dropped parts n p.1) ∙ front_positive x parts p.0
+padding_dropped (x ∷ parts) n p = ap (in_front x) (padding_dropped parts n p.1) ∙ in_front-positive x parts p.0
 
 pub from_beta-beta : (k : ℕ) (parts : List ℕ) → IsPartition parts → rows parts ≤ k → from_beta (beta k parts) ≡ parts
 from_beta-beta k parts p h =

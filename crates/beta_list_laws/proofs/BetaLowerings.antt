@@ -3,11 +3,11 @@
 --     fewer_rows          a removal leaves no row more
 --     lowers_or_full      a strictly falling list has an entry that can be lowered, or is full
 --     full_none           nothing can be lowered in a full list
-use Rattle.std.proofs.Common.{◌≡◌, ℕ, zero, suc, ◌+◌, ◌-◌, ◌<◌, ◌≤◌, ◌⊎◌, ◌↔◌, inl, inr, true, false, List, [], ◌∷◌, ◌++◌, map, length, refl, sym, ◌∙◌, ap, ap₂, subst, arith}
+use Rattle.std.proofs.Common.{◌≡◌, ℕ, zero, suc, ◌+◌, ◌-◌, ◌<◌, ◌≤◌, ◌⊎◌, inl, inr, true, false, List, [], ◌∷◌, ◌++◌, map, length, refl, sym, ◌∙◌, ap, ap₂, subst, arith, Bool, ◌||◌}
 use Rattle.std.proofs.lemmas.Bool.{cases_lt, cases_eq, cases_Bool}
 use Rattle.sym_model.specs.Partition.{IsPartition, rows, part, after}
 use Rattle.sym_model.specs.Bases.{has}
-use Rattle.sym_model.specs.BetaList.{beta, from_beta}
+use Rattle.sym_model.specs.BetaList.{beta, from_beta, has_equal_entries}
 use Rattle.sym_model.specs.Strip.{height}
 use Rattle.sym_model.specs.RimHookReduction.{IsRemoval, HasNoRemoval}
 use Rattle.sym_model.proofs.AfterLists.{length_after, after-append}
@@ -270,5 +270,7 @@ removal_as_lowered k n shape left p l r =
     let w = h.1 in
     (w.entry, w.front, w.middle, w.back, w.from, w.to, h.2 ∙ ap (λ m. m + 1) w.passes)
 
-pub none_where_full : (k n : ℕ) (shape : List ℕ) → 1 ≤ n → IsPartition shape → rows shape ≤ k → HasNoRemoval n shape ↔ IsFull n (beta k shape)
-none_where_full k n shape h p r = (stays_full k n shape h p r, full_stays k n shape p r)
+-- a strictly falling list has no equal entries
+pub strict_distinct : (b : List ℕ) → FallsStrictly b → has_equal_entries b ≡ false
+strict_distinct [] f = refl
+strict_distinct (a ∷ b) f = ap₂ (λ (s t : Bool). s || t) (not_below a a b f (omega arith)) (strict_distinct b (strict_tail a b f))

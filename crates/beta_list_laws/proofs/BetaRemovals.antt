@@ -1,5 +1,5 @@
 -- The removal of a rim hook that a beta list shows: an entry y + n lowered by n, past the entries `middle` that are
--- between, where both lists fall strictly.
+-- between, where both lists are strictly decreasing.
 use Rattle.std.proofs.Common.{◌≡◌, ℕ, zero, suc, ◌+◌, ◌-◌, ◌<◌, ◌≤◌, List, [], ◌∷◌, ◌++◌, length, get_or, refl, sym, ◌∙◌, ap, arith, length-append}
 use Rattle.sym_model.specs.Partition.{size, part}
 use Rattle.sym_model.specs.Alternant.{staircase}
@@ -48,7 +48,7 @@ chained_middle x y (p ∷ middle) right zero f h =
     omega arith
 chained_middle x y (p ∷ middle) right (suc i) f h = chained_middle p y middle right i (strict_tail p (middle ++ (y ∷ right)) f) (omega arith)
 
--- behind nothing changes
+-- after nothing changes
 same_back : (x y : ℕ) (middle right : List ℕ) (i : ℕ) → length middle < i → get_or (less_the_rest (x ∷ (middle ++ right))) i 0 ≡ get_or (less_the_rest (middle ++ (y ∷ right))) i 0
 same_back x y middle right zero h = absurd (omega arith)
 same_back x y [] right (suc i) h = refl

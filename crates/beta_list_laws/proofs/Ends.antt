@@ -1,6 +1,5 @@
 -- All ends of the removals from one partition are the partition of its lowest list, sorted.
 --     goes_ends       where the removals go to
---     goes            they go somewhere
 use Rattle.std.proofs.Common.{◌≡◌, ℕ, zero, suc, ◌+◌, ◌-◌, ◌*◌, ◌/◌, ◌<◌, ◌≤◌, ◌⊎◌, inl, inr, List, ◌∷◌, ◌++◌, length, refl, sym, ◌∙◌, ap, ap₂, subst, arith, length-append, ℤ, ◌*ℤ◌, pos, Bool, true, false, nat_le, cond, Option, Some, None}
 use Rattle.std.proofs.Math.Nat.{mul-div_cancel_left}
 use Rattle.std.proofs.lemmas.Bool.{leb-true}

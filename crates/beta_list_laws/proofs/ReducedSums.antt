@@ -18,6 +18,7 @@ use Rattle.sym_model.proofs.Polynomials.{pair_determined}
 use Rattle.beta_list_laws.specs.LowestList.{reduction_by_remainders}
 use Rattle.beta_list_laws.specs.ReductionLists.{reductions_of}
 use Rattle.beta_list_laws.proofs.Ends.{reduces_by_remainders}
+use Rattle.sym_model.proofs.Integers.{sign_of}
 
 -- ---- reductions by rim hooks
 
@@ -66,21 +67,13 @@ reflected_sum k n terms label =
     ∙ total_ext (λ (t : Term). coefficient (reflected_term t.1 (alcove_reduction k n t.0)) label) (λ (t : Term). t.1 *ℤ alcove_share k n label t.0)
     (λ (t : Term). one_reflected label t.1 (alcove_reduction k n t.0)) terms
 
-pub reflected_same : (k n : ℕ) (f g : WholeTerms) → Same f g → Same (reflected_terms k n f) (reflected_terms k n g)
-reflected_same k n f g e label = reflected_sum k n f label ∙ pair_determined f g (alcove_share k n label) e ∙ sym (reflected_sum k n g label)
-
 -- ---- absolute values
 
--- the sign of a number
-abbrev sgn : ℤ → ℤ
-sgn (pos n) = pos 1
-sgn (negsuc n) = negsuc 0
-
-sgn_itself : (z : ℤ) → z *ℤ sgn z ≡ pos (nat_abs z)
+sgn_itself : (z : ℤ) → z *ℤ sign_of z ≡ pos (nat_abs z)
 sgn_itself (pos n) = omega (arith, ints)
 sgn_itself (negsuc n) = omega (arith, ints)
 
-sgn_bounds : (z w : ℤ) → (z *ℤ sgn w) ≤ℤ pos (nat_abs z)
+sgn_bounds : (z w : ℤ) → (z *ℤ sign_of w) ≤ℤ pos (nat_abs z)
 sgn_bounds (pos n) (pos m) = omega (arith, ints)
 sgn_bounds (pos n) (negsuc m) = omega (arith, ints)
 sgn_bounds (negsuc n) (pos m) = omega (arith, ints)
@@ -113,15 +106,15 @@ sum_of_absolutes : (xs : WholeTerms) → total (λ (t : Term). pos (nat_abs t.1)
 sum_of_absolutes [] = refl
 sum_of_absolutes (x ∷ xs) = ap (λ z. pos (nat_abs x.1) +ℤ z) (sum_of_absolutes xs)
 
-sum_bounds : (ys : WholeTerms) (w : List ℕ → ℤ) → total (λ (t : Term). t.1 *ℤ sgn (w t.0)) ys ≤ℤ pos (absolute_total ys)
+sum_bounds : (ys : WholeTerms) (w : List ℕ → ℤ) → total (λ (t : Term). t.1 *ℤ sign_of (w t.0)) ys ≤ℤ pos (absolute_total ys)
 sum_bounds [] w = omega (arith, ints)
 sum_bounds (y ∷ ys) w = let a = sgn_bounds y.1 (w y.0) in let r = sum_bounds ys w in omega (arith, ints)
 
 pub absolute_within : (xs ys : WholeTerms) → Once (labels xs) → Same xs ys → absolute_total xs ≤ absolute_total ys
 absolute_within xs ys o e =
-    let signs : List ℕ → ℤ = λ label. sgn (coefficient xs label) in
+    let signs : List ℕ → ℤ = λ label. sign_of (coefficient xs label) in
     let own : total (λ (t : Term). t.1 *ℤ signs t.0) xs ≡ pos (absolute_total xs) =
-    total_among (λ (t : Term). t.1 *ℤ signs t.0) (λ (t : Term). pos (nat_abs t.1)) xs (λ t m. ap (λ z. t.1 *ℤ sgn z) (coefficient_once xs o t m) ∙ sgn_itself t.1)
+    total_among (λ (t : Term). t.1 *ℤ signs t.0) (λ (t : Term). pos (nat_abs t.1)) xs (λ t m. ap (λ z. t.1 *ℤ sign_of z) (coefficient_once xs o t m) ∙ sgn_itself t.1)
     ∙ sum_of_absolutes xs in
     let other = pair_determined xs ys signs e in
     let bound = sum_bounds ys (coefficient xs) in

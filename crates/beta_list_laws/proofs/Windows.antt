@@ -18,6 +18,7 @@ use Rattle.beta_list_laws.specs.AlcoveEnd.{remainders, IsAlcoveEnd, past, up}
 use Rattle.beta_list_laws.proofs.Remainders.{alike_same, test_unlike, alike-here, alike-past}
 use Rattle.beta_list_laws.proofs.Lowest.{strict_falls}
 use Rattle.beta_list_laws.proofs.BetaLowerings.{map_append}
+use Rattle.strip_laws.proofs.Reflections.{last_of, last_is}
 
 -- ---- the least number past t with a remainder
 
@@ -95,19 +96,10 @@ sorted-map-exchange f left a b right =
 pub sorted-map-sorted : (f : ℕ → ℕ) (s : List ℕ) → sorted_falling (map f (sorted_falling s)) ≡ sorted_falling (map f s)
 sorted-map-sorted f s = sort_reach (λ l. sorted_falling (map f l) ≡ sorted_falling (map f s)) s (λ left a b right e. sym (sorted-map-exchange f left a b right) ∙ e) refl
 
--- the last entry
-abbrev pub last_of : ℕ → List ℕ → ℕ
-last_of a [] = a
-last_of a (c ∷ b) = last_of c b
-
-get_last : (a : ℕ) (b : List ℕ) → get_or (a ∷ b) (length b) 0 ≡ last_of a b
-get_last a [] = refl
-get_last a (c ∷ b) = get_last c b
-
 pub spread_is : (a : ℕ) (b : List ℕ) → spread (a ∷ b) ≡ a - last_of a b
 spread_is a b =
     let e : length (a ∷ b) - 1 ≡ length b = omega arith in
-    let d = ap (λ k. get_or (a ∷ b) k 0) e ∙ get_last a b in
+    let d = ap (λ k. get_or (a ∷ b) k 0) e ∙ last_is a b in
     omega arith
 
 pub last_below : (a : ℕ) (b : List ℕ) → FallsStrictly (a ∷ b) → last_of a b ≤ a
@@ -129,7 +121,7 @@ strict_lie n t a (c ∷ b) f e l =
 pub narrow_lie : (n a : ℕ) (b : List ℕ) → FallsStrictly (a ∷ b) → spread (a ∷ b) < n → LieIn n (last_of a b) (a ∷ b)
 narrow_lie n a b f l = let e = spread_is a b in let h = last_below a b f in strict_lie n (last_of a b) a b f refl (omega arith)
 
--- values in the window are had from their remainders
+-- values in the window come from their remainders
 pub window_back : (n t : ℕ) (b : List ℕ) → 1 ≤ n → LieIn n t b → map (up n t) (remainders n b) ≡ b
 window_back n t [] h w = refl
 window_back n t (x ∷ b) h w = ap₂ ◌∷◌ (up_is n t (x % n) x h w.0 w.1 (sym (mod-mod x n))) (window_back n t b h w.2)

@@ -1,4 +1,5 @@
--- Where reflections of a strictly falling list end, by its remainders modulo n and its sum (Kac and Walton).
+-- Where reflections of a strictly falling list end,
+-- by its remainders modulo n and its sum (Kac and Walton).
 use Rattle.std.specs.Prelude.{◌≡◌, ℕ, zero, suc, ◌+◌, ◌%◌, ◌<◌, ◌==◌, cond, List, [], ◌∷◌, map}
 use Rattle.sym_model.specs.Partition.{size}
 use Rattle.sym_model.specs.BetaList.{sorted_falling}
@@ -14,8 +15,8 @@ abbrev pub match_in : ℕ → List ℕ → ℕ → ℕ
 match_in n [] x = 0
 match_in n (y ∷ c) x = cond (y % n == x % n) y (match_in n c x)
 
--- c is a strictly falling list with the sum and the remainders of b, of which the first and the last entry differ by less
--- than n
+-- c is a strictly falling list with the sum and the remainders of b, of which the first and the
+-- last entry differ by less than n
 pub record IsAlcoveEnd (n : ℕ) (b c : List ℕ) : Type 0 where
   pub strict : FallsStrictly c
   pub sum : size c ≡ size b

@@ -1,5 +1,7 @@
--- The end of all removals of rim hooks from a partition, by the remainders of its beta list (James and Kerber, 2.7).
-use Rattle.std.specs.Prelude.{ℕ, ◌+◌, ◌-◌, ◌*◌, ◌/◌, ◌%◌, ◌==◌, nat_le, cond, ℤ, List, [], ◌∷◌, Option, Some, None}
+-- The end of all removals of rim hooks from a partition,
+-- by the remainders of its beta list (James and Kerber, 2.7).
+use Rattle.std.specs.Prelude.{ℕ, ◌+◌, ◌-◌, ◌*◌, ◌/◌, ◌%◌, ◌==◌, nat_le, cond, ℤ, List, [], ◌∷◌}
+use Rattle.std.specs.Prelude.{Option, Some, None}
 use Rattle.sym_model.specs.Partition.{size, columns}
 use Rattle.sym_model.specs.PlaceOrders.{minus_one_to}
 use Rattle.sym_model.specs.BetaList.{beta, from_beta, sorted_falling, rising_pairs}
@@ -24,7 +26,8 @@ power_of k n shape = (size shape - size (end_of k n shape)) / n
 
 -- the product of their signs
 abbrev pub end_sign : ℕ → ℕ → List ℕ → ℤ
-end_sign k n shape = minus_one_to (power_of k n shape * (k + 1) + rising_pairs (lowest n (beta k shape)))
+end_sign k n shape =
+    minus_one_to (power_of k n shape * (k + 1) + rising_pairs (lowest n (beta k shape)))
 
 -- the end with its sign and power, or nothing where it has more than n - k columns
 abbrev pub reduction_by_remainders : ℕ → ℕ → List ℕ → Option (List ℕ × ℤ × ℕ)

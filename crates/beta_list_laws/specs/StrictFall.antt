@@ -1,4 +1,4 @@
--- Strictly falling lists (this project's own): what beta lists are.
+-- Strictly falling lists: what beta lists are.
 use Rattle.std.specs.Prelude.{ℕ, ◌<◌, List, [], ◌∷◌}
 
 -- each number is smaller than the one before it

@@ -3,11 +3,12 @@
 ghost use Rattle.std.specs.Prelude.{◌≡◌, ℕ, ◌+◌, ◌*◌, ◌≤◌, ℤ, List, Option};
 ghost use Rattle.sym_model.specs.Partition.{IsPartition, size, rows};
 ghost use Rattle.sym_model.specs.RimHookReduction.{GoesTo, ReducesTo};
-ghost use Rattle.beta_list_laws.specs.LowestList.{end_of, power_of, end_sign, reduction_by_remainders};
+ghost use Rattle.beta_list_laws.specs.LowestList.{end_of, power_of, end_sign};
+ghost use Rattle.beta_list_laws.specs.LowestList.{reduction_by_remainders};
 
 /// Removing rim hooks of n cells, as often as this is possible and in any order, leads from one
-/// partition to one end, with one sign and one number of removals. The end is had from the beta list,
-/// where each entry is lowered by multiples of n as far as there is room.
+/// partition to one end, with one sign and one number of removals. The end is computed from the
+/// beta list, where each entry is lowered by multiples of n as far as there is room.
 pub fn removals_end_law()
     ensures goes { (k n : ℕ) (shape : List ℕ) → 1 ≤ n → IsPartition shape → rows shape ≤ k
         → GoesTo k n shape (end_of k n shape) (end_sign k n shape) (power_of k n shape) }
@@ -15,16 +16,20 @@ pub fn removals_end_law()
         → GoesTo k n shape end sign power → end ≡ end_of k n shape }
     ensures sign { (k n : ℕ) (shape end : List ℕ) (sign : ℤ) (power : ℕ) → 1 ≤ n → IsPartition shape
         → GoesTo k n shape end sign power → sign ≡ end_sign k n shape }
-    ensures power { (k n : ℕ) (shape end : List ℕ) (sign : ℤ) (power : ℕ) → 1 ≤ n → IsPartition shape
+    ensures power { (k n : ℕ) (shape end : List ℕ) (sign : ℤ) (power : ℕ) → 1 ≤ n
+        → IsPartition shape
         → GoesTo k n shape end sign power → power ≡ power_of k n shape }
-    ensures cells { (k n : ℕ) (shape end : List ℕ) (sign : ℤ) (power : ℕ) → GoesTo k n shape end sign power
+    ensures cells { (k n : ℕ) (shape end : List ℕ) (sign : ℤ) (power : ℕ)
+        → GoesTo k n shape end sign power
         → size shape ≡ size end + power * n }
     ensures partition { (k n : ℕ) (shape end : List ℕ) (sign : ℤ) (power : ℕ) → IsPartition shape
         → GoesTo k n shape end sign power → IsPartition end }
-    ensures rows { (k n : ℕ) (shape end : List ℕ) (sign : ℤ) (power : ℕ) → GoesTo k n shape end sign power
+    ensures rows { (k n : ℕ) (shape end : List ℕ) (sign : ℤ) (power : ℕ)
+        → GoesTo k n shape end sign power
         → rows end ≤ k }
     ensures reduces { (k n : ℕ) (shape : List ℕ) → 1 ≤ n → IsPartition shape → rows shape ≤ k
         → ReducesTo k n shape (reduction_by_remainders k n shape) }
-    ensures only { (k n : ℕ) (shape : List ℕ) (answer : Option (List ℕ × ℤ × ℕ)) → 1 ≤ n → IsPartition shape
+    ensures only { (k n : ℕ) (shape : List ℕ) (answer : Option (List ℕ × ℤ × ℕ)) → 1 ≤ n
+        → IsPartition shape
         → ReducesTo k n shape answer → answer ≡ reduction_by_remainders k n shape }
 {}

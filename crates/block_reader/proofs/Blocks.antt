@@ -141,7 +141,7 @@ negative-text n den = by (eqb den 1)
     by false = refl
 
 module _ (has_fractions : Bool) (basis : Basis) where
-  -- the text of a line and the lines behind it
+  -- the text of a line and the lines after it
   line-front : (t : List ℕ × Fraction) (rest : List ℕ) → fraction_text t.1 ++ label_end t.0 rest ≡ (fraction_text t.1 ++ (list_text t.0 ++ (10 ∷ []))) ++ rest
   line-front t rest =
       sym (append_assoc (fraction_text t.1) (list_text t.0 ++ (10 ∷ [])) rest

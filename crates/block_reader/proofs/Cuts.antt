@@ -21,12 +21,12 @@ cut-none s (b ∷ text) none =
     cond-false (b == s) ([], b ∷ text) (before_cut b (cut_at s text)) (ne_eqb b s (none 0 (omega arith)))
     ∙ ap (before_cut b) (cut-none s text (λ i h. none (suc i) (omega arith)))
 
--- the pieces behind a separator, which begins the text
+-- the pieces after a separator, which begins the text
 abbrev pub pieces_after : ℕ → List ℕ → List (List ℕ)
 pieces_after s [] = []
 pieces_after s (b ∷ text) = split_at s text
 
--- the first piece, and those behind the first separator
+-- the first piece, and those after the first separator
 pub split-cut : (s : ℕ) (text : List ℕ) → split_at s text ≡ (cut_at s text).0 ∷ pieces_after s (cut_at s text).1
 split-cut s [] = refl
 split-cut s (b ∷ text) = by (b == s) (split-cut s text)
@@ -37,7 +37,7 @@ split-cut s (b ∷ text) = by (b == s) (split-cut s text)
     by true ih = refl
     by false ih = ap (before_first b) ih
 
--- the text behind a separator is the shorter
+-- the text after a separator is the shorter
 pub after_one-cut : (s : ℕ) (text : List ℕ) → 0 < length (cut_at s text).1 → length (after_one (cut_at s text).1) < length text
 after_one-cut s [] some = absurd (omega arith)
 after_one-cut s (b ∷ text) some = by (b == s) (after_one-cut s text) some

@@ -69,7 +69,7 @@ module _ {L : Type 0} (has_fractions : Bool) (is_label : L → Bool) where
       (false_from_ne_true (fits has_fractions (z, denominator_after den)) (λ k.
       large (fits_from_test z (and_parts (fits_128_bits z) (fits_128_bits (pos (denominator_after den))) (and_parts (is_coefficient has_fractions (z, denominator_after den)) _ k).1).0)))
 
-  -- terms in front and behind
+  -- terms before and after
   pub unfit-behind : (xs ys : Terms L) → all_fit has_fractions is_label ys ≡ false → all_fit has_fractions is_label (xs ++ ys) ≡ false
   unfit-behind [] ys h = h
   unfit-behind (x ∷ xs) ys h = false_from_ne_true (all_fit has_fractions is_label (x ∷ xs ++ ys))

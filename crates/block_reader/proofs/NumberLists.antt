@@ -6,7 +6,7 @@ use Rattle.printing_laws.proofs.NumberTexts.{numbers_of-nonempty}
 use Rattle.block_reader.specs.Parts.{AreSmall}
 use Rattle.block_reader.proofs.Cuts.{pieces_after, split-cut}
 
--- the pieces where something is left behind the first separator
+-- the pieces where something is left after the first separator
 pub pieces-more : (s : ℕ) (text : List ℕ) → 0 < length (cut_at s text).1
     → split_at s text ≡ (cut_at s text).0 ∷ split_at s (after_one (cut_at s text).1)
 pieces-more s text some = split-cut s text ∙ ap (λ ps. (cut_at s text).0 ∷ ps) (behind (cut_at s text).1 some)

@@ -1,12 +1,14 @@
--- Which terms can stand in a block, and what a line tells (this project's own).
-use Rattle.std.specs.Prelude.{ℤ, pos, ℕ, nat_lt, nat_abs, Bool, ◌&&◌, List, [], ◌∷◌, cond, Option, Some, None}
+-- Which terms can stand in a block, and what a line tells.
+use Rattle.std.specs.Prelude.{ℤ, pos, ℕ, nat_lt, nat_abs, Bool, ◌&&◌, List, [], ◌∷◌, cond, Option}
+use Rattle.std.specs.Prelude.{Some, None}
 use Rattle.sym_model.specs.Expansion.{Fraction, Terms}
 use Rattle.sym_model.specs.Canonical.{is_coefficient, each_term, fits_128_bits}
 use Rattle.block_reader.specs.Parts.{denominator_after}
 
 -- whether a fraction can be a coefficient in a block
 abbrev pub fits : Bool → Fraction → Bool
-fits has_fractions c = is_coefficient has_fractions c && (fits_128_bits c.0 && fits_128_bits (pos c.1))
+fits has_fractions c =
+    is_coefficient has_fractions c && (fits_128_bits c.0 && fits_128_bits (pos c.1))
 
 -- whether each term can stand in a block
 abbrev pub all_fit : {L : Type 0} → Bool → (L → Bool) → Terms L → Bool
@@ -17,6 +19,7 @@ abbrev pub terms_found : {L R : Type 0} → (R → Fraction) → Option (L × R)
 terms_found value None = []
 terms_found value (Some p) = (p.0, value p.1) ∷ []
 
--- the term that a numerator, the text behind it, and a label come to; none where the numerator is 0
+-- the term that a numerator, the text after it, and a label come to; none where the numerator is 0
 abbrev pub term_with : {L : Type 0} → ℤ → List ℕ → L → Terms L
-term_with num text label = cond (nat_lt 0 (nat_abs num)) ((label, (num, denominator_after text)) ∷ []) []
+term_with num text label =
+    cond (nat_lt 0 (nat_abs num)) ((label, (num, denominator_after text)) ∷ []) []

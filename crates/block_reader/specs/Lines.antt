@@ -1,5 +1,6 @@
--- The block that a one-line form comes to, byte by byte (this project's own).
-use Rattle.std.specs.Prelude.{ℕ, ◌==◌, nat_le, Bool, true, false, ◌&&◌, ◌||◌, List, [], ◌∷◌, ◌++◌, codes, cond}
+-- The block that a one-line form comes to, byte by byte.
+use Rattle.std.specs.Prelude.{ℕ, ◌==◌, nat_le, Bool, true, false, ◌&&◌, ◌||◌, List, [], ◌∷◌, ◌++◌}
+use Rattle.std.specs.Prelude.{codes, cond}
 use Rattle.sym_model.specs.Answer.{Answer, answer}
 use Rattle.sym_model.specs.Expansion.{Basis}
 use Rattle.sym_model.specs.Kind.{Kind, expansion, product}
@@ -17,11 +18,13 @@ IsLineOfExpression basis (answer expansion terms) = IsExpression basis terms
 IsLineOfExpression basis (answer product terms) = IsExpression basis terms
 IsLineOfExpression basis _ = ⊥
 
--- whether a byte leaves no trace: `+`, `*`, a letter, and LF where no number was read since the last atom
+-- whether a byte leaves no trace: `+`, `*`, a letter,
+-- and LF where no number was read since the last atom
 abbrev pub is_dropped : Bool → ℕ → Bool
 is_dropped bare byte = (((byte == 43) || (byte == 42)) || nat_le 97 byte) || (bare && (byte == 10))
 
--- what a byte comes to: `[` opens a label, behind the coefficient 1 where none was read, and `]` ends its line
+-- what a byte comes to: `[` opens a label, after the coefficient 1 where none was read,
+-- and `]` ends its line
 abbrev pub emitted : Bool → ℕ → List ℕ
 emitted bare byte =
     cond (is_dropped bare byte) []
@@ -30,7 +33,8 @@ emitted bare byte =
 
 -- whether no number was read since the last atom, when this byte has been
 abbrev pub is_bare_after : Bool → ℕ → Bool
-is_bare_after bare byte = cond (byte == 93) true (cond (nat_le 48 byte && nat_le byte 57) false bare)
+is_bare_after bare byte =
+    cond (byte == 93) true (cond (nat_le 48 byte && nat_le byte 57) false bare)
 
 -- the block that the rest of a line comes to
 abbrev pub block_from : Bool → List ℕ → List ℕ

@@ -1,4 +1,4 @@
--- Parts of a printed line (this project's own).
+-- Parts of a printed line.
 use Rattle.std.specs.Prelude.{ℕ, ◌<◌, ◌^◌, List, [], ◌∷◌}
 use Rattle.sym_model.specs.NumberText.{cut_at, decimal_value, without_last}
 
@@ -7,7 +7,8 @@ abbrev pub inside_of : List ℕ → List ℕ
 inside_of [] = []
 inside_of (byte ∷ text) = without_last text
 
--- the denominator of a fraction whose text goes on like this behind its numerator; `/` is the byte 47
+-- the denominator of a fraction whose text goes on like this after its numerator;
+-- `/` is the byte 47
 abbrev pub denominator_after : List ℕ → ℕ
 denominator_after [] = 1
 denominator_after (slash ∷ text) = decimal_value (cut_at 47 text).0

@@ -1,4 +1,4 @@
--- What a text is read back as (this project's own).
+-- What a text is read back as.
 use Rattle.std.specs.Prelude.{◌≡◌, ℕ, List, Result, Ok, Err, Some, None}
 use Rattle.sym_model.specs.Answer.{answer}
 use Rattle.sym_model.specs.Expansion.{Terms}
@@ -9,9 +9,11 @@ use Rattle.expansion_printer.specs.Answers.{kind_of_answer, plain_answer}
 use Rattle.block_reader.specs.declared.fault.ReadBackFault.{ReadBackFault}
 use Rattle.block_reader.specs.declared.fault.ReadBackFault.TheVariants.{NotPrinted, NoMemory}
 
--- the one answer of the kind that can have this text as its block, or none where there is none; want of memory says nothing
+-- the one answer of the kind that can have this text as its block, or none where there is none;
+-- out of memory says nothing
 abbrev pub IsReading : Kind → List ℕ → Result Answer ReadBackFault → Type 0
 IsReading kind text (Ok a) = (kind_of_answer a ≡ kind)
-    × ((terms : Terms (Label kind)) → read_by (label_rules kind) text ≡ Some terms → plain_answer a ≡ answer kind terms)
+    × ((terms : Terms (Label kind)) → read_by (label_rules kind) text ≡ Some terms
+    → plain_answer a ≡ answer kind terms)
 IsReading kind text (Err NotPrinted) = read_by (label_rules kind) text ≡ None
 IsReading kind text (Err NoMemory) = Unit {0}

@@ -9,9 +9,11 @@ pub(crate) trait Coefficient: Scalar {
     // Whether they may be fractions.
     ghost has_fractions: { Bool };
 
-    /// The coefficient with this numerator and this denominator, or `None` where it cannot stand in a block.
+    /// The coefficient with this numerator and this denominator,
+    /// or `None` where it cannot stand in a block.
     fn of_parts(num: i128, den: u128) -> Option<Self>
-        ensures { MatchOption result (fits has_fractions (num, den) ≡ false) (λ c. Self.value c ≡ (num, den)) };
+        ensures { MatchOption result (fits has_fractions (num, den) ≡ false)
+            (λ c. Self.value c ≡ (num, den)) };
 }
 
 impl Coefficient for Int {

@@ -1,6 +1,7 @@
 //! Labels, read back from their texts.
 ghost use Rattle.std.specs.Prelude.{◌≡◌, ◌^◌, ◌<◌, ℕ, List, false, IfOk, MatchOption, SomeIff};
-ghost use Rattle.sym_model.specs.Kind.{LabelRules, label_rules, expansion, pairs, powers, permutations, polynomial, shifts};
+ghost use Rattle.sym_model.specs.Kind.{LabelRules, label_rules, expansion, pairs, powers};
+ghost use Rattle.sym_model.specs.Kind.{permutations, polynomial, shifts};
 ghost use Rattle.sym_model.specs.LabelLimits.{is_label, is_monomial_label, is_permutation_label};
 ghost use Rattle.sym_model.specs.Partition.{without_last_zeros};
 ghost use Rattle.sym_model.specs.Permutation.{kept};
@@ -20,10 +21,12 @@ pub(crate) trait Spelled: Label {
     // What a block has to know of them.
     ghost line_rules: { LabelRules Self };
 
-    /// The label that the text behind a coefficient spells, or `None` where that is not within the limits.
+    /// The label that the text after a coefficient spells,
+    /// or `None` where that is not within the limits.
     fn spelled(alloc: Global, text: &[u8]) -> Result<Option<Self>, NoMemory>
         ensures { IfOk result (λ found. MatchOption found
-            (Self.is_label (line_rules.spelled text.now) ≡ false) (λ label. label ≡ line_rules.spelled text.now)) };
+            (Self.is_label (line_rules.spelled text.now) ≡ false)
+            (λ label. label ≡ line_rules.spelled text.now)) };
 }
 
 impl Spelled for Partition {
@@ -97,7 +100,9 @@ impl Spelled for Shifted {
 
 /// The partition of a label, or `None` where that is not within the limits.
 fn shape_of(alloc: Global, label: &[u8]) -> Result<Option<Partition>, NoMemory>
-    ensures { IfOk result (λ found. MatchOption found (is_label (label_of label.now) ≡ false) (λ shape. shape ≡ label_of label.now)) }
+    ensures { IfOk result (λ found.
+        MatchOption found (is_label (label_of label.now) ≡ false)
+        (λ shape. shape ≡ label_of label.now)) }
 {
     match list_of(alloc, label)? {
         Some(parts) => partition_of(alloc, &parts),
@@ -107,7 +112,8 @@ fn shape_of(alloc: Global, label: &[u8]) -> Result<Option<Partition>, NoMemory>
 
 /// The partition with these parts, or `None` where they are not one.
 fn partition_of(alloc: Global, parts: &[u16]) -> Result<Option<Partition>, NoMemory>
-    ensures { IfOk result (λ found. MatchOption found (is_label parts.now ≡ false) (λ shape. shape ≡ parts.now)) }
+    ensures { IfOk result (λ found.
+        MatchOption found (is_label parts.now ≡ false) (λ shape. shape ≡ parts.now)) }
 {
     match Partition::from_parts(alloc, parts) {
         Ok(shape) => Ok(whole_shape(shape, parts)),
@@ -131,7 +137,9 @@ fn whole_shape(shape: Partition, parts: &[u16]) -> Option<Partition>
 
 /// The permutation of a label, or `None` where that is not within the limits.
 fn labelled_permutation(alloc: Global, label: &[u8]) -> Result<Option<Perm>, NoMemory>
-    ensures { IfOk result (λ found. MatchOption found (is_permutation_label (label_of label.now) ≡ false) (λ w. w ≡ label_of label.now)) }
+    ensures { IfOk result (λ found.
+        MatchOption found (is_permutation_label (label_of label.now) ≡ false)
+        (λ w. w ≡ label_of label.now)) }
 {
     match list_of(alloc, label)? {
         Some(letters) => permutation_of(alloc, &letters),
@@ -141,7 +149,8 @@ fn labelled_permutation(alloc: Global, label: &[u8]) -> Result<Option<Perm>, NoM
 
 /// The permutation with these letters, or `None` where they are not one as it is kept.
 fn permutation_of(alloc: Global, letters: &[u16]) -> Result<Option<Perm>, NoMemory>
-    ensures { IfOk result (λ found. MatchOption found (is_permutation_label letters.now ≡ false) (λ w. w ≡ letters.now)) }
+    ensures { IfOk result (λ found.
+        MatchOption found (is_permutation_label letters.now ≡ false) (λ w. w ≡ letters.now)) }
 {
     match Perm::from_letters(alloc, letters) {
         Ok(w) => Ok(whole_permutation(w, letters)),
@@ -165,7 +174,9 @@ fn whole_permutation(w: Perm, letters: &[u16]) -> Option<Perm>
 
 /// The monomial of a label, or `None` where that is not within the limits.
 fn labelled_monomial(alloc: Global, label: &[u8]) -> Result<Option<Monomial>, NoMemory>
-    ensures { IfOk result (λ found. MatchOption found (is_monomial_label (label_of label.now) ≡ false) (λ m. m ≡ label_of label.now)) }
+    ensures { IfOk result (λ found.
+        MatchOption found (is_monomial_label (label_of label.now) ≡ false)
+        (λ m. m ≡ label_of label.now)) }
 {
     match list_of(alloc, label)? {
         Some(exponents) => monomial_of(alloc, &exponents),
@@ -175,7 +186,8 @@ fn labelled_monomial(alloc: Global, label: &[u8]) -> Result<Option<Monomial>, No
 
 /// The monomial with these exponents, or `None` where they are not one without zeros at the end.
 fn monomial_of(alloc: Global, exponents: &[u16]) -> Result<Option<Monomial>, NoMemory>
-    ensures { IfOk result (λ found. MatchOption found (is_monomial_label exponents.now ≡ false) (λ m. m ≡ exponents.now)) }
+    ensures { IfOk result (λ found.
+        MatchOption found (is_monomial_label exponents.now ≡ false) (λ m. m ≡ exponents.now)) }
 {
     match Monomial::from_exponents(alloc, exponents) {
         Ok(m) => Ok(whole_monomial(m, exponents)),
@@ -188,7 +200,8 @@ fn monomial_of(alloc: Global, exponents: &[u16]) -> Result<Option<Monomial>, NoM
 /// The monomial that was made of these exponents, where they have no zeros at the end.
 fn whole_monomial(m: Monomial, exponents: &[u16]) -> Option<Monomial>
     requires { m ≡ without_last_zeros exponents.now }
-    ensures { MatchOption result (is_monomial_label exponents.now ≡ false) (λ m. m ≡ exponents.now) }
+    ensures { MatchOption result (is_monomial_label exponents.now ≡ false)
+        (λ m. m ≡ exponents.now) }
 {
     if m.exponents() == exponents {
         return Some(m);

@@ -1,5 +1,5 @@
-//! Printed blocks and one-line forms, read back as answers. The answer that is read is printed again, and the bytes are compared;
-//! a line is rewritten as a block first.
+//! Printed blocks and one-line forms, read back as answers. The answer that is read is printed
+//! again, and the bytes are compared; a line is rewritten as a block first.
 //!
 //! What is proved:
 //!

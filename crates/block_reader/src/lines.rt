@@ -23,7 +23,8 @@ pub(crate) fn read_terms<L: Spelled, R: Coefficient>(
     text: &[u8],
 ) -> Result<Terms<L, R>, ReadBackFault>
     ensures ok { IfOk result (λ terms. terms ≡ block_terms L.line_rules text.now) }
-    ensures refused { IsErrOf result ReadBackFault.NotPrinted → (is_ordered L.order (block_terms L.line_rules text.now)
+    ensures refused { IsErrOf result ReadBackFault.NotPrinted
+        → (is_ordered L.order (block_terms L.line_rules text.now)
         && all_fit R.has_fractions L.is_label (block_terms L.line_rules text.now)) ≡ false }
 {
     let pairs = read_pairs(alloc, text)?;
@@ -38,7 +39,8 @@ fn read_pairs<L: Spelled, R: Coefficient>(
     alloc: Global,
     text: &[u8],
 ) -> Result<Vec<(L, R)>, ReadBackFault>
-    ensures ok { IfOk result (λ pairs. terms_of R.value pairs.items ≡ block_terms L.line_rules text.now) }
+    ensures ok { IfOk result (λ pairs. terms_of R.value pairs.items
+        ≡ block_terms L.line_rules text.now) }
     ensures refused { IsErrOf result ReadBackFault.NotPrinted
         → all_fit R.has_fractions L.is_label (block_terms L.line_rules text.now) ≡ false }
 {
@@ -60,7 +62,8 @@ fn push_found<L: Label, R: Scalar>(
     pairs: &mut Vec<(L, R)>,
     found: Option<(L, R)>,
 ) -> Result<(), NoMemory>
-    ensures { OnOk result (terms_of R.value pairs.new.items ≡ terms_of R.value pairs.old.items ++ terms_found R.value found) }
+    ensures { OnOk result (terms_of R.value pairs.new.items
+        ≡ terms_of R.value pairs.old.items ++ terms_found R.value found) }
 {
     let Some(pair) = found else {
         return Ok(());
@@ -74,9 +77,11 @@ fn read_line<L: Spelled, R: Coefficient>(
     alloc: Global,
     line: &[u8],
 ) -> Result<Option<(L, R)>, ReadBackFault>
-    ensures ok { IfOk result (λ found. terms_found R.value found ≡ term_of_line L.line_rules (cut_at 32 line.now)) }
+    ensures ok { IfOk result (λ found. terms_found R.value found
+        ≡ term_of_line L.line_rules (cut_at 32 line.now)) }
     ensures refused { IsErrOf result ReadBackFault.NotPrinted
-        → all_fit R.has_fractions L.is_label (term_of_line L.line_rules (cut_at 32 line.now)) ≡ false }
+        → all_fit R.has_fractions L.is_label (term_of_line L.line_rules (cut_at 32 line.now))
+        ≡ false }
 {
     let (coefficient, name) = cut(line, b' ');
     let (num, den) = cut(coefficient, b'/');

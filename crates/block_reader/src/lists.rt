@@ -10,7 +10,9 @@ use std::alloc::Global;
 
 /// The numbers of a label, where each is below 2^16.
 pub(crate) fn list_of(alloc: Global, label: &[u8]) -> Result<Option<Vec<u16>>, NoMemory>
-    ensures { IfOk result (λ found. MatchOption found (¬ AreSmall (label_of label.now)) (λ numbers. numbers.items ≡ label_of label.now)) }
+    ensures { IfOk result (λ found.
+        MatchOption found (¬ AreSmall (label_of label.now))
+        (λ numbers. numbers.items ≡ label_of label.now)) }
 {
     let text = inside(label);
     if text.is_empty() {
@@ -22,7 +24,9 @@ pub(crate) fn list_of(alloc: Global, label: &[u8]) -> Result<Option<Vec<u16>>, N
 /// The numbers between the commas of a text that is not empty, where each is below 2^16.
 fn numbers_in(alloc: Global, text: &[u8]) -> Result<Option<Vec<u16>>, NoMemory>
     requires { 0 < length text.now }
-    ensures { IfOk result (λ found. MatchOption found (¬ AreSmall (numbers_of text.now)) (λ numbers. numbers.items ≡ numbers_of text.now)) }
+    ensures { IfOk result (λ found.
+        MatchOption found (¬ AreSmall (numbers_of text.now))
+        (λ numbers. numbers.items ≡ numbers_of text.now)) }
 {
     let mut numbers = Vec::new(alloc);
     let mut rest = text;

@@ -1,5 +1,6 @@
 //! Numbers and fractions in decimal.
-ghost use Rattle.std.specs.Prelude.{◌≡◌, ℕ, ◌+◌, ◌-◌, ◌*◌, ◌^◌, ◌<◌, pos, neg_ℤ, FitsSigned, SomeIff};
+ghost use Rattle.std.specs.Prelude.{◌≡◌, ℕ, ◌+◌, ◌-◌, ◌*◌, ◌^◌, ◌<◌, pos, neg_ℤ, FitsSigned};
+ghost use Rattle.std.specs.Prelude.{SomeIff};
 ghost use Rattle.std.specs.Int.{w128};
 ghost use Rattle.sym_model.specs.NumberText.{decimal_value, signed_value};
 ghost use Rattle.block_reader.specs.Parts.{denominator_after};
@@ -41,19 +42,22 @@ pub(crate) fn signed_of(text: &[u8]) -> Option<i128>
 
 /// A number as one with a sign.
 fn positive(number: Option<u128>) -> Option<i128>
-    ensures { (n : ℕ) → SomeIff number (n < 2 ^ 128) n → SomeIff result (FitsSigned w128 (pos n)) (pos n) }
+    ensures { (n : ℕ) → SomeIff number (n < 2 ^ 128) n
+        → SomeIff result (FitsSigned w128 (pos n)) (pos n) }
 {
     i128::try_from(number?).ok()
 }
 
 /// The negative of a number.
 fn negative(number: Option<u128>) -> Option<i128>
-    ensures { (n : ℕ) → SomeIff number (n < 2 ^ 128) n → SomeIff result (FitsSigned w128 (neg_ℤ (pos n))) (neg_ℤ (pos n)) }
+    ensures { (n : ℕ) → SomeIff number (n < 2 ^ 128) n
+        → SomeIff result (FitsSigned w128 (neg_ℤ (pos n))) (neg_ℤ (pos n)) }
 {
     0i128.checked_sub_unsigned(number?)
 }
 
-/// The denominator of a fraction whose text goes on like this behind its numerator: 1 where it ends there.
+/// The denominator of a fraction whose text goes on like this after its numerator:
+/// 1 where it ends there.
 pub(crate) fn denominator_of(text: &[u8]) -> Option<u128>
     ensures { SomeIff result (denominator_after text.now < 2 ^ 128) (denominator_after text.now) }
 {

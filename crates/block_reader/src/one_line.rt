@@ -13,9 +13,11 @@ use calc_base::{Basis, CountSink, MemSink, NoMemory};
 use expansion_printer::{Answer, Kind, print_one_line};
 use std::alloc::Global;
 
-/// The answer of this kind, an expansion or a product, whose one-line form with the atoms of the basis the text is.
+/// The answer of this kind, an expansion or a product,
+/// whose one-line form with the atoms of the basis the text is.
 ///
-/// It is refused as `NotPrinted` exactly where the text is no such form, unless memory was refused before.
+/// It is refused as `NotPrinted` exactly where the text is no such form,
+/// unless memory was refused before.
 pub fn read_one_line(
     alloc: Global,
     text: &[u8],
@@ -24,11 +26,13 @@ pub fn read_one_line(
 ) -> Result<Answer, ReadBackFault>
     requires { HasAtoms (kind_of kind) }
     ensures kind { IfOk result (λ answer. kind_of_answer answer ≡ kind_of kind) }
-    ensures prints { IfOk result (λ answer. answer_text_in (as_line (basis_of basis)) (plain_answer answer) ≡ text.now) }
+    ensures prints { IfOk result (λ answer.
+        answer_text_in (as_line (basis_of basis)) (plain_answer answer) ≡ text.now) }
     ensures printable { IfOk result (λ answer. IsPrintable (plain_answer answer)) }
 
     // The text without its LF is an expression, and what that denotes is the list of the answer.
-    ensures expression { IfOk result (λ answer. IsLineOfExpression (basis_of basis) (plain_answer answer)) }
+    ensures expression { IfOk result
+        (λ answer. IsLineOfExpression (basis_of basis) (plain_answer answer)) }
     ensures not_printed { IsErrOf result ReadBackFault.NotPrinted
         → read_in (as_line (basis_of basis)) (kind_of kind) text.now ≡ None }
 {
@@ -45,7 +49,8 @@ fn checked(
     text: &[u8],
 ) -> Result<Answer, ReadBackFault>
     ensures same { IfOk result (λ same. same ≡ answer) }
-    ensures prints { IfOk result (λ same. answer_text_in (as_line (basis_of basis)) (plain_answer same) ≡ text.now) }
+    ensures prints { IfOk result (λ same.
+        answer_text_in (as_line (basis_of basis)) (plain_answer same) ≡ text.now) }
     ensures printable { IfOk result (λ same. IsPrintable (plain_answer same)) }
     ensures not_printed { IsErrOf result ReadBackFault.NotPrinted
         → answer_text_in (as_line (basis_of basis)) (plain_answer answer) ≢ text.now }
@@ -77,7 +82,8 @@ fn is_line(alloc: Global, answer: &Answer, basis: Basis, text: &[u8]) -> Result<
 
 /// Whether the line of the answer has as many bytes as the text.
 fn has_length(answer: &Answer, basis: Basis, text: &[u8]) -> bool
-    ensures length { OnFalse result (answer_text_in (as_line (basis_of basis)) (plain_answer answer.now) ≢ text.now) }
+    ensures length { OnFalse result
+        (answer_text_in (as_line (basis_of basis)) (plain_answer answer.now) ≢ text.now) }
     ensures printable { IsPrintable (plain_answer answer.now) }
 {
     let mut count = CountSink::new();

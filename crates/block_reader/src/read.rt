@@ -2,7 +2,8 @@
 ghost use Rattle.std.specs.Prelude.{◌≡◌, ◌≢◌, None, IfOk, IsErrOf, MatchBool};
 ghost use Rattle.std.specs.Bool.{OnFalse};
 ghost use Rattle.sym_model.specs.Answer.{answer_text, IsPrintable};
-ghost use Rattle.sym_model.specs.Kind.{label_rules, number, expansion, product, pairs, powers, permutations, polynomial, shifts};
+ghost use Rattle.sym_model.specs.Kind.{label_rules, number, expansion, product, pairs, powers};
+ghost use Rattle.sym_model.specs.Kind.{permutations, polynomial, shifts};
 ghost use Rattle.sym_model.specs.PrintedBlock.{read_by};
 ghost use Rattle.expansion_printer.specs.Answers.{kind_of, kind_of_answer, plain_answer};
 ghost use Rattle.block_reader.specs.Readings.{IsReading};
@@ -18,12 +19,14 @@ use std::alloc::Global;
 
 /// The answer of this kind whose printed block the text is.
 ///
-/// It is refused as `NotPrinted` exactly where the text is no block of this kind, unless memory was refused before.
+/// It is refused as `NotPrinted` exactly where the text is no block of this kind,
+/// unless memory was refused before.
 pub fn read_back(alloc: Global, text: &[u8], kind: Kind) -> Result<Answer, ReadBackFault>
     ensures kind { IfOk result (λ answer. kind_of_answer answer ≡ kind_of kind) }
     ensures prints { IfOk result (λ answer. answer_text (plain_answer answer) ≡ text.now) }
     ensures printable { IfOk result (λ answer. IsPrintable (plain_answer answer)) }
-    ensures not_printed { IsErrOf result ReadBackFault.NotPrinted → read_by (label_rules (kind_of kind)) text.now ≡ None }
+    ensures not_printed { IsErrOf result ReadBackFault.NotPrinted
+        → read_by (label_rules (kind_of kind)) text.now ≡ None }
 {
     let answer = candidate(alloc, text, kind)?;
     checked(alloc, answer, text)
@@ -34,7 +37,8 @@ fn checked(alloc: Global, answer: Answer, text: &[u8]) -> Result<Answer, ReadBac
     ensures same { IfOk result (λ same. same ≡ answer) }
     ensures prints { IfOk result (λ same. answer_text (plain_answer same) ≡ text.now) }
     ensures printable { IfOk result (λ same. IsPrintable (plain_answer same)) }
-    ensures not_printed { IsErrOf result ReadBackFault.NotPrinted → answer_text (plain_answer answer) ≢ text.now }
+    ensures not_printed { IsErrOf result ReadBackFault.NotPrinted
+        → answer_text (plain_answer answer) ≢ text.now }
 {
     if is_block(alloc, &answer, text)? {
         Ok(answer)
@@ -45,7 +49,8 @@ fn checked(alloc: Global, answer: Answer, text: &[u8]) -> Result<Answer, ReadBac
 
 /// Whether the text is the block of the answer.
 fn is_block(alloc: Global, answer: &Answer, text: &[u8]) -> Result<bool, NoMemory>
-    ensures compares { IfOk result (λ same. MatchBool same (answer_text (plain_answer answer.now) ≡ text.now)
+    ensures compares { IfOk result
+        (λ same. MatchBool same (answer_text (plain_answer answer.now) ≡ text.now)
         (answer_text (plain_answer answer.now) ≢ text.now)) }
     ensures printable { IsPrintable (plain_answer answer.now) }
 {

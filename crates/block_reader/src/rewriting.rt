@@ -5,8 +5,8 @@ ghost use Rattle.block_reader.specs.Lines.{block_from, emitted, is_dropped, is_b
 use calc_base::NoMemory;
 use std::alloc::Global;
 
-/// The block that a one-line form comes to, byte by byte: a line for each atom, with the coefficient in front of it or 1. What
-/// a text that is no one-line form comes to does not matter.
+/// The block that a one-line form comes to, byte by byte: a line for each atom, with the
+/// coefficient in front of it or 1. What a text that is no one-line form comes to does not matter.
 pub(crate) fn as_block(alloc: Global, text: &[u8]) -> Result<Vec<u8>, NoMemory>
     ensures { IfOk result (λ block. block.items ≡ block_from true text.now) }
 {
@@ -44,7 +44,7 @@ fn put_text(block: &mut Vec<u8>, text: &[u8]) -> Result<(), NoMemory>
     Ok(())
 }
 
-/// What opens a label: behind the coefficient 1, where none was read.
+/// What opens a label: after the coefficient 1, where none was read.
 fn opening(bare: bool) -> &'static [u8]
     ensures { result.now ≡ cond bare (codes "1  (") (codes "  (") }
 {
@@ -54,7 +54,7 @@ fn opening(bare: bool) -> &'static [u8]
     b"  ("
 }
 
-/// Whether a byte leaves no trace: `+`, `*`, a letter, and the end of the line behind an atom.
+/// Whether a byte leaves no trace: `+`, `*`, a letter, and the end of the line after an atom.
 fn is_dropped(bare: bool, byte: u8) -> bool
     ensures { result ≡ is_dropped bare byte }
 {

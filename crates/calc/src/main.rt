@@ -1,18 +1,19 @@
-//! The calculator as a program. It runs the command that its words name, over standard input and standard output, and
-//! ends with the code of its status. Nothing goes to standard error.
+//! The calculator as a program. It runs the command that its words name, over standard input and
+//! standard output, and ends with the code of its status. Nothing goes to standard error.
 //!
 //! What is proved:
 //!
 //! The program: it is proved safe, and its stored run is `expand m p[2,1]`. `code_of_run`: the
 //! program's code is that of a status that `answers` the words after the program's name, as `run`
 //! says; `code_for`: 7 or 8 where the system refuses the words. `run_over`: all clauses of `run`,
-//! over any reader and any writer behind a buffer, and its `headline` and `lines` also of the bytes
-//! that the writer itself holds.
+//! over any reader and any writer with a buffer in front of it, and its `headline` and `lines` also
+//! of the bytes that the writer itself holds.
 #![tactic(auto)]
 
 ghost use Rattle.std.specs.Prelude.{◌≡◌, ◌≢◌, ℕ, List, Some, drop, map, string_bytes};
 ghost use Rattle.std.specs.Process.{exit_status};
-ghost use Rattle.calc_app.specs.Top.{AnswersWords, CutsLines, HidesNoFault, IsEmptied, IsOutcome, IsThrough, Leaves, PrintsAnswerTo, PrintsLines, RunsLines};
+ghost use Rattle.calc_app.specs.Top.{AnswersWords, CutsLines, HidesNoFault, IsEmptied, IsOutcome};
+ghost use Rattle.calc_app.specs.Top.{IsThrough, Leaves, PrintsAnswerTo, PrintsLines, RunsLines};
 ghost use Rattle.calc_base.specs.Edge.{intake_seen, outlet_seen, told_bytes};
 ghost use Rattle.calc_base.specs.Sink.{Appends};
 ghost use Rattle.calc_base.specs.Status.{IsCodeOf, code_of};
@@ -25,8 +26,8 @@ use std::process::ExitCode;
 use std::rt::Env;
 use std::{env, io};
 
-/// The code at the end where the system refuses the words for another reason than want of memory, as where one is no
-/// text in UTF-8.
+/// The code at the end where the system refuses the words for another reason than out of memory, as
+/// where one is no text in UTF-8.
 const WORDS_REFUSED: u8 = 8;
 
 fn main(rt: HostRuntime) -> ExitCode {
@@ -38,7 +39,8 @@ fn main(rt: HostRuntime) -> ExitCode {
 
 /// Runs the words after the program's name, and gives the code of their status.
 fn code_of_run(rt: &HostRuntime, arguments: &[String]) -> ExitCode
-    ensures { IsCodeOf (AnswersWords (map string_bytes (drop 1 arguments.now)) (λ line. Unit {0})) (exit_status result) }
+    ensures { IsCodeOf (AnswersWords (map string_bytes (drop 1 arguments.now)) (λ line. Unit {0}))
+        (exit_status result) }
 {
     ExitCode::from(status_of(rt, after_name(arguments)).code())
 }
@@ -58,7 +60,8 @@ fn after_name(arguments: &[String]) -> &[String]
     }
 }
 
-/// The code at the end where the system refuses the words: that of want of memory, and 8 for another reason.
+/// The code at the end where the system refuses the words: that of out of memory,
+/// and 8 for another reason.
 fn code_for(refusal: ErrorKind) -> u8
     ensures memory { refusal ≡ ErrorKind.OutOfMemory → result ≡ code_of Status.NoMemory }
     ensures other { refusal ≢ ErrorKind.OutOfMemory → result ≡ 8 }
@@ -70,10 +73,12 @@ fn code_for(refusal: ErrorKind) -> u8
     }
 }
 
-/// Runs the words over standard input and standard output. The text is written in large pieces; `run` finishes the output where a
-/// batch has no further line to run, so that who sends a line and waits for its block gets it.
+/// Runs the words over standard input and standard output. The text is written in large pieces;
+/// `run` finishes the output where a batch has no further line to run, so that who sends a line and
+/// waits for its block gets it.
 fn status_of(rt: &HostRuntime, words: &[String]) -> Status
-    // The status that `run` answers to the words. What standard input gives and standard output takes no clause can say.
+    // The status that `run` answers to the words. What standard input gives and standard output
+    // takes no clause can say.
     ensures { AnswersWords (map string_bytes words.now) (λ line. Unit {0}) result }
 {
     let Ok(writer) = BufWriter::new(rt.alloc(), rt.stdout()) else {
@@ -83,32 +88,40 @@ fn status_of(rt: &HostRuntime, words: &[String]) -> Status
     run_over(rt.alloc(), words, &mut source, &mut StdOut::new(writer))
 }
 
-/// Runs the words over a reader, and over a writer behind a buffer.
+/// Runs the words over a reader, and over a writer with a buffer in front of it.
 fn run_over<R: Read, W: Write + Drop>(
     alloc: Global,
     words: &[String],
     source: &mut StdIn<R>,
     sink: &mut StdOut<W>,
 ) -> Status
-    // The headlines of `run`, of the bytes that the writer itself holds: nothing that was put waits in the buffer.
-    ensures headline { result ≡ Status.Done → (before : List ℕ) → told_bytes W.contents sink.old ≡ Some before
-        → PrintsAnswerTo (map string_bytes words.now) before (R.remaining source.old.reader) (W.contents sink.new.writer) }
+    // The headlines of `run`, of the bytes that the writer itself holds:
+    // nothing that was put waits in the buffer.
+    ensures headline { result ≡ Status.Done → (before : List ℕ)
+        → told_bytes W.contents sink.old ≡ Some before
+        → PrintsAnswerTo (map string_bytes words.now) before (R.remaining source.old.reader)
+        (W.contents sink.new.writer) }
     ensures lines { RunsLines (map string_bytes words.now) → IsThrough result → (before : List ℕ)
         → told_bytes W.contents sink.old ≡ Some before
         → PrintsLines before (R.remaining source.old.reader) (W.contents sink.new.writer) }
 
     // The other clauses of `run`, as it says them of its source and sink.
     ensures cut { RunsLines (map string_bytes words.now) → result ≡ Status.SinkFault
-        → CutsLines (outlet_seen W.contents sink.old) (outlet_seen W.contents sink.new) (intake_seen R.remaining source.old)
+        → CutsLines (outlet_seen W.contents sink.old) (outlet_seen W.contents sink.new)
+        (intake_seen R.remaining source.old)
         (intake_seen R.remaining source.new) }
-    ensures leaves { Leaves (outlet_seen W.contents sink.old) (outlet_seen W.contents sink.new) (intake_seen R.remaining source.old)
-        (intake_seen R.remaining source.new) (sink.new ≡ sink.old) (RunsLines (map string_bytes words.now))
+    ensures leaves { Leaves (outlet_seen W.contents sink.old) (outlet_seen W.contents sink.new)
+        (intake_seen R.remaining source.old)
+        (intake_seen R.remaining source.new) (sink.new ≡ sink.old)
+        (RunsLines (map string_bytes words.now))
         (IsOutcome (map string_bytes words.now)) result }
     ensures answers { AnswersWords (map string_bytes words.now)
         (Appends (outlet_seen W.contents sink.old) (outlet_seen W.contents sink.new)) result }
-    ensures faults { HidesNoFault (outlet_seen W.contents sink.old) (outlet_seen W.contents sink.new)
+    ensures faults { HidesNoFault (outlet_seen W.contents sink.old)
+        (outlet_seen W.contents sink.new)
         (intake_seen R.remaining source.old) (intake_seen R.remaining source.new) result }
-    ensures all_read { RunsLines (map string_bytes words.now) → IsThrough result → IsEmptied (R.remaining source.new.reader) }
+    ensures all_read { RunsLines (map string_bytes words.now) → IsThrough result
+        → IsEmptied (R.remaining source.new.reader) }
     ensures untouched { (RunsLines (map string_bytes words.now) → ⊥) → source.new ≡ source.old }
 {
     run(alloc, words, source, sink)

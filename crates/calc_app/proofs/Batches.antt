@@ -41,7 +41,7 @@ use Rattle.calc_app.proofs.Faults.{no_faults, sink_failed, source_failed, ends_w
 use Rattle.calc_app.proofs.Outcomes.{has_outcome, leaves_ending}
 use Rattle.calc_replies.proofs.Replies.{computes_reply}
 
--- ---- what comes of one line
+-- ---- the outcome of one line
 
 pub line_reply : (line : BatchLine) (command : Command) (outcome : Outcome) → IsLineRead line (Ok (Some command))
     → IsReplyTo (command_of command) (Ok outcome) → ComesOfLine line (Some outcome)

@@ -10,13 +10,13 @@ use Rattle.sym_model.specs.Headline.{ReadsBack}
 use Rattle.sym_model.specs.LargeAnswer.{IsDefinedCoefficient, HasWeight}
 use Rattle.sym_model.specs.Outcome.{Answers, Expands, MayBeLarge}
 use Rattle.sym_model.specs.Target.{Meets}
-use Rattle.product_laws.specs.FactorSteps.{ArePartitions}
 use Rattle.reduction_laws.proofs.TextsInSteps.{quantum_reads-steps, fusion_reads-steps}
 use Rattle.calc_words.specs.WrittenLimits.{IsWritten, KeepsLimits}
 use Rattle.word_laws.proofs.LongestPrefixes.{each_in}
 use Rattle.calc_language.specs.BuiltCommands.{batch_entries}
 use Rattle.calc_replies.specs.Computed.{Tells}
 use Rattle.calc_app.specs.Top.{IsInput, Says, SaysOver}
+use Rattle.sym_model.specs.Partition.{ArePartitions}
 
 -- it names an expansion
 pub record NamesExpansion (command : Command) : Type 0 where

@@ -52,6 +52,6 @@ ends_well syntax = ((λ e. cc), (λ e. cc))
 ends_well range = ((λ e. cc), (λ e. cc))
 ends_well past = ((λ e. cc), (λ e. cc))
 
--- neither does want of memory
+-- neither does out of memory
 pub is_full : (status.NoMemory ≡ status.SinkFault → ⊥) × (status.NoMemory ≡ status.SourceFault → ⊥)
 is_full = ((λ e. cc), (λ e. cc))

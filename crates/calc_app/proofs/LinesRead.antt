@@ -1,4 +1,4 @@
--- Which lines were read so far of a source that tells its bytes.
+-- Which lines were read so far of a source that records its bytes.
 use Rattle.std.proofs.Common.{◌≡◌, ℕ, Bool, true, false, ◌+◌, ◌<◌, ◌≤◌, List, [], ◌∷◌, ◌++◌, append_assoc, append-nil, length, length-append, refl, sym, ap, ◌∙◌, arith, Option, Some, None, ◌⊎◌, inl, inr}
 use Rattle.batch_lines.proofs.Lines.{line_first, line_last, told}
 use Rattle.batch_lines.specs.Feeds.{HasNoFeed}
@@ -21,7 +21,7 @@ pub record Reads (input rest : List ℕ) (lines : List (List ℕ)) (pending : Li
   pub cut : input ≡ front ++ (pending ++ rest)
   pub state : Stands has_ended front (pending ++ rest) lines
 
--- the same of a source that may tell its bytes; of one that did not tell them at first, that nothing is left where it was found
+-- the same of a source that may record its bytes; of one that did not record them at first, that nothing is left where it was found
 -- at its end
 abbrev pub ReadsTold : Option (List ℕ) → Option (List ℕ) → List (List ℕ) → List ℕ → Bool → Type 0
 ReadsTold (Some input) (Some rest) lines pending has_ended = Reads input rest lines pending has_ended
@@ -49,7 +49,7 @@ begin_spelled = λ text. refl
 
 -- ---- one line more
 
--- the bytes of a line that is read next, and what stands behind it
+-- the bytes of a line that is read next, and what comes after it
 abbrev pub EndsLine : Bool → (all text behind : List ℕ) → Option (List ℕ) → Type 0
 EndsLine false all text behind now = EndsAtFeed all text behind
 EndsLine true all text behind now = EndsAtEnd all text behind now × (0 < length text)
@@ -172,7 +172,7 @@ front_told input rest lines pending had r = by had r.state
     by true s =
         (s.1, [], ap lines_of (r.cut ∙ ap (λ t. r.front ++ t) s.0 ∙ append-nil r.front) ∙ sym (append-nil (lines_of r.front)))
 
--- the first lines, each of which ends in what was read, and a piece that was read behind them
+-- the first lines, each of which ends in what was read, and a piece that was read after them
 pub record Cut (left now : Option (List ℕ)) (lines : List (List ℕ)) (piece : List ℕ) : Type 0 where
   pub front : List ℕ
   pub took : Took left now (front ++ piece)
@@ -204,7 +204,7 @@ read_cut (Some input) None now taken pending spelled lines had r ended whole too
 read_cut None before now taken pending spelled lines had r ended whole took =
     record { front = spelled; took = tt; is_ended = inl whole; is_front = tt; are = front_lines spelled lines ended }
 
--- the first lines, and what was read behind them, in which no line ends
+-- the first lines, and what was read after them, in which no line ends
 pub record Part (left now : Option (List ℕ)) (lines : List (List ℕ)) : Type 0 where
   pub front : List ℕ
   pub piece : List ℕ

@@ -37,7 +37,7 @@ use Rattle.calc_replies.specs.declared.outcome.Outcome.TheVariants.{Answered, Re
 use Rattle.calc_replies.specs.Computed.{Computes, AreRefused, Accepts, Refuses, GoesWrong, Tells, lines_text, text_of, HasBlock, refusal_status, status_for}
 use Rattle.calc_app.specs.Top.{IsOutcome, IsInput, IsFrontOf, RunsLines, Says, SaysOver, status_of, PutsPrefix, Leaves, PrintsAnswerTo, WasCutOff, IsAccepted, IsRefused, AnswersWords}
 
--- ---- what comes of a command
+-- ---- the outcome of a command
 
 -- an answer in the form that its command asks for
 prints : (command : Command) (answer : Answer) (form : Form) → Meets command (plain_answer answer) → plain_form form ≡ printed_form command
@@ -74,7 +74,7 @@ tells_answer command text tells = by (kind command)
     by (inr (inl k)) = k.answers text tells
     by (inr (inr k)) = absurd (k.untold text tells)
 
--- ---- what comes of the words
+-- ---- the outcome of the words
 
 -- an outcome of the words by the commands of the list, with a text, and the status that goes with it
 pub record HasOutcome (entries : List Entry) (words : List (List ℕ)) (text : List ℕ) (answer : Status) : Type 0 where
@@ -129,7 +129,7 @@ has_outcome entries words (Told lines) computes block = record {
   same = refl;
 }
 
--- what comes of a command that runs no other ones comes of it over every input
+-- a command that runs no other ones has the same outcome over every input
 answers_alone : (input : List ℕ) (command : Command) (text : List ℕ) (ending : Ending) → Answers command text ending
     → AnswersWith batch_entries input command text ending
 answers_alone input command text ending answers = by (kind command)

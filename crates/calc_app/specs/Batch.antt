@@ -1,4 +1,4 @@
--- What comes of the lines of a batch, one after another (this project's own).
+-- The outcome of the lines of a batch, one after another.
 use Rattle.std.specs.Prelude.{◌≡◌, ℕ, List, Bool, false, Option, Some, None, Result, Ok, Err}
 use Rattle.batch_lines.specs.declared.next.LineFault.{LineFault}
 use Rattle.batch_lines.specs.declared.next.LineFault.TheVariants as line_fault
@@ -13,7 +13,8 @@ use Rattle.calc_base.specs.Sink.{SinkSeen}
 use Rattle.calc_base.specs.Source.{SourceSeen}
 use Rattle.calc_language.specs.BuiltCommands.{batch_entries}
 use Rattle.calc_language.specs.Reading.{IsFaultOf}
-use Rattle.sym_model.specs.BatchLine.{BatchLine, too_long, passed_over, spoken, batch_line, too_long_offence}
+use Rattle.sym_model.specs.BatchLine.{BatchLine, too_long, passed_over, spoken, batch_line}
+use Rattle.sym_model.specs.BatchLine.{too_long_offence}
 use Rattle.sym_model.specs.BatchOutcome.{RunsInput}
 use Rattle.calc_replies.specs.declared.outcome.Outcome.{Outcome}
 use Rattle.calc_replies.specs.declared.outcome.Outcome.TheVariants.{Refused}
@@ -22,7 +23,7 @@ use Rattle.calc_app.specs.declared.batch.Turn.TheVariants.{Passed, Block, Last}
 use Rattle.calc_replies.specs.Computed.{Computes}
 use Rattle.calc_app.specs.Top.{Leaves, HidesNoFault, IsEmptied, IsThrough, CutsLines}
 
--- ---- what comes of one line
+-- ---- the outcome of one line
 
 -- the outcome is the refusal of a line that is too long
 pub record RefusesLong (outcome : Outcome) : Type 0 where
@@ -30,7 +31,8 @@ pub record RefusesLong (outcome : Outcome) : Type 0 where
   pub is : outcome ≡ Refused reason
   pub names : IsFaultOf too_long_offence reason
 
--- what comes of a line: nothing where it is passed over, and otherwise its refusal or what comes of its words
+-- the outcome of a line: nothing where it is skipped,
+-- and otherwise its refusal or the outcome of its words
 abbrev pub ComesOfLine : BatchLine → Option Outcome → Type 0
 ComesOfLine too_long None = ⊥
 ComesOfLine too_long (Some outcome) = RefusesLong outcome
@@ -39,7 +41,7 @@ ComesOfLine passed_over (Some outcome) = ⊥
 ComesOfLine (spoken words) None = ⊥
 ComesOfLine (spoken words) (Some outcome) = Computes batch_entries words (Ok outcome)
 
--- what comes of what is read next
+-- the outcome of what is read next
 abbrev pub IsTurn : Next → List ℕ → Turn → Type 0
 IsTurn next.Line line Passed = ComesOfLine (batch_line line) None
 IsTurn next.Line line (Block outcome) = ComesOfLine (batch_line line) (Some outcome)
@@ -51,17 +53,20 @@ IsTurn next.End line Passed = ⊥
 IsTurn next.End line (Block outcome) = ⊥
 IsTurn next.End line Last = Unit {0}
 
--- the next line was read, and this comes of it
-pub record TakesTurn (before now : SourceSeen) (pending left_pending : List ℕ) (has_ended : Bool) (turn : Turn) : Type 0 where
+-- the next line was read, and this is its outcome
+pub record TakesTurn (before now : SourceSeen) (pending left_pending : List ℕ) (has_ended : Bool)
+    (turn : Turn) : Type 0 where
   pub line : List ℕ
   pub read : Next
   pub reads : ReadsNext before now pending left_pending line has_ended read
   pub is : IsTurn read line turn
 
 -- where a fault of the source came, it was not at its end, and no line ends in what was taken
-abbrev pub CutsTurn : (before now : Option (List ℕ)) → List ℕ → (had_ended : Bool) → Result Turn LineFault → Type 0
+abbrev pub CutsTurn : (before now : Option (List ℕ)) → List ℕ → (had_ended : Bool)
+    → Result Turn LineFault → Type 0
 CutsTurn before now pending had_ended (Ok turn) = Unit {0}
-CutsTurn before now pending had_ended (Err line_fault.SourceFault) = (had_ended ≡ false) × TookPart before now pending
+CutsTurn before now pending had_ended (Err line_fault.SourceFault) =
+    (had_ended ≡ false) × TookPart before now pending
 CutsTurn before now pending had_ended (Err line_fault.NoMemory) = Unit {0}
 
 -- a fault of the source is counted, and nothing else is
@@ -72,8 +77,10 @@ CountsTurn before now (Err line_fault.NoMemory) = now ≡ before
 
 -- ---- the end
 
--- how a batch ends: what it leaves in the sink, which faults were counted, and that all was read where the status says so
-pub record EndsBatch (old new : SinkSeen) (source now : SourceSeen) (Untouched : Type 0) (result : Status) : Type 0 where
+-- how a batch ends: what it leaves in the sink, which faults were counted, and that all was read
+-- where the status says so
+pub record EndsBatch (old new : SinkSeen) (source now : SourceSeen) (Untouched : Type 0)
+    (result : Status) : Type 0 where
   pub leaves : Leaves old new source now Untouched (Unit {0}) (RunsInput batch_entries) result
   pub faults : HidesNoFault old new source now result
   pub all_read : IsThrough result → IsEmptied now.left

@@ -1,7 +1,10 @@
--- What the top call promises, by cases on the status that it answers (this project's own).
-use Rattle.std.specs.Prelude.{◌≡◌, ◌≢◌, ◌⊎◌, ◌+◌, ◌≤◌, ℕ, List, [], ◌∷◌, ◌++◌, length, Bool, true, codes, map, Option, Some, IfSome}
+-- What the top call promises, by cases on the status that it answers.
+use Rattle.std.specs.Prelude.{◌≡◌, ◌≢◌, ◌⊎◌, ◌+◌, ◌≤◌, ℕ, List, [], ◌∷◌, ◌++◌, length, Bool, true}
+use Rattle.std.specs.Prelude.{codes, map, Option, Some, IfSome}
 use Rattle.calc_base.specs.declared.status.Status.{Status}
-use Rattle.calc_base.specs.declared.status.Status.TheVariants.{Done, SomeRefused, Syntax, Range, Past, SinkFault, SourceFault, NoMemory}
+use Rattle.calc_base.specs.declared.status.Status.TheVariants.{Done, SomeRefused, Syntax, Range}
+use Rattle.calc_base.specs.declared.status.Status.TheVariants.{Past, SinkFault, SourceFault}
+use Rattle.calc_base.specs.declared.status.Status.TheVariants.{NoMemory}
 use Rattle.calc_base.specs.Fault.{Rose}
 use Rattle.calc_base.specs.Puts.{Puts}
 use Rattle.calc_base.specs.Sink.{SinkSeen, Appends, AppendsPrefix, IsPrefix}
@@ -9,9 +12,12 @@ use Rattle.calc_base.specs.Source.{SourceSeen}
 use Rattle.batch_lines.specs.Ends.{status_where}
 use Rattle.batch_lines.specs.Feeds.{HasNoFeed}
 use Rattle.batch_lines.specs.Reading.{Took, most_pending}
-use Rattle.sym_model.specs.BatchLine.{BatchLine, too_long, passed_over, spoken, batch_line, lines_of}
-use Rattle.sym_model.specs.BatchOutcome.{Block, AreBlocks, batch_text, RunsInput, RunsWorkload, IsOutcomeOf}
-use Rattle.sym_model.specs.Command.{Command, quantum, fusion, tab, rsk, unrsk, rect, growth, batch, work}
+use Rattle.sym_model.specs.BatchLine.{BatchLine, too_long, passed_over, spoken, batch_line}
+use Rattle.sym_model.specs.BatchLine.{lines_of}
+use Rattle.sym_model.specs.BatchOutcome.{Block, AreBlocks, batch_text, RunsInput, RunsWorkload}
+use Rattle.sym_model.specs.BatchOutcome.{IsOutcomeOf}
+use Rattle.sym_model.specs.Command.{Command, quantum, fusion, tab, rsk, unrsk, rect, growth, batch}
+use Rattle.sym_model.specs.Command.{work}
 use Rattle.sym_model.specs.CommandOffence.{Offence}
 use Rattle.sym_model.specs.Ending.{Ending, done, some_refused, syntax, range, past}
 use Rattle.sym_model.specs.Entry.{SpellsWithoutOffence, HasFirstOffence}
@@ -28,7 +34,8 @@ use Rattle.reduction_laws.specs.PrintedSteps.{ReadsReducedInSteps, ReadsReflecte
 
 -- the text is defined for the words over an input, with this ending
 abbrev pub IsOutcome : List (List ℕ) → List ℕ → List ℕ → Ending → Type 0
-IsOutcome words input text ending = IsOutcomeOf command_entries batch_entries words input text ending
+IsOutcome words input text ending =
+    IsOutcomeOf command_entries batch_entries words input text ending
 
 -- the words are those of the command that runs the lines of its input
 abbrev pub RunsLines : List (List ℕ) → Type 0
@@ -40,7 +47,8 @@ IsInput left input = IfSome left (λ bytes. bytes ≡ input)
 
 -- the lines of the front are the first ones of all that the source has left, where it tells that
 abbrev pub IsFrontOf : Option (List ℕ) → List ℕ → Type 0
-IsFrontOf left front = IfSome left (λ bytes. (more : List (List ℕ)) × (lines_of bytes ≡ lines_of front ++ more))
+IsFrontOf left front =
+    IfSome left (λ bytes. (more : List (List ℕ)) × (lines_of bytes ≡ lines_of front ++ more))
 
 -- all that the source had is taken, where it tells that
 abbrev pub IsEmptied : Option (List ℕ) → Type 0
@@ -58,10 +66,13 @@ status_of syntax = Syntax
 status_of range = Range
 status_of past = Past
 
--- ---- what is left in the sink, where `Defined input text ending` says which texts are defined over an input
+-- ---- what is left in the sink, where `Defined input text ending` says which texts are defined
+-- over an input
 
--- a text that is defined over the whole input, with this ending, was appended whole, and the sink is settled
-pub record PutsWhole (old new : SinkSeen) (source : SourceSeen) (Defined : List ℕ → List ℕ → Ending → Type 0) (ending : Ending) : Type 0 where
+-- a text that is defined over the whole input, with this ending, was appended whole,
+-- and the sink is settled
+pub record PutsWhole (old new : SinkSeen) (source : SourceSeen)
+    (Defined : List ℕ → List ℕ → Ending → Type 0) (ending : Ending) : Type 0 where
   pub input : List ℕ
   pub is_input : IsInput source.left input
   pub text : List ℕ
@@ -70,7 +81,8 @@ pub record PutsWhole (old new : SinkSeen) (source : SourceSeen) (Defined : List 
   pub is_settled : new.settled ≡ true
 
 -- a prefix of a text that is defined over the first lines of the input was appended
-pub record PutsPrefix (old new : SinkSeen) (source : SourceSeen) (Defined : List ℕ → List ℕ → Ending → Type 0) : Type 0 where
+pub record PutsPrefix (old new : SinkSeen) (source : SourceSeen)
+    (Defined : List ℕ → List ℕ → Ending → Type 0) : Type 0 where
   pub front : List ℕ
   pub is_front : IsFrontOf source.left front
   pub text : List ℕ
@@ -78,9 +90,11 @@ pub record PutsPrefix (old new : SinkSeen) (source : SourceSeen) (Defined : List
   pub outcome : Defined front text ending
   pub appended : AppendsPrefix old new text
 
--- A text that is defined over the first lines of the input was appended whole. Those lines and a piece after them were read,
--- and each of them ends in what was read: at a line feed, or where the source tells that nothing is left.
-pub record PutsFront (old new : SinkSeen) (source now : SourceSeen) (Defined : List ℕ → List ℕ → Ending → Type 0) : Type 0 where
+-- A text that is defined over the first lines of the input was appended whole. Those lines and a
+-- piece after them were read, and each of them ends in what was read: at a line feed, or where the
+-- source tells that nothing is left.
+pub record PutsFront (old new : SinkSeen) (source now : SourceSeen)
+    (Defined : List ℕ → List ℕ → Ending → Type 0) : Type 0 where
   pub front : List ℕ
   pub piece : List ℕ
   pub took : Took source.left now.left (front ++ piece)
@@ -91,9 +105,10 @@ pub record PutsFront (old new : SinkSeen) (source now : SourceSeen) (Defined : L
   pub outcome : Defined front text ending
   pub appended : Appends old new text
 
--- The text of the lines that were wholly read was appended whole, and the sink is settled. After those lines no line ends in
--- what was read.
-pub record PutsRead (old new : SinkSeen) (source now : SourceSeen) (Defined : List ℕ → List ℕ → Ending → Type 0) : Type 0 where
+-- The text of the lines that were wholly read was appended whole, and the sink is settled. After
+-- those lines no line ends in what was read.
+pub record PutsRead (old new : SinkSeen) (source now : SourceSeen)
+    (Defined : List ℕ → List ℕ → Ending → Type 0) : Type 0 where
   pub front : List ℕ
   pub piece : List ℕ
   pub took : Took source.left now.left (front ++ piece)
@@ -106,24 +121,30 @@ pub record PutsRead (old new : SinkSeen) (source now : SourceSeen) (Defined : Li
   pub appended : Appends old new text
   pub is_settled : new.settled ≡ true
 
--- What a command leaves in the sink, by its status: the whole text, settled; after a fault of the sink a prefix of the text of
--- the first lines; after a fault of the source the text of the lines wholly read, settled; without memory nothing, or, where
--- lines are run, the text of the first ones. `Untouched` says that no call of the sink was made, and `Runs` that lines are run:
+-- What a command leaves in the sink, by its status: the whole text, settled; after a fault of the
+-- sink a prefix of the text of the first lines; after a fault of the source the text of the lines
+-- wholly read, settled; without memory nothing, or, where lines are run, the text of the first
+-- ones. `Untouched` says that no call of the sink was made, and `Runs` that lines are run:
 -- without that two of the statuses never come.
-abbrev pub Leaves : (old new : SinkSeen) (source now : SourceSeen) (Untouched Runs : Type 0) → (List ℕ → List ℕ → Ending → Type 0) → Status → Type 0
+abbrev pub Leaves : (old new : SinkSeen) (source now : SourceSeen) (Untouched Runs : Type 0)
+    → (List ℕ → List ℕ → Ending → Type 0) → Status → Type 0
 Leaves old new source now Untouched Runs Defined Done = PutsWhole old new source Defined done
-Leaves old new source now Untouched Runs Defined SomeRefused = Runs × PutsWhole old new source Defined some_refused
+Leaves old new source now Untouched Runs Defined SomeRefused =
+    Runs × PutsWhole old new source Defined some_refused
 Leaves old new source now Untouched Runs Defined Syntax = PutsWhole old new source Defined syntax
 Leaves old new source now Untouched Runs Defined Range = PutsWhole old new source Defined range
 Leaves old new source now Untouched Runs Defined Past = PutsWhole old new source Defined past
 Leaves old new source now Untouched Runs Defined SinkFault = PutsPrefix old new source Defined
-Leaves old new source now Untouched Runs Defined SourceFault = Runs × PutsRead old new source now Defined
-Leaves old new source now Untouched Runs Defined NoMemory = Untouched ⊎ (Runs × PutsFront old new source now Defined)
+Leaves old new source now Untouched Runs Defined SourceFault =
+    Runs × PutsRead old new source now Defined
+Leaves old new source now Untouched Runs Defined NoMemory =
+    Untouched ⊎ (Runs × PutsFront old new source now Defined)
 
--- No fault is hidden: with `SinkFault` the sink's count of faults rose by exactly one, or stands at 2^64 - 1, and with every
--- other status it is as it was. The same of the source with `SourceFault`, but that a fault of the sink can follow one of the
--- source. No count falls.
-pub record HidesNoFault (old new : SinkSeen) (source now : SourceSeen) (status : Status) : Type 0 where
+-- No fault is hidden: with `SinkFault` the sink's count of faults rose by exactly one, or stands at
+-- 2^64 - 1, and with every other status it is as it was. The same of the source with `SourceFault`,
+-- but that a fault of the sink can follow one of the source. No count falls.
+pub record HidesNoFault (old new : SinkSeen) (source now : SourceSeen)
+    (status : Status) : Type 0 where
   pub sink_fault : status ≡ SinkFault → Rose old.faults new.faults
   pub no_fault : status ≢ SinkFault → new.faults ≡ old.faults
   pub later : old.faults ≤ new.faults
@@ -133,14 +154,17 @@ pub record HidesNoFault (old new : SinkSeen) (source now : SourceSeen) (status :
 
 -- ---- the headline
 
--- what the text of a command that runs no lines says: of `tab`, `rsk`, `unrsk`, `rect` and `growth` it is what is defined for
--- them; of the others it reads back as a canonical list of terms, which is what the command names; of `quantum` and `fusion`
--- that list is also what reducing after each factor gives
+-- what the text of a command that runs no lines says: of `tab`, `rsk`, `unrsk`, `rect` and `growth`
+-- it is what is defined for them; of the others it reads back as a canonical list of terms, which
+-- is what the command names; of `quantum` and `fusion` that list is also what reducing after each
+-- factor gives
 abbrev pub Says : Command → List ℕ → Type 0
 Says (quantum rows columns factors) text =
-    ReadsBack (quantum rows columns factors) text × ReadsReducedInSteps rows (rows + columns) factors text
+    ReadsBack (quantum rows columns factors) text
+    × ReadsReducedInSteps rows (rows + columns) factors text
 Says (fusion rows level factors) text =
-    ReadsBack (fusion rows level factors) text × ReadsReflectedInSteps rows (rows + level) factors text
+    ReadsBack (fusion rows level factors) text
+    × ReadsReflectedInSteps rows (rows + level) factors text
 Says (tab outer inner last) text = Answers (tab outer inner last) text done
 Says (rsk w) text = Answers (rsk w) text done
 Says (unrsk p q) text = Answers (unrsk p q) text done
@@ -150,24 +174,28 @@ Says batch text = ⊥
 Says (work lines seed) text = ⊥
 Says command text = ReadsBack command text
 
--- the same of every command: of `batch` the text is the blocks of the lines of all that the source had left, where it tells
--- that, and of `work` the sums over the blocks of its lines
+-- the same of every command: of `batch` the text is the blocks of the lines of all that the source
+-- had left, where it tells that, and of `work` the sums over the blocks of its lines
 abbrev pub SaysOver : Option (List ℕ) → Command → List ℕ → Type 0
-SaysOver left batch text = (input : List ℕ) × IsInput left input × RunsInput batch_entries input text done
+SaysOver left batch text =
+    (input : List ℕ) × IsInput left input × RunsInput batch_entries input text done
 SaysOver left (work lines seed) text = RunsWorkload batch_entries lines seed text
 SaysOver left command text = Says command text
 
--- The headline. A text was appended to the bytes that stood before. The words spell a command without an offence; the text,
--- read back, is a canonical list of terms; and that list is what the command names; of `tab` it is the listed lines. For `expand m` and an expression: in
--- every number of variables the list, read in the monomial basis, is the expression.
-pub record PrintsAnswerTo (words : List (List ℕ)) (before : List ℕ) (left now : Option (List ℕ)) : Type 0 where
+-- The headline. A text was appended to the bytes that stood before. The words spell a command
+-- without an offence; the text, read back, is a canonical list of terms; and that list is what the
+-- command names; of `tab` it is the listed lines. For `expand m` and an expression: in every number
+-- of variables the list, read in the monomial basis, is the expression.
+pub record PrintsAnswerTo (words : List (List ℕ)) (before : List ℕ)
+    (left now : Option (List ℕ)) : Type 0 where
   pub text : List ℕ
   pub appended : now ≡ Some (before ++ text)
   pub command : Command
   pub spelled : SpellsWithoutOffence command_entries words command
   pub says : SaysOver left command text
 
--- the words of a line spell a command of a line without an offence, and its block says what the command names
+-- the words of a line spell a command of a line without an offence,
+-- and its block says what the command names
 pub record SaysLine (words : List (List ℕ)) (text : List ℕ) : Type 0 where
   pub command : Command
   pub spelled : SpellsWithoutOffence batch_entries words command
@@ -175,14 +203,15 @@ pub record SaysLine (words : List (List ℕ)) (text : List ℕ) : Type 0 where
 
 -- each line that was not refused has a block that says what its command names
 abbrev pub SayLines : List BatchLine → List Block → Type 0
-SayLines (spoken words ∷ lines) (b ∷ blocks) = (b.1 ≡ done → SaysLine words b.0) × SayLines lines blocks
+SayLines (spoken words ∷ lines) (b ∷ blocks) =
+    (b.1 ≡ done → SaysLine words b.0) × SayLines lines blocks
 SayLines (too_long ∷ lines) (b ∷ blocks) = SayLines lines blocks
 SayLines (passed_over ∷ lines) blocks = SayLines lines blocks
 SayLines _ _ = Unit {0}
 
--- The headline of a batch. For some input, which is all that the source had left, where it tells that, the blocks of all lines
--- were appended, in their order, to the bytes that stood before, and each block of a line that was not refused says what the
--- line's command names.
+-- The headline of a batch. For some input, which is all that the source had left, where it tells
+-- that, the blocks of all lines were appended, in their order, to the bytes that stood before, and
+-- each block of a line that was not refused says what the line's command names.
 pub record PrintsLines (before : List ℕ) (left now : Option (List ℕ)) : Type 0 where
   pub input : List ℕ
   pub is_input : IsInput left input
@@ -193,7 +222,8 @@ pub record PrintsLines (before : List ℕ) (left now : Option (List ℕ)) : Type
 
 -- ---- a batch whose sink failed
 
--- the blocks of the earlier lines were put whole, and of the block of the line after them, with what parts two blocks, a prefix
+-- the blocks of the earlier lines were put whole, and of the block of the line after them, with
+-- what parts two blocks, a prefix
 pub record CutsBlock (old new : SinkSeen) (lines : List BatchLine) : Type 0 where
   pub earlier : List BatchLine
   pub line : BatchLine
@@ -212,9 +242,10 @@ pub record PutsBlocks (old new : SinkSeen) (lines : List BatchLine) : Type 0 whe
   pub are_blocks : AreBlocks batch_entries lines blocks
   pub appended : Appends old new (batch_text blocks)
 
--- What a fault of the sink leaves of a batch. These lines were read and no unfinished one. The blocks of all lines but the last
--- were put whole, and of its own a prefix, and at most 4,096 bytes were taken after them; or those of all, where the sink failed
--- at the end, and then no line ends in what was taken after them.
+-- What a fault of the sink leaves of a batch. These lines were read and no unfinished one. The
+-- blocks of all lines but the last were put whole, and of its own a prefix, and at most 4,096 bytes
+-- were taken after them; or those of all, where the sink failed at the end, and then no line ends
+-- in what was taken after them.
 pub record CutsLines (old new : SinkSeen) (source now : SourceSeen) : Type 0 where
   pub front : List ℕ
   pub piece : List ℕ
@@ -223,7 +254,7 @@ pub record CutsLines (old new : SinkSeen) (source now : SourceSeen) : Type 0 whe
   pub puts : (CutsBlock old new (map batch_line (lines_of front)) × (length piece ≤ most_pending))
       ⊎ (PutsBlocks old new (map batch_line (lines_of front)) × HasNoFeed piece)
 
--- ---- what comes of words
+-- ---- the outcome of words
 
 -- memory was refused or the sink failed
 abbrev pub WasCutOff : Status → Type 0
@@ -233,23 +264,27 @@ WasCutOff status = (status ≡ NoMemory) ⊎ (status ≡ SinkFault)
 abbrev pub IsThrough : Status → Type 0
 IsThrough status = (status ≡ Done) ⊎ (status ≡ SomeRefused)
 
--- a command without an offence is answered, but for want of memory and faults of the sink; it is refused only where a
--- coefficient that is defined for it is past 2^127 - 1, or its weight is 2^127 or more; in a batch lines can be refused, and its
--- source can fail
+-- a command without an offence is answered, but for out of memory and faults of the sink; it is
+-- refused only where a coefficient that is defined for it is past 2^127 - 1, or its weight is 2^127
+-- or more; in a batch lines can be refused, and its source can fail
 abbrev pub IsAccepted : Command → Status → Type 0
 IsAccepted command status =
     (status ≡ Done) ⊎ ((status ≡ Past) × MayBeLarge command) ⊎ WasCutOff status
     ⊎ ((command ≡ batch) × ((status ≡ SomeRefused) ⊎ (status ≡ SourceFault)))
 
--- words that are refused with this ending are refused so, and then their line was put, but for want of memory and faults of the sink
+-- words that are refused with this ending are refused so, and then their line was put, but for out
+-- of memory and faults of the sink
 pub record IsRefused (ending : Ending) (IsPut : Type 0) (status : Status) : Type 0 where
   pub ends : (status ≡ status_of ending) ⊎ WasCutOff status
   pub puts : status ≡ status_of ending → IsPut
 
--- How words are answered, where `IsPut` says that a line was put. Words that spell a command without an offence are answered.
+-- How words are answered, where `IsPut` says that a line was put. Words that spell a command
+-- without an offence are answered.
 -- Words with a first offence, and words that are no command, are refused by their own line.
-pub record AnswersWords (words : List (List ℕ)) (IsPut : List ℕ → Type 0) (status : Status) : Type 0 where
-  pub accepted : (command : Command) → SpellsWithoutOffence command_entries words command → IsAccepted command status
+pub record AnswersWords (words : List (List ℕ)) (IsPut : List ℕ → Type 0)
+    (status : Status) : Type 0 where
+  pub accepted : (command : Command) → SpellsWithoutOffence command_entries words command
+      → IsAccepted command status
   pub offended : (offence : Offence) → HasFirstOffence command_entries words (Some offence)
       → IsRefused (ending_of offence.2) (IsPut (offence_line offence)) status
   pub no_command : (word byte : ℕ) → IsSyntaxPlace command_entries words word byte
@@ -257,8 +292,8 @@ pub record AnswersWords (words : List (List ℕ)) (IsPut : List ℕ → Type 0) 
 
 -- ---- an outcome was put
 
--- The text of the outcome was put and the sink finished, with the status that goes with it; or the sink failed. The block of an
--- answer is one that can be read back.
+-- The text of the outcome was put and the sink finished, with the status that goes with it; or the
+-- sink failed. The block of an answer is one that can be read back.
 pub record PutsOutcome (old new : SinkSeen) (outcome : Outcome) (result : Status) : Type 0 where
   pub well : Bool
   pub puts : Puts true old well new (text_of outcome)

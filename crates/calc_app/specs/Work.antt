@@ -1,4 +1,4 @@
--- What comes of the generated lines, one after another (this project's own).
+-- The outcome of the generated lines, one after another.
 use Rattle.std.specs.Prelude.{◌≡◌, ◌⊎◌, ℕ, ◌+◌, ◌≤◌, List, [], ◌∷◌, Bool, true, map}
 use Rattle.calc_base.specs.declared.status.Status.{Status}
 use Rattle.calc_base.specs.declared.status.Status.TheVariants as status
@@ -49,6 +49,7 @@ pub record PutsWork (old new : SinkSeen) (lines seed : ℕ) (result : Status) : 
   pub put : PutsSums old new sums result
 
 -- how `work` ends: the sums were put, or memory was refused and the sink was not called
-abbrev pub EndsWork : (old new : SinkSeen) → (Untouched : Type 0) → (lines seed : ℕ) → Status → Type 0
+abbrev pub EndsWork : (old new : SinkSeen) → (Untouched : Type 0) → (lines seed : ℕ) → Status
+    → Type 0
 EndsWork old new Untouched lines seed result =
     ((result ≡ status.NoMemory) × Untouched) ⊎ PutsWork old new lines seed result

@@ -10,7 +10,8 @@ ghost use Rattle.batch_lines.specs.Ends.{separator, progress_after};
 ghost use Rattle.calc_commands.specs.Commands.{IsSound};
 ghost use Rattle.calc_app.specs.Batch.{ComesOfLine, TakesTurn, CutsTurn, CountsTurn, EndsBatch};
 ghost use Rattle.calc_language.specs.Reading.{IsWithinItsLimits, command_of};
-ghost use Rattle.calc_replies.specs.Computed.{IsReplyTo, RunsNoOther, text_of, HasText, HasBlock, status_for};
+ghost use Rattle.calc_replies.specs.Computed.{IsReplyTo, RunsNoOther, text_of, HasText, HasBlock};
+ghost use Rattle.calc_replies.specs.Computed.{status_for};
 
 use batch_lines::{LineFault, LineReader, Next, Progress, at_end, finished, put_separator};
 use calc_base::{NoMemory, Place, Sink, Source, Status, WordsFault};
@@ -25,12 +26,12 @@ const MOST_BYTES: u64 = 4096;
 /// How many Schubert polynomials are kept for later lines.
 const KEPT: usize = 64;
 
-/// What comes of what is read next.
+/// The outcome of what is read next.
 #[derive(Drop)]
 enum Turn {
-    /// Nothing: the line is passed over.
+    /// Nothing: the line is skipped.
     Passed,
-    /// What comes of the line's words.
+    /// The outcome of the line's words.
     Block { outcome: Outcome },
     /// There is no line left.
     Last,
@@ -38,11 +39,13 @@ enum Turn {
 
 /// Runs the lines of the source and puts their blocks, with the line `--` between two of them.
 ///
-/// A block is put when its line is read, and nothing of it is kept but Schubert polynomials for later lines. Where no further line
-/// is there whole, the sink hands on what was put before the source is called. A fault of the source ends the run after the lines
-/// that were wholly read, and the sink is finished. Want of memory ends the run.
+/// A block is put when its line is read, and nothing of it is kept but Schubert polynomials for
+/// later lines. Where no further line is there whole, the sink hands on what was put before the
+/// source is called. A fault of the source ends the run after the lines that were wholly read, and
+/// the sink is finished. Want of memory ends the run.
 pub(crate) fn batch<S: Source, K: Sink>(alloc: Global, source: &mut S, sink: &mut K) -> Status
-    ensures { EndsBatch (K.seen sink.old) (K.seen sink.new) (S.seen source.old) (S.seen source.new) (sink.new ≡ sink.old) result }
+    ensures { EndsBatch (K.seen sink.old) (K.seen sink.new) (S.seen source.old) (S.seen source.new)
+        (sink.new ≡ sink.old) result }
 {
     let Ok(mut reader) = LineReader::new(alloc) else {
         return Status::NoMemory;
@@ -79,7 +82,7 @@ pub(crate) fn new_memo(alloc: Global) -> Result<Memo, NoMemory>
     Memo::new(alloc, KEPT)
 }
 
-/// Reads the next line, and computes what comes of it.
+/// Reads the next line, and computes the outcome of it.
 fn next_turn<S: Source>(
     alloc: Global,
     memo: &mut Memo,
@@ -89,7 +92,8 @@ fn next_turn<S: Source>(
     requires { IsAtEnd reader.old.has_ended (S.seen source.old).left }
     ensures takes { IfOk result (TakesTurn (S.seen source.old) (S.seen source.new)
         reader.old.pending reader.new.pending reader.new.has_ended) }
-    ensures cuts { CutsTurn (S.seen source.old).left (S.seen source.new).left reader.old.pending reader.old.has_ended result }
+    ensures cuts { CutsTurn (S.seen source.old).left
+        (S.seen source.new).left reader.old.pending reader.old.has_ended result }
     ensures counts { CountsTurn (S.seen source.old).faults (S.seen source.new).faults result }
     ensures later { (S.seen source.old).faults ≤ (S.seen source.new).faults }
     ensures took { (taken : List ℕ) × Took (S.seen source.old).left (S.seen source.new).left taken }
@@ -107,7 +111,7 @@ fn next_turn<S: Source>(
     }
 }
 
-/// Computes what comes of a line.
+/// Computes the outcome of a line.
 pub(crate) fn line_outcome(
     alloc: Global,
     memo: &mut Memo,
@@ -126,7 +130,7 @@ pub(crate) fn line_outcome(
     }
 }
 
-/// What comes of a command of a line, which is dropped then.
+/// The outcome of a command of a line, which is dropped then.
 fn reply_once(alloc: Global, memo: &mut Memo, command: Command) -> Result<Outcome, NoMemory>
     requires limits { IsWithinItsLimits command }
     requires sound { IsSound command }
@@ -139,7 +143,7 @@ fn reply_once(alloc: Global, memo: &mut Memo, command: Command) -> Result<Outcom
     reply
 }
 
-/// What comes of a line that is too long.
+/// The outcome of a line that is too long.
 fn refused_long() -> Outcome
     ensures { ComesOfLine too_long (Some result) }
 {
@@ -153,10 +157,12 @@ fn refused_long() -> Outcome
     }
 }
 
-/// Puts the block of a line, behind the line `--` where it is not the first one, and answers whether all went well.
+/// Puts the block of a line, after the line `--` where it is not the first one,
+/// and answers whether all went well.
 fn put_block<K: Sink>(progress: &mut Progress, outcome: Outcome, sink: &mut K) -> bool
     requires { HasText outcome }
-    ensures goes { Puts true (K.seen sink.old) result (K.seen sink.new) (separator progress.old.is_first ++ text_of outcome) }
+    ensures goes { Puts true (K.seen sink.old) result (K.seen sink.new)
+        (separator progress.old.is_first ++ text_of outcome) }
     ensures printable { HasBlock outcome }
     ensures counts { progress.new ≡ progress_after progress.old (status_for outcome) }
 {
@@ -166,8 +172,8 @@ fn put_block<K: Sink>(progress: &mut Progress, outcome: Outcome, sink: &mut K) -
     put_behind(is_first, &mut outcome, sink)
 }
 
-/// Hands on what was put, where no further line is there whole: who sends a line and waits for its block gets it. It answers
-/// whether all went well.
+/// Hands on what was put, where no further line is there whole: who sends a line and waits for its
+/// block gets it. It answers whether all went well.
 fn hand_on<K: Sink>(reader: &LineReader, sink: &mut K) -> bool
     ensures goes { Puts true (K.seen sink.old) result (K.seen sink.new) [] }
     ensures none { result ≡ false → HasNoFeed reader.now.pending }
@@ -175,14 +181,17 @@ fn hand_on<K: Sink>(reader: &LineReader, sink: &mut K) -> bool
     reader.has_line() || sink.finish().is_ok()
 }
 
-/// Puts the line `--`, but not in front of the first block, and then the block, and answers whether all went well.
+/// Puts the line `--`, but not in front of the first block, and then the block,
+/// and answers whether all went well.
 fn put_behind<K: Sink>(is_first: bool, outcome: &mut Outcome, sink: &mut K) -> bool
     requires { HasText outcome.old }
-    ensures goes { Puts true (K.seen sink.old) result (K.seen sink.new) (separator is_first ++ text_of outcome.old) }
+    ensures goes { Puts true (K.seen sink.old) result (K.seen sink.new)
+        (separator is_first ++ text_of outcome.old) }
     ensures printable { HasBlock outcome.old }
 {
     if !put_separator(is_first, sink) {
-        // This tells the proof that the block is one that can be read back: what was put is a prefix of it.
+        // This tells the proof that the block is one that can be read back:
+        // what was put is a prefix of it.
         tell_block(outcome);
         return false;
     }

@@ -3,7 +3,9 @@
 ghost use Rattle.std.specs.Prelude.{◌≡◌, ℕ, List, Some, map, string_bytes};
 ghost use Rattle.calc_base.specs.Sink.{Appends};
 ghost use Rattle.calc_replies.specs.Computed.{HasText};
-ghost use Rattle.calc_app.specs.Top.{AnswersWords, CutsLines, HidesNoFault, IsEmptied, IsOutcome, IsThrough, Leaves, PrintsAnswerTo, PrintsLines, PutsOutcome, RunsLines};
+ghost use Rattle.calc_app.specs.Top.{AnswersWords, CutsLines, HidesNoFault, IsEmptied, IsOutcome};
+ghost use Rattle.calc_app.specs.Top.{IsThrough, Leaves, PrintsAnswerTo, PrintsLines, PutsOutcome};
+ghost use Rattle.calc_app.specs.Top.{RunsLines};
 
 use crate::batch::batch;
 use crate::workload::work;
@@ -14,59 +16,73 @@ use std::alloc::Global;
 
 /// Runs the command that the words name, without the program's name, and puts its text to the sink.
 ///
-/// The commands are those of `calc_language::read_words`. The text is a line for each term of the answer, or of `tab` for each
-/// tableau, and `0` where there is none; two tableaux, a word or a tableau for `rsk`, `unrsk` and `rect`; a line of shapes for
-/// each line of a growth grid.
+/// The commands are those of `calc_language::read_words`. The text is a line for each term of the
+/// answer, or of `tab` for each tableau, and `0` where there is none; two tableaux, a word or a
+/// tableau for `rsk`, `unrsk` and `rect`; a line of shapes for each line of a growth grid.
 ///
-/// In this order: the words are read, and refused by one line where they are no command (`Syntax`) or offend (`Range`, or
-/// `Past` for a number that is too large). The whole answer is computed, and refused by the line `! Large` (`Past`) only
-/// where a coefficient that is defined for it is past 2^127 - 1, or its weight is 2^127 or more; tableaux are put as they are
-/// listed. Its text is put, then `finish` is called, after a refusal too.
-/// `SinkFault` comes exactly where a call of the sink failed, and the sink is not called after it. Where memory is refused
-/// the answer is `NoMemory`, and nothing was put; of a batch the blocks of the lines before stand.
+/// In this order: the words are read, and refused by one line where they are no command (`Syntax`)
+/// or offend (`Range`, or
+/// `Past` for a number that is too large). The whole answer is computed, and refused by the line
+/// `! Large` (`Past`) only where a coefficient that is defined for it is past 2^127 - 1, or its
+/// weight is 2^127 or more; tableaux are put as they are listed. Its text is put, then `finish` is
+/// called, after a refusal too.
+/// `SinkFault` comes exactly where a call of the sink failed, and the sink is not called after it.
+/// Where memory is refused the answer is `NoMemory`, and nothing was put;
+/// of a batch the blocks of the lines before stand.
 ///
-/// `batch` runs each line of the source as a command, and puts its block, a refusal too, as soon as the line is read, with the
-/// line `--` between two blocks; where no further line was taken whole, `finish` is called before the source is. It ends with
-/// `SomeRefused` where a line was refused, and with `SourceFault` after the lines that were wholly read where a call of the source
-/// failed. Other commands do not touch the source. `work` runs generated lines in this way, and puts sums over their blocks.
+/// `batch` runs each line of the source as a command, and puts its block, a refusal too, as soon as
+/// the line is read, with the line `--` between two blocks; where no further line was taken whole,
+/// `finish` is called before the source is. It ends with
+/// `SomeRefused` where a line was refused, and with `SourceFault` after the lines that were wholly
+/// read where a call of the source failed. Other commands do not touch the source. `work` runs
+/// generated lines in this way, and puts sums over their blocks.
 pub fn run<S: Source, K: Sink>(
     alloc: Global,
     words: &[String],
     source: &mut S,
     sink: &mut K,
 ) -> Status
-    // Where the answer is `Done`, the text read back is a canonical list of terms, and that list is what the command that the
-    // words spell names, by the defining polynomials; of `quantum` and `fusion` it is also what reducing after each factor gives.
+    // Where the answer is `Done`, the text read back is a canonical list of terms, and that list is
+    // what the command that the words spell names, by the defining polynomials; of `quantum` and
+    // `fusion` it is also what reducing after each factor gives.
     // Of commands on tableaux the text is what is defined for them.
-    ensures headline { result ≡ Status.Done → (before : List ℕ) → (K.seen sink.old).written ≡ Some before
-        → PrintsAnswerTo (map string_bytes words.now) before (S.seen source.old).left (K.seen sink.new).written }
+    ensures headline { result ≡ Status.Done → (before : List ℕ)
+        → (K.seen sink.old).written ≡ Some before
+        → PrintsAnswerTo (map string_bytes words.now) before (S.seen source.old).left
+        (K.seen sink.new).written }
 
-    // Where a batch was read to its end, the blocks of all its lines were put, and that of each line that was not refused says
-    // what the line's command names.
+    // Where a batch was read to its end, the blocks of all its lines were put, and that of each
+    // line that was not refused says what the line's command names.
     ensures lines { RunsLines (map string_bytes words.now) → IsThrough result → (before : List ℕ)
-        → (K.seen sink.old).written ≡ Some before → PrintsLines before (S.seen source.old).left (K.seen sink.new).written }
+        → (K.seen sink.old).written ≡ Some before
+        → PrintsLines before (S.seen source.old).left (K.seen sink.new).written }
 
-    // Where the sink failed in a batch, no line was read after the one whose block was cut off: the blocks of the lines before
-    // it were put whole.
+    // Where the sink failed in a batch, no line was read after the one whose block was cut off: the
+    // blocks of the lines before it were put whole.
     ensures cut { RunsLines (map string_bytes words.now) → result ≡ Status.SinkFault
         → CutsLines (K.seen sink.old) (K.seen sink.new) (S.seen source.old) (S.seen source.new) }
 
-    // By cases on the status: the whole text that is defined for the words, and the sink settled; after a fault of the sink a
-    // prefix of it; after a fault of the source that of the lines wholly read, and the sink settled; without memory nothing,
-    // or, of a batch, the text of its first lines.
-    ensures leaves { Leaves (K.seen sink.old) (K.seen sink.new) (S.seen source.old) (S.seen source.new) (sink.new ≡ sink.old)
+    // By cases on the status: the whole text that is defined for the words, and the sink settled;
+    // after a fault of the sink a prefix of it; after a fault of the source that of the lines
+    // wholly read, and the sink settled; without memory nothing, or, of a batch,
+    // the text of its first lines.
+    ensures leaves { Leaves (K.seen sink.old) (K.seen sink.new) (S.seen source.old)
+        (S.seen source.new) (sink.new ≡ sink.old)
         (RunsLines (map string_bytes words.now)) (IsOutcome (map string_bytes words.now)) result }
 
-    // Words that spell a command without an offence are answered, and refused only where a coefficient that is defined for
-    // them is past 2^127 - 1, or their weight is 2^127 or more. Words with a first offence, and words that are no command, are
-    // refused by their own line.
-    ensures answers { AnswersWords (map string_bytes words.now) (Appends (K.seen sink.old) (K.seen sink.new)) result }
+    // Words that spell a command without an offence are answered, and refused only where a
+    // coefficient that is defined for them is past 2^127 - 1, or their weight is 2^127 or more.
+    // Words with a first offence, and words that are no command, are refused by their own line.
+    ensures answers { AnswersWords (map string_bytes words.now)
+        (Appends (K.seen sink.old) (K.seen sink.new)) result }
 
     // No fault of the sink or of the source is hidden.
-    ensures faults { HidesNoFault (K.seen sink.old) (K.seen sink.new) (S.seen source.old) (S.seen source.new) result }
+    ensures faults { HidesNoFault (K.seen sink.old) (K.seen sink.new) (S.seen source.old)
+        (S.seen source.new) result }
 
     // A batch is read to its end, and other commands leave the source as it was.
-    ensures all_read { RunsLines (map string_bytes words.now) → IsThrough result → IsEmptied (S.seen source.new).left }
+    ensures all_read { RunsLines (map string_bytes words.now) → IsThrough result
+        → IsEmptied (S.seen source.new).left }
     ensures untouched { (RunsLines (map string_bytes words.now) → ⊥) → source.new ≡ source.old }
 {
     match task_of(alloc, words) {
@@ -77,7 +93,8 @@ pub fn run<S: Source, K: Sink>(
     }
 }
 
-/// Puts what comes of the words of a command and finishes the sink, and answers the status, or that the sink failed.
+/// Puts the outcome of the words of a command and finishes the sink, and answers the status,
+/// or that the sink failed.
 fn put_outcome<K: Sink>(outcome: Outcome, sink: &mut K) -> Status
     requires { HasText outcome }
     ensures { PutsOutcome (K.seen sink.old) (K.seen sink.new) outcome result }

@@ -15,7 +15,8 @@ use std::alloc::Global;
 
 /// Runs that many lines of the generator from the seed on, and puts the sums over their blocks.
 ///
-/// One block is kept at a time. Where memory is refused the answer is `NoMemory`, and nothing was put.
+/// One block is kept at a time. Where memory is refused the answer is `NoMemory`,
+/// and nothing was put.
 pub fn work<K: Sink>(alloc: Global, lines: u16, seed: u32, sink: &mut K) -> Status
     requires { seed ≤ 65536 }
     ensures { EndsWork (K.seen sink.old) (K.seen sink.new) (sink.new ≡ sink.old) lines seed result }

@@ -3,3 +3,4 @@ pub mod PutsLaws
 pub mod Memory
 pub mod Written
 pub mod PutsListed
+mod MixedNumbers

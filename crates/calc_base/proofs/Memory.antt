@@ -35,7 +35,7 @@ Takes-front rest later filled behind buffer piece count front back whole number 
     nothing [] e = refl
     nothing (x ∷ xs) e = cc
 
--- a sink that tells its bytes, which grew by some of the piece
+-- a sink that records its bytes, which grew by some of the piece
 pub appends_some : (old new piece : List ℕ) (count was failed : ℕ) (settled finished : Bool) → new ≡ old ++ take count piece
     → AppendsPrefix (seen_bytes (Some old) was settled) (seen_bytes (Some new) failed finished) piece
 appends_some old new piece count was failed settled finished grew = record {

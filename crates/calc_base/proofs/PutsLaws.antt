@@ -40,7 +40,7 @@ pub Appends-nothing : (s : SinkSeen)
     → Appends s s []
 Appends-nothing s = record { bytes = Grows-nil s.written; number = longer-nothing s.length }
 
--- a sink that tells its bytes tells them with the text after them
+-- the record of a sink after a text: the bytes before, and then the text
 pub Appends-told : {old new : SinkSeen} {text : List ℕ} (before : List ℕ)
     → Appends old new text → old.written ≡ Some before → new.written ≡ Some (before ++ text)
 Appends-told {old = old} {new = new} {text = text} before h told = by old.written new.written told h.bytes

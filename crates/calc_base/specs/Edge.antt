@@ -1,4 +1,5 @@
--- The two edges of the program, as their contracts see them: a source over a reader, and a sink over a writer.
+-- The two edges of the program, as their contracts see them: a source over a reader,
+-- and a sink over a writer.
 use Rattle.std.specs.Prelude.{ℕ, List, [], ◌∷◌, Bool, true, false, ◌&&◌, Option}
 use Rattle.std.specs.Io.KnownBytes.{append_known}
 use Rattle.calc_base.specs.Sink.{SinkSeen, seen_bytes}
@@ -12,9 +13,11 @@ pub record Intake (R : Type 0) : Type 0 where
 
 -- a source over a reader shows what the reader has left, where that is known
 abbrev pub intake_seen : {R : Type 0} → (R → Option (List ℕ)) → Intake R → SourceSeen
-intake_seen remaining s = record { left = remaining s.reader; allowance = s.allowance; faults = s.failed }
+intake_seen remaining s =
+    record { left = remaining s.reader; allowance = s.allowance; faults = s.failed }
 
--- the writer, the bytes that wait for it in a buffer, how often a write or a flush failed, and whether the last call finished
+-- the writer, the bytes that wait for it in a buffer, how often a write or a flush failed, and
+-- whether the last call finished
 pub record Outlet (W : Type 0) : Type 0 where
   pub writer : W
   pub waiting : List ℕ

@@ -1,9 +1,10 @@
--- A sink into a lent buffer, as its contracts see it (this project's own).
+-- A sink into a lent buffer, as its contracts see it.
 use Rattle.std.specs.Prelude.{ℕ, ◌-◌, List, ◌++◌, length, take, Some, Bool, false, nat_lt}
 use Rattle.calc_base.specs.Fault.{faults_after}
 use Rattle.calc_base.specs.Sink.{SinkSeen, seen_bytes}
 
--- the bytes so far, for how many there is room in all, how often a put failed, and whether the last call finished the sink
+-- the bytes so far, for how many there is room in all, how often a put failed,
+-- and whether the last call finished the sink
 pub record Fixed : Type 0 where
   pub bytes : List ℕ
   pub room : ℕ
@@ -22,6 +23,6 @@ fixed_after_put s piece = record s {
   finished = false;
 }
 
--- it tells its bytes
+-- it records its bytes
 abbrev pub fixed_seen : Fixed → SinkSeen
 fixed_seen s = seen_bytes (Some s.bytes) s.failed s.finished

@@ -1,4 +1,4 @@
--- A sink into memory that grows, as its contracts see it (this project's own).
+-- A sink into memory that grows, as its contracts see it.
 use Rattle.std.specs.Prelude.{ℕ, List, Some, Bool}
 use Rattle.calc_base.specs.Sink.{SinkSeen, seen_bytes}
 
@@ -8,6 +8,6 @@ pub record Growing : Type 0 where
   pub failed : ℕ
   pub finished : Bool
 
--- it tells its bytes
+-- it records its bytes
 abbrev pub growing_seen : Growing → SinkSeen
 growing_seen s = seen_bytes (Some s.bytes) s.failed s.finished

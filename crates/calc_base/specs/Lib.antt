@@ -1,4 +1,5 @@
--- What the outside of the calculator is to it: sources, sinks, listers, and how a text is put to a sink.
+-- What the outside of the calculator is to it: sources, sinks, listers,
+-- and how a text is put to a sink.
 pub mod Fault
 pub mod Source
 pub mod Sink
@@ -10,3 +11,4 @@ pub mod Edge
 pub mod Fixed
 pub mod Growing
 pub mod Tally
+pub mod Mixing

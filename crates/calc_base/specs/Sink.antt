@@ -1,10 +1,13 @@
--- What a sink shows of itself, and what it is for a call to append a text. What is shown of the bytes is said where the sink tells it.
-use Rattle.std.specs.Prelude.{◌≡◌, ℕ, ◌+◌, ◌-◌, ◌^◌, min, max, List, ◌++◌, length, Bool, Option, IfSome, Some, None, refl}
+-- What a sink shows of itself, and what it is for a call to append a text. What is shown of the
+-- bytes is said where the sink tells it.
+use Rattle.std.specs.Prelude.{◌≡◌, ℕ, ◌+◌, ◌-◌, ◌^◌, min, max, List, ◌++◌, length, Bool, Option}
+use Rattle.std.specs.Prelude.{IfSome, Some, None, refl}
 use Rattle.std.specs.Option.{option_map}
 use Rattle.std.specs.Io.KnownBytes.{Appends as Grows}
 
--- What a sink shows: the bytes so far, where it tells them; their number, or 2^128 - 1 where there are more, told wherever the
--- bytes are; how often a call failed; and whether the last call was a finish that went well, so that nothing waits in the sink.
+-- What a sink shows: the bytes so far, where it tells them; their number, or 2^128 - 1 where there
+-- are more, told wherever the bytes are; how often a call failed; and whether the last call was a
+-- finish that went well, so that nothing waits in the sink.
 pub record SinkSeen : Type 0 where
   pub written : Option (List ℕ)
   pub length : Option ℕ
@@ -15,7 +18,8 @@ pub record SinkSeen : Type 0 where
 abbrev pub greatest_length : ℕ
 greatest_length = 2 ^ 128 - 1
 
--- the number of bytes that a sink tells grew by that of a text; `max`, so that the empty text changes nothing
+-- the number of bytes that a sink tells grew by that of a text; `max`,
+-- so that the empty text changes nothing
 abbrev pub IsLonger : (before now : Option ℕ) → List ℕ → Type 0
 IsLonger None now text = Unit {0}
 IsLonger (Some n) now text = now ≡ Some (max n (min (n + length text) greatest_length))
@@ -26,7 +30,8 @@ number_told told = option_map (λ bytes. min (length bytes) greatest_length) tol
 
 -- what a sink shows that tells these bytes, where they are known, and their number
 abbrev pub seen_bytes : Option (List ℕ) → (faults : ℕ) → (settled : Bool) → SinkSeen
-seen_bytes told faults settled = record { written = told; length = number_told told; faults = faults; settled = settled }
+seen_bytes told faults settled =
+    record { written = told; length = number_told told; faults = faults; settled = settled }
 
 -- a call appended the text: what the sink tells grew by it
 pub record Appends (old new : SinkSeen) (text : List ℕ) : Type 0 where
@@ -48,7 +53,7 @@ pub record AppendsPrefix (old new : SinkSeen) (text : List ℕ) : Type 0 where
 abbrev pub IsCounted : Option (List ℕ) → Option ℕ → Type 0
 IsCounted bytes number = IfSome bytes (λ told. number ≡ Some (min (length told) greatest_length))
 
--- where a sink tells its bytes and counts those, their number is told
+-- where a sink records its bytes and counts those, their number is told
 pub counts_told : (told : Option (List ℕ)) → IsCounted told (number_told told)
 counts_told None = tt
 counts_told (Some bytes) = refl

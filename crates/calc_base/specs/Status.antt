@@ -1,7 +1,9 @@
 -- The exit codes.
 use Rattle.std.specs.Prelude.{◌≡◌, ℕ}
 use Rattle.calc_base.specs.declared.status.Status.{Status}
-use Rattle.calc_base.specs.declared.status.Status.TheVariants.{Done, SomeRefused, Syntax, Range, Past, SinkFault, SourceFault, NoMemory}
+use Rattle.calc_base.specs.declared.status.Status.TheVariants.{Done, SomeRefused, Syntax, Range}
+use Rattle.calc_base.specs.declared.status.Status.TheVariants.{Past, SinkFault, SourceFault}
+use Rattle.calc_base.specs.declared.status.Status.TheVariants.{NoMemory}
 
 -- the code that the program ends with
 abbrev pub code_of : Status → ℕ

@@ -1,11 +1,12 @@
 -- A sink in memory, as its contracts see it.
-use Rattle.std.specs.Prelude.{ℕ, ◌-◌, List, [], ◌++◌, length, take, Some, cond, Bool, false, not, ◌||◌, nat_lt}
+use Rattle.std.specs.Prelude.{ℕ, ◌-◌, List, [], ◌++◌, length, take, Some, cond, Bool, false, not}
+use Rattle.std.specs.Prelude.{◌||◌, nat_lt}
 use Rattle.calc_base.specs.Fault.{counted_up, faults_after}
 use Rattle.calc_base.specs.Sink.{SinkSeen, seen_bytes}
 use Rattle.calc_base.specs.Supply.{is_listed}
 
--- the bytes so far, for how many there is room in all, the calls that fail, how many calls and faults there were, and
--- whether the last call finished it
+-- the bytes so far, for how many there is room in all, the calls that fail, how many calls and
+-- faults there were, and whether the last call finished it
 pub record Store : Type 0 where
   pub bytes : List ℕ
   pub room : ℕ
@@ -14,7 +15,7 @@ pub record Store : Type 0 where
   pub failed : ℕ
   pub finished : Bool
 
--- it tells its bytes
+-- it records its bytes
 abbrev pub store_seen : Store → SinkSeen
 store_seen s = seen_bytes (Some s.bytes) s.failed s.finished
 

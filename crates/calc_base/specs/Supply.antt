@@ -1,10 +1,12 @@
 -- A source in memory, as its contracts see it.
-use Rattle.std.specs.Prelude.{ℕ, List, ◌++◌, length, take, drop, min, Bool, Some, Result, Ok, Err, ◌==◌}
+use Rattle.std.specs.Prelude.{ℕ, List, ◌++◌, length, take, drop, min, Bool, Some, Result, Ok, Err}
+use Rattle.std.specs.Prelude.{◌==◌}
 use Rattle.std.specs.List.{list_any}
 use Rattle.calc_base.specs.Fault.{counted_up}
 use Rattle.calc_base.specs.Source.{SourceSeen}
 
--- the bytes that are left, how many one call gives at most, the calls that fail, and how many calls and faults there were
+-- the bytes that are left, how many one call gives at most, the calls that fail,
+-- and how many calls and faults there were
 pub record Supply : Type 0 where
   pub rest : List ℕ
   pub piece : ℕ
@@ -29,7 +31,8 @@ abbrev pub after_take : {E : Type 0} → Supply → Result ℕ E → Supply
 after_take s (Ok count) = record s { rest = drop count s.rest; calls = counted_up s.calls }
 after_take s (Err e) = record s { calls = counted_up s.calls; failed = counted_up s.failed }
 
--- a buffer after a call with that answer: the bytes that were given stand at its front, and the others are as they were
+-- a buffer after a call with that answer: the bytes that were given stand at its front,
+-- and the others are as they were
 abbrev pub filled_buffer : {E : Type 0} → Supply → Result ℕ E → List ℕ → List ℕ
 filled_buffer s (Ok count) buffer = take count s.rest ++ drop count buffer
 filled_buffer s (Err e) buffer = buffer

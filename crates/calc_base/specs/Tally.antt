@@ -1,4 +1,4 @@
--- A sink that counts the bytes and keeps none, as its contracts see it (this project's own).
+-- A sink that counts the bytes and keeps none, as its contracts see it.
 use Rattle.std.specs.Prelude.{ℕ, ◌+◌, List, length, min, None, Some, Bool, false}
 use Rattle.calc_base.specs.Sink.{SinkSeen, greatest_length}
 
@@ -9,7 +9,8 @@ pub record Tally : Type 0 where
 
 -- a tally after a put of this piece
 abbrev pub tally_after_put : Tally → List ℕ → Tally
-tally_after_put t piece = record { count = min (t.count + length piece) greatest_length; finished = false }
+tally_after_put t piece =
+    record { count = min (t.count + length piece) greatest_length; finished = false }
 
 -- it tells the number of its bytes, and no call fails
 abbrev pub tally_seen : Tally → SinkSeen

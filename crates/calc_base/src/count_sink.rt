@@ -31,7 +31,7 @@ impl CountSink {
         }
     }
 
-    /// The number of bytes that were put, or 2^128 - 1 where there were more.
+    /// The number of bytes that were put, or 2^128 - 1 if there were more.
     pub fn count(&self) -> u128
         ensures { result ≡ self.now.count }
     {
@@ -45,7 +45,8 @@ impl Sink for CountSink {
     fn put(&mut self, bytes: &[u8]) -> Result<(), SinkFault>
         // What each sink owes.
         ensures ok { OnOk result (Appends (tally_seen self.old) (tally_seen self.new) bytes.now) }
-        ensures err { OnErr result (AppendsPrefix (tally_seen self.old) (tally_seen self.new) bytes.now) }
+        ensures err { OnErr result (AppendsPrefix (tally_seen self.old)
+            (tally_seen self.new) bytes.now) }
         ensures counts { CountsFaults 0 0 result }
         ensures settled { self.new.finished ≡ false }
 

@@ -1,5 +1,6 @@
 //! A sink into a lent buffer.
-ghost use Rattle.std.specs.Prelude.{◌≡◌, ◌≤◌, ◌+◌, ◌-◌, ◌++◌, min, [], false, true, OnOk, OnErr, IsOk, is_ok, is_err, take, length as list_length, refl};
+ghost use Rattle.std.specs.Prelude.{◌≡◌, ◌≤◌, ◌+◌, ◌-◌, ◌++◌, min, [], false, true, OnOk, OnErr};
+ghost use Rattle.std.specs.Prelude.{IsOk, is_ok, is_err, take, length as list_length, refl};
 ghost use Rattle.calc_base.specs.Fault.{CountsFaults};
 ghost use Rattle.calc_base.specs.Sink.{Appends, AppendsPrefix};
 ghost use Rattle.calc_base.specs.Fixed.{Fixed, fixed_seen, is_too_long, fixed_after_put};
@@ -68,7 +69,8 @@ impl<'a> Sink for FixedSink<'a> {
     fn put(&mut self, bytes: &[u8]) -> Result<(), SinkFault>
         // What each sink owes.
         ensures ok { OnOk result (Appends (fixed_seen self.old) (fixed_seen self.new) bytes.now) }
-        ensures err { OnErr result (AppendsPrefix (fixed_seen self.old) (fixed_seen self.new) bytes.now) }
+        ensures err { OnErr result (AppendsPrefix (fixed_seen self.old)
+            (fixed_seen self.new) bytes.now) }
         ensures counts { CountsFaults self.old.failed self.new.failed result }
         ensures settled { self.new.finished ≡ false }
 
@@ -103,7 +105,8 @@ impl<'a> Sink for FixedSink<'a> {
     ghost counted = { λ s. refl };
 }
 
-/// Copies the bytes after those that are filled, as many as there is room for, and answers how many.
+/// Copies the bytes after those that are filled, as many as there is room for,
+/// and returns how many.
 fn copy_what_fits(buffer: &mut [u8], filled: usize, bytes: &[u8]) -> usize
     requires { filled ≤ list_length buffer.old }
     ensures count { result ≡ min (list_length buffer.old - filled) (list_length bytes.now) }

@@ -8,7 +8,8 @@ use crate::{Sink, SinkFault};
 use std::alloc::Global;
 use std::marker::Model;
 
-/// A sink into memory that grows. A put fails only where memory is refused, and then appends nothing.
+/// A sink into memory that grows. A put fails only where memory is refused,
+/// and then appends nothing.
 #[derive(Drop)]
 pub struct GrowingSink {
     bytes: Vec<u8>,
@@ -59,8 +60,10 @@ impl Sink for GrowingSink {
     ghost seen = { growing_seen };
 
     fn put(&mut self, bytes: &[u8]) -> Result<(), SinkFault>
-        ensures ok { OnOk result (Appends (growing_seen self.old) (growing_seen self.new) bytes.now) }
-        ensures err { OnErr result (AppendsPrefix (growing_seen self.old) (growing_seen self.new) bytes.now) }
+        ensures ok { OnOk result (Appends (growing_seen self.old)
+            (growing_seen self.new) bytes.now) }
+        ensures err { OnErr result (AppendsPrefix (growing_seen self.old)
+            (growing_seen self.new) bytes.now) }
         ensures counts { CountsFaults self.old.failed self.new.failed result }
         ensures settled { self.new.finished ≡ false }
     {

@@ -1,5 +1,5 @@
-//! What the calculator stands on outside of itself: where bytes come from and go, how a list is given item by item,
-//! and the plain types that its crates share.
+//! What the calculator stands on outside of itself: where bytes come from and go, how a list is
+//! given item by item, and the plain types that its crates share.
 //!
 //! What is proved:
 //!
@@ -7,7 +7,7 @@
 //! say, and fail at exactly the calls that were chosen; `StdIn` and `StdOut` meet the traits, and
 //! where `StdOut` is settled nothing waits in its buffer; every call that succeeds leaves the count
 //! of faults as it was, and one that fails counts one; the writing tool puts a text whole or a
-//! prefix of it.
+//! prefix of it; `mixed` is its numbers as the digits of one, modulo 2^64.
 #![tactic(auto)]
 
 mod calls;
@@ -15,6 +15,7 @@ mod count_sink;
 mod faults;
 mod fixed_sink;
 mod growing_sink;
+mod hashing;
 mod lister;
 mod mem_sink;
 mod mem_source;
@@ -31,6 +32,7 @@ pub use count_sink::CountSink;
 pub use faults::{NoMemory, SinkFault, SourceFault, SumFault};
 pub use fixed_sink::FixedSink;
 pub use growing_sink::GrowingSink;
+pub use hashing::mixed;
 pub use lister::Lister;
 pub use mem_sink::MemSink;
 pub use mem_source::MemSource;

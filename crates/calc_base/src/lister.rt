@@ -1,18 +1,19 @@
-//! What gives the items of a list one at a time.
+//! Listers, which give the items of a list one at a time.
 ghost use Rattle.std.specs.Prelude.{◌≡◌, ◌++◌, ◌↔◌, ℕ, List, [], Some, IsTrue, IsSome, Option};
 ghost use Rattle.std.specs.Option.{option_to_list};
 ghost use Rattle.std.specs.Bool.{OnFalse};
 
-/// A list that is given item by item, each a list of numbers, with no memory taken. A new lister has no current item.
+/// A list that is given item by item, each a list of numbers, without taking memory. A new lister
+/// has no current item.
 pub trait Lister {
     /// The items still to come.
     ghost rest: { Self → List (List ℕ) };
 
-    /// The current item, where there is one.
+    /// The current item, if there is one.
     ghost item: { Self → Option (List ℕ) };
 
-    /// Makes the next item the current one. False exactly where none was left: then there is no current item, and
-    /// none is left.
+    /// Makes the next item the current one. False exactly if none was left: then there is no
+    /// current item.
     fn advance(&mut self) -> bool
         ensures next { rest self.old ≡ option_to_list (item self.new) ++ rest self.new }
         ensures found { IsTrue result ↔ IsSome (item self.new) }

@@ -1,8 +1,10 @@
-//! A sink into memory, which fails at chosen calls and where its room ends.
-ghost use Rattle.std.specs.Prelude.{◌≡◌, ◌≤◌, [], false, IfOk, OnOk, OnErr, is_ok, is_err, refl, length as list_length, vec_capacity};
+//! A sink into memory, which fails at chosen calls and if its room is too small.
+ghost use Rattle.std.specs.Prelude.{◌≡◌, ◌≤◌, [], false, IfOk, OnOk, OnErr, is_ok, is_err, refl};
+ghost use Rattle.std.specs.Prelude.{length as list_length, vec_capacity};
 ghost use Rattle.calc_base.specs.Fault.{CountsFaults};
 ghost use Rattle.calc_base.specs.Sink.{Appends, AppendsPrefix};
-ghost use Rattle.calc_base.specs.Store.{Store, store_seen, fails_now, put_fails, after_put, after_finish};
+ghost use Rattle.calc_base.specs.Store.{Store, store_seen, fails_now, put_fails, after_put};
+ghost use Rattle.calc_base.specs.Store.{after_finish};
 
 use crate::calls::Calls;
 use crate::{NoMemory, Sink, SinkFault};
@@ -34,8 +36,8 @@ impl Model for MemSink {
 }
 
 impl MemSink {
-    /// An empty sink with this room, which it takes now. A call of `put` or `finish` fails where its
-    /// number, from 0, is in `fails`, and a `put` also where its piece is longer than the room left.
+    /// An empty sink with this room, which it takes now. A call of `put` or `finish` fails if its
+    /// number, from 0, is in `fails`, and a `put` also if its piece is longer than the room left.
     pub fn new(alloc: Global, room: usize, fails: &[u64]) -> Result<MemSink, NoMemory>
         ensures { IfOk result (λ sink. sink ≡ record {
           bytes = [];
@@ -75,7 +77,8 @@ impl Sink for MemSink {
     fn put(&mut self, bytes: &[u8]) -> Result<(), SinkFault>
         // What each sink owes.
         ensures ok { OnOk result (Appends (store_seen self.old) (store_seen self.new) bytes.now) }
-        ensures err { OnErr result (AppendsPrefix (store_seen self.old) (store_seen self.new) bytes.now) }
+        ensures err { OnErr result (AppendsPrefix (store_seen self.old)
+            (store_seen self.new) bytes.now) }
         ensures counts { CountsFaults self.old.failed self.new.failed result }
         ensures settled { self.new.finished ≡ false }
 

@@ -3,7 +3,8 @@ ghost use Rattle.std.specs.Prelude.{◌≡◌, ◌<◌, ◌≤◌, Some, length,
 ghost use Rattle.std.specs.Io.KnownBytes.{Keeps};
 ghost use Rattle.calc_base.specs.Fault.{CountsFaults};
 ghost use Rattle.calc_base.specs.Source.{Takes, Spends};
-ghost use Rattle.calc_base.specs.Supply.{Supply, supply_seen, is_listed, given_count, after_take, filled_buffer};
+ghost use Rattle.calc_base.specs.Supply.{Supply, supply_seen, is_listed, given_count, after_take};
+ghost use Rattle.calc_base.specs.Supply.{filled_buffer};
 
 use crate::calls::Calls;
 use crate::{NoMemory, Source, SourceFault};
@@ -34,7 +35,8 @@ impl Model for MemSource {
 }
 
 impl MemSource {
-    /// A source of these bytes. A call gives at most `piece` of them, and fails where its number, from 0, is in `fails`.
+    /// A source of these bytes. A call gives at most `piece` of them, and fails if its number, from
+    /// 0, is in `fails`.
     pub fn new(
         alloc: Global,
         bytes: &[u8],

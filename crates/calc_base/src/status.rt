@@ -4,21 +4,21 @@ ghost use Rattle.std.specs.Prelude.{◌≡◌};
 /// How a command ended, with the code that the program ends with.
 #[derive(Clone, Copy, Debug, PartialEq, Eq, Hash)]
 pub enum Status {
-    /// The text of the command was put and finished.
+    /// The text of the command was written and the sink finished.
     Done,
     /// Some line of a batch was refused.
     SomeRefused,
-    /// The words are no command.
+    /// The words are not a command.
     Syntax,
-    /// A number or a list of the words is past a limit or out of shape.
+    /// A number in the words exceeds a limit, or a list there is not one of its kind.
     Range,
-    /// A number of the words, or the answer, is too large to be held.
+    /// A number in the words, or a number of the answer, is too large.
     Past,
     /// The sink failed.
     SinkFault,
     /// The source failed.
     SourceFault,
-    /// Memory was refused.
+    /// Out of memory.
     NoMemory,
 }
 

@@ -11,8 +11,8 @@ use std::marker::Model;
 
 const ALLOWANCE: u64 = 1 << 62;
 
-/// The source over the program's input, at any reader. It tells what the reader has left, where that is known, and gives 2^62
-/// bytes at most.
+/// The source over the program's input, at any reader. It records what the reader has left, if that
+/// is known, and gives at most 2^62 bytes.
 #[derive(Drop)]
 pub struct StdIn<R> {
     reader: R,
@@ -47,8 +47,10 @@ impl<R: Read> Source for StdIn<R> {
         requires { 0 < length buf.old }
 
         // What each source owes.
-        ensures ok { IfOk result (Takes (R.remaining self.old.reader) (R.remaining self.new.reader) buf.new) }
-        ensures err { OnErr result (Keeps (R.remaining self.old.reader) (R.remaining self.new.reader)) }
+        ensures ok { IfOk result (Takes (R.remaining self.old.reader)
+            (R.remaining self.new.reader) buf.new) }
+        ensures err { OnErr result (Keeps (R.remaining self.old.reader)
+            (R.remaining self.new.reader)) }
         ensures spends { Spends self.old.allowance self.new.allowance result }
         ensures counts { CountsFaults self.old.failed self.new.failed result }
 

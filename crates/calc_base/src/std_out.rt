@@ -11,8 +11,8 @@ use crate::{Sink, SinkFault};
 use std::io::{BufWriter, Write};
 use std::marker::Model;
 
-/// The sink over the program's output, at any writer behind a buffer. It tells the bytes that the writer holds and those that
-/// wait in the buffer, where the first are known.
+/// The sink over the program's output: a buffer in front of any writer. It records the bytes that
+/// the writer holds and those that wait in the buffer, if the first are known.
 #[derive(Drop)]
 pub struct StdOut<W: Write + Drop> {
     writer: BufWriter<W>,
@@ -34,7 +34,12 @@ impl<W: Write + Drop> Model for StdOut<W> {
 impl<W: Write + Drop> StdOut<W> {
     /// A sink over the writer.
     pub fn new(writer: BufWriter<W>) -> StdOut<W>
-        ensures { result ≡ record { writer = writer_inner writer; waiting = writer_buffer writer; failed = 0; finished = false } }
+        ensures { result ≡ record {
+          writer = writer_inner writer;
+          waiting = writer_buffer writer;
+          failed = 0;
+          finished = false;
+        } }
     {
         StdOut {
             writer,
@@ -45,14 +50,17 @@ impl<W: Write + Drop> StdOut<W> {
 }
 
 impl<W: Write + Drop> Sink for StdOut<W> {
-    /// Where it is settled, nothing waits in the buffer.
+    /// If it is settled, nothing waits in the buffer.
     ghost seen = { outlet_seen W.contents };
 
-    /// Writes until all is written. A write that fails, or takes nothing of what is left, is the fault.
+    /// Writes until all is written. A write that fails, or takes nothing of what is left,
+    /// is the fault.
     fn put(&mut self, bytes: &[u8]) -> Result<(), SinkFault>
         // What each sink owes.
-        ensures ok { OnOk result (Appends (outlet_seen W.contents self.old) (outlet_seen W.contents self.new) bytes.now) }
-        ensures err { OnErr result (AppendsPrefix (outlet_seen W.contents self.old) (outlet_seen W.contents self.new) bytes.now) }
+        ensures ok { OnOk result (Appends (outlet_seen W.contents self.old)
+            (outlet_seen W.contents self.new) bytes.now) }
+        ensures err { OnErr result (AppendsPrefix (outlet_seen W.contents self.old)
+            (outlet_seen W.contents self.new) bytes.now) }
         ensures counts { CountsFaults self.old.failed self.new.failed result }
         ensures settled { is_handed_on self.new ≡ false }
     {
@@ -67,7 +75,8 @@ impl<W: Write + Drop> Sink for StdOut<W> {
     /// Flushes, so that nothing waits in the buffer. A flush that fails is the fault.
     fn finish(&mut self) -> Result<(), SinkFault>
         // What each sink owes.
-        ensures same { Appends (outlet_seen W.contents self.old) (outlet_seen W.contents self.new) [] }
+        ensures same { Appends (outlet_seen W.contents self.old)
+            (outlet_seen W.contents self.new) [] }
         ensures counts { CountsFaults self.old.failed self.new.failed result }
         ensures settled { is_handed_on self.new ≡ is_ok result }
     {
@@ -86,7 +95,8 @@ impl<W: Write + Drop> Sink for StdOut<W> {
 fn write_whole<W: Write>(writer: &mut W, bytes: &[u8]) -> bool
     ensures whole { OnTrue result
         (WriterAppends (W.contents writer.old) (W.contents writer.new) bytes.now) }
-    ensures part { (front : List ℕ) × IsPrefix front bytes.now × WriterAppends (W.contents writer.old) (W.contents writer.new) front }
+    ensures part { (front : List ℕ) × IsPrefix front bytes.now
+        × WriterAppends (W.contents writer.old) (W.contents writer.new) front }
 {
     let mut at = 0;
     while at < bytes.len() {

@@ -1,4 +1,4 @@
-//! What the words of a command name, and where they offend.
+//! What the words of a command name, and where they are invalid.
 ghost use Rattle.std.specs.Prelude.{◌≡◌};
 ghost use Rattle.calc_base.specs.declared.words.WordsFault.TheVariants.{NoMemory as no_memory};
 
@@ -15,22 +15,22 @@ pub struct Place {
     pub byte: u64,
 }
 
-/// Why words are no command that can be run: the first offence and its place, or memory was refused.
+/// Why words are not a command that can be run: the first error and its place, or out of memory.
 #[derive(Clone, Copy, Debug, PartialEq, Eq, Hash, Error)]
 pub enum WordsFault {
-    /// The words are no command from this place on.
+    /// No command has these words: they first fail at this place.
     #[error("no command, at byte {byte} of word {word}", byte = .at.byte, word = .at.word)]
     Syntax { at: Place },
     /// A number past 2^127 - 1 begins here.
     #[error("a number too large, at byte {byte} of word {word}", byte = .at.byte, word = .at.word)]
     Literal { at: Place },
-    /// A limit is passed here.
+    /// A limit is exceeded here.
     #[error("past a limit, at byte {byte} of word {word}", byte = .at.byte, word = .at.word)]
     Range { at: Place },
-    /// A list stands here that is none of its kind, as parts that rise.
+    /// A list here is not one of its kind, such as parts that increase.
     #[error("a list out of shape, at byte {byte} of word {word}", byte = .at.byte, word = .at.word)]
     Shape { at: Place },
-    /// Memory was refused.
+    /// Out of memory.
     #[error("out of memory")]
     NoMemory,
 }
@@ -59,7 +59,8 @@ impl<T: Drop> From<AllocFailed<T>> for WordsFault {
     }
 }
 
-/// A basis of the symmetric functions: monomial, elementary, complete homogeneous, power sums and Schur functions.
+/// A basis of the symmetric functions: monomial, elementary, complete homogeneous,
+/// power sums and Schur functions.
 #[derive(Clone, Copy, Debug, PartialEq, Eq, Hash)]
 pub enum Basis {
     /// Monomial symmetric functions.
@@ -74,11 +75,12 @@ pub enum Basis {
     S,
 }
 
-/// Two numbers that bound the coefficients of a list of terms: each denominator divides `den`, and a coefficient times
-/// `den` is bounded by `num` as the list's degree says.
+/// Two numbers that bound the coefficients of a list of terms: each denominator divides `den`, and
+/// a coefficient times `den` is at most `num` times a number that depends on the degree of the
+/// list.
 #[derive(Clone, Copy, Debug, PartialEq, Eq, Hash)]
 pub struct Weight {
-    /// What bounds the coefficients times the denominator.
+    /// The bound of the coefficients times the denominator.
     pub num: u128,
     /// A multiple of each denominator.
     pub den: u128,

@@ -1,10 +1,12 @@
--- What a call from C answers, and leaves in the caller's buffer (this project's own).
+-- What a call from C answers, and leaves in the caller's buffer.
 use Rattle.std.specs.Prelude.{◌≡◌, ◌≤◌, ◌<◌, ◌⊎◌, ◌++◌, ℕ, List, [], Some, drop, length, take}
 use Rattle.calc_app.specs.Top.{IsFrontOf, IsOutcome, RunsLines}
 use Rattle.calc_base.specs.Sink.{IsPrefix}
 use Rattle.calc_base.specs.Source.{SourceSeen}
 use Rattle.calc_base.specs.declared.status.Status.{Status}
-use Rattle.calc_base.specs.declared.status.Status.TheVariants.{Done, SomeRefused, Syntax, Range, Past, SinkFault, SourceFault, NoMemory}
+use Rattle.calc_base.specs.declared.status.Status.TheVariants.{Done, SomeRefused, Syntax, Range}
+use Rattle.calc_base.specs.declared.status.Status.TheVariants.{Past, SinkFault, SourceFault}
+use Rattle.calc_base.specs.declared.status.Status.TheVariants.{NoMemory}
 use Rattle.sym_model.specs.Ending.{Ending, done, some_refused, syntax, range, past}
 
 -- a source over lent bytes tells those that are left, and no call of it fails
@@ -18,22 +20,24 @@ pub record IsTextOfFirst (words : List (List ℕ)) (input text : List ℕ) : Typ
   pub ending : Ending
   pub outcome : IsOutcome words front text ending
 
--- Which text a call leaves, by its status: the whole one that is defined for the words over the input; where memory was refused
--- for the text, a prefix of one that is defined over its first lines; where it was refused for the answer nothing, or, of a batch,
--- the text of its first lines.
+-- Which text a call leaves, by its status: the whole one that is defined for the words over the
+-- input; where memory was refused for the text, a prefix of one that is defined over its first
+-- lines; where it was refused for the answer nothing, or, of a batch, the text of its first lines.
 abbrev pub IsLeft : (words : List (List ℕ)) → (input text : List ℕ) → Status → Type 0
 IsLeft words input text Done = IsOutcome words input text done
 IsLeft words input text SomeRefused = RunsLines words × IsOutcome words input text some_refused
 IsLeft words input text Syntax = IsOutcome words input text syntax
 IsLeft words input text Range = IsOutcome words input text range
 IsLeft words input text Past = IsOutcome words input text past
-IsLeft words input text SinkFault = (whole : List ℕ) × IsPrefix text whole × IsTextOfFirst words input whole
+IsLeft words input text SinkFault =
+    (whole : List ℕ) × IsPrefix text whole × IsTextOfFirst words input whole
 IsLeft words input text SourceFault = ⊥
 IsLeft words input text NoMemory = (text ≡ []) ⊎ (RunsLines words × IsTextOfFirst words input text)
 
--- A text was left, and `needed` is its length. Where the buffer has room for it, it stands at the front, and the bytes after it are
--- as they were; where it has not, all are.
-pub record LeavesText (words : List (List ℕ)) (input : List ℕ) (needed : ℕ) (old_out out : List ℕ) (status : Status) : Type 0 where
+-- A text was left, and `needed` is its length. Where the buffer has room for it, it stands at the
+-- front, and the bytes after it are as they were; where it has not, all are.
+pub record LeavesText (words : List (List ℕ)) (input : List ℕ) (needed : ℕ) (old_out out : List ℕ)
+    (status : Status) : Type 0 where
   pub text : List ℕ
   pub is_left : IsLeft words input text status
   pub needs : needed ≡ length text

@@ -26,7 +26,8 @@ impl Source for SliceSource<'_> {
         ensures counts { CountsFaults 0 0 result }
 
         // What this one does.
-        ensures given { IfOk result (λ count. count ≡ min (length buf.new) (length self.old.rest.now)) }
+        ensures given { IfOk result (λ count. count
+            ≡ min (length buf.new) (length self.old.rest.now)) }
     {
         let count = buf.len().min(self.rest.len());
         let (front, rest) = self.rest.split_at(count);

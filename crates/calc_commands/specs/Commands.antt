@@ -1,10 +1,17 @@
--- What a command says (this project's own).
+-- What a command says.
 use Rattle.std.specs.Prelude.{◌≡◌}
-use Rattle.sym_model.specs.Command.{Command as PlainCommand, mult, skew, coef, coprod, quantum, fusion, expand, schubert, schubmult, tab, rsk, unrsk, rect, growth, plethysm, dschubmult, stanley, batch, work}
+use Rattle.sym_model.specs.Command.{Command as PlainCommand, mult, skew, coef, coprod, quantum}
+use Rattle.sym_model.specs.Command.{fusion, expand, schubert, schubmult, tab, rsk, unrsk, rect}
+use Rattle.sym_model.specs.Command.{growth, plethysm, dschubmult, stanley, batch, work}
 use Rattle.expression_reading.specs.Trees.{basis_of, tree_of}
 use Rattle.calc_commands.specs.Pairs.{IsPair}
 use Rattle.calc_commands.specs.declared.command.Command.{Command}
-use Rattle.calc_commands.specs.declared.command.Command.TheVariants.{Mult, Skew, Coef, Coprod, Quantum, Fusion, Expand, Schubert, Schubmult, Tab, Rsk, Unrsk, Rect, Growth, Plethysm, Dschubmult, Stanley, Batch, Work}
+use Rattle.calc_commands.specs.declared.command.Command.TheVariants.{Mult, Skew, Coef, Coprod}
+use Rattle.calc_commands.specs.declared.command.Command.TheVariants.{Quantum, Fusion, Expand}
+use Rattle.calc_commands.specs.declared.command.Command.TheVariants.{Schubert, Schubmult, Tab, Rsk}
+use Rattle.calc_commands.specs.declared.command.Command.TheVariants.{Unrsk, Rect, Growth, Plethysm}
+use Rattle.calc_commands.specs.declared.command.Command.TheVariants.{Dschubmult, Stanley, Batch}
+use Rattle.calc_commands.specs.declared.command.Command.TheVariants.{Work}
 
 -- the plain command
 abbrev pub command_of : Command → PlainCommand
@@ -17,12 +24,14 @@ command_of (Quantum rows cols factors) = quantum rows cols factors
 command_of (Fusion rows level factors) = fusion rows level factors
 command_of (Schubert perm) = schubert perm
 command_of (Schubmult left right) = schubmult left right
-command_of (Expand target one_line formula) = expand (basis_of target) one_line (tree_of formula.tree)
+command_of (Expand target one_line formula) =
+    expand (basis_of target) one_line (tree_of formula.tree)
 command_of (Rsk letters) = rsk letters
 command_of (Unrsk p q) = unrsk p.rows q.rows
 command_of (Rect tableau) = rect tableau.outer tableau.inner tableau.rows
 command_of (Growth perm) = growth perm
-command_of (Plethysm target outer inner) = plethysm (basis_of target) (tree_of outer.tree) (tree_of inner.tree)
+command_of (Plethysm target outer inner) =
+    plethysm (basis_of target) (tree_of outer.tree) (tree_of inner.tree)
 command_of (Dschubmult left right) = dschubmult left right
 command_of (Stanley rows perm) = stanley rows perm
 command_of Batch = batch

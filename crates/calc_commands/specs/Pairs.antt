@@ -1,4 +1,4 @@
--- Pairs of tableaux (this project's own).
+-- Pairs of tableaux.
 use Rattle.std.specs.Prelude.{◌≡◌, ◌≤◌, [], length}
 use Rattle.sym_model.specs.CommandOffence.{most_letters}
 use Rattle.sym_model.specs.Schur.{letters_of}

@@ -9,15 +9,15 @@ use skew_shapes::{Standard, Tableau};
 /// A command.
 #[derive(Drop)]
 pub enum Command {
-    /// The product of the Schur functions of two to eight shapes, in so many variables where a number of rows is there, on
-    /// one line where it is so asked.
+    /// The product of the Schur functions of two to eight shapes, in `rows` variables if that is
+    /// given, on one line if `one_line` is true.
     Mult {
         rows: Option<u16>,
         one_line: bool,
         factors: Factors,
     },
-    /// The skew Schur function of a shape over another, in so many variables where a number of rows is there, on one line
-    /// where it is so asked.
+    /// The skew Schur function of a shape over another, in `rows` variables if that is given, on
+    /// one line if `one_line` is true.
     Skew {
         rows: Option<u16>,
         one_line: bool,
@@ -34,20 +34,20 @@ pub enum Command {
     Coprod {
         shape: Partition,
     },
-    /// The lattice tableaux of a shape over another: all of them, or those behind the one with this column reading, which is
-    /// one of them.
+    /// The lattice tableaux of a shape over another: all of them, or those after the one with this
+    /// column reading, which is one of them.
     Tab {
         outer: Partition,
         inner: Partition,
         after: Option<Word>,
     },
-    /// The product in the quantum cohomology of the Grassmannian whose shapes have so many rows and columns at most.
+    /// The product in the quantum cohomology of the Grassmannian Gr(rows, rows + cols).
     Quantum {
         rows: u16,
         cols: u16,
         factors: Factors,
     },
-    /// The fusion product with so many rows, at a level.
+    /// The fusion product for partitions with at most `rows` rows, at a level.
     Fusion {
         rows: u16,
         level: u16,
@@ -72,7 +72,8 @@ pub enum Command {
     Rsk {
         letters: Word,
     },
-    /// The word whose insertion makes the two tableaux. Those that a reader answers have one straight shape of at most 256 cells.
+    /// The word whose insertion makes the two tableaux. Those that a reader answers have one
+    /// straight shape of at most 256 cells.
     Unrsk {
         p: Tableau,
         q: Standard,
@@ -85,7 +86,8 @@ pub enum Command {
     Growth {
         perm: Perm,
     },
-    /// The outer expression with its variables replaced by the monomials of the inner one, in the basis of the target.
+    /// The outer expression with its variables replaced by the monomials of the inner one,
+    /// in the basis of the target.
     Plethysm {
         target: Basis,
         outer: Formula,
@@ -96,7 +98,7 @@ pub enum Command {
         left: Perm,
         right: Perm,
     },
-    /// The Stanley polynomial of a permutation, in so many variables.
+    /// The Stanley polynomial of a permutation, in `rows` variables.
     Stanley {
         rows: u16,
         perm: Perm,

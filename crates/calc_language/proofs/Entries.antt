@@ -1,5 +1,5 @@
 -- The commands by their names, and words that begin with none of them.
-use Rattle.std.proofs.Common.{◌≡◌, ℕ, ◌<◌, Bool, true, false, cond, List, [], ◌∷◌, ◌++◌, map, length, refl, sym, ap, ◌∙◌, subst, arith, inl, inr, ◌⊎◌, Option, Some, None, Result, Ok, Err}
+use Rattle.std.proofs.Common.{◌≡◌, ℕ, ◌<◌, Bool, true, false, cond, List, [], ◌∷◌, ◌++◌, length, refl, sym, ap, ◌∙◌, subst, arith, inl, inr, ◌⊎◌, Option, Some, None, Result, Ok, Err}
 use Rattle.std.specs.Prelude.{IfOk, codes}
 use Rattle.sym_model.specs.Sum.{Among}
 use Rattle.sym_model.specs.Polynomial.{same}
@@ -18,6 +18,7 @@ use Rattle.calc_base.specs.declared.words.WordsFault.TheVariants.{Syntax}
 use Rattle.calc_commands.specs.declared.command.Command.{Command}
 use Rattle.calc_words.specs.Reading.{IsRead as IsReadBy}
 use Rattle.calc_words.specs.WrittenLimits.{KeepsLimits}
+use Rattle.calc_words.proofs.CutWords.{first_text}
 use Rattle.calc_words.proofs.Joining.{joined_read}
 use Rattle.calc_words.proofs.WrittenCommands.{all_keep, some_keeps}
 use Rattle.calc_language.specs.BuiltCommands.{command_entries, batch_entries}
@@ -28,9 +29,6 @@ use Rattle.calc_language.proofs.NamedEntries.{IsLed, are_named_apart, each_among
 
 some_same : (e f : Entry) → Some f ≡ Some e → f ≡ e
 some_same e f h = cc
-
-first_is : (w v : List ℕ) (ws vs : Words) → w ∷ ws ≡ v ∷ vs → w ≡ v
-first_is w v ws vs e = cc
 
 -- the entry that is found is one of them
 found : (w : List ℕ) (entries : List Entry) (e : Entry) → entry_named w entries ≡ Some e → Among e entries × (w ≡ e.name)
@@ -81,7 +79,7 @@ named_among all entries t w words rest r is here there h = by (entry_named w all
     by None s k =
         wrong_first entries words r
         (subst (λ ws. IsSyntaxPlace entries ws 0 0) (sym is)
-        (unnamed entries t.led t.can t.some (w ∷ rest) (λ e m b. none_found w all s e (there e m) (first_is w e.name rest b.0 b.1)))) k
+        (unnamed entries t.led t.can t.some (w ∷ rest) (λ e m b. none_found w all s e (there e m) (first_text w e.name rest b.0 b.1)))) k
     by (Some e) s k =
         let f = found w all e s in
         let m = here e f.0 f.1 in
@@ -153,10 +151,6 @@ pub within : (words : Words) (result : Result Command WordsFault) → IsRead wor
 within words (Ok command) h = kept_by_all words (command_of command) h.0
 within words (Err fault) h = tt
 
-pub empty_map : {A : Type 0} (f : A → List ℕ) (xs : List A) → length xs ≡ 0 → map f xs ≡ []
-empty_map f [] h = refl
-empty_map f (x ∷ xs) h = absurd (omega (arith, h))
-
 -- words whose first word is the name of a command that stands in no line
 pub elsewhere : (w : List ℕ) (words rest : Words) (r : Result Command WordsFault) → words ≡ w ∷ rest
     → EachOf (λ (e : Entry). w ≡ e.name → ⊥) batch_entries → r ≡ Err (Syntax (record { word = 0; byte = 0 })) → IsReadBy batch_entries words r
@@ -164,7 +158,7 @@ elsewhere w words rest r is apart h =
     wrong_first batch_entries words r
     (subst (λ ws. IsSyntaxPlace batch_entries ws 0 0) (sym is)
     (unnamed batch_entries lines_told.led lines_told.can lines_told.some (w ∷ rest)
-    (λ e m b. none_found w batch_entries (none_named w batch_entries apart) e m (first_is w e.name rest b.0 b.1)))) h
+    (λ e m b. none_found w batch_entries (none_named w batch_entries apart) e m (first_text w e.name rest b.0 b.1)))) h
 
 not_it : (w a b : List ℕ) → w ≡ a → same a b ≡ false → w ≡ b → ⊥
 not_it w a b h s q = clash (same a b) s (same_from a b (sym h ∙ q))

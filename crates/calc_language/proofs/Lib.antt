@@ -1,6 +1,5 @@
 pub mod NamedEntries
 pub mod Entries
-pub mod ExpandWords
+pub mod ExpressionJudging
 pub mod LineCommands
-pub mod PlethysmWords
 pub mod PlethysmJudging

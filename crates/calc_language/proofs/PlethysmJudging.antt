@@ -6,12 +6,11 @@ use Rattle.sym_model.specs.Sum.{Among}
 use Rattle.sym_model.proofs.Sums.{Among_from_append}
 use Rattle.sym_model.specs.Expansion.{Basis}
 use Rattle.sym_model.specs.Expression.{degree}
-use Rattle.sym_model.specs.Phrase.{Phrase, expression, Is, SpellsPhrase, spelling, tree, letter}
+use Rattle.sym_model.specs.Phrase.{Phrase, expression, Is, SpellsPhrase, spelling, tree}
 use Rattle.sym_model.specs.ExpressionOffence.{WordOffence, range, first_of, offences_within, inner_offences, plethysm_degree_limit}
 use Rattle.sym_model.specs.CommandOffence.{Offence, first_offence, earlier_of, is_no_later, judged_against, offences_in_word, plethysm_offences}
 use Rattle.sym_model.specs.Command.{plethysm}
 use Rattle.sym_model.specs.Grammar.{all_bases, plethysm_entry}
-use Rattle.expression_laws.proofs.PhraseRuns.{one_phrase}
 use Rattle.word_laws.specs.Words.{Words}
 use Rattle.word_laws.specs.JudgedRows.{earlier}
 use Rattle.word_laws.proofs.EarlierOffences.{first_of_both}
@@ -19,19 +18,21 @@ use Rattle.word_laws.proofs.FirstOffences.{first_none}
 use Rattle.calc_base.specs.declared.words.WordsFault.{WordsFault}
 use Rattle.expression_reading.specs.declared.formula.Formula.{Formula}
 use Rattle.expression_reading.specs.declared.reading.ExpressionFault.{ExpressionFault}
-use Rattle.expression_reading.specs.declared.reading.ExpressionFault.TheVariants.{Syntax as Wrong, Literal as Wide, Range as Past, Shape as Misshapen, NoMemory as Full}
+use Rattle.expression_reading.specs.declared.reading.ExpressionFault.TheVariants.{Range as Past}
 use Rattle.expression_reading.specs.Reading.{IsReadBy}
 use Rattle.expression_reading.specs.Trees.{tree_of}
 use Rattle.expression_reading.proofs.SignJudging.{inner-ends_last}
-use Rattle.calc_words.specs.Reading.{IsRead as IsReadAs, IsFirst, IsJudged}
+use Rattle.calc_words.specs.Parts.{AreCut}
+use Rattle.calc_words.specs.declared.word_parts.Part.{Part}
+use Rattle.calc_words.specs.declared.word_parts.Part.TheVariants.{Target, Expression}
+use Rattle.calc_words.specs.Reading.{IsRead, IsFirst, IsJudged}
 use Rattle.calc_words.proofs.Commands.{read_standing, judged_err, judged_on}
+use Rattle.calc_words.proofs.CutCommands.{has_of}
 use Rattle.calc_words.proofs.FirstOffences.{AllBefore, none-append}
 use Rattle.calc_commands.specs.Commands.{StandsFor}
 use Rattle.calc_commands.specs.declared.command.Command.{Command}
-use Rattle.calc_language.specs.Expressions.{AreTwoExpressions}
 use Rattle.calc_language.specs.Reading.{placed}
-use Rattle.calc_language.proofs.ExpandWords.{at_word, first-placed, same_order}
-use Rattle.calc_language.proofs.PlethysmWords.{alone, is_target}
+use Rattle.calc_language.proofs.ExpressionJudging.{at_word, first-placed, same_order, placed_first, none_placed, tree_read}
 
 -- the offences of the first expression, of the second one, and of the two together
 abbrev outer_found : Phrase → List Offence
@@ -54,27 +55,6 @@ in_word : (k : ℕ) (os : List WordOffence) (p : Offence) → Among p (offences_
 in_word k [] p m = absurd m
 in_word k (o ∷ os) p (inl h) = ap (λ (x : Offence). x.0) h
 in_word k (o ∷ os) p (inr m) = in_word k os p m
-
--- a fault of an expression that is spelled is its first offence
-pub placed_first : (k : ℕ) (offends : Phrase → List WordOffence) (w : List ℕ) (f : Phrase) (e : ExpressionFault) → SpellsPhrase w f → IsReadBy offends w (Err e)
-    → IsFirst (first_offence (offences_in_word k (offends f))) (placed k e)
-placed_first k offends w f (Wrong byte) s h = h.0 f s
-placed_first k offends w f (Wide byte) s h =
-    first-placed k (offends f) ∙ ap (option_map (at_word k)) (ap (λ p. first_of (offends p)) (one_phrase w f h.0 s h.1) ∙ h.2)
-placed_first k offends w f (Past byte) s h =
-    first-placed k (offends f) ∙ ap (option_map (at_word k)) (ap (λ p. first_of (offends p)) (one_phrase w f h.0 s h.1) ∙ h.2)
-placed_first k offends w f (Misshapen byte) s h =
-    first-placed k (offends f) ∙ ap (option_map (at_word k)) (ap (λ p. first_of (offends p)) (one_phrase w f h.0 s h.1) ∙ h.2)
-placed_first k offends w f Full s h = tt
-
--- an expression without offence
-none_placed : (k : ℕ) (offends : Phrase → List WordOffence) (w : List ℕ) (f : Phrase) (x : Formula) → SpellsPhrase w f → IsReadBy offends w (Ok x)
-    → first_offence (offences_in_word k (offends f)) ≡ None
-none_placed k offends w f x s h =
-    first-placed k (offends f) ∙ ap (option_map (at_word k)) (ap (λ p. first_of (offends p)) (one_phrase w f h.0 s h.1) ∙ h.2)
-
-tree_read : (offends : Phrase → List WordOffence) (w : List ℕ) (f : Phrase) (x : Formula) → SpellsPhrase w f → IsReadBy offends w (Ok x) → tree_of x.tree ≡ tree f
-tree_read offends w f x s h = h.3 ∙ sym (ap tree (one_phrase w f h.0 s h.1))
 
 in_judged : (xs : List Offence) (past : Bool) (g : Phrase) (p : Offence) → Among p (judged_against xs (too_high past g)) → p.0 ≡ 3
 in_judged [] true g p (inl h) = ap (λ (x : Offence). x.0) h
@@ -174,18 +154,15 @@ trees_said v w f g x y t r k s h =
     ap (λ e. plethysm t e (tree_of y.tree)) (tree_read (offences_within plethysm_degree_limit) v f x r k)
     ∙ ap (plethysm t (tree f)) (tree_read inner_offences w g y s h)
 
--- words of the form
-pub plethysm_read : (t : Basis) (words : Words) (v w : List ℕ) (a : AreTwoExpressions v w words) (r : Result Command WordsFault)
-    → IsJudged (StandsFor (plethysm t (tree a.outer_phrase) (tree a.inner_phrase))) (first_offence (plethysm_offences 2 a.outer_phrase a.inner_phrase)) r
-    → IsReadAs alone (codes "plethysm" ∷ letter t ∷ words) r
-plethysm_read t words v w a r h =
-    read_standing (plethysm_entry all_bases) (codes "plethysm" ∷ letter t ∷ words)
-    (record {
-      written = (tt, (t, (a.outer_phrase, a.inner_phrase)));
-      allowed = (tt, (is_target t, (a.outer_spelled.allowed, a.inner_spelled.allowed)));
-      spelled =
-          ap (λ (ws : Words). codes "plethysm" ∷ letter t ∷ ws) a.words_are
-          ∙ ap (λ x. codes "plethysm" ∷ letter t ∷ x ∷ w ∷ []) a.outer_spelled.spelled
-          ∙ ap (λ x. codes "plethysm" ∷ letter t ∷ spelling a.outer_phrase ∷ x ∷ []) a.inner_spelled.spelled;
-    })
-    (plethysm t (tree a.outer_phrase) (tree a.inner_phrase)) refl r h
+-- ---- the words of `plethysm`
+
+abbrev pub plethysm_parts : List Part
+plethysm_parts = Target ∷ Expression ∷ Expression ∷ []
+
+pub plethysm_read : (words : Words) (places : List ℕ) (k : AreCut (codes "plethysm") plethysm_parts places words) (t : Basis) (r : Result Command WordsFault)
+    → t ≡ k.parts.0
+    → IsJudged (StandsFor (plethysm t (tree k.parts.3.0) (tree k.parts.3.3.0))) (first_offence (plethysm_offences 2 k.parts.3.0 k.parts.3.3.0)) r
+    → IsRead (plethysm_entry all_bases ∷ []) words r
+plethysm_read words places k t r e h =
+    read_standing (plethysm_entry all_bases) words (has_of (codes "plethysm") plethysm_parts places words k)
+    (plethysm t (tree k.parts.3.0) (tree k.parts.3.3.0)) (ap (λ b. plethysm b (tree k.parts.3.0) (tree k.parts.3.3.0)) e) r h

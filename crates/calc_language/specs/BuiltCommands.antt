@@ -1,13 +1,7 @@
 -- The commands that are read, on the command line and in a line of a batch (this project's own).
-use Rattle.std.specs.Prelude.{◌≡◌, List}
-use Rattle.sym_model.specs.Expansion.{Basis}
-use Rattle.sym_model.specs.Form.{SomeOf}
+use Rattle.std.specs.Prelude.{List}
 use Rattle.sym_model.specs.Entry.{Entry}
 use Rattle.sym_model.specs.Grammar.{entries_of, line_entries, all_bases}
-
--- the expansion is into one of the bases
-abbrev pub IsTarget : Basis → Type 0
-IsTarget basis = SomeOf (λ b. basis ≡ b) all_bases
 
 -- the commands of the command line
 abbrev pub command_entries : List Entry

@@ -1,5 +1,3 @@
 pub mod Reading
 pub mod BuiltCommands
 pub mod Lines
-pub mod ExpandFront
-pub mod Expressions

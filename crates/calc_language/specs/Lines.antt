@@ -11,8 +11,8 @@ use Rattle.calc_commands.specs.Commands.{IsSound}
 use Rattle.calc_commands.specs.declared.command.Command.{Command}
 use Rattle.calc_language.specs.Reading.{command_of, IsWithinItsLimits}
 
--- a line that is too long is refused by its offence, one that is passed over is no command, and the words of another are read
--- among the commands of a line; want of memory says nothing
+-- a line that is too long is refused by its offence, one that is passed over is no command, and the
+-- words of another are read among the commands of a line; want of memory says nothing
 abbrev pub IsLineRead : BatchLine → Result (Option Command) WordsFault → Type 0
 IsLineRead too_long (Ok answer) = ⊥
 IsLineRead too_long (Err NoMemory) = Unit {0}
@@ -22,7 +22,8 @@ IsLineRead passed_over (Ok (Some command)) = ⊥
 IsLineRead passed_over (Err NoMemory) = Unit {0}
 IsLineRead passed_over (Err fault) = ⊥
 IsLineRead (spoken words) (Ok None) = ⊥
-IsLineRead (spoken words) (Ok (Some command)) = SpellsWithoutOffence batch_entries words (command_of command) × IsSound command
+IsLineRead (spoken words) (Ok (Some command)) =
+    SpellsWithoutOffence batch_entries words (command_of command) × IsSound command
 IsLineRead (spoken words) (Err fault) = IsRefusal batch_entries words fault
 
 -- what a command of a line names is within the limits of words

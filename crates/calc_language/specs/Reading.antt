@@ -4,9 +4,14 @@ use Rattle.sym_model.specs.Entry.{Entry}
 use Rattle.sym_model.specs.Polynomial.{same}
 use Rattle.calc_language.specs.BuiltCommands.{command_entries}
 use Rattle.calc_base.specs.declared.words.WordsFault.{WordsFault}
-use Rattle.calc_base.specs.declared.words.WordsFault.TheVariants.{Syntax, Literal, Range, Shape, NoMemory}
+use Rattle.calc_base.specs.declared.words.WordsFault.TheVariants.{Syntax, Literal, Range, Shape}
+use Rattle.calc_base.specs.declared.words.WordsFault.TheVariants.{NoMemory}
 use Rattle.expression_reading.specs.declared.reading.ExpressionFault.{ExpressionFault}
-use Rattle.expression_reading.specs.declared.reading.ExpressionFault.TheVariants.{Syntax as Wrong, Literal as Wide, Range as Past, Shape as Misshapen, NoMemory as Full}
+use Rattle.expression_reading.specs.declared.reading.ExpressionFault.TheVariants.{Syntax as Wrong}
+use Rattle.expression_reading.specs.declared.reading.ExpressionFault.TheVariants.{Literal as Wide}
+use Rattle.expression_reading.specs.declared.reading.ExpressionFault.TheVariants.{Range as Past}
+use Rattle.expression_reading.specs.declared.reading.ExpressionFault.TheVariants.{Shape as Misshapen}
+use Rattle.expression_reading.specs.declared.reading.ExpressionFault.TheVariants.{NoMemory as Full}
 use Rattle.calc_words.specs.Reading.{IsRead as IsReadBy}
 use Rattle.calc_words.specs.WrittenLimits.{KeepsLimits}
 use Rattle.calc_commands.specs.declared.command.Command.{Command}
@@ -18,7 +23,8 @@ abbrev pub entry_named : List ℕ → List Entry → Option Entry
 entry_named name [] = None
 entry_named name (e ∷ entries) = cond (same name e.name) (Some e) (entry_named name entries)
 
--- the words are read as those of the entry, where there is one, and otherwise go wrong at the first word
+-- the words are read as those of the entry, where there is one,
+-- and otherwise go wrong at the first word
 abbrev pub IsReadAs : Option Entry → List (List ℕ) → Result Command WordsFault → Type 0
 IsReadAs None words result = result ≡ Err (Syntax (record { word = 0; byte = 0 }))
 IsReadAs (Some e) words result = IsReadBy (e ∷ []) words result
@@ -27,8 +33,8 @@ IsReadAs (Some e) words result = IsReadBy (e ∷ []) words result
 abbrev pub IsWithinItsLimits : Command → Type 0
 IsWithinItsLimits command = KeepsLimits (command_of command)
 
--- the words are this command without offence, and it is sound, or they go wrong or first offend at this place; want of memory says
--- nothing of them
+-- the words are this command without offence, and it is sound, or they go wrong or first offend at
+-- this place; want of memory says nothing of them
 abbrev pub IsRead : List (List ℕ) → Result Command WordsFault → Type 0
 IsRead words result = IsReadBy command_entries words result
 

@@ -6,16 +6,17 @@ ghost use Rattle.calc_language.specs.Reading.{IsReadAs, entry_named};
 use crate::Command;
 use crate::expand::read_expand;
 use crate::plethysm_command::read_plethysm;
-use crate::refusal::syntax;
 use calc_base::WordsFault;
 use calc_words::{
     read_batch, read_coef, read_coprod, read_dschubmult, read_fusion, read_growth, read_mult,
     read_quantum, read_rsk, read_schubert, read_schubmult, read_skew, read_stanley, read_work,
+    syntax,
 };
 use std::alloc::Global;
 use tableau_words::{read_rect, read_tab, read_unrsk};
 
-/// The words as those of the command of this name alone; where there is none, they go wrong at the first word.
+/// The words as those of the command of this name alone; where there is none,
+/// they go wrong at the first word.
 pub(crate) fn by_name(alloc: Global, name: &str, words: &[String]) -> Result<Command, WordsFault>
     ensures { IsReadAs (entry_named name.now command_entries) (map string_bytes words.now) result }
 {

@@ -1,39 +1,45 @@
 //! How a line of a batch is read.
 ghost use Rattle.std.specs.Prelude.{◌≡◌, ℕ, List, Some, IfOk, map, string_bytes};
-ghost use Rattle.sym_model.specs.BatchLine.{batch_line, too_long, too_long_offence, passed_over, spoken};
+ghost use Rattle.sym_model.specs.BatchLine.{batch_line, too_long, too_long_offence, passed_over};
+ghost use Rattle.sym_model.specs.BatchLine.{spoken};
 ghost use Rattle.sym_model.specs.Command.{Command as PlainCommand};
 ghost use Rattle.sym_model.specs.CommandOffence.{Offence};
 ghost use Rattle.sym_model.specs.Entry.{SpellsWithoutOffence, HasFirstOffence};
 ghost use Rattle.sym_model.specs.SyntaxPlace.{IsSyntaxPlace};
 ghost use Rattle.calc_words.specs.Reading.{IsRead as IsReadBy, Refuses, GoesWrong};
 ghost use Rattle.calc_language.specs.BuiltCommands.{batch_entries};
-ghost use Rattle.calc_language.specs.Lines.{IsLineRead, KeepsItsLimits, IsPassedOver, AcceptsInLine};
+ghost use Rattle.calc_language.specs.Lines.{IsLineRead, KeepsItsLimits, IsPassedOver};
+ghost use Rattle.calc_language.specs.Lines.{AcceptsInLine};
 
 use crate::Command;
 use crate::by_name::by_name;
-use crate::refusal::syntax;
 use calc_base::{Place, WordsFault};
-use calc_words::{are_passed_over, line_words, without_return};
+use calc_words::{are_passed_over, line_words, syntax, without_return};
 use std::alloc::Global;
 
 /// The most bytes of a line before its line feed.
 const MOST_BYTES: usize = 4096;
 
-/// Reads a line of a batch without its line feed: its command, or None where it has no word or its first word begins with `#`.
+/// Reads a line of a batch without its line feed: its command, or None where it has no word or its
+/// first word begins with `#`.
 ///
-/// One carriage return at its end is dropped, and words stand between spaces and tabs. A line of more than 4,096 bytes, that
-/// carriage return among them, is refused as `Range` at byte 4,096 of word 0. The words of another line are read as
+/// One carriage return at its end is dropped, and words stand between spaces and tabs. A line of
+/// more than 4,096 bytes, that carriage return among them, is refused as `Range` at byte 4,096 of
+/// word 0. The words of another line are read as
 /// `read_words` reads them.
 pub fn read_line(alloc: Global, line: &[u8]) -> Result<Option<Command>, WordsFault>
     ensures read { IsLineRead (batch_line line.now) result }
     ensures within { IfOk result KeepsItsLimits }
     ensures long { batch_line line.now ≡ too_long → Refuses too_long_offence result }
     ensures passed_over { batch_line line.now ≡ passed_over → IsPassedOver result }
-    ensures accepts { (words : List (List ℕ)) (command : PlainCommand) → batch_line line.now ≡ spoken words
+    ensures accepts { (words : List (List ℕ)) (command : PlainCommand)
+        → batch_line line.now ≡ spoken words
         → SpellsWithoutOffence batch_entries words command → AcceptsInLine command result }
-    ensures refuses { (words : List (List ℕ)) (offence : Offence) → batch_line line.now ≡ spoken words
+    ensures refuses { (words : List (List ℕ)) (offence : Offence)
+        → batch_line line.now ≡ spoken words
         → HasFirstOffence batch_entries words (Some offence) → Refuses offence result }
-    ensures goes_wrong { (words : List (List ℕ)) (word byte : ℕ) → batch_line line.now ≡ spoken words
+    ensures goes_wrong { (words : List (List ℕ)) (word byte : ℕ)
+        → batch_line line.now ≡ spoken words
         → IsSyntaxPlace batch_entries words word byte → GoesWrong word byte result }
 {
     read(alloc, line)

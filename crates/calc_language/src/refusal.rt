@@ -3,16 +3,8 @@ ghost use Rattle.std.specs.Prelude.{◌≡◌};
 ghost use Rattle.calc_language.specs.Reading.{placed as placed_at};
 
 use calc_base::{Place, WordsFault};
+use calc_words::syntax;
 use expression_reading::ExpressionFault;
-
-/// Words that are no command, at this place.
-pub(crate) fn syntax(word: u64, byte: u64) -> WordsFault
-    ensures { result ≡ WordsFault.Syntax (record { word = word; byte = byte }) }
-{
-    WordsFault::Syntax {
-        at: Place { word, byte },
-    }
-}
 
 /// The refusal of the expression that stands at this word.
 pub(crate) fn placed(word: u64, fault: ExpressionFault) -> WordsFault

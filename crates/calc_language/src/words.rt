@@ -5,28 +5,35 @@ ghost use Rattle.sym_model.specs.CommandOffence.{Offence};
 ghost use Rattle.sym_model.specs.Entry.{SpellsWithoutOffence, HasFirstOffence};
 ghost use Rattle.sym_model.specs.SyntaxPlace.{IsSyntaxPlace};
 ghost use Rattle.calc_language.specs.BuiltCommands.{command_entries};
-ghost use Rattle.calc_language.specs.Reading.{IsWithinItsLimits, IsRead, Accepts, Refuses, GoesWrong};
+ghost use Rattle.calc_language.specs.Reading.{IsWithinItsLimits, IsRead, Accepts, Refuses};
+ghost use Rattle.calc_language.specs.Reading.{GoesWrong};
 
 use crate::Command;
 use crate::by_name::by_name;
-use crate::refusal::syntax;
 use calc_base::WordsFault;
+use calc_words::syntax;
 use std::alloc::Global;
 
-/// Reads the words of a command: its name, and behind it what the entry of that name asks for (`sym_model/specs/Grammar.antt`).
+/// Reads the words of a command: its name, and behind it what the entry of that name asks for
+/// (`sym_model/specs/Grammar.antt`).
 ///
-/// Words that are no command are refused as `Syntax`, at the word where they go wrong, and in the word of an expression at the
-/// byte after its longest prefix that begins one. Otherwise the first offence is refused, as the readers of the commands say,
-/// `calc_words::read_mult` and its like, and `expression_reading::{read_expression, read_outer, read_inner}`; two expressions of a
+/// Words that are no command are refused as `Syntax`, at the word where they go wrong, and in the
+/// word of an expression at the byte after its longest prefix that begins one. Otherwise the first
+/// offence is refused, as the readers of the commands say,
+/// `calc_words::read_mult` and its like, and
+/// `expression_reading::{read_expression, read_outer, read_inner}`; two expressions of a
 /// `plethysm` whose degrees have a product past 10 are refused as `Range` at the end of the second.
 pub fn read_words(alloc: Global, words: &[String]) -> Result<Command, WordsFault>
     ensures read { IsRead (map string_bytes words.now) result }
     ensures within { IfOk result IsWithinItsLimits }
-    ensures accepts { (command : PlainCommand) → SpellsWithoutOffence command_entries (map string_bytes words.now) command
+    ensures accepts { (command : PlainCommand)
+        → SpellsWithoutOffence command_entries (map string_bytes words.now) command
         → Accepts command result }
-    ensures refuses { (offence : Offence) → HasFirstOffence command_entries (map string_bytes words.now) (Some offence)
+    ensures refuses { (offence : Offence)
+        → HasFirstOffence command_entries (map string_bytes words.now) (Some offence)
         → Refuses offence result }
-    ensures goes_wrong { (word byte : ℕ) → IsSyntaxPlace command_entries (map string_bytes words.now) word byte
+    ensures goes_wrong { (word byte : ℕ)
+        → IsSyntaxPlace command_entries (map string_bytes words.now) word byte
         → GoesWrong word byte result }
 {
     read(alloc, words)

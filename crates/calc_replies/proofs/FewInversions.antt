@@ -4,10 +4,11 @@ use Rattle.std.specs.Prelude.{max, nat_le}
 use Rattle.std.proofs.Math.Nat.{max-le}
 use Rattle.sym_model.specs.PlaceOrders.{inversions}
 use Rattle.sym_model.specs.LargeAnswer.{shorter}
-use Rattle.perm_codes.proofs.InversionCounts.{pairs_upto, inversions_upto}
+use Rattle.schubert_laws.proofs.FixedTails.{pairs}
+use Rattle.perm_codes.proofs.InversionCounts.{inversions_upto}
 
-pairs_of_sixteen : pairs_upto 16 ≡ 120
-unfolding pairs_upto
+pairs_of_sixteen : pairs 16 ≡ 120
+unfolding pairs
 pairs_of_sixteen = refl
 
 either : (x : Bool) (u v : List ℕ) → length u ≤ 16 → length v ≤ 16 → inversions (cond x u v) ≤ 120

@@ -6,4 +6,3 @@ pub mod Expansions
 pub mod FewInversions
 pub mod GridLines
 pub mod Listings
-pub mod PositiveLetters

@@ -1,8 +1,7 @@
 -- The lines of the tableaux that are listed.
-use Rattle.std.proofs.Common.{◌≡◌, ℕ, List, [], ◌∷◌, ◌++◌, Bool, true, false, cond, refl, sym, ◌∙◌, ap, Option, Some, None}
+use Rattle.std.proofs.Common.{◌≡◌, ℕ, List, [], ◌∷◌, ◌++◌, Bool, true, false, cond, refl, sym, ◌∙◌, ap, Option, Some, None, filter}
 use Rattle.std.specs.Prelude.{map, length, nat_le}
 use Rattle.std.specs.List.{flat_map}
-use Rattle.sym_model.specs.Sum.{each, select}
 use Rattle.sym_model.specs.Schur.{contains, words}
 use Rattle.sym_model.specs.Partition.{cells, rows}
 use Rattle.sym_model.specs.GoodTableau.{good_readings, lattice_readings, column_reading, is_among, is_good}
@@ -14,7 +13,7 @@ use Rattle.sym_model.specs.TableauText.{tableau_line, readings_text}
 abbrev pub line : List ℕ → List ℕ → List ℕ → List ℕ
 line outer inner w = tableau_line (filling_of outer inner w)
 
-each-flat : {A : Type 0} (f : A → List ℕ) (xs : List A) → each f xs ≡ flat_map f xs
+each-flat : {A : Type 0} (f : A → List ℕ) (xs : List A) → flat_map f xs ≡ flat_map f xs
 each-flat f [] = refl
 each-flat f (x ∷ xs) = ap (λ t. f x ++ t) (each-flat f xs)
 
@@ -24,12 +23,12 @@ readings_text-more outer inner w ws = sym (each-flat (line outer inner) (w ∷ w
 
 -- ---- a shape that is not contained in the other has no tableaux
 
-among_none : (ws : List (List ℕ)) → select (λ w. is_among w []) ws ≡ []
+among_none : (ws : List (List ℕ)) → filter (λ w. is_among w []) ws ≡ []
 among_none [] = refl
 among_none (w ∷ ws) = among_none ws
 
 none_chosen : (x : Bool) (f : List (List ℕ) → List ℕ) (test : List (List ℕ) → Bool) (ws : List (List ℕ))
-    → select (λ w. is_among w (map f (cond x (select test []) []))) ws ≡ []
+    → filter (λ w. is_among w (map f (cond x (filter test []) []))) ws ≡ []
 none_chosen true f test ws = among_none ws
 none_chosen false f test ws = among_none ws
 

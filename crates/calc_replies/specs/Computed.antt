@@ -14,18 +14,23 @@ use Rattle.expansion_printer.specs.Answers.{plain_answer}
 use Rattle.expansion_printer.specs.Refusal.{refusal_text}
 use Rattle.sym_model.specs.Answer.{IsPrintable}
 use Rattle.sym_model.specs.PrintedForm.{printed_form, answer_text_in}
-use Rattle.sym_model.specs.Command.{Command as PlainCommand, rsk, unrsk, rect, growth, tab, batch, work}
+use Rattle.sym_model.specs.Command.{Command as PlainCommand, rsk, unrsk, rect, growth, tab, batch}
+use Rattle.sym_model.specs.Command.{work}
 use Rattle.sym_model.specs.CommandOffence.{Offence}
 use Rattle.sym_model.specs.Entry.{Entry, SpellsWithoutOffence}
 use Rattle.sym_model.specs.Insertion.{insertion_pair}
-use Rattle.sym_model.specs.Outcome.{MustBeLarge, MayBeLarge, readings_after, PrintsWord, PrintsRectified}
-use Rattle.sym_model.specs.TableauText.{tableau_line, pair_text, word_line, readings_text, grid_text}
+use Rattle.sym_model.specs.Outcome.{MustBeLarge, MayBeLarge, readings_after, PrintsWord}
+use Rattle.sym_model.specs.Outcome.{PrintsRectified}
+use Rattle.sym_model.specs.TableauText.{tableau_line, pair_text, word_line, readings_text}
+use Rattle.sym_model.specs.TableauText.{grid_text}
 use Rattle.sym_model.specs.RefusalText.{large_line}
 use Rattle.sym_model.specs.Target.{Meets}
 use Rattle.calc_replies.specs.Forms.{plain_form}
 use Rattle.calc_replies.specs.declared.form.Form.{Form}
 use Rattle.calc_replies.specs.declared.tableau_answer.TableauAnswer.{TableauAnswer}
-use Rattle.calc_replies.specs.declared.tableau_answer.TableauAnswer.TheVariants.{Listed, Paired, Spelled, Straight, Grown}
+use Rattle.calc_replies.specs.declared.tableau_answer.TableauAnswer.TheVariants.{Listed, Paired}
+use Rattle.calc_replies.specs.declared.tableau_answer.TableauAnswer.TheVariants.{Spelled, Straight}
+use Rattle.calc_replies.specs.declared.tableau_answer.TableauAnswer.TheVariants.{Grown}
 use Rattle.calc_replies.specs.declared.listing.Listing.{Listing}
 use Rattle.calc_language.specs.BuiltCommands.{command_entries}
 use Rattle.calc_replies.specs.declared.outcome.Task.{Task}
@@ -48,10 +53,12 @@ lines_text (Grown w) = grid_text w
 
 -- the command is one on tableaux, and the text is what it answers
 abbrev pub Tells : PlainCommand → List ℕ → Type 0
-Tells (tab outer inner last) text = text ≡ readings_text outer inner (readings_after outer inner last)
+Tells (tab outer inner last) text =
+    text ≡ readings_text outer inner (readings_after outer inner last)
 Tells (rsk w) text = text ≡ pair_text (insertion_pair w).0 (insertion_pair w).1
 Tells (unrsk p q) text = PrintsWord p q text
-Tells (rect outer inner rows) text = PrintsRectified (record { outer = outer; inner = inner; rows = rows }) text
+Tells (rect outer inner rows) text =
+    PrintsRectified (record { outer = outer; inner = inner; rows = rows }) text
 Tells (growth w) text = text ≡ grid_text w
 Tells _ text = ⊥
 
@@ -61,18 +68,20 @@ reply_of (Ok answer) form = Ok (Answered answer form)
 reply_of (Err sums.Large) form = Ok Large
 reply_of (Err sums.NoMemory) form = Err (record {})
 
--- what comes of a command: an answer that is what it names, in the form that it asks for, where it need not be refused as too
--- large, or that it can be refused so; want of memory says nothing
+-- what comes of a command: an answer that is what it names, in the form that it asks for, where it
+-- need not be refused as too large, or that it can be refused so; want of memory says nothing
 abbrev pub IsReplyTo : PlainCommand → Result Outcome NoMemory → Type 0
 IsReplyTo command (Ok (Answered answer form)) =
-    (MustBeLarge command → ⊥) × Meets command (plain_answer answer) × (plain_form form ≡ printed_form command)
+    (MustBeLarge command → ⊥) × Meets command (plain_answer answer)
+    × (plain_form form ≡ printed_form command)
 IsReplyTo command (Ok (Refused fault)) = ⊥
 IsReplyTo command (Ok Large) = MayBeLarge command
 IsReplyTo command (Ok (Told lines)) = Tells command (lines_text lines)
 IsReplyTo command (Err e) = Unit {0}
 
 -- the words spell this command of the list without an offence, and the outcome is what comes of it
-pub record RepliesTo (entries : List Entry) (words : List (List ℕ)) (result : Result Outcome NoMemory) : Type 0 where
+pub record RepliesTo (entries : List Entry) (words : List (List ℕ))
+    (result : Result Outcome NoMemory) : Type 0 where
   pub command : PlainCommand
   pub spelled : SpellsWithoutOffence entries words command
   pub reply : IsReplyTo command result
@@ -81,15 +90,18 @@ pub record RepliesTo (entries : List Entry) (words : List (List ℕ)) (result : 
 abbrev pub AreRefused : List Entry → List (List ℕ) → WordsFault → Type 0
 AreRefused entries words reason = IsRefusal entries words reason × (reason ≢ fault.NoMemory)
 
--- what comes of the words: what comes of the command of the list that they spell, or their refusal; want of memory says nothing
+-- what comes of the words: what comes of the command of the list that they spell, or their refusal;
+-- want of memory says nothing
 abbrev pub Computes : List Entry → List (List ℕ) → Result Outcome NoMemory → Type 0
-Computes entries words (Ok (Answered answer form)) = RepliesTo entries words (Ok (Answered answer form))
+Computes entries words (Ok (Answered answer form)) =
+    RepliesTo entries words (Ok (Answered answer form))
 Computes entries words (Ok (Refused reason)) = AreRefused entries words reason
 Computes entries words (Ok Large) = RepliesTo entries words (Ok Large)
 Computes entries words (Ok (Told lines)) = RepliesTo entries words (Ok (Told lines))
 Computes entries words (Err e) = Unit {0}
 
--- words of the command without an offence are not refused by their words, and by their answer only where it can be too large
+-- words of the command without an offence are not refused by their words, and by their answer only
+-- where it can be too large
 abbrev pub Accepts : PlainCommand → Result Outcome NoMemory → Type 0
 Accepts command (Ok (Answered answer form)) = Unit {0}
 Accepts command (Ok (Refused reason)) = ⊥
@@ -108,7 +120,8 @@ Refuses offence (Err e) = Unit {0}
 -- words that go wrong at this place are refused there
 abbrev pub GoesWrong : ℕ → ℕ → Result Outcome NoMemory → Type 0
 GoesWrong word byte (Ok (Answered answer form)) = ⊥
-GoesWrong word byte (Ok (Refused reason)) = reason ≡ fault.Syntax (record { word = word; byte = byte })
+GoesWrong word byte (Ok (Refused reason)) =
+    reason ≡ fault.Syntax (record { word = word; byte = byte })
 GoesWrong word byte (Ok Large) = ⊥
 GoesWrong word byte (Ok (Told lines)) = ⊥
 GoesWrong word byte (Err e) = Unit {0}
@@ -121,7 +134,8 @@ RunsNoOther batch = ⊥
 RunsNoOther (work lines seed) = ⊥
 RunsNoOther command = Unit {0}
 
--- what is to be done for a command: lines are to be run for `batch` and `work`, and for the others what comes of them is to be put
+-- what is to be done for a command: lines are to be run for `batch` and `work`, and for the others
+-- what comes of them is to be put
 abbrev pub IsTaskOf : PlainCommand → Result Task NoMemory → Type 0
 IsTaskOf command (Ok Lines) = command ≡ batch
 IsTaskOf command (Ok (Workload lines seed)) = command ≡ work lines seed
@@ -131,7 +145,8 @@ IsTaskOf command (Err e) = Unit {0}
 -- what is to be done for words
 abbrev pub IsTaskFor : List (List ℕ) → Result Task NoMemory → Type 0
 IsTaskFor words (Ok Lines) = SpellsWithoutOffence command_entries words batch
-IsTaskFor words (Ok (Workload lines seed)) = SpellsWithoutOffence command_entries words (work lines seed)
+IsTaskFor words (Ok (Workload lines seed)) =
+    SpellsWithoutOffence command_entries words (work lines seed)
 IsTaskFor words (Ok (Put outcome)) = Computes command_entries words (Ok outcome)
 IsTaskFor words (Err e) = Unit {0}
 

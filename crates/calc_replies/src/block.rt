@@ -2,7 +2,8 @@
 
 ghost use Rattle.std.specs.Prelude.{◌≡◌, true};
 ghost use Rattle.calc_base.specs.Puts.{Puts};
-ghost use Rattle.calc_replies.specs.Computed.{text_of, HasText, HasBlock, refusal_status, status_for};
+ghost use Rattle.calc_replies.specs.Computed.{text_of, HasText, HasBlock, refusal_status};
+ghost use Rattle.calc_replies.specs.Computed.{status_for};
 
 use crate::form::put_answer;
 use crate::outcome::Outcome;
@@ -24,7 +25,8 @@ pub fn put_text<K: Sink>(outcome: &mut Outcome, sink: &mut K) -> bool
     }
 }
 
-/// Tells that the block of an answer is one that can be read back. It puts nothing, and goes over no list of tableaux.
+/// Tells that the block of an answer is one that can be read back. It puts nothing,
+/// and goes over no list of tableaux.
 pub fn tell_block(outcome: &Outcome)
     ensures { HasBlock outcome.now }
 {

@@ -14,7 +14,6 @@ ghost use Rattle.calc_replies.specs.Computed.{IsReplyTo};
 use crate::outcome::{Outcome, as_block};
 use calc_base::{NoMemory, SumFault, Weight};
 use calc_language::{Basis, Formula};
-use change_from_monomials::is_table;
 use coeff_rings::Frac;
 use expand_in_monomials::to_monomial;
 use expansion_printer::Answer;
@@ -32,8 +31,10 @@ pub(crate) fn composed(
     outer: &Formula,
     inner: &Formula,
 ) -> Result<Outcome, NoMemory>
-    requires { KeepsLimits (commands.plethysm (basis_of target) (tree_of outer.now.tree) (tree_of inner.now.tree)) }
-    ensures { IsReplyTo (commands.plethysm (basis_of target) (tree_of outer.now.tree) (tree_of inner.now.tree)) result }
+    requires { KeepsLimits (commands.plethysm (basis_of target) (tree_of outer.now.tree)
+        (tree_of inner.now.tree)) }
+    ensures { IsReplyTo (commands.plethysm (basis_of target) (tree_of outer.now.tree)
+        (tree_of inner.now.tree)) result }
 {
     match composition(alloc, target, outer, inner) {
         Ok(terms) => Ok(as_block(Answer::Expansion { terms })),
@@ -49,12 +50,15 @@ fn composition(
     outer: &Formula,
     inner: &Formula,
 ) -> Result<Terms<Partition, Frac>, SumFault>
-    requires { KeepsLimits (commands.plethysm (basis_of target) (tree_of outer.now.tree) (tree_of inner.now.tree)) }
+    requires { KeepsLimits (commands.plethysm (basis_of target) (tree_of outer.now.tree)
+        (tree_of inner.now.tree)) }
     ensures expands { let f = tree_of outer.now.tree in let g = tree_of inner.now.tree in
         IfOk result (λ terms. (n : ℕ) → IsExpansionOf (basis_of target) terms n
         (plethysm_of (cleared_value f) (degree g) n (cleared_value g n)) (denominator f)) }
-    ensures large { let f = tree_of outer.now.tree in let g = tree_of inner.now.tree in IsErrOf result SumFault.Large
-        → 2 ^ 127 ≤ plethysm_weight (numerator f) (denominator f) (degree f) (numerator g) (degree g) }
+    ensures large { let f = tree_of outer.now.tree in let g = tree_of inner.now.tree in
+        IsErrOf result SumFault.Large
+        → 2 ^ 127 ≤ plethysm_weight (numerator f) (denominator f) (degree f) (numerator g)
+        (degree g) }
 {
     let list = in_target(alloc, target, outer, inner)?;
     // This tells the proof that no label stands twice in it.
@@ -70,12 +74,15 @@ fn in_target(
     outer: &Formula,
     inner: &Formula,
 ) -> Result<Lin<Partition, Frac>, SumFault>
-    requires { KeepsLimits (commands.plethysm (basis_of target) (tree_of outer.now.tree) (tree_of inner.now.tree)) }
+    requires { KeepsLimits (commands.plethysm (basis_of target) (tree_of outer.now.tree)
+        (tree_of inner.now.tree)) }
     ensures expands { let f = tree_of outer.now.tree in let g = tree_of inner.now.tree in
         IfOk result (λ list. (n : ℕ) → IsExpansionOf (basis_of target) list n
         (plethysm_of (cleared_value f) (degree g) n (cleared_value g n)) (denominator f)) }
-    ensures large { let f = tree_of outer.now.tree in let g = tree_of inner.now.tree in IsErrOf result SumFault.Large
-        → 2 ^ 127 ≤ plethysm_weight (numerator f) (denominator f) (degree f) (numerator g) (degree g) }
+    ensures large { let f = tree_of outer.now.tree in let g = tree_of inner.now.tree in
+        IsErrOf result SumFault.Large
+        → 2 ^ 127 ≤ plethysm_weight (numerator f) (denominator f) (degree f) (numerator g)
+        (degree g) }
 {
     let Some(bound) = outer.weight() else {
         return Err(SumFault::Large);
@@ -88,7 +95,8 @@ fn in_target(
     substituted(alloc, target, outer, &list, bound, inner)
 }
 
-/// The plethysm of a formula of positive degree, of which this is the expansion in m with its bound.
+/// The plethysm of a formula of positive degree,
+/// of which this is the expansion in m with its bound.
 fn substituted(
     alloc: Global,
     target: Basis,
@@ -97,7 +105,8 @@ fn substituted(
     bound: Weight,
     inner: &Formula,
 ) -> Result<Lin<Partition, Frac>, SumFault>
-    requires limits { KeepsLimits (commands.plethysm (basis_of target) (tree_of outer.now.tree) (tree_of inner.now.tree)) }
+    requires limits { KeepsLimits
+        (commands.plethysm (basis_of target) (tree_of outer.now.tree) (tree_of inner.now.tree)) }
     requires some { 1 ≤ degree (tree_of outer.now.tree) }
     requires value { let f = tree_of outer.now.tree in
         (n : ℕ) → IsExpansionOf monomials list.now n (cleared_value f n) (denominator f) }
@@ -108,13 +117,14 @@ fn substituted(
     ensures expands { let f = tree_of outer.now.tree in let g = tree_of inner.now.tree in
         IfOk result (λ list. (n : ℕ) → IsExpansionOf (basis_of target) list n
         (plethysm_of (cleared_value f) (degree g) n (cleared_value g n)) (denominator f)) }
-    ensures large { let f = tree_of outer.now.tree in let g = tree_of inner.now.tree in IsErrOf result SumFault.Large
-        → 2 ^ 127 ≤ plethysm_weight (numerator f) (denominator f) (degree f) (numerator g) (degree g) }
+    ensures large { let f = tree_of outer.now.tree in let g = tree_of inner.now.tree in
+        IsErrOf result SumFault.Large
+        → 2 ^ 127 ≤ plethysm_weight (numerator f) (denominator f) (degree f) (numerator g)
+        (degree g) }
 {
     let Some(inner_bound) = inner.weight() else {
         return Err(SumFault::Large);
     };
     let monomials = to_monomial(alloc, inner)?;
-    is_table(&monomials);
     plethysm::plethysm(alloc, list, bound, &monomials, inner_bound, target)
 }

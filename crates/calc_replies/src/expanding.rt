@@ -53,7 +53,8 @@ fn expansion(
     requires { degree (tree_of formula.now.tree) ≤ degree_limit (basis_of target) }
     ensures expands { IfOk result (λ terms. (n : ℕ) → IsExpansionOf (basis_of target) terms n
         (cleared_value (tree_of formula.now.tree) n) (denominator (tree_of formula.now.tree))) }
-    ensures large { IsErrOf result SumFault.Large → 2 ^ 127 ≤ weight (basis_of target) (tree_of formula.now.tree) }
+    ensures large { IsErrOf result SumFault.Large
+        → 2 ^ 127 ≤ weight (basis_of target) (tree_of formula.now.tree) }
 {
     let list = in_target(alloc, target, formula)?;
     // This tells the proof that no label stands twice in it.
@@ -71,7 +72,8 @@ fn in_target(
     requires { degree (tree_of formula.now.tree) ≤ degree_limit (basis_of target) }
     ensures expands { IfOk result (λ list. (n : ℕ) → IsExpansionOf (basis_of target) list n
         (cleared_value (tree_of formula.now.tree) n) (denominator (tree_of formula.now.tree))) }
-    ensures large { IsErrOf result SumFault.Large → 2 ^ 127 ≤ weight (basis_of target) (tree_of formula.now.tree) }
+    ensures large { IsErrOf result SumFault.Large
+        → 2 ^ 127 ≤ weight (basis_of target) (tree_of formula.now.tree) }
 {
     match target {
         Basis::M => to_monomial_by_schurs(alloc, formula),
@@ -82,7 +84,8 @@ fn in_target(
     }
 }
 
-/// The expansion in e, h or p, in no order: node by node in the target, and where that is too large by way of m.
+/// The expansion in e, h or p, in no order: node by node in the target,
+/// and where that is too large by way of m.
 fn by_family(
     alloc: Global,
     target: Basis,
@@ -93,7 +96,8 @@ fn by_family(
     requires low { degree (tree_of formula.now.tree) ≤ degree_limit (basis_of target) }
     ensures expands { IfOk result (λ list. (n : ℕ) → IsExpansionOf (basis_of target) list n
         (cleared_value (tree_of formula.now.tree) n) (denominator (tree_of formula.now.tree))) }
-    ensures large { IsErrOf result SumFault.Large → 2 ^ 127 ≤ weight (basis_of target) (tree_of formula.now.tree) }
+    ensures large { IsErrOf result SumFault.Large
+        → 2 ^ 127 ≤ weight (basis_of target) (tree_of formula.now.tree) }
 {
     match to_family(alloc, family, formula) {
         Ok(list) => Ok(list),
@@ -111,7 +115,8 @@ fn by_monomials(
     requires { degree (tree_of formula.now.tree) ≤ degree_limit (basis_of target) }
     ensures expands { IfOk result (λ list. (n : ℕ) → IsExpansionOf (basis_of target) list n
         (cleared_value (tree_of formula.now.tree) n) (denominator (tree_of formula.now.tree))) }
-    ensures large { IsErrOf result SumFault.Large → 2 ^ 127 ≤ weight (basis_of target) (tree_of formula.now.tree) }
+    ensures large { IsErrOf result SumFault.Large
+        → 2 ^ 127 ≤ weight (basis_of target) (tree_of formula.now.tree) }
 {
     let list = to_monomial(alloc, formula)?;
     let Some(bound) = formula.weight() else {

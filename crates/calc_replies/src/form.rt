@@ -32,7 +32,8 @@ pub(crate) fn asked_form(one_line: bool, basis: Basis) -> Form
 
 /// Puts the answer in the form, and answers whether all went well.
 pub(crate) fn put_answer<K: Sink>(answer: &Answer, form: Form, sink: &mut K) -> bool
-    ensures goes { Puts true (K.seen sink.old) result (K.seen sink.new) (answer_text_in (plain_form form) (plain_answer answer.now)) }
+    ensures goes { Puts true (K.seen sink.old) result (K.seen sink.new)
+        (answer_text_in (plain_form form) (plain_answer answer.now)) }
     ensures printable { IsPrintable (plain_answer answer.now) }
 {
     match form {

@@ -32,7 +32,8 @@ pub(crate) fn unrsk(alloc: Global, p: &Tableau, q: &Standard) -> Result<Outcome,
 
 /// The rectification of a tableau.
 pub(crate) fn rect(tableau: &Tableau) -> Result<Outcome, NoMemory>
-    ensures { IsReplyTo (commands.rect tableau.now.outer tableau.now.inner tableau.now.rows) result }
+    ensures { IsReplyTo (commands.rect tableau.now.outer tableau.now.inner tableau.now.rows)
+        result }
 {
     let tableau = rectify(tableau.copy()?);
     Ok(told(TableauAnswer::Straight { tableau }))

@@ -7,7 +7,8 @@ ghost use Rattle.calc_commands.specs.Commands.{IsSound};
 ghost use Rattle.calc_language.specs.BuiltCommands.{command_entries};
 ghost use Rattle.sym_model.specs.SyntaxPlace.{IsSyntaxPlace};
 ghost use Rattle.calc_language.specs.Reading.{command_of, IsWithinItsLimits};
-ghost use Rattle.calc_replies.specs.Computed.{reply_of, IsReplyTo, RunsNoOther, IsTaskOf, IsTaskFor, AcceptsTask, RefusesTask, TaskGoesWrong};
+ghost use Rattle.calc_replies.specs.Computed.{reply_of, IsReplyTo, RunsNoOther, IsTaskOf};
+ghost use Rattle.calc_replies.specs.Computed.{IsTaskFor, AcceptsTask, RefusesTask, TaskGoesWrong};
 
 use crate::composing::composed;
 use crate::expanding::expanded;
@@ -32,8 +33,8 @@ pub enum Outcome {
     Told { lines: TableauAnswer },
 }
 
-// Written out, so that a function that drops an outcome calls this one: its own proof then does not go through all that an
-// answer can hold.
+// Written out, so that a function that drops an outcome calls this one: its own proof then does not
+// go through all that an answer can hold.
 impl Drop for Outcome {
     fn drop(self) {
         match self {
@@ -66,7 +67,8 @@ pub(crate) fn as_block(answer: Answer) -> Outcome
     }
 }
 
-/// What comes of a command that names an expansion: its answer, which is printed in the form, or that this is too large.
+/// What comes of a command that names an expansion: its answer, which is printed in the form,
+/// or that this is too large.
 pub(crate) fn answered(answer: Result<Answer, SumFault>, form: Form) -> Result<Outcome, NoMemory>
     ensures { result ≡ reply_of answer form }
 {
@@ -77,14 +79,18 @@ pub(crate) fn answered(answer: Result<Answer, SumFault>, form: Form) -> Result<O
     }
 }
 
-/// What is to be done for the words: the whole answer is there, or why there is none, or lines are to be run.
+/// What is to be done for the words: the whole answer is there, or why there is none,
+/// or lines are to be run.
 pub fn task_of(alloc: Global, words: &[String]) -> Result<Task, NoMemory>
     ensures computes { IsTaskFor (map string_bytes words.now) result }
-    ensures accepts { (command : PlainCommand) → SpellsWithoutOffence command_entries (map string_bytes words.now) command
+    ensures accepts { (command : PlainCommand)
+        → SpellsWithoutOffence command_entries (map string_bytes words.now) command
         → AcceptsTask command result }
-    ensures refuses { (offence : Offence) → HasFirstOffence command_entries (map string_bytes words.now) (Some offence)
+    ensures refuses { (offence : Offence)
+        → HasFirstOffence command_entries (map string_bytes words.now) (Some offence)
         → RefusesTask offence result }
-    ensures goes_wrong { (word byte : ℕ) → IsSyntaxPlace command_entries (map string_bytes words.now) word byte
+    ensures goes_wrong { (word byte : ℕ)
+        → IsSyntaxPlace command_entries (map string_bytes words.now) word byte
         → TaskGoesWrong word byte result }
 {
     match read_words(alloc, words) {

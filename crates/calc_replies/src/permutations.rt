@@ -3,8 +3,7 @@ ghost use Rattle.sym_model.specs.Command as commands;
 ghost use Rattle.calc_words.specs.WrittenLimits.{KeepsLimits};
 ghost use Rattle.calc_replies.specs.Computed.{IsReplyTo};
 
-use crate::form::Form;
-use crate::outcome::{Outcome, answered, as_block};
+use crate::outcome::{Outcome, as_block};
 use calc_base::{NoMemory, SumFault};
 use expansion_printer::Answer;
 use perm_codes::Perm;
@@ -17,7 +16,9 @@ pub(crate) fn schubert(alloc: Global, perm: &Perm) -> Result<Outcome, NoMemory>
     ensures { IsReplyTo (commands.schubert perm.now) result }
 {
     match schubert_terms(alloc, perm) {
-        Ok(terms) => Ok(as_block(Answer::Polynomial { terms })),
+        Ok(list) => Ok(as_block(Answer::Polynomial {
+            terms: Terms::from_list(list),
+        })),
         Err(SumFault::Large) => Ok(Outcome::Large),
         Err(SumFault::NoMemory) => Err(NoMemory),
     }
@@ -28,7 +29,9 @@ pub(crate) fn schubert_by(memo: &mut Memo, perm: &Perm) -> Result<Outcome, NoMem
     ensures { IsReplyTo (commands.schubert perm.now) result }
 {
     match memo.schubert_terms(perm) {
-        Ok(terms) => Ok(as_block(Answer::Polynomial { terms })),
+        Ok(list) => Ok(as_block(Answer::Polynomial {
+            terms: Terms::from_list(list),
+        })),
         Err(SumFault::Large) => Ok(Outcome::Large),
         Err(SumFault::NoMemory) => Err(NoMemory),
     }
@@ -67,8 +70,11 @@ pub(crate) fn stanley(alloc: Global, rows: u16, perm: &Perm) -> Result<Outcome, 
     requires { KeepsLimits (commands.stanley rows perm.now) }
     ensures { IsReplyTo (commands.stanley rows perm.now) result }
 {
-    answered(
-        stanley_expand::stanley(alloc, perm, rows).map(|terms| Answer::Product { terms }),
-        Form::Block,
-    )
+    match stanley_expand::stanley(alloc, perm, rows) {
+        Ok(list) => Ok(as_block(Answer::Product {
+            terms: Terms::from_list(list),
+        })),
+        Err(SumFault::Large) => Ok(Outcome::Large),
+        Err(SumFault::NoMemory) => Err(NoMemory),
+    }
 }

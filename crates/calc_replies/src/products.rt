@@ -13,7 +13,7 @@ use expansion_printer::Answer;
 use linear_combinations::Terms as List;
 use lr_product::mult_all;
 use partitions::{Factors, Partition};
-use sparse_polys::Terms;
+use sparse_polys::{Pair, Terms};
 use std::alloc::Global;
 
 /// A list with partitions as labels, to be printed.
@@ -21,6 +21,15 @@ pub(crate) fn as_product(list: List<Partition, Int>) -> Answer
     ensures { result ≡ Answer.Product (as_fractions list) }
 {
     Answer::Product {
+        terms: Terms::from_list(list),
+    }
+}
+
+/// A list with pairs of partitions as labels, to be printed.
+fn as_pairs(list: List<Pair, Int>) -> Answer
+    ensures { result ≡ Answer.Pairs (as_fractions list) }
+{
+    Answer::Pairs {
         terms: Terms::from_list(list),
     }
 }
@@ -79,7 +88,7 @@ pub(crate) fn coprod(alloc: Global, shape: &Partition) -> Result<Outcome, NoMemo
     ensures { IsReplyTo (commands.coprod shape.now) result }
 {
     match lr_coproduct::coprod(alloc, shape) {
-        Ok(terms) => Ok(as_block(Answer::Pairs { terms })),
+        Ok(list) => Ok(as_block(as_pairs(list))),
         Err(SumFault::Large) => Ok(Outcome::Large),
         Err(SumFault::NoMemory) => Err(NoMemory),
     }

@@ -49,7 +49,8 @@ pub(crate) fn put_told<K: Sink>(lines: &mut TableauAnswer, sink: &mut K) -> bool
 
 /// Puts the lines of two tableaux, with their names in front.
 fn put_pair<K: Sink>(p: &Tableau, q: &Tableau, sink: &mut K) -> bool
-    ensures { Puts true (K.seen sink.old) result (K.seen sink.new) (pair_text p.now.rows q.now.rows) }
+    ensures { Puts true (K.seen sink.old) result (K.seen sink.new)
+        (pair_text p.now.rows q.now.rows) }
 {
     let first = put_if(true, sink, b"P ");
     let upper = put_tableau(first, p, sink);

@@ -1,7 +1,6 @@
 -- Words that have been cut into the parts of a command: which command they are, and what they offend by.
-use Rattle.std.proofs.Common.{◌≡◌, ℕ, true, ◌+◌, List, [], ◌∷◌, ◌++◌, append_assoc, drop, length, refl, sym, ap, ◌∙◌, subst, arith, Ok}
+use Rattle.std.proofs.Common.{◌≡◌, ℕ, true, ◌+◌, List, [], ◌∷◌, ◌++◌, append_assoc, drop, length, refl, sym, ap, ◌∙◌, subst, arith, Ok, flat_map}
 use Rattle.std.proofs.lemmas.List.{append-nil, length-map}
-use Rattle.sym_model.specs.Sum.{each}
 use Rattle.sym_model.specs.Command.{Command}
 use Rattle.sym_model.specs.CommandOffence.{Offence, first_offence, part_offences, permutation_offences_within, factor_offences, offences_by, rows_rule}
 use Rattle.sym_model.specs.Form.{Written, May, Has, words_of}
@@ -26,13 +25,13 @@ abbrev pub said_of : (name : List ℕ) (ps : List Part) → Written (form_of ps)
 said_of name [] x = tt
 said_of name (p ∷ ps) x = (tt, x)
 
-may_be_cut : (ps : List Part) (i k : ℕ) (places : List ℕ) (words : Words) (h : IsCut ps i k places words) → May (form_of ps) (written_of ps i k places words h)
+pub may_be_cut : (ps : List Part) (i k : ℕ) (places : List ℕ) (words : Words) (h : IsCut ps i k places words) → May (form_of ps) (written_of ps i k places words h)
 may_be_cut [] i k places words h = tt
 may_be_cut (p ∷ []) i k places words h = h.1
 may_be_cut (p ∷ q ∷ ps) i k places words h =
     (h.1, may_be_cut (q ∷ ps) (i + 1) (k + length (words_of (form_of_part p) h.0)) places words h.3)
 
-may_be_said : (name : List ℕ) (ps : List Part) (x : Written (form_of ps)) → May (form_of ps) x → May (command_form name ps) (said_of name ps x)
+pub may_be_said : (name : List ℕ) (ps : List Part) (x : Written (form_of ps)) → May (form_of ps) x → May (command_form name ps) (said_of name ps x)
 may_be_said name [] x m = tt
 may_be_said name (p ∷ ps) x m = (tt, m)
 
@@ -49,11 +48,11 @@ cut_spelled (p ∷ q ∷ ps) i k places words h =
     (sym (dropped words (words_of (form_of_part p) h.0) h.2.3 k (length (words_of (form_of_part p) h.0)) h.2.4 refl)
     ∙ cut_spelled (q ∷ ps) (i + 1) (k + length (words_of (form_of_part p) h.0)) places words h.3)
 
-said_spelled : (name : List ℕ) (ps : List Part) (x : Written (form_of ps)) → name ∷ words_of (form_of ps) x ≡ words_of (command_form name ps) (said_of name ps x)
+pub said_spelled : (name : List ℕ) (ps : List Part) (x : Written (form_of ps)) → name ∷ words_of (form_of ps) x ≡ words_of (command_form name ps) (said_of name ps x)
 said_spelled name [] x = refl
 said_spelled name (p ∷ ps) x = refl
 
-abbrev has_of : (name : List ℕ) (ps : List Part) (places : List ℕ) (words : Words) (k : AreCut name ps places words) → Has (command_form name ps) words
+abbrev pub has_of : (name : List ℕ) (ps : List Part) (places : List ℕ) (words : Words) (k : AreCut name ps places words) → Has (command_form name ps) words
 has_of name ps places words k = record {
   written = said_of name ps (written_of ps 0 1 places words k.parts);
   allowed = may_be_said name ps (written_of ps 0 1 places words k.parts) (may_be_cut ps 0 1 places words k.parts);
@@ -94,7 +93,7 @@ mult_parts limit form x =
     ap (λ k. row_limit_offences 1 limit ++ factor_offences 0 k (factor_numbers x))
     (counts (length (words_of (optional rows_words) limit)) (length (words_of (optional form_words) form)))
 
-behind_list : (k : ℕ) (list : Words) → k + length list + 1 ≡ k + length (each (λ t. t ∷ []) list) + 1
+behind_list : (k : ℕ) (list : Words) → k + length list + 1 ≡ k + length (flat_map (λ t. t ∷ []) list) + 1
 behind_list k list = ap (λ ws. k + length ws + 1) (sym (singles list))
 
 pub skew_parts : (limit : Written (optional rows_words)) (form : Written (optional form_words)) (outer inner : Words)
@@ -109,7 +108,7 @@ skew_parts limit form outer inner =
 pub coef_parts : (outer left right : Words)
     → coef_offends (tt, (outer, (tt, (left, (tt, right))))) ≡ parts_offend (Shape ∷ Minus ∷ Shape ∷ Minus ∷ Shape ∷ []) 1 (outer, (tt, (left, (tt, right))))
 coef_parts outer left right =
-    let n = length (each (λ t. t ∷ []) outer) in
+    let n = length (flat_map (λ t. t ∷ []) outer) in
     let e : 2 + length outer ≡ 1 + length outer + 1 = omega arith in
     ap (λ k. part_offences 1 (numbers outer) ++ (part_offences k (numbers left) ++ part_offences (k + length left + 1) (numbers right)))
     (e ∙ behind_list 1 outer)

@@ -1,8 +1,7 @@
 -- Words of factors, cut at each `-`.
-use Rattle.std.proofs.Common.{◌≡◌, ℕ, true, false, List, [], ◌∷◌, ◌++◌, map, refl, sym, ap, ◌∙◌, subst, inl, inr}
+use Rattle.std.proofs.Common.{◌≡◌, ℕ, true, false, List, [], ◌∷◌, ◌++◌, map, refl, sym, ap, ◌∙◌, subst, inl, inr, flat_map}
 use Rattle.std.specs.Prelude.{codes}
 use Rattle.std.proofs.lemmas.Bool.{and_parts}
-use Rattle.sym_model.specs.Sum.{each}
 use Rattle.sym_model.specs.Partition.{without_last_zeros}
 use Rattle.sym_model.specs.Form.{Written, words_of, May, EachOf, is_digit, are_digits}
 use Rattle.sym_model.specs.WordForms.{next_words, factors_words, numbers, partition}
@@ -106,10 +105,10 @@ next_allowed : (others : List Words) → EachOf (EachOf IsNumber) others → Eac
 next_allowed [] e = tt
 next_allowed (list ∷ others) e = ((tt, may_be list e.0), next_allowed others e.1)
 
-next_spelled : (others : List Words) → each (words_of next_words) (as_next others) ≡ next_text others
+next_spelled : (others : List Words) → flat_map (words_of next_words) (as_next others) ≡ next_text others
 next_spelled [] = refl
 next_spelled (list ∷ others) =
-    ap (λ ws. codes "-" ∷ (ws ++ each (words_of next_words) (as_next others))) (singles list)
+    ap (λ ws. codes "-" ∷ (ws ++ flat_map (words_of next_words) (as_next others))) (singles list)
     ∙ ap (λ ws. codes "-" ∷ (list ++ ws)) (next_spelled others)
 
 pub all_partitions : (others : List Words) → map without_last_zeros (map numbers others) ≡ map partition others
@@ -131,6 +130,6 @@ are_written words first second others e f s o =
       spelled =
           e
           ∙ ap (λ ws. ws ++ codes "-" ∷ (second ++ next_text others)) (sym (singles first))
-          ∙ ap (λ ws. each (λ t. t ∷ []) first ++ codes "-" ∷ (ws ++ next_text others)) (sym (singles second))
-          ∙ ap (λ ws. each (λ t. t ∷ []) first ++ codes "-" ∷ (each (λ t. t ∷ []) second ++ ws)) (sym (next_spelled others));
+          ∙ ap (λ ws. flat_map (λ t. t ∷ []) first ++ codes "-" ∷ (ws ++ next_text others)) (sym (singles second))
+          ∙ ap (λ ws. flat_map (λ t. t ∷ []) first ++ codes "-" ∷ (flat_map (λ t. t ∷ []) second ++ ws)) (sym (next_spelled others));
     }

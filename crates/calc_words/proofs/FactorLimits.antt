@@ -5,7 +5,8 @@ use Rattle.sym_model.specs.CommandOffence.{first_offence, part_offences}
 use Rattle.sym_model.specs.WordForms.{numbers, partition}
 use Rattle.partitions.specs.FactorList.{cells_of, rows_of, AreTooBig}
 use Rattle.calc_words.specs.WrittenLimits.{IsWritten}
-use Rattle.calc_words.proofs.WrittenLists.{none_first, written}
+use Rattle.calc_words.proofs.WrittenLists.{written}
+use Rattle.word_laws.proofs.NoOffences.{none_first}
 use Rattle.calc_words.specs.ReadProducts.{ninth_offences}
 
 -- so many factors have at most so many cells and rows

@@ -6,6 +6,7 @@ use Rattle.sym_model.proofs.Sums.{Among_from_append, Among_from_map}
 use Rattle.sym_model.specs.ExpressionOffence.{OffenceKind, literal, range, shape, rank}
 use Rattle.sym_model.specs.CommandOffence.{Offence, is_no_later, earlier_of, first_offence, when, Rule, offences_after}
 use Rattle.word_laws.proofs.FirstOffences.{first-among, first_none}
+use Rattle.word_laws.proofs.JudgedRows.{of_kind}
 
 -- an offence before which none of the others comes
 pub first-head : (o : Offence) (os : List Offence) → ((p : Offence) → Among p os → is_no_later o p ≡ true) → first_offence (o ∷ os) ≡ Some o
@@ -27,10 +28,6 @@ no_later_kind k a b h =
     ap (λ x. nat_lt k k || (x && nat_le (rank a) (rank b))) (eq-eqb k k refl)
     ∙ ap (λ x. nat_lt k k || x) h
     ∙ or_true (nat_lt k k)
-
--- the offence of a kind at a word
-abbrev pub of_kind : ℕ → OffenceKind → Offence
-of_kind k kind = (k, 0, kind)
 
 -- each offence stands behind the word
 abbrev pub Behind : ℕ → List Offence → Type 0

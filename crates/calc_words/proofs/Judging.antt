@@ -13,7 +13,8 @@ use Rattle.calc_words.specs.Faults.{fault_of}
 use Rattle.calc_words.specs.NumberRuns.{narrow}
 use Rattle.calc_words.specs.PartRules.{part_kind, range_or_shape}
 use Rattle.calc_words.specs.Reading.{IsFirst}
-use Rattle.calc_words.proofs.FirstOffences.{of_kind, first_of_three, three_kinds_left, within}
+use Rattle.calc_words.proofs.FirstOffences.{first_of_three, three_kinds_left, within}
+use Rattle.word_laws.proofs.JudgedRows.{of_kind}
 
 -- what is kept of the first numbers of a list that begins at the word `at`: these have been heard, the last one first
 pub record Judging (at : ℕ) (ns : List ℕ) (i cells : ℕ) (last : Option ℕ) (parts : List ℕ) : Type 0 where

@@ -12,7 +12,8 @@ use Rattle.calc_words.specs.Faults.{fault_of}
 use Rattle.calc_words.specs.LetterRules.{letter_kind}
 use Rattle.calc_words.specs.NumberRuns.{narrow}
 use Rattle.calc_words.specs.Reading.{IsFirst}
-use Rattle.calc_words.proofs.FirstOffences.{of_kind, first_of_three, three_kinds_left, within}
+use Rattle.calc_words.proofs.FirstOffences.{first_of_three, three_kinds_left, within}
+use Rattle.word_laws.proofs.JudgedRows.{of_kind}
 use Rattle.calc_words.proofs.Judging.{narrow_none, narrow_some, kind_judged, no_kinds, none_kinds, or_both}
 
 -- what is kept of the first letters of a list that begins at the word `at`: these have been heard, the last one first

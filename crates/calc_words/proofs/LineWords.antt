@@ -1,11 +1,10 @@
 -- The words of a line, one byte after another.
-use Rattle.std.proofs.Common.{◌≡◌, ℕ, zero, suc, ◌+◌, ◌<◌, ◌≤◌, ◌==◌, nat_lt, Bool, true, false, ◌||◌, cond, List, [], ◌∷◌, ◌++◌, append_assoc, map, length, drop, get_or, drop-cons, refl, sym, ap, ◌∙◌, arith}
+use Rattle.std.proofs.Common.{◌≡◌, ℕ, zero, suc, ◌+◌, ◌<◌, ◌≤◌, ◌==◌, nat_lt, Bool, true, false, ◌||◌, cond, List, [], ◌∷◌, ◌++◌, append_assoc, map, length, drop, get_or, drop-cons, refl, sym, ap, ◌∙◌, arith, filter, flat_map}
 use Rattle.std.proofs.lemmas.Bool.Decides.{nat_tests}
 use Rattle.std.proofs.lemmas.List.{append-nil, length-map, map-append}
 use Rattle.std.proofs.Math.ListN.{drop_of_length-le}
 use Rattle.sym_model.specs.BatchLine.{is_some_text, words_of_line, without_return}
 use Rattle.sym_model.specs.NumberText.{split_at, before_first}
-use Rattle.sym_model.specs.Sum.{each, select}
 use Rattle.word_laws.specs.Words.{Words}
 use Rattle.calc_words.specs.LineBytes.{seen_byte, seen, word_with_bytes, is_space}
 
@@ -21,7 +20,7 @@ continued word [] = word ∷ []
 continued word (piece ∷ pieces) = (word ++ piece) ∷ pieces
 
 abbrev pieces_of : List ℕ → Words
-pieces_of line = each (split_at 9) (split_at 32 line)
+pieces_of line = flat_map (split_at 9) (split_at 32 line)
 
 split_some : (s : ℕ) (line : List ℕ) → (p : List ℕ) × (ps : Words) × (split_at s line ≡ p ∷ ps)
 split_some s [] = ([], [], refl)
@@ -37,23 +36,23 @@ some_pieces : (line : List ℕ) → (p : List ℕ) × (ps : Words) × (pieces_of
 some_pieces line =
     let r = split_some 32 line in
     let q = split_some 9 r.0 in
-    (q.0, q.1 ++ each (split_at 9) r.1, ap (each (split_at 9)) r.2 ∙ ap (λ ps. ps ++ each (split_at 9) r.1) q.2)
+    (q.0, q.1 ++ flat_map (split_at 9) r.1, ap (flat_map (split_at 9)) r.2 ∙ ap (λ ps. ps ++ flat_map (split_at 9) r.1) q.2)
 
 -- what a byte in front does to the pieces
 space_pieces : (b : ℕ) (line : List ℕ) → is_space b ≡ true → pieces_of (b ∷ line) ≡ [] ∷ pieces_of line
 space_pieces b line h = by (b == 32) (b == 9) refl refl h
   where
-    tab : (n : ℕ) → (n == 9) ≡ true → (ps : Words) (p : List ℕ) (qs : Words) → ps ≡ p ∷ qs → each (split_at 9) (before_first n ps) ≡ [] ∷ each (split_at 9) ps
+    tab : (n : ℕ) → (n == 9) ≡ true → (ps : Words) (p : List ℕ) (qs : Words) → ps ≡ p ∷ qs → flat_map (split_at 9) (before_first n ps) ≡ [] ∷ flat_map (split_at 9) ps
     tab n e ps p qs s =
-        ap (λ x. each (split_at 9) (before_first n x)) s
-        ∙ ap (λ t. cond t ([] ∷ split_at 9 p) (before_first n (split_at 9 p)) ++ each (split_at 9) qs) e
-        ∙ sym (ap (λ x. [] ∷ each (split_at 9) x) s)
+        ap (λ x. flat_map (split_at 9) (before_first n x)) s
+        ∙ ap (λ t. cond t ([] ∷ split_at 9 p) (before_first n (split_at 9 p)) ++ flat_map (split_at 9) qs) e
+        ∙ sym (ap (λ x. [] ∷ flat_map (split_at 9) x) s)
 
     by : (x y : Bool) → (b == 32) ≡ x → (b == 9) ≡ y → (x || y) ≡ true → pieces_of (b ∷ line) ≡ [] ∷ pieces_of line
-    by true y e f g = ap (λ t. each (split_at 9) (cond t ([] ∷ split_at 32 line) (before_first b (split_at 32 line)))) e
+    by true y e f g = ap (λ t. flat_map (split_at 9) (cond t ([] ∷ split_at 32 line) (before_first b (split_at 32 line)))) e
     by false true e f g =
         let r = split_some 32 line in
-        ap (λ t. each (split_at 9) (cond t ([] ∷ split_at 32 line) (before_first b (split_at 32 line)))) e ∙ tab b f (split_at 32 line) r.0 r.1 r.2
+        ap (λ t. flat_map (split_at 9) (cond t ([] ∷ split_at 32 line) (before_first b (split_at 32 line)))) e ∙ tab b f (split_at 32 line) r.0 r.1 r.2
     by false false e f g = cc
 
 other_pieces : (b : ℕ) (line : List ℕ) → is_space b ≡ false → pieces_of (b ∷ line) ≡ before_first b (pieces_of line)
@@ -62,20 +61,20 @@ other_pieces b line h = by (b == 32) (b == 9) refl refl h
     front : (ps : Words) (p : List ℕ) (qs more : Words) → ps ≡ p ∷ qs → before_first b ps ++ more ≡ before_first b (ps ++ more)
     front ps p qs more s = ap (λ x. before_first b x ++ more) s ∙ sym (ap (λ x. before_first b (x ++ more)) s)
 
-    inner : (ps : Words) (p : List ℕ) (qs : Words) → (b == 9) ≡ false → ps ≡ p ∷ qs → each (split_at 9) (before_first b ps) ≡ before_first b (each (split_at 9) ps)
+    inner : (ps : Words) (p : List ℕ) (qs : Words) → (b == 9) ≡ false → ps ≡ p ∷ qs → flat_map (split_at 9) (before_first b ps) ≡ before_first b (flat_map (split_at 9) ps)
     inner ps p qs f s =
         let r = split_some 9 p in
-        ap (λ x. each (split_at 9) (before_first b x)) s
-        ∙ ap (λ t. cond t ([] ∷ split_at 9 p) (before_first b (split_at 9 p)) ++ each (split_at 9) qs) f
-        ∙ front (split_at 9 p) r.0 r.1 (each (split_at 9) qs) r.2
-        ∙ sym (ap (λ x. before_first b (each (split_at 9) x)) s)
+        ap (λ x. flat_map (split_at 9) (before_first b x)) s
+        ∙ ap (λ t. cond t ([] ∷ split_at 9 p) (before_first b (split_at 9 p)) ++ flat_map (split_at 9) qs) f
+        ∙ front (split_at 9 p) r.0 r.1 (flat_map (split_at 9) qs) r.2
+        ∙ sym (ap (λ x. before_first b (flat_map (split_at 9) x)) s)
 
     by : (x y : Bool) → (b == 32) ≡ x → (b == 9) ≡ y → (x || y) ≡ false → pieces_of (b ∷ line) ≡ before_first b (pieces_of line)
     by true y e f g = cc
     by false true e f g = cc
     by false false e f g =
         let r = split_some 32 line in
-        ap (λ t. each (split_at 9) (cond t ([] ∷ split_at 32 line) (before_first b (split_at 32 line)))) e ∙ inner (split_at 32 line) r.0 r.1 f r.2
+        ap (λ t. flat_map (split_at 9) (cond t ([] ∷ split_at 32 line) (before_first b (split_at 32 line)))) e ∙ inner (split_at 32 line) r.0 r.1 f r.2
 
 continued_front : (w : List ℕ) (b : ℕ) (ps : Words) (p : List ℕ) (qs : Words) → ps ≡ p ∷ qs → continued w (before_first b ps) ≡ continued (w ++ b ∷ []) ps
 continued_front w b ps p qs s =
@@ -86,38 +85,38 @@ continued_front w b ps p qs s =
 continued_nothing : (ps : Words) (p : List ℕ) (qs : Words) → ps ≡ p ∷ qs → ps ≡ continued [] ps
 continued_nothing ps p qs s = s ∙ sym (ap (continued []) s)
 
-select_front : (w : List ℕ) (ws : Words) → select is_some_text (w ∷ ws) ≡ word_with_bytes w ++ select is_some_text ws
+select_front : (w : List ℕ) (ws : Words) → filter is_some_text (w ∷ ws) ≡ word_with_bytes w ++ filter is_some_text ws
 select_front w ws = by (is_some_text w)
   where
-    by : (t : Bool) → cond t (w ∷ select is_some_text ws) (select is_some_text ws) ≡ cond t (w ∷ []) [] ++ select is_some_text ws
+    by : (t : Bool) → cond t (w ∷ filter is_some_text ws) (filter is_some_text ws) ≡ cond t (w ∷ []) [] ++ filter is_some_text ws
     by true = refl
     by false = refl
 
-words_continued : (w line : List ℕ) → select is_some_text (continued w (pieces_of line)) ≡ words_from w line
-words_continued w [] = ap (λ x. select is_some_text (x ∷ [])) (append-nil w) ∙ select_front w [] ∙ append-nil (word_with_bytes w)
+words_continued : (w line : List ℕ) → filter is_some_text (continued w (pieces_of line)) ≡ words_from w line
+words_continued w [] = ap (λ x. filter is_some_text (x ∷ [])) (append-nil w) ∙ select_front w [] ∙ append-nil (word_with_bytes w)
 words_continued w (b ∷ line) = by (is_space b) refl (words_continued [] line) (words_continued (w ++ b ∷ []) line)
   where
-    by : (t : Bool) → is_space b ≡ t → select is_some_text (continued [] (pieces_of line)) ≡ words_from [] line
-        → select is_some_text (continued (w ++ b ∷ []) (pieces_of line)) ≡ words_from (w ++ b ∷ []) line
-        → select is_some_text (continued w (pieces_of (b ∷ line))) ≡ words_from w (b ∷ line)
+    by : (t : Bool) → is_space b ≡ t → filter is_some_text (continued [] (pieces_of line)) ≡ words_from [] line
+        → filter is_some_text (continued (w ++ b ∷ []) (pieces_of line)) ≡ words_from (w ++ b ∷ []) line
+        → filter is_some_text (continued w (pieces_of (b ∷ line))) ≡ words_from w (b ∷ line)
     by true e r q =
         let s = some_pieces line in
-        ap (λ ps. select is_some_text (continued w ps)) (space_pieces b line e)
-        ∙ ap (λ x. select is_some_text (x ∷ pieces_of line)) (append-nil w)
+        ap (λ ps. filter is_some_text (continued w ps)) (space_pieces b line e)
+        ∙ ap (λ x. filter is_some_text (x ∷ pieces_of line)) (append-nil w)
         ∙ select_front w (pieces_of line)
-        ∙ ap (λ ws. word_with_bytes w ++ ws) (ap (select is_some_text) (continued_nothing (pieces_of line) s.0 s.1 s.2) ∙ r)
+        ∙ ap (λ ws. word_with_bytes w ++ ws) (ap (filter is_some_text) (continued_nothing (pieces_of line) s.0 s.1 s.2) ∙ r)
         ∙ sym (ap (λ t. cond t (word_with_bytes w ++ words_from [] line) (words_from (w ++ b ∷ []) line)) e)
     by false e r q =
         let s = some_pieces line in
-        ap (λ ps. select is_some_text (continued w ps)) (other_pieces b line e)
-        ∙ ap (select is_some_text) (continued_front w b (pieces_of line) s.0 s.1 s.2)
+        ap (λ ps. filter is_some_text (continued w ps)) (other_pieces b line e)
+        ∙ ap (filter is_some_text) (continued_front w b (pieces_of line) s.0 s.1 s.2)
         ∙ q
         ∙ sym (ap (λ t. cond t (word_with_bytes w ++ words_from [] line) (words_from (w ++ b ∷ []) line)) e)
 
 words_read : (line : List ℕ) → words_of_line line ≡ words_from [] line
 words_read line =
     let s = some_pieces line in
-    ap (select is_some_text) (continued_nothing (pieces_of line) s.0 s.1 s.2) ∙ words_continued [] line
+    ap (filter is_some_text) (continued_nothing (pieces_of line) s.0 s.1 s.2) ∙ words_continued [] line
 
 -- ---- the bytes that are kept
 

@@ -1,8 +1,8 @@
 -- The first offence of parts: that of the first part that has one.
-use Rattle.std.proofs.Common.{◌≡◌, ℕ, true, ◌+◌, ◌<◌, ◌≤◌, List, [], ◌∷◌, map, length, refl, sym, ap, ◌∙◌, arith, None, ◌⊎◌, inl, inr}
+use Rattle.std.proofs.Common.{◌≡◌, ℕ, true, ◌+◌, ◌<◌, ◌≤◌, List, [], ◌∷◌, map, length, refl, sym, ap, ◌∙◌, arith, None, ◌⊎◌, inl, inr, flat_map}
 use Rattle.std.proofs.lemmas.Bool.{and_parts}
 use Rattle.std.proofs.lemmas.List.{length-map}
-use Rattle.sym_model.specs.Sum.{each, Among}
+use Rattle.sym_model.specs.Sum.{Among}
 use Rattle.sym_model.proofs.Sums.{Among_from_append}
 use Rattle.sym_model.specs.PrintedBlock.{decimal_value}
 use Rattle.sym_model.specs.CommandOffence.{Offence, Rule, first_offence, offences_by, part_rule, letter_rule, permutation_rule_within, most_permuted, most_doubled, permutation_offences_within, rows_rule, lines_rule, seed_rule}
@@ -13,19 +13,16 @@ use Rattle.calc_base.specs.declared.words.WordsFault.{WordsFault}
 use Rattle.calc_words.specs.Reading.{IsFirst}
 use Rattle.calc_words.specs.Parts.{form_of_part, form_of, part_offends, parts_offend, IsFirstOf, AreFine, is_bounded, are_bounded}
 use Rattle.calc_words.specs.declared.word_parts.Part.{Part}
-use Rattle.calc_words.specs.declared.word_parts.Part.TheVariants.{Minus, Slash, MaybeForm, Rows, MaybeRows, Bound, Lines, Seed, Shape, Word, Letters, Doubled, Factors, Tableau, MaybeFrom}
+use Rattle.calc_words.specs.declared.word_parts.Part.TheVariants.{Rows, MaybeRows, Bound, Lines, Seed, Shape, Word, Letters, Doubled, Factors}
 use Rattle.calc_words.proofs.FirstOffences.{within, none-append}
 use Rattle.calc_words.proofs.FactorJudging.{factors_from}
 use Rattle.calc_words.proofs.Commands.{singles, judged_err, judged_later}
 
-number_count : (ns : Words) → length (numbers ns) ≡ length (each (λ t. t ∷ []) ns)
+number_count : (ns : Words) → length (numbers ns) ≡ length (flat_map (λ t. t ∷ []) ns)
 number_count ns = length-map ns decimal_value ∙ ap length (sym (singles ns))
 
 -- the offences of a part stand at its words
 part_from : (p : Part) (k : ℕ) (x : Written (form_of_part p)) (o : Offence) → Among o (part_offends p k x) → k ≤ o.0
-part_from Minus k x o m = absurd m
-part_from Slash k x o m = absurd m
-part_from MaybeForm k x o m = absurd m
 part_from Rows k x o m = let w = (within rows_rule [] (k + 1) (decimal_value x.1 ∷ []) o m).0 in omega (arith, w)
 part_from MaybeRows k (inl x) o m = absurd m
 part_from MaybeRows k (inr x) o m = let w = (within rows_rule [] (k + 1) (decimal_value x.1 ∷ []) o m).0 in omega (arith, w)
@@ -38,10 +35,9 @@ part_from Letters k x o m = (within (permutation_rule_within most_permuted (leng
 part_from Doubled k x o m = (within (permutation_rule_within most_doubled (length (letters x))) [] k (letters x) o m).0
 part_from Factors k (first, (second, others)) o m =
     factors_from k (numbers first) (numbers second.1 ∷ map (λ (next : Written next_words). numbers next.1) others) o m
-part_from Tableau k x o m = absurd m
-part_from MaybeFrom k x o m = absurd m
+part_from p k x o m = absurd m
 
-list_below : (rule : Rule) (k : ℕ) (x : Words) (o : Offence) → Among o (offences_by rule k (numbers x)) → o.0 < k + length (each (λ t. t ∷ []) x)
+list_below : (rule : Rule) (k : ℕ) (x : Words) (o : Offence) → Among o (offences_by rule k (numbers x)) → o.0 < k + length (flat_map (λ t. t ∷ []) x)
 list_below rule k x o m = let w = (within rule [] k (numbers x) o m).1 in let n = number_count x in omega (arith, w, n)
 
 letters_below : (most : ℕ) (k : ℕ) (x : Written permutation_words) (o : Offence) → Among o (permutation_offences_within most k (letters x))
@@ -53,9 +49,6 @@ letters_below most k (t, ts) o m =
 
 part_below : (p : Part) (k : ℕ) (x : Written (form_of_part p)) (o : Offence) → is_bounded p ≡ true → Among o (part_offends p k x)
     → o.0 < k + length (words_of (form_of_part p) x)
-part_below Minus k x o b m = absurd m
-part_below Slash k x o b m = absurd m
-part_below MaybeForm k x o b m = absurd m
 part_below Rows k x o b m = let w = (within rows_rule [] (k + 1) (decimal_value x.1 ∷ []) o m).1 in omega (arith, w)
 part_below MaybeRows k (inl x) o b m = absurd m
 part_below MaybeRows k (inr x) o b m = let w = (within rows_rule [] (k + 1) (decimal_value x.1 ∷ []) o m).1 in omega (arith, w)
@@ -67,8 +60,7 @@ part_below Word k x o b m = list_below letter_rule k x o m
 part_below Letters k x o b m = letters_below most_permuted k x o m
 part_below Doubled k x o b m = letters_below most_doubled k x o m
 part_below Factors k x o b m = cc
-part_below Tableau k x o b m = absurd m
-part_below MaybeFrom k x o b m = absurd m
+part_below p k x o b m = absurd m
 
 parts_from : (ps : List Part) (k : ℕ) (x : Written (form_of ps)) (o : Offence) → Among o (parts_offend ps k x) → k ≤ o.0
 parts_from [] k x o m = absurd m

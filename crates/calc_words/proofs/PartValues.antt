@@ -1,8 +1,7 @@
 -- What the pieces of a command name, by what is written of them.
-use Rattle.std.proofs.Common.{◌≡◌, ℕ, zero, suc, ◌<◌, ◌==◌, Bool, false, not, List, [], ◌∷◌, ◌++◌, map, length, refl, sym, ap, ◌∙◌, subst, arith, Result, inl, inr}
+use Rattle.std.proofs.Common.{◌≡◌, ℕ, zero, suc, ◌<◌, ◌==◌, Bool, false, not, List, [], ◌∷◌, ◌++◌, map, length, refl, sym, ap, ◌∙◌, subst, arith, Result, inl, inr, flat_map}
 use Rattle.std.specs.Prelude.{codes}
 use Rattle.std.proofs.lemmas.Bool.Decides.{nat_tests}
-use Rattle.sym_model.specs.Sum.{each}
 use Rattle.sym_model.specs.Partition.{without_last_zeros}
 use Rattle.sym_model.specs.Permutation.{kept}
 use Rattle.sym_model.specs.CommandOffence.{first_offence, offences_by, letter_rule, part_offences, permutation_offences_within, factor_offences}
@@ -45,10 +44,10 @@ abbrev lists_of : List (Written next_words) → List Words
 lists_of [] = []
 lists_of (x ∷ xs) = x.1 ∷ lists_of xs
 
-next_spelled : (xs : List (Written next_words)) → each (words_of next_words) xs ≡ next_text (lists_of xs)
+next_spelled : (xs : List (Written next_words)) → flat_map (words_of next_words) xs ≡ next_text (lists_of xs)
 next_spelled [] = refl
 next_spelled (x ∷ xs) =
-    ap (λ ws. codes "-" ∷ (ws ++ each (words_of next_words) xs)) (singles x.1) ∙ ap (λ ws. codes "-" ∷ (x.1 ++ ws)) (next_spelled xs)
+    ap (λ ws. codes "-" ∷ (ws ++ flat_map (words_of next_words) xs)) (singles x.1) ∙ ap (λ ws. codes "-" ∷ (x.1 ++ ws)) (next_spelled xs)
 
 next_numbers : (xs : List (Written next_words)) → map (λ (next : Written next_words). numbers next.1) xs ≡ map numbers (lists_of xs)
 next_numbers [] = refl
@@ -74,8 +73,8 @@ factors_judged at k ws first rest later (one, (second, others)) r m a e f n b l 
     let lists = lists_of others in
     let spelled : ws ≡ one ++ next_text (two ∷ lists) =
     e
-    ∙ ap (λ us. us ++ (codes "-" ∷ (each (λ t. t ∷ []) two ++ each (words_of next_words) others))) (singles one)
-    ∙ ap (λ us. one ++ (codes "-" ∷ (us ++ each (words_of next_words) others))) (singles two)
+    ∙ ap (λ us. us ++ (codes "-" ∷ (flat_map (λ t. t ∷ []) two ++ flat_map (words_of next_words) others))) (singles one)
+    ∙ ap (λ us. one ++ (codes "-" ∷ (us ++ flat_map (words_of next_words) others))) (singles two)
     ∙ ap (λ us. one ++ (codes "-" ∷ (two ++ us))) (next_spelled others) in
     let runs = one_run BeginsWithDigit first one rest (next_text (two ∷ lists)) n (all_begin one (are_numbers one m.0)) b (next_begins (two ∷ lists)) (sym f ∙ spelled) in
     let judged = h two lists (l (two ++ next_text lists) runs.1) (are_numbers two m.1.0.1) (next_are_numbers others m.1.1) in

@@ -1,9 +1,8 @@
 -- The words of commands are written in ASCII without `?`.
-use Rattle.std.proofs.Common.{◌≡◌, ℕ, ◌≤◌, ◌==◌, nat_lt, Bool, true, false, not, ◌&&◌, List, [], ◌∷◌, ◌++◌, refl, ap, ◌∙◌, arith, inl, inr}
+use Rattle.std.proofs.Common.{◌≡◌, ℕ, ◌≤◌, ◌==◌, nat_lt, Bool, true, false, not, ◌&&◌, List, [], ◌∷◌, ◌++◌, refl, ap, ◌∙◌, arith, inl, inr, flat_map}
 use Rattle.std.specs.Prelude.{codes}
 use Rattle.std.specs.List.{join_with_byte}
 use Rattle.std.proofs.lemmas.Bool.Decides.{nat_tests}
-use Rattle.sym_model.specs.Sum.{each}
 use Rattle.sym_model.specs.Expansion.{Basis, monomials, elementaries, completes, power_sums, schurs}
 use Rattle.sym_model.specs.Form.{Class, exact, number, target, formula, Form, empty, word, sequence, either, many, Written, words_of, May, Has}
 use Rattle.sym_model.specs.NumberWord.{AreDigits, AreNumberWords}
@@ -138,7 +137,7 @@ words_plain (sequence f g) x m h =
 words_plain (either f g) (inl x) m h = words_plain f x m (parts (form_plain f) (form_plain g) h).0
 words_plain (either f g) (inr x) m h = words_plain g x m (parts (form_plain f) (form_plain g) h).1
 words_plain (many f) [] m h = refl
-words_plain (many f) (x ∷ xs) m h = all_append (words_of f x) (each (words_of f) xs) (words_plain f x m.0 h) (words_plain (many f) xs m.1 h)
+words_plain (many f) (x ∷ xs) m h = all_append (words_of f x) (flat_map (words_of f) xs) (words_plain f x m.0 h) (words_plain (many f) xs m.1 h)
 
 has_plain : (f : Form) (words : Words) → Has f words → form_plain f ≡ true → all_plain words ≡ true
 has_plain f words h p = ap all_plain h.spelled ∙ words_plain f h.written h.allowed p

@@ -1,8 +1,6 @@
 -- Words are read in one way: one command, one first offence, one place where they go wrong.
 use Rattle.std.proofs.Common.{◌≡◌, ℕ, ◌<◌, ◌==◌, true, false, List, [], ◌∷◌, map, length, arith, refl, sym, ap, ◌∙◌, Option, Some, None, Result, Ok, Err, inl, inr}
 use Rattle.std.proofs.lemmas.Bool.{eqb-true, eqb-false}
-use Rattle.sym_model.specs.Polynomial.{same}
-use Rattle.sym_model.proofs.Exponents.{same_apart}
 use Rattle.sym_model.specs.Command.{Command}
 use Rattle.sym_model.specs.CommandOffence.{Offence}
 use Rattle.sym_model.specs.Entry.{Entry, SpellsCommand, HasFirstOffence, SpellsWithoutOffence}
@@ -80,10 +78,6 @@ goes_wrong entries u words (Err (Literal at)) h w b s = let c = first_spells ent
 goes_wrong entries u words (Err (Range at)) h w b s = let c = first_spells entries words _ h in absurd (s.no_command c.0 c.1)
 goes_wrong entries u words (Err (Shape at)) h w b s = let c = first_spells entries words _ h in absurd (s.no_command c.0 c.1)
 goes_wrong entries u words (Err NoMemory) h w b s = inr refl
-
--- words that are not the same, and whether words are left
-pub not_same : (u v : List ℕ) → (v ≡ u → ⊥) → same u v ≡ false
-not_same u v n = same_apart u v (λ e. n (sym e))
 
 pub some_more : {A : Type 0} (f : A → List ℕ) (xs : List A) → (length xs == 0) ≡ false → 0 < length (map f xs)
 some_more f [] h = absurd (let e = eqb-false 0 0 h in omega (arith, e))

@@ -13,9 +13,11 @@ use Rattle.calc_words.specs.Faults.{fault_of}
 use Rattle.calc_words.specs.NumberRuns.{narrow}
 use Rattle.calc_words.specs.Reading.{IsFirst}
 use Rattle.calc_words.specs.WrittenLimits.{IsWrittenWord}
-use Rattle.calc_words.proofs.FirstOffences.{of_kind, first-kind, first_of_three, lowest, Behind, within}
+use Rattle.calc_words.proofs.FirstOffences.{first-kind, first_of_three, lowest, Behind, within}
+use Rattle.word_laws.proofs.JudgedRows.{of_kind}
 use Rattle.calc_words.proofs.Judging.{narrow_none, narrow_some, or_both}
-use Rattle.calc_words.proofs.WrittenLists.{none_append, none_next, not_when, inside}
+use Rattle.calc_words.proofs.WrittenLists.{inside}
+use Rattle.word_laws.proofs.NoOffences.{none_append, none_next, not_when}
 
 two_kinds : (k : ℕ) (x y : Bool) (rest : List Offence) → Behind k rest
     → first_offence (map (of_kind k) (when x literal ++ when y range) ++ rest) ≡ first_of_three k x y false (first_offence rest)

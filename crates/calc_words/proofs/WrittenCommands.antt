@@ -22,8 +22,9 @@ use Rattle.word_laws.proofs.FirstOffences.{first_none}
 use Rattle.calc_words.specs.WrittenLimits.{IsWritten, KeepsLimits, IsInList, IsRowLimit, AreWrittenFactors}
 use Rattle.calc_words.proofs.WrittenLetters.{letters_within, written_letters}
 use Rattle.calc_words.proofs.WordJudging.{written_word}
-use Rattle.calc_words.proofs.WrittenExpressions.{not_past, none_in_word, within_limit, within_degree, no_signs}
-use Rattle.calc_words.proofs.WrittenLists.{none_append, none_first, none_judged, written, two_written, row_number, lines_number, seed_number}
+use Rattle.calc_words.proofs.WrittenExpressions.{no_signs}
+use Rattle.calc_words.proofs.WrittenLists.{written, two_written, row_number, lines_number, seed_number}
+use Rattle.word_laws.proofs.NoOffences.{none_append, none_first, none_judged, not_past, none_in_word, within_limit, within_degree}
 
 -- what the words of the entry say where they have no offence
 abbrev pub Keeps : Entry → Type 0
@@ -37,7 +38,7 @@ limit_kept k (inl x) h = tt
 limit_kept k (inr x) h = row_number (k + 1) (decimal_value x.1) h
 
 -- the offence in front of the ninth factor
-not_ninth : (ninth : Bool) (o : Offence) → cond ninth (o ∷ []) [] ≡ [] → ninth ≡ false
+pub not_ninth : (ninth : Bool) (o : Offence) → cond ninth (o ∷ []) [] ≡ [] → ninth ≡ false
 not_ninth true o h = cc
 not_ninth false o h = refl
 

@@ -10,7 +10,8 @@ use Rattle.perm_codes.specs.Limits.{IsShortPermutation}
 use Rattle.perm_codes.proofs.WithinLimits.{kept_limits}
 use Rattle.word_laws.proofs.FirstOffences.{first_none}
 use Rattle.calc_words.specs.WrittenLimits.{IsPermutationWithin, IsWrittenPermutation}
-use Rattle.calc_words.proofs.WrittenLists.{none_append, none_next, not_when, inside}
+use Rattle.calc_words.proofs.WrittenLists.{inside}
+use Rattle.word_laws.proofs.NoOffences.{none_append, none_next, not_when}
 
 -- letters that stand behind others, none of which they are
 record AreLetters (most count : ℕ) (before ns : List ℕ) : Type 0 where

@@ -1,10 +1,10 @@
 -- What lists of numbers without an offence are: partitions and numbers within their limits.
-use Rattle.std.proofs.Common.{◌≡◌, ℕ, ◌+◌, ◌≤◌, ◌==◌, nat_le, nat_lt, Bool, true, false, ◌&&◌, ◌||◌, List, [], ◌∷◌, ◌++◌, map, length, refl, sym, ap, ◌∙◌, arith, Option, Some, None}
+use Rattle.std.proofs.Common.{◌≡◌, ℕ, ◌+◌, ◌≤◌, ◌==◌, nat_le, nat_lt, false, ◌&&◌, ◌||◌, List, [], ◌∷◌, ◌++◌, length, sym, ap, ◌∙◌, arith, None}
 use Rattle.std.proofs.lemmas.Bool.{le-leb, ltb-false, eqb-false}
-use Rattle.sym_model.specs.Partition.{Falls, size, without_last_zeros}
+use Rattle.sym_model.specs.Partition.{size, without_last_zeros, FallsFrom}
 use Rattle.sym_model.proofs.SortedParts.{IsPartition-without_last_zeros, size-without_last_zeros}
-use Rattle.sym_model.specs.ExpressionOffence.{OffenceKind, is_wide, rises, literal, range, shape}
-use Rattle.sym_model.specs.CommandOffence.{Offence, Rule, first_offence, part_offences, part_rule, rows_rule, lines_rule, seed_rule, offences_by, offences_after, left_of, judged_against, when, is_outside, most_parts, most_cells, most_rows, most_lines, greatest_seed}
+use Rattle.sym_model.specs.ExpressionOffence.{is_wide, rises, literal, range, shape}
+use Rattle.sym_model.specs.CommandOffence.{first_offence, part_offences, part_rule, rows_rule, lines_rule, seed_rule, offences_by, offences_after, left_of, when, is_outside, most_parts, most_cells, most_rows, most_lines, greatest_seed}
 use Rattle.sym_model.specs.Grammar.{two_partitions}
 use Rattle.sym_model.specs.WordForms.{numbers, partition}
 use Rattle.sym_model.proofs.Parts.{length-without_last_zeros}
@@ -12,55 +12,16 @@ use Rattle.calc_words.proofs.Judging.{or_both}
 use Rattle.word_laws.specs.Words.{Words}
 use Rattle.partitions.specs.Limits.{IsWithinLimits}
 use Rattle.word_laws.proofs.FirstOffences.{first_none}
+use Rattle.word_laws.proofs.NoOffences.{none_append, none_first, none_next, not_when}
 use Rattle.calc_words.specs.WrittenLimits.{IsWritten, IsRowNumber}
-
--- ---- lists of offences that are empty
-
-pub none_append : {A : Type 0} (xs ys : List A) → xs ++ ys ≡ [] → (xs ≡ []) × (ys ≡ [])
-none_append [] ys h = (refl, h)
-none_append (x ∷ xs) ys h = cc
-
-pub none_map : {A B : Type 0} (f : A → B) (xs : List A) → map f xs ≡ [] → xs ≡ []
-none_map f [] h = refl
-none_map f (x ∷ xs) h = cc
-
-pub none_judged : (xs ys : List Offence) → first_offence xs ≡ None → judged_against xs ys ≡ ys
-none_judged xs ys h = ap (λ zs. judged_against zs ys) (first_none xs h)
-
-pub not_when : (test : Bool) (kind : OffenceKind) → when test kind ≡ [] → test ≡ false
-not_when true kind h = cc
-not_when false kind h = refl
-
-pub none_first : (xs ys : List Offence) → first_offence (xs ++ ys) ≡ None → (first_offence xs ≡ None) × (first_offence ys ≡ None)
-none_first xs ys h =
-    let p = none_append xs ys (first_none (xs ++ ys) h) in (ap first_offence p.0, ap first_offence p.1)
-
--- the first of a list of numbers offends by nothing, and the others neither
-pub none_next : (rule : Rule) (before : List ℕ) (k a : ℕ) (ns : List ℕ) → offences_after rule before k (a ∷ ns) ≡ []
-    → (rule before a ≡ []) × (offences_after rule (a ∷ before) (k + 1) ns ≡ [])
-none_next rule before k a ns h =
-    let p = none_append (map (λ kind. (k, 0, kind)) (rule before a)) (offences_after rule (a ∷ before) (k + 1) ns) h in
-    (none_map (λ kind. (k, 0, kind)) (rule before a) p.0, p.1)
+use Rattle.expression_reading.proofs.BuildRuns.{falls-next, falls-none}
 
 -- ---- partitions
-
--- the numbers fall, also from the one before them
-abbrev FallsFrom : Option ℕ → List ℕ → Type 0
-FallsFrom None ns = Falls ns
-FallsFrom (Some b) ns = Falls (b ∷ ns)
 
 record Fits (before ns : List ℕ) : Type 0 where
   falls : FallsFrom (left_of before) ns
   few : length before + length ns ≤ 64
   small : size before + size ns ≤ 512
-
-falls_nothing : (last : Option ℕ) → FallsFrom last []
-falls_nothing None = tt
-falls_nothing (Some b) = tt
-
-falls_more : (last : Option ℕ) (a : ℕ) (ns : List ℕ) → rises last a ≡ false → Falls (a ∷ ns) → FallsFrom last (a ∷ ns)
-falls_more None a ns h f = f
-falls_more (Some b) a ns h f = (ltb-false b a h, f)
 
 not_past : (cells a : ℕ) → cells ≤ 512 → (nat_le cells most_cells && nat_lt most_cells (cells + a)) ≡ false → cells + a ≤ 512
 not_past cells a s h =
@@ -68,7 +29,7 @@ not_past cells a s h =
     ltb-false most_cells (cells + a) e
 
 fits : (before : List ℕ) (k : ℕ) (ns : List ℕ) → length before ≤ 64 → size before ≤ 512 → offences_after part_rule before k ns ≡ [] → Fits before ns
-fits before k [] f s h = record { falls = falls_nothing (left_of before); few = omega arith; small = omega arith }
+fits before k [] f s h = record { falls = falls-none (left_of before); few = omega arith; small = omega arith }
 fits before k (a ∷ ns) f s h =
     let n = none_next part_rule before k a ns h in
     let y = (length before == most_parts) || (nat_le (size before) most_cells && nat_lt most_cells (size before + a)) in
@@ -79,7 +40,7 @@ fits before k (a ∷ ns) f s h =
     let more = eqb-false (length before) 64 o.0 in
     let r = fits (a ∷ before) (k + 1) ns (omega (arith, more, f)) (omega (arith, low)) n.1 in
     record {
-      falls = falls_more (left_of before) a ns (not_when (rises (left_of before) a) shape p.1) r.falls;
+      falls = falls-next (left_of before) a ns (not_when (rises (left_of before) a) shape p.1) r.falls;
       few = let x = r.few in omega (arith, x);
       small = let x = r.small in omega (arith, x);
     }

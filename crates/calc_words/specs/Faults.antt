@@ -3,7 +3,8 @@ use Rattle.std.specs.Prelude.{ℕ}
 use Rattle.calc_base.specs.declared.words.WordsFault.{WordsFault}
 use Rattle.calc_base.specs.declared.words.WordsFault.TheVariants.{Literal, Range, Shape}
 use Rattle.calc_words.specs.declared.offence.Kind.{Kind}
-use Rattle.calc_words.specs.declared.offence.Kind.TheVariants.{Literal as Wide, Range as Past, Shape as Misshapen}
+use Rattle.calc_words.specs.declared.offence.Kind.TheVariants.{Literal as Wide, Range as Past}
+use Rattle.calc_words.specs.declared.offence.Kind.TheVariants.{Shape as Misshapen}
 
 -- the refusal of the number that is this word
 abbrev pub fault_of : ℕ → Kind → WordsFault

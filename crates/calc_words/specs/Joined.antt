@@ -6,8 +6,10 @@ use Rattle.sym_model.specs.Entry.{Entry}
 
 -- words of the command begin with its name
 pub record Named (e : Entry) : Type 0 where
-  pub spells : (words : List (List ℕ)) → Has e.form words → (rest : List (List ℕ)) × (words ≡ e.name ∷ rest)
-  pub awaits : (words : List (List ℕ)) → Awaits e.form words → (rest : List (List ℕ)) × (words ≡ e.name ∷ rest)
+  pub spells : (words : List (List ℕ)) → Has e.form words
+      → (rest : List (List ℕ)) × (words ≡ e.name ∷ rest)
+  pub awaits : (words : List (List ℕ)) → Awaits e.form words
+      → (rest : List (List ℕ)) × (words ≡ e.name ∷ rest)
 
 -- the command is one of these, and no other of them has its name
 pub record Joined (e : Entry) (entries : List Entry) : Type 0 where

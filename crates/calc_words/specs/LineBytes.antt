@@ -1,5 +1,5 @@
--- The bytes of a line as they are kept in its words: those past ASCII, which stand in no word of a command, as `?`, which
--- does not either (this project's own).
+-- The bytes of a line as they are kept in its words: those past ASCII, which stand in no word of a
+-- command, as `?`, which does not either (this project's own).
 use Rattle.std.specs.Prelude.{ℕ, ◌==◌, nat_lt, Bool, true, false, ◌||◌, cond, List, [], ◌∷◌, map}
 use Rattle.sym_model.specs.BatchLine.{is_some_text}
 

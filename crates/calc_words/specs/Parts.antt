@@ -1,14 +1,32 @@
--- The parts of the words of a command: their forms, what they offend by, and words that are cut into them (this project's own).
-use Rattle.std.specs.Prelude.{◌≡◌, ◌⊎◌, ℕ, ◌≤◌, ◌+◌, Bool, true, false, ◌&&◌, List, [], ◌∷◌, ◌++◌, drop, length, codes, slice_index_or, None}
+-- The parts of the words of a command: their forms, what they offend by, and words that are cut
+-- into them (this project's own).
+use Rattle.std.specs.Prelude.{◌≡◌, ◌⊎◌, ℕ, ◌≤◌, ◌<◌, ◌+◌, ◌-◌, Bool, true, false, ◌&&◌, List, []}
+use Rattle.std.specs.Prelude.{◌∷◌, ◌++◌, drop, length, codes, slice_index_or, None}
 use Rattle.sym_model.specs.PrintedBlock.{decimal_value}
-use Rattle.sym_model.specs.CommandOffence.{Offence, first_offence, offences_by, rows_rule, lines_rule, seed_rule, letter_rule, part_offences, most_doubled, permutation_offences, permutation_offences_within, factor_offences}
-use Rattle.sym_model.specs.Form.{Form, empty, word, number, sequence, Written, May, words_of}
-use Rattle.sym_model.specs.WordForms.{the, optional, rows_words, form_words, partition_words, permutation_words, factors_words, tableau_words, from_words, numbers, letters, factor_numbers, row_limit_offences}
+use Rattle.sym_model.specs.CommandOffence.{Offence, first_offence, offences_by, rows_rule}
+use Rattle.sym_model.specs.CommandOffence.{lines_rule, seed_rule, letter_rule, part_offences}
+use Rattle.sym_model.specs.CommandOffence.{most_doubled, permutation_offences}
+use Rattle.sym_model.specs.CommandOffence.{permutation_offences_within, factor_offences}
+use Rattle.sym_model.specs.Form.{Form, empty, word, number, target, formula, sequence, Written, May}
+use Rattle.sym_model.specs.Form.{words_of}
+use Rattle.sym_model.specs.Grammar.{all_bases}
+use Rattle.sym_model.specs.WordForms.{the, optional, rows_words, form_words, partition_words}
+use Rattle.sym_model.specs.WordForms.{permutation_words, factors_words, tableau_words, from_words}
+use Rattle.sym_model.specs.WordForms.{numbers, letters, factor_numbers, row_limit_offences}
+use Rattle.sym_model.specs.Entry.{Entry}
+use Rattle.sym_model.specs.Phrase.{Phrase, SpellsPhrase}
+use Rattle.sym_model.specs.SyntaxPlace.{IsSyntaxPlace}
+use Rattle.expression_reading.specs.Reading.{IsWrongByte}
 use Rattle.calc_base.specs.declared.words.WordsFault.{WordsFault}
+use Rattle.calc_words.specs.Cutting.{IsWrongAt}
 use Rattle.word_laws.specs.OneReading.{are_apart, firsts, continuing}
 use Rattle.calc_words.specs.Reading.{IsFirst}
 use Rattle.calc_words.specs.declared.word_parts.Part.{Part}
-use Rattle.calc_words.specs.declared.word_parts.Part.TheVariants.{Minus, Slash, MaybeForm, Rows, MaybeRows, Bound, Lines, Seed, Shape, Word, Letters, Doubled, Factors, Tableau, MaybeFrom}
+use Rattle.calc_words.specs.declared.word_parts.Part.TheVariants.{Minus, Slash, MaybeForm, Rows}
+use Rattle.calc_words.specs.declared.word_parts.Part.TheVariants.{MaybeRows, Bound, Lines, Seed}
+use Rattle.calc_words.specs.declared.word_parts.Part.TheVariants.{Shape, Word, Letters, Doubled}
+use Rattle.calc_words.specs.declared.word_parts.Part.TheVariants.{Factors, Tableau, MaybeFrom}
+use Rattle.calc_words.specs.declared.word_parts.Part.TheVariants.{Target, Expression}
 
 -- the form of a part
 abbrev pub form_of_part : Part → Form
@@ -27,6 +45,8 @@ form_of_part Doubled = permutation_words
 form_of_part Factors = factors_words
 form_of_part Tableau = tableau_words
 form_of_part MaybeFrom = optional from_words
+form_of_part Target = word (target all_bases)
+form_of_part Expression = word formula
 
 -- the form of parts, one after another
 abbrev pub form_of : List Part → Form
@@ -44,11 +64,9 @@ abbrev pub is_clear : List Part → Bool
 is_clear [] = true
 is_clear (p ∷ ps) = are_apart (continuing (form_of_part p)) (firsts (form_of ps)) && is_clear ps
 
--- what a part offends by that begins at the word; tableaux are judged together with other parts, and have no offence here
+-- what a part offends by that begins at the word; tableaux and expressions are judged together with
+-- other parts, and have no offence here
 abbrev pub part_offends : (p : Part) → ℕ → Written (form_of_part p) → List Offence
-part_offends Minus k x = []
-part_offends Slash k x = []
-part_offends MaybeForm k x = []
 part_offends Rows k x = offences_by rows_rule (k + 1) (decimal_value x.1 ∷ [])
 part_offends MaybeRows k x = row_limit_offences k x
 part_offends Bound k x = offences_by rows_rule k (decimal_value x ∷ [])
@@ -59,8 +77,7 @@ part_offends Word k x = offences_by letter_rule k (numbers x)
 part_offends Letters k x = permutation_offences k (letters x)
 part_offends Doubled k x = permutation_offences_within most_doubled k (letters x)
 part_offends Factors k x = factor_offences 0 k (factor_numbers x)
-part_offends Tableau k x = []
-part_offends MaybeFrom k x = []
+part_offends p k x = []
 
 -- what parts offend by, the first of which begins at the word
 abbrev pub parts_offend : (ps : List Part) → ℕ → Written (form_of ps) → List Offence
@@ -69,32 +86,39 @@ parts_offend (p ∷ []) k x = part_offends p k x
 parts_offend (p ∷ q ∷ ps) k x =
     part_offends p k x.0 ++ parts_offend (q ∷ ps) (k + length (words_of (form_of_part p) x.0)) x.1
 
--- the i-th part begins at the word and has these words; the places are those of the first words, and of what stands behind the last
+-- the i-th part begins at the word and has these words; the places are those of the first words,
+-- and of what stands behind the last
 abbrev pub IsPiece : List ℕ → List (List ℕ) → ℕ → ℕ → List (List ℕ) → Type 0
 IsPiece places words i k piece =
-    (slice_index_or places i 0 ≡ k) × (slice_index_or places (i + 1) 0 ≡ k + length piece) × (k ≤ length words)
+    (slice_index_or places i 0 ≡ k) × (slice_index_or places (i + 1) 0 ≡ k + length piece)
+    × (k ≤ length words)
     × (rest : List (List ℕ)) × (drop k words ≡ piece ++ rest)
 
--- from this word on the words are of the parts, and the places from the i-th on are those of the parts
+-- from this word on the words are of the parts,
+-- and the places from the i-th on are those of the parts
 abbrev pub IsCut : List Part → ℕ → ℕ → List ℕ → List (List ℕ) → Type 0
 IsCut [] i k places words = drop k words ≡ []
 IsCut (p ∷ ps) i k places words =
-    (x : Written (form_of_part p)) × May (form_of_part p) x × IsPiece places words i k (words_of (form_of_part p) x)
+    (x : Written (form_of_part p)) × May (form_of_part p) x
+    × IsPiece places words i k (words_of (form_of_part p) x)
     × IsCut ps (i + 1) (k + length (words_of (form_of_part p) x)) places words
 
 -- what is written by the words of the parts
-abbrev pub written_of : (ps : List Part) (i k : ℕ) (places : List ℕ) (words : List (List ℕ)) → IsCut ps i k places words → Written (form_of ps)
+abbrev pub written_of : (ps : List Part) (i k : ℕ) (places : List ℕ) (words : List (List ℕ))
+    → IsCut ps i k places words → Written (form_of ps)
 written_of [] i k places words h = tt
 written_of (p ∷ []) i k places words h = h.0
 written_of (p ∷ q ∷ ps) i k places words h =
     (h.0, written_of (q ∷ ps) (i + 1) (k + length (words_of (form_of_part p) h.0)) places words h.3)
 
 -- the words are the name of a command and its parts
-pub record AreCut (name : List ℕ) (ps : List Part) (places : List ℕ) (words : List (List ℕ)) : Type 0 where
+pub record AreCut (name : List ℕ) (ps : List Part) (places : List ℕ)
+    (words : List (List ℕ)) : Type 0 where
   pub named : words ≡ name ∷ drop 1 words
   pub parts : IsCut ps 0 1 places words
 
--- whether the offences of a part are known to stand at its own words, and those of all but the last part
+-- whether the offences of a part are known to stand at its own words,
+-- and those of all but the last part
 abbrev pub is_bounded : Part → Bool
 is_bounded Factors = false
 is_bounded p = true
@@ -120,3 +144,32 @@ AreFine (p ∷ []) k x = first_offence (part_offends p k x) ≡ None
 AreFine (p ∷ q ∷ ps) k x =
     (first_offence (part_offends p k x.0) ≡ None)
     × AreFine (q ∷ ps) (k + length (words_of (form_of_part p) x.0)) x.1
+
+-- parts have been read up to the i-th, which begins at the word, and their places are put: what is
+-- wrong from there on is wrong in all, and where the rest is cut, all is cut
+pub record IsCutTo (parts : List Part) (i at : ℕ) (places : List ℕ)
+    (words : List (List ℕ)) : Type 0 where
+  pub within : at ≤ length words
+  pub six : length places ≡ 6
+  pub here : slice_index_or places i 0 ≡ at
+  pub clear : is_clear (drop i parts) ≡ true
+  pub goes : (left byte : ℕ) → IsWrongAt (form_of (drop i parts)) (drop at words) left byte
+      → IsWrongAt (form_of parts) (drop 1 words) left byte
+  pub cut : (q : List ℕ) → ((j : ℕ) → j < i + 1 → slice_index_or q j 0 ≡ slice_index_or places j 0)
+      → IsCut (drop i parts) i at q words
+      → IsCut parts 0 1 q words
+
+-- the words are the name of a command and its parts, if the last one spells an expression, and
+-- otherwise are wrong in that
+pub record IsUnread (name : List ℕ) (ps : List Part) (places : List ℕ)
+    (words : List (List ℕ)) : Type 0 where
+  pub at : ℕ
+  pub text : List ℕ
+  pub piece : IsPiece places words (length ps - 1) at (text ∷ [])
+  pub spelled : (f : Phrase) → SpellsPhrase text f → AreCut name ps places words
+  pub wrong : (byte : ℕ) → IsWrongByte text byte → (e : Entry) → e.form ≡ command_form name ps
+      → IsSyntaxPlace (e ∷ []) words at byte
+
+-- the words are the name of a command and its parts, the last of which may not have been looked at
+abbrev pub AreCutUnread : List ℕ → List Part → List ℕ → List (List ℕ) → Type 0
+AreCutUnread name ps places words = AreCut name ps places words ⊎ IsUnread name ps places words

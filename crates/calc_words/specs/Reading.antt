@@ -6,21 +6,25 @@ use Rattle.sym_model.specs.CommandOffence.{Offence}
 use Rattle.sym_model.specs.Entry.{Entry, HasFirstOffence, SpellsWithoutOffence}
 use Rattle.sym_model.specs.SyntaxPlace.{IsSyntaxPlace}
 use Rattle.calc_base.specs.declared.words.WordsFault.{WordsFault}
-use Rattle.calc_base.specs.declared.words.WordsFault.TheVariants.{Syntax, Literal, Range, Shape, NoMemory}
+use Rattle.calc_base.specs.declared.words.WordsFault.TheVariants.{Syntax, Literal, Range, Shape}
+use Rattle.calc_base.specs.declared.words.WordsFault.TheVariants.{NoMemory}
 use Rattle.calc_commands.specs.Commands.{command_of, IsSound}
 use Rattle.calc_commands.specs.declared.command.Command.{Command}
 
 -- the words go wrong or first offend at this place; want of memory says nothing of them
 abbrev pub IsRefusal : List Entry → List (List ℕ) → WordsFault → Type 0
 IsRefusal entries words (Syntax at) = IsSyntaxPlace entries words at.word at.byte
-IsRefusal entries words (Literal at) = HasFirstOffence entries words (Some (at.word, at.byte, literal))
+IsRefusal entries words (Literal at) =
+    HasFirstOffence entries words (Some (at.word, at.byte, literal))
 IsRefusal entries words (Range at) = HasFirstOffence entries words (Some (at.word, at.byte, range))
 IsRefusal entries words (Shape at) = HasFirstOffence entries words (Some (at.word, at.byte, shape))
 IsRefusal entries words NoMemory = Unit {0}
 
--- the words say this command without offence, and it is sound, or they are refused for what is wrong with them
+-- the words say this command without offence, and it is sound,
+-- or they are refused for what is wrong with them
 abbrev pub IsRead : List Entry → List (List ℕ) → Result Command WordsFault → Type 0
-IsRead entries words (Ok command) = SpellsWithoutOffence entries words (command_of command) × IsSound command
+IsRead entries words (Ok command) =
+    SpellsWithoutOffence entries words (command_of command) × IsSound command
 IsRead entries words (Err fault) = IsRefusal entries words fault
 
 -- the refusal is that of the first offence; want of memory says nothing
@@ -56,4 +60,5 @@ Refuses o (Err fault) = IsFaultOf o fault ⊎ (fault ≡ NoMemory)
 -- words that go wrong at a place are refused there, but for want of memory
 abbrev pub GoesWrong : {A : Type 0} → ℕ → ℕ → Result A WordsFault → Type 0
 GoesWrong word byte (Ok answer) = ⊥
-GoesWrong word byte (Err fault) = (fault ≡ Syntax (record { word = word; byte = byte })) ⊎ (fault ≡ NoMemory)
+GoesWrong word byte (Err fault) =
+    (fault ≡ Syntax (record { word = word; byte = byte })) ⊎ (fault ≡ NoMemory)

@@ -8,8 +8,12 @@ use Rattle.sym_model.specs.Expression.{degree}
 use Rattle.sym_model.specs.ExpressionOffence.{degree_limit, plethysm_degree_limit}
 use Rattle.sym_model.specs.Form.{EachOf}
 use Rattle.plethysm_laws.specs.PositiveExpression.{HasNoSigns}
-use Rattle.sym_model.specs.Command.{Command, mult, skew, coef, coprod, tab, quantum, fusion, schubert, schubmult, expand, rsk, growth, plethysm, dschubmult, stanley, work}
-use Rattle.sym_model.specs.CommandOffence.{most_parts, most_cells, most_factors, most_permuted, most_doubled, most_letters, greatest_letter, most_rows, most_lines, greatest_seed}
+use Rattle.sym_model.specs.Command.{Command, mult, skew, coef, coprod, tab, quantum, fusion}
+use Rattle.sym_model.specs.Command.{schubert, schubmult, expand, rsk, growth, plethysm, dschubmult}
+use Rattle.sym_model.specs.Command.{stanley, work}
+use Rattle.sym_model.specs.CommandOffence.{most_parts, most_cells, most_factors, most_permuted}
+use Rattle.sym_model.specs.CommandOffence.{most_doubled, most_letters, greatest_letter, most_rows}
+use Rattle.sym_model.specs.CommandOffence.{most_lines, greatest_seed}
 
 -- a partition of at most 64 parts and at most 512 cells
 pub record IsWritten (parts : List ℕ) : Type 0 where
@@ -59,8 +63,10 @@ KeepsLimits (skew limit one_line outer inner) = IsRowLimit limit × IsWritten ou
 KeepsLimits (coef outer left right) = IsWritten outer × IsWritten left × IsWritten right
 KeepsLimits (coprod shape) = IsWritten shape
 KeepsLimits (tab outer inner after) = IsWritten outer × IsWritten inner × IsInList outer inner after
-KeepsLimits (quantum limit columns factors) = IsRowNumber limit × IsRowNumber columns × AreWrittenFactors factors
-KeepsLimits (fusion limit level factors) = IsRowNumber limit × IsRowNumber level × AreWrittenFactors factors
+KeepsLimits (quantum limit columns factors) =
+    IsRowNumber limit × IsRowNumber columns × AreWrittenFactors factors
+KeepsLimits (fusion limit level factors) =
+    IsRowNumber limit × IsRowNumber level × AreWrittenFactors factors
 KeepsLimits (schubert w) = IsWrittenPermutation w
 KeepsLimits (schubmult left right) = IsWrittenPermutation left × IsWrittenPermutation right
 KeepsLimits (expand target one_line e) = degree e ≤ degree_limit target
@@ -69,7 +75,8 @@ KeepsLimits (growth w) = IsWrittenPermutation w
 KeepsLimits (plethysm target outer inner) =
     (degree outer ≤ plethysm_degree_limit) × (degree inner ≤ plethysm_degree_limit)
     × (degree outer * degree inner ≤ plethysm_degree_limit) × HasNoSigns inner
-KeepsLimits (dschubmult left right) = IsPermutationWithin most_doubled left × IsPermutationWithin most_doubled right
+KeepsLimits (dschubmult left right) =
+    IsPermutationWithin most_doubled left × IsPermutationWithin most_doubled right
 KeepsLimits (stanley variables w) = IsRowNumber variables × IsWrittenPermutation w
 KeepsLimits (work lines seed) = (1 ≤ lines) × (lines ≤ most_lines) × (seed ≤ greatest_seed)
 KeepsLimits _ = Unit {0}

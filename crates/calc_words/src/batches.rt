@@ -9,7 +9,8 @@ use crate::word_parts::Part;
 use calc_base::WordsFault;
 use calc_commands::Command;
 
-/// Reads the words of `batch`, which is that word alone. Other words are refused as `Syntax`, at the word where they go wrong.
+/// Reads the words of `batch`, which is that word alone. Other words are refused as `Syntax`, at
+/// the word where they go wrong.
 pub fn read_batch(words: &[String]) -> Result<Command, WordsFault>
     ensures { IsRead (batch_entry ∷ []) (map string_bytes words.now) result }
 {
@@ -19,8 +20,9 @@ pub fn read_batch(words: &[String]) -> Result<Command, WordsFault>
 
 /// Reads the words of `work`: that word, a number of lines and a seed.
 ///
-/// Words that are no such command are refused as `Syntax`, at the word where they go wrong. Otherwise the first offence is
-/// refused: a number past 2^127 - 1 as `Literal`; a number of lines that is not from 1 to 10,000, and a seed past 65,536, as
+/// Words that are no such command are refused as `Syntax`, at the word where they go wrong.
+/// Otherwise the first offence is refused: a number past 2^127 - 1 as `Literal`; a number of lines
+/// that is not from 1 to 10,000, and a seed past 65,536, as
 /// `Range`.
 pub fn read_work(words: &[String]) -> Result<Command, WordsFault>
     ensures { IsRead (work_entry ∷ []) (map string_bytes words.now) result }

@@ -1,41 +1,62 @@
 //! The words of a command, cut into its parts.
-ghost use Rattle.std.specs.Prelude.{◌≡◌, ◌≤◌, ◌<◌, ◌+◌, ◌^◌, ℕ, true, List, [], ◌∷◌, map, length, drop, string_bytes, IfOk, IfErr};
+ghost use Rattle.std.specs.Prelude.{◌≡◌, ◌≤◌, ◌<◌, ◌+◌, ◌-◌, ◌^◌, ℕ, true, slice_index_or, List};
+ghost use Rattle.std.specs.Prelude.{[], ◌∷◌, map, length, drop, string_bytes, IfOk, IfErr};
 ghost use Rattle.sym_model.specs.Entry.{Entry};
-ghost use Rattle.calc_words.specs.Cutting.{GoesWrong};
-ghost use Rattle.calc_words.specs.Parts.{form_of, command_form, is_clear, IsPiece, IsCut, AreCut};
+ghost use Rattle.calc_words.specs.Cutting.{IsWrongAt};
+ghost use Rattle.calc_words.specs.Parts.{form_of, command_form, is_clear, IsPiece, IsCutTo, AreCut};
+ghost use Rattle.calc_words.specs.Parts.{AreCutUnread};
 ghost use Rattle.calc_words.specs.Reading.{IsRefusal};
+ghost use Rattle.calc_words.specs.declared.word_parts.Part.TheVariants.{Expression};
 
 use crate::offence::syntax;
 use crate::splitting::behind;
-use crate::word_parts::{Part, taken};
+use crate::word_parts::{Part, byte_of, taken};
 use calc_base::WordsFault;
 
-/// The words at which the parts of a command begin, the first at the word behind its name, and the word behind each part; no
-/// command has more than five.
+/// The words at which the parts of a command begin, the first at the word behind its name, and the
+/// word behind each part; no command has more than five.
 pub type Places = [usize; 6];
 
-/// The places of the parts of words behind a name; else how many words are left from the wrong one on.
-fn places_of(words: &[String], parts: &[Part]) -> Result<Places, usize>
+/// Where words first fail.
+#[derive(Clone, Copy)]
+struct Wrong {
+    /// How many words are left from the wrong one on.
+    left: usize,
+    /// The byte of that word.
+    byte: u64,
+}
+
+/// The places of the first `count` parts of words after a name; else where the words first fail.
+#[inline(always)]
+fn places_of(words: &[String], parts: &[Part], count: usize) -> Result<Places, Wrong>
     requires some { 0 < length words.now }
     requires few { length parts.now ≤ 5 }
     requires clear { is_clear parts.now ≡ true }
-    ensures cut { IfOk result (λ q. IsCut parts.now 0 1 q (map string_bytes words.now)) }
-    ensures wrong { IfErr result (λ left. GoesWrong (form_of parts.now) (drop 1 (map string_bytes words.now)) left) }
+    requires within { count ≤ length parts.now }
+    ensures cut { IfOk result (λ q.
+        IsCutTo parts.now count (slice_index_or q count 0) q (map string_bytes words.now)) }
+    ensures wrong { IfErr result (λ w.
+        IsWrongAt (form_of parts.now) (drop 1 (map string_bytes words.now)) w.left w.byte) }
 {
     let mut places = [1; 6];
     let mut at = 1;
-    for (i, part) in parts.iter().enumerate() {
-        at += taken(*part, &words[at..])?;
+    for i in 0..count {
+        let part = parts[i];
+        let n = match taken(part, &words[at..]) {
+            Ok(n) => n,
+            Err(left) => {
+                let byte = byte_of(part, &words[at..]);
+                return Err(Wrong { left, byte });
+            }
+        };
+        at += n;
         places[i + 1] = at;
-    }
-    if at < words.len() {
-        return Err(words.len() - at);
     }
     Ok(places)
 }
 
-/// The places of the parts behind the name of a command, where the words are the name and words of these parts; else the
-/// refusal of the words, at the one where they go wrong.
+/// The places of the parts behind the name of a command, where the words are the name and words of
+/// these parts; else the refusal of the words, at the one where they go wrong.
 pub fn cut(words: &[String], name: &str, parts: &[Part]) -> Result<Places, WordsFault>
     requires few { length parts.now ≤ 5 }
     requires clear { is_clear parts.now ≡ true }
@@ -44,11 +65,45 @@ pub fn cut(words: &[String], name: &str, parts: &[Part]) -> Result<Places, Words
         → IsRefusal (e ∷ []) (map string_bytes words.now) fault) }
 {
     let Some(_) = behind(words, name) else {
-        return Err(syntax(0));
+        return Err(syntax(0, 0));
     };
-    match places_of(words, parts) {
-        Ok(places) => Ok(places),
-        Err(left) => Err(syntax((words.len() - left) as u64)),
+    match places_of(words, parts, parts.len()) {
+        Ok(places) => {
+            let at = places[parts.len()];
+            if at < words.len() {
+                return Err(syntax(at as u64, 0));
+            }
+            Ok(places)
+        }
+        Err(wrong) => Err(syntax((words.len() - wrong.left) as u64, wrong.byte)),
+    }
+}
+
+/// The same where the last part is an expression, which is left to its reader: where it is the one
+/// word that is left, it is not looked at.
+pub fn cut_unread(words: &[String], name: &str, parts: &[Part]) -> Result<Places, WordsFault>
+    requires few { length parts.now ≤ 5 }
+    requires clear { is_clear parts.now ≡ true }
+    requires last { drop (length parts.now - 1) parts.now ≡ Expression ∷ [] }
+    ensures cut { IfOk result (λ q.
+        AreCutUnread name.now parts.now q (map string_bytes words.now)) }
+    ensures wrong { IfErr result (λ fault. (e : Entry) → e.form ≡ command_form name.now parts.now
+        → IsRefusal (e ∷ []) (map string_bytes words.now) fault) }
+{
+    let Some(_) = behind(words, name) else {
+        return Err(syntax(0, 0));
+    };
+    let last = parts.len() - 1;
+    match places_of(words, parts, last) {
+        Ok(places) => {
+            if places[last] + 1 != words.len() {
+                return cut(words, name, parts);
+            }
+            let mut places = places;
+            places[last + 1] = words.len();
+            Ok(places)
+        }
+        Err(wrong) => Err(syntax((words.len() - wrong.left) as u64, wrong.byte)),
     }
 }
 
@@ -65,7 +120,8 @@ pub struct Piece<'a> {
 #[inline(always)]
 pub fn piece_at<'a>(words: &'a [String], places: &Places, i: usize) -> Piece<'a>
     requires { i < 5 }
-    ensures is { (k : ℕ) (us : List (List ℕ)) → IsPiece places.now (map string_bytes words.now) i k us
+    ensures is { (k : ℕ) (us : List (List ℕ))
+        → IsPiece places.now (map string_bytes words.now) i k us
         → (result.at ≡ k) × (map string_bytes result.words.now ≡ us) }
     ensures room { result.at + length result.words.now + 1 < 2 ^ 64 }
 {

@@ -1,5 +1,6 @@
 //! Factors as they are written, one after another.
-ghost use Rattle.std.specs.Prelude.{◌≡◌, ◌<◌, ◌+◌, ◌^◌, ℕ, List, [], ◌∷◌, ◌++◌, length, map, string_bytes};
+ghost use Rattle.std.specs.Prelude.{◌≡◌, ◌<◌, ◌+◌, ◌^◌, ℕ, List, [], ◌∷◌, ◌++◌, length, map};
+ghost use Rattle.std.specs.Prelude.{string_bytes};
 ghost use Rattle.sym_model.specs.CommandOffence.{first_offence, part_offences, factor_offences};
 ghost use Rattle.sym_model.specs.Form.{EachOf};
 ghost use Rattle.sym_model.specs.WordForms.{numbers as numbers_of, partition};
@@ -35,7 +36,8 @@ fn pushed(factors: Factors, next: Partition) -> Result<Factors, WordsFault>
     }
 }
 
-/// These factors and, behind the word `at`, the next one, or its first offence: the ninth one offends at that word.
+/// These factors and, behind the word `at`, the next one, or its first offence:
+/// the ninth one offends at that word.
 fn next_factor(
     alloc: Global,
     at: u64,
@@ -45,7 +47,8 @@ fn next_factor(
     requires place { at + 1 + length list.now < 2 ^ 64 }
     requires written { EachOf IsWritten factors }
     ensures { IsJudged (λ f. f ≡ factors ++ partition (map string_bytes list.now) ∷ [])
-        (first_offence (ninth_offences (length factors) at ++ part_offences (at + 1) (numbers_of (map string_bytes list.now)))) result }
+        (first_offence (ninth_offences (length factors) at
+        ++ part_offences (at + 1) (numbers_of (map string_bytes list.now)))) result }
 {
     if factors.len() == MOST_FACTORS {
         return Err(WordsFault::Range {
@@ -56,7 +59,8 @@ fn next_factor(
     pushed(factors, next)
 }
 
-/// These factors and those behind them, each behind a `-`, the first of which is the word `at`, or the first offence.
+/// These factors and those behind them, each behind a `-`, the first of which is the word `at`,
+/// or the first offence.
 fn read_later(
     alloc: Global,
     at: u64,
@@ -65,7 +69,8 @@ fn read_later(
 ) -> Result<Factors, WordsFault>
     requires place { at + length words.now < 2 ^ 64 }
     requires written { EachOf IsWritten factors }
-    ensures { (others : List (List (List ℕ))) → map string_bytes words.now ≡ next_text others → EachOf (EachOf IsNumber) others
+    ensures { (others : List (List (List ℕ))) → map string_bytes words.now ≡ next_text others
+        → EachOf (EachOf IsNumber) others
         → IsJudged (λ f. f ≡ factors ++ map partition others)
         (first_offence (factor_offences (length factors) (at + 1) (map numbers_of others))) result }
 {
@@ -92,7 +97,8 @@ fn paired(alloc: Global, left: Partition, right: Partition) -> Result<Factors, W
     }
 }
 
-/// The factors of which the first begins at the word `at` and the others stand behind a `-`, or the first offence.
+/// The factors of which the first begins at the word `at` and the others stand behind a `-`,
+/// or the first offence.
 pub(crate) fn read_factors(
     alloc: Global,
     at: u64,
@@ -100,10 +106,14 @@ pub(crate) fn read_factors(
     later: &[String],
 ) -> Result<Factors, WordsFault>
     requires { at + length first.now + 1 + length later.now < 2 ^ 64 }
-    ensures { (second : List (List ℕ)) (others : List (List (List ℕ))) → map string_bytes later.now ≡ second ++ next_text others
+    ensures { (second : List (List ℕ)) (others : List (List (List ℕ)))
+        → map string_bytes later.now ≡ second ++ next_text others
         → EachOf IsNumber second → EachOf (EachOf IsNumber) others
-        → IsJudged (λ f. f ≡ partition (map string_bytes first.now) ∷ partition second ∷ map partition others)
-        (first_offence (factor_offences 0 at (numbers_of (map string_bytes first.now) ∷ numbers_of second ∷ map numbers_of others))) result }
+        → IsJudged (λ f. f ≡ partition (map string_bytes first.now) ∷ partition second
+        ∷ map partition others)
+        (first_offence (factor_offences
+        0 at (numbers_of (map string_bytes first.now) ∷ numbers_of second ∷ map numbers_of others)))
+        result }
 {
     let (second, rest) = list_first(later);
     let after = at + first.len() as u64 + 1 + second.len() as u64;

@@ -1,6 +1,8 @@
 //! Words of letters as they are written.
-ghost use Rattle.std.specs.Prelude.{◌≡◌, ◌<◌, ◌+◌, ◌^◌, ◌==◌, ◌||◌, IfOk, IfErr, length, map, string_bytes};
-ghost use Rattle.sym_model.specs.CommandOffence.{first_offence, offences_by, letter_rule, is_outside, greatest_letter, most_letters};
+ghost use Rattle.std.specs.Prelude.{◌≡◌, ◌<◌, ◌+◌, ◌^◌, ◌==◌, ◌||◌, IfOk, IfErr, length, map};
+ghost use Rattle.std.specs.Prelude.{string_bytes};
+ghost use Rattle.sym_model.specs.CommandOffence.{first_offence, offences_by, letter_rule};
+ghost use Rattle.sym_model.specs.CommandOffence.{is_outside, greatest_letter, most_letters};
 ghost use Rattle.sym_model.specs.WordForms.{numbers as numbers_of};
 ghost use Rattle.calc_words.specs.Reading.{IsJudged};
 
@@ -33,7 +35,8 @@ fn word_of(alloc: Global, letters: &[u16]) -> Result<Word, WordsFault>
 pub(crate) fn read_letters(alloc: Global, at: u64, words: &[String]) -> Result<Word, WordsFault>
     requires { at + length words.now < 2 ^ 64 }
     ensures { IsJudged (λ w. w ≡ numbers_of (map string_bytes words.now))
-        (first_offence (offences_by letter_rule at (numbers_of (map string_bytes words.now)))) result }
+        (first_offence (offences_by letter_rule at (numbers_of (map string_bytes words.now))))
+        result }
 {
     let mut letters: [u16; MOST_LETTERS] = [0; MOST_LETTERS];
     for (i, word) in words.iter().enumerate() {

@@ -1,4 +1,5 @@
-//! The words of the commands on partitions, permutations and words of letters, of batches and workloads, and how they are read.
+//! The words of the commands on partitions, permutations and words of letters, of batches and
+//! workloads, and how they are read.
 //!
 //! What is proved:
 //!
@@ -30,12 +31,13 @@ mod two_shapes;
 mod word_parts;
 
 pub use batches::{read_batch, read_work};
-pub use command_cuts::{Piece, Places, cut, piece_at};
+pub use command_cuts::{Piece, Places, cut, cut_unread, piece_at};
 pub use joined::joined_commands_law;
 pub use limits::written_limits_law;
 pub use line::{are_passed_over, line_words, without_return};
 pub use numbers::{is_number, value_of};
-pub use offence::{Kind, offence as refused};
+pub use offence::{Kind, offence as refused, syntax};
+pub use part_values::{maybe_form_of, target_of, text_of};
 pub use partition_list::read_partition;
 pub use permutations::{
     read_dschubmult, read_growth, read_rsk, read_schubert, read_schubmult, read_stanley,

@@ -1,7 +1,8 @@
 //! The words of a line of a batch.
 ghost use Rattle.std.specs.Prelude.{◌≡◌, ◌++◌, ◌∷◌, [], IfOk, OnOk, map, string_bytes};
 ghost use Rattle.sym_model.specs.BatchLine.{words_of_line, without_return as line_without_return};
-ghost use Rattle.calc_words.specs.LineBytes.{seen, seen_byte, word_with_bytes, is_space as is_space_byte, is_passed_over};
+ghost use Rattle.calc_words.specs.LineBytes.{seen, seen_byte, word_with_bytes};
+ghost use Rattle.calc_words.specs.LineBytes.{is_space as is_space_byte, is_passed_over};
 
 use calc_base::NoMemory;
 use std::alloc::Global;
@@ -13,7 +14,8 @@ fn is_space(byte: u8) -> bool
     byte == b' ' || byte == b'\t'
 }
 
-/// The byte that is kept of one: those past ASCII stand in no word of a command, and `?` does not either.
+/// The byte that is kept of one: those past ASCII stand in no word of a command,
+/// and `?` does not either.
 fn kept_byte(byte: u8) -> u8
     ensures { result ≡ seen_byte byte }
 {
@@ -30,7 +32,8 @@ fn add_byte(word: &mut String, byte: u8) -> Result<(), NoMemory>
 
 /// Adds the word to the others, where it has a byte.
 fn end_word(words: &mut Vec<String>, word: String) -> Result<(), NoMemory>
-    ensures { OnOk result (map string_bytes words.new.items ≡ map string_bytes words.old.items ++ word_with_bytes (string_bytes word)) }
+    ensures { OnOk result (map string_bytes words.new.items
+        ≡ map string_bytes words.old.items ++ word_with_bytes (string_bytes word)) }
 {
     if !word.is_empty() {
         words.push(word)?;
@@ -38,12 +41,13 @@ fn end_word(words: &mut Vec<String>, word: String) -> Result<(), NoMemory>
     Ok(())
 }
 
-/// The words of a line, which stand between its spaces and tabs. Bytes past ASCII, which stand in no word of a command, are
-/// kept as `?`, which does not either.
+/// The words of a line, which stand between its spaces and tabs. Bytes past ASCII, which stand in
+/// no word of a command, are kept as `?`, which does not either.
 pub fn line_words(alloc: Global, line: &[u8]) -> Result<Vec<String>, NoMemory>
-    ensures { IfOk result (λ words. map string_bytes words.items ≡ map seen (words_of_line line.now)) }
+    ensures { IfOk result (λ words. map string_bytes words.items
+        ≡ map seen (words_of_line line.now)) }
 {
-    let mut words = Vec::new(alloc);
+    let mut words = Vec::with_capacity(alloc, 8)?;
     let mut word = String::new(alloc);
     for byte in line {
         if is_space(*byte) {

@@ -1,6 +1,7 @@
 //! Numbers of rows, of columns and of lines, levels and seeds.
 ghost use Rattle.std.specs.Prelude.{◌≡◌, ℕ, [], ◌∷◌};
-ghost use Rattle.sym_model.specs.CommandOffence.{first_offence, offences_by, rows_rule, lines_rule, seed_rule, is_outside as is_outside_of, most_rows};
+ghost use Rattle.sym_model.specs.CommandOffence.{first_offence, offences_by, rows_rule, lines_rule};
+ghost use Rattle.sym_model.specs.CommandOffence.{seed_rule, is_outside as is_outside_of, most_rows};
 ghost use Rattle.calc_words.specs.NumberRuns.{narrow};
 ghost use Rattle.calc_words.specs.Reading.{IsJudged};
 
@@ -25,7 +26,8 @@ fn is_outside(value: u128) -> bool
 
 /// A number of rows, columns or a level that is this word, or its offence.
 pub(crate) fn rows_number(word: u64, number: Option<u128>) -> Result<u16, WordsFault>
-    ensures { (a : ℕ) → number ≡ narrow a → IsJudged (λ n. n ≡ a) (first_offence (offences_by rows_rule word (a ∷ []))) result }
+    ensures { (a : ℕ) → number ≡ narrow a
+        → IsJudged (λ n. n ≡ a) (first_offence (offences_by rows_rule word (a ∷ []))) result }
 {
     let Some(value) = number else {
         return Err(offence(word, Kind::Literal));
@@ -38,7 +40,8 @@ pub(crate) fn rows_number(word: u64, number: Option<u128>) -> Result<u16, WordsF
 
 /// A number of lines that is this word, or its offence.
 pub(crate) fn lines_number(word: u64, number: Option<u128>) -> Result<u16, WordsFault>
-    ensures { (a : ℕ) → number ≡ narrow a → IsJudged (λ n. n ≡ a) (first_offence (offences_by lines_rule word (a ∷ []))) result }
+    ensures { (a : ℕ) → number ≡ narrow a
+        → IsJudged (λ n. n ≡ a) (first_offence (offences_by lines_rule word (a ∷ []))) result }
 {
     let Some(value) = number else {
         return Err(offence(word, Kind::Literal));
@@ -51,7 +54,8 @@ pub(crate) fn lines_number(word: u64, number: Option<u128>) -> Result<u16, Words
 
 /// A seed that is this word, or its offence.
 pub(crate) fn seed_number(word: u64, number: Option<u128>) -> Result<u32, WordsFault>
-    ensures { (a : ℕ) → number ≡ narrow a → IsJudged (λ n. n ≡ a) (first_offence (offences_by seed_rule word (a ∷ []))) result }
+    ensures { (a : ℕ) → number ≡ narrow a
+        → IsJudged (λ n. n ≡ a) (first_offence (offences_by seed_rule word (a ∷ []))) result }
 {
     let Some(value) = number else {
         return Err(offence(word, Kind::Literal));

@@ -15,12 +15,12 @@ pub enum Kind {
     Shape,
 }
 
-/// Words that are no command, at this word.
-pub(crate) fn syntax(word: u64) -> WordsFault
-    ensures { result ≡ WordsFault.Syntax (record { word = word; byte = 0 }) }
+/// Words that are no command, at this byte of this word.
+pub fn syntax(word: u64, byte: u64) -> WordsFault
+    ensures { result ≡ WordsFault.Syntax (record { word = word; byte = byte }) }
 {
     WordsFault::Syntax {
-        at: Place { word, byte: 0 },
+        at: Place { word, byte },
     }
 }
 

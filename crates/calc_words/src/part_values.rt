@@ -1,13 +1,23 @@
 //! What the parts of a command name, or their first offence.
-ghost use Rattle.std.specs.Prelude.{◌≡◌, ◌≤◌, ◌<◌, ◌+◌, ◌^◌, [], ◌∷◌, ℕ, List, map, length, string_bytes, codes};
+ghost use Rattle.std.specs.Prelude.{◌≡◌, ◌≤◌, ◌<◌, ◌+◌, ◌^◌, [], ◌∷◌, ℕ, List, map, length};
+ghost use Rattle.std.specs.Prelude.{string_bytes, codes};
 ghost use Rattle.sym_model.specs.CommandOffence.{first_offence, most_permuted};
-ghost use Rattle.sym_model.specs.Form.{Written, May, word, number, words_of};
+ghost use Rattle.sym_model.specs.Form.{Written, May, word, number, target, words_of};
+ghost use Rattle.sym_model.specs.Grammar.{all_bases};
+ghost use Rattle.expression_reading.specs.Trees.{basis_of};
 ghost use Rattle.sym_model.specs.Permutation.{kept};
 ghost use Rattle.sym_model.specs.PrintedBlock.{decimal_value};
-ghost use Rattle.sym_model.specs.WordForms.{optional, rows_words, form_words, partition_words, permutation_words, factors_words, partition, letters as letters_said, numbers as numbers_said, factors as factors_said, row_limit, is_one_line};
+ghost use Rattle.sym_model.specs.WordForms.{optional, rows_words, form_words, partition_words};
+ghost use Rattle.sym_model.specs.WordForms.{permutation_words, factors_words, partition};
+ghost use Rattle.sym_model.specs.WordForms.{letters as letters_said, numbers as numbers_said};
+ghost use Rattle.sym_model.specs.WordForms.{factors as factors_said, row_limit, is_one_line};
 ghost use Rattle.calc_words.specs.Parts.{part_offends};
 ghost use Rattle.calc_words.specs.Reading.{IsJudged};
-ghost use Rattle.calc_words.specs.declared.word_parts.Part.TheVariants.{Rows, MaybeRows, Bound, Lines, Seed, Shape, Word as WordPart, Letters, Doubled, Factors as FactorsPart};
+ghost use Rattle.calc_words.specs.declared.word_parts.Part.TheVariants.{Rows, MaybeRows, Bound};
+ghost use Rattle.calc_words.specs.declared.word_parts.Part.TheVariants.{Lines, Seed, Shape};
+ghost use Rattle.calc_words.specs.declared.word_parts.Part.TheVariants.{Word as WordPart, Letters};
+ghost use Rattle.calc_words.specs.declared.word_parts.Part.TheVariants.{Doubled};
+ghost use Rattle.calc_words.specs.declared.word_parts.Part.TheVariants.{Factors as FactorsPart};
 
 use crate::factors::read_factors;
 use crate::letters::read_letters;
@@ -16,27 +26,51 @@ use crate::numbers::value_of;
 use crate::offence::syntax;
 use crate::partition_list::read_partition;
 use crate::permutation_list::{MOST_DOUBLED, MOST_PERMUTED, read_permutation};
-use crate::splitting::list_first;
-use calc_base::{Word, WordsFault};
+use crate::splitting::{first_target, list_first};
+use calc_base::{Basis, Word, WordsFault};
 use partitions::{Factors, Partition};
 use perm_codes::Perm;
 use std::alloc::Global;
 
 /// Whether the word for the one-line form is there.
-pub(crate) fn maybe_form_of(words: &[String]) -> bool
-    ensures { (x : Written (optional form_words)) → map string_bytes words.now ≡ words_of (optional form_words) x → result ≡ is_one_line x }
+pub fn maybe_form_of(words: &[String]) -> bool
+    ensures { (x : Written (optional form_words))
+        → map string_bytes words.now ≡ words_of (optional form_words) x → result ≡ is_one_line x }
 {
     !words.is_empty()
+}
+
+/// The target of this letter.
+pub fn target_of(words: &[String]) -> Basis
+    ensures { (x : Written (word (target all_bases)))
+        → map string_bytes words.now ≡ words_of (word (target all_bases)) x
+        → basis_of result ≡ x }
+{
+    match first_target(words) {
+        Some((target, _)) => target,
+        None => Basis::M,
+    }
+}
+
+/// The text of an expression.
+pub fn text_of(words: &[String]) -> &[u8]
+    ensures { (text : List ℕ) → map string_bytes words.now ≡ text ∷ [] → result.now ≡ text }
+{
+    match words.split_first() {
+        Some((word, _)) => word.as_bytes(),
+        None => &[],
+    }
 }
 
 /// The number of rows of `-r` and a number, which begin at the word `at`.
 pub(crate) fn rows_of(at: u64, words: &[String]) -> Result<u16, WordsFault>
     requires { at + length words.now + 1 < 2 ^ 64 }
-    ensures { (k : ℕ) (x : Written rows_words) → (at ≡ k) × (map string_bytes words.now ≡ words_of rows_words x)
+    ensures { (k : ℕ) (x : Written rows_words)
+        → (at ≡ k) × (map string_bytes words.now ≡ words_of rows_words x)
         → IsJudged (λ n. n ≡ decimal_value x.1) (first_offence (part_offends Rows k x)) result }
 {
     let Some(digits) = words.get(1) else {
-        return Err(syntax(at));
+        return Err(syntax(at, 0));
     };
     rows_number(at + 1, value_of(digits.as_bytes()))
 }
@@ -44,7 +78,8 @@ pub(crate) fn rows_of(at: u64, words: &[String]) -> Result<u16, WordsFault>
 /// The number of rows, where it is there.
 pub(crate) fn maybe_rows_of(at: u64, words: &[String]) -> Result<Option<u16>, WordsFault>
     requires { at + length words.now + 1 < 2 ^ 64 }
-    ensures { (k : ℕ) (x : Written (optional rows_words)) → (at ≡ k) × (map string_bytes words.now ≡ words_of (optional rows_words) x)
+    ensures { (k : ℕ) (x : Written (optional rows_words))
+        → (at ≡ k) × (map string_bytes words.now ≡ words_of (optional rows_words) x)
         → IsJudged (λ n. n ≡ row_limit x) (first_offence (part_offends MaybeRows k x)) result }
 {
     let Some(digits) = words.get(1) else {
@@ -56,33 +91,36 @@ pub(crate) fn maybe_rows_of(at: u64, words: &[String]) -> Result<Option<u16>, Wo
 
 /// The number of rows or columns, or the level, that is the word `at`.
 pub(crate) fn bound_of(at: u64, words: &[String]) -> Result<u16, WordsFault>
-    ensures { (k : ℕ) (x : Written (word number)) → (at ≡ k) × (map string_bytes words.now ≡ words_of (word number) x)
+    ensures { (k : ℕ) (x : Written (word number))
+        → (at ≡ k) × (map string_bytes words.now ≡ words_of (word number) x)
         → IsJudged (λ n. n ≡ decimal_value x) (first_offence (part_offends Bound k x)) result }
 {
     let Some(digits) = words.first() else {
-        return Err(syntax(at));
+        return Err(syntax(at, 0));
     };
     rows_number(at, value_of(digits.as_bytes()))
 }
 
 /// The number of lines that is the word `at`.
 pub(crate) fn lines_of(at: u64, words: &[String]) -> Result<u16, WordsFault>
-    ensures { (k : ℕ) (x : Written (word number)) → (at ≡ k) × (map string_bytes words.now ≡ words_of (word number) x)
+    ensures { (k : ℕ) (x : Written (word number))
+        → (at ≡ k) × (map string_bytes words.now ≡ words_of (word number) x)
         → IsJudged (λ n. n ≡ decimal_value x) (first_offence (part_offends Lines k x)) result }
 {
     let Some(digits) = words.first() else {
-        return Err(syntax(at));
+        return Err(syntax(at, 0));
     };
     lines_number(at, value_of(digits.as_bytes()))
 }
 
 /// The seed that is the word `at`.
 pub(crate) fn seed_of(at: u64, words: &[String]) -> Result<u32, WordsFault>
-    ensures { (k : ℕ) (x : Written (word number)) → (at ≡ k) × (map string_bytes words.now ≡ words_of (word number) x)
+    ensures { (k : ℕ) (x : Written (word number))
+        → (at ≡ k) × (map string_bytes words.now ≡ words_of (word number) x)
         → IsJudged (λ n. n ≡ decimal_value x) (first_offence (part_offends Seed k x)) result }
 {
     let Some(digits) = words.first() else {
-        return Err(syntax(at));
+        return Err(syntax(at, 0));
     };
     seed_number(at, value_of(digits.as_bytes()))
 }
@@ -90,7 +128,8 @@ pub(crate) fn seed_of(at: u64, words: &[String]) -> Result<u32, WordsFault>
 /// The partition of numbers, of which the first is the word `at`.
 pub(crate) fn shape_of(alloc: Global, at: u64, words: &[String]) -> Result<Partition, WordsFault>
     requires { at + length words.now + 1 < 2 ^ 64 }
-    ensures { (k : ℕ) (x : Written partition_words) → (at ≡ k) × (map string_bytes words.now ≡ words_of partition_words x)
+    ensures { (k : ℕ) (x : Written partition_words)
+        → (at ≡ k) × (map string_bytes words.now ≡ words_of partition_words x)
         → IsJudged (λ p. p ≡ partition x) (first_offence (part_offends Shape k x)) result }
 {
     read_partition(alloc, at, words)
@@ -99,7 +138,8 @@ pub(crate) fn shape_of(alloc: Global, at: u64, words: &[String]) -> Result<Parti
 /// The letters of a word, of which the first is the word `at`.
 pub(crate) fn word_of(alloc: Global, at: u64, words: &[String]) -> Result<Word, WordsFault>
     requires { at + length words.now + 1 < 2 ^ 64 }
-    ensures { (k : ℕ) (x : Written partition_words) → (at ≡ k) × (map string_bytes words.now ≡ words_of partition_words x)
+    ensures { (k : ℕ) (x : Written partition_words)
+        → (at ≡ k) × (map string_bytes words.now ≡ words_of partition_words x)
         → IsJudged (λ w. w ≡ numbers_said x) (first_offence (part_offends WordPart k x)) result }
 {
     read_letters(alloc, at, words)
@@ -108,11 +148,13 @@ pub(crate) fn word_of(alloc: Global, at: u64, words: &[String]) -> Result<Word, 
 /// The permutation of letters, of which the first is the word `at`.
 pub(crate) fn letters_of(alloc: Global, at: u64, words: &[String]) -> Result<Perm, WordsFault>
     requires { at + length words.now + 1 < 2 ^ 64 }
-    ensures { (k : ℕ) (x : Written permutation_words) → (at ≡ k) × (map string_bytes words.now ≡ words_of permutation_words x)
-        → IsJudged (λ w. w ≡ kept (letters_said x)) (first_offence (part_offends Letters k x)) result }
+    ensures { (k : ℕ) (x : Written permutation_words)
+        → (at ≡ k) × (map string_bytes words.now ≡ words_of permutation_words x)
+        → IsJudged (λ w. w ≡ kept (letters_said x))
+        (first_offence (part_offends Letters k x)) result }
 {
     if words.is_empty() {
-        return Err(syntax(at));
+        return Err(syntax(at, 0));
     }
     read_permutation(alloc, MOST_PERMUTED, at, words)
 }
@@ -120,18 +162,21 @@ pub(crate) fn letters_of(alloc: Global, at: u64, words: &[String]) -> Result<Per
 /// The same of a permutation whose double Schubert polynomial is a factor.
 pub(crate) fn doubled_of(alloc: Global, at: u64, words: &[String]) -> Result<Perm, WordsFault>
     requires { at + length words.now + 1 < 2 ^ 64 }
-    ensures { (k : ℕ) (x : Written permutation_words) → (at ≡ k) × (map string_bytes words.now ≡ words_of permutation_words x)
-        → IsJudged (λ w. w ≡ kept (letters_said x)) (first_offence (part_offends Doubled k x)) result }
+    ensures { (k : ℕ) (x : Written permutation_words)
+        → (at ≡ k) × (map string_bytes words.now ≡ words_of permutation_words x)
+        → IsJudged (λ w. w ≡ kept (letters_said x))
+        (first_offence (part_offends Doubled k x)) result }
 {
     if words.is_empty() {
-        return Err(syntax(at));
+        return Err(syntax(at, 0));
     }
     read_permutation(alloc, MOST_DOUBLED, at, words)
 }
 
 /// The words behind the first.
 fn behind_first(words: &[String]) -> &[String]
-    ensures later { (more : List (List ℕ)) → map string_bytes words.now ≡ codes "-" ∷ more → map string_bytes result.now ≡ more }
+    ensures later { (more : List (List ℕ)) → map string_bytes words.now ≡ codes "-" ∷ more
+        → map string_bytes result.now ≡ more }
     ensures fewer { length result.now ≤ length words.now }
 {
     match words.split_first() {
@@ -143,7 +188,8 @@ fn behind_first(words: &[String]) -> &[String]
 /// The factors, the first of which begins at the word `at`.
 pub(crate) fn factors_of(alloc: Global, at: u64, words: &[String]) -> Result<Factors, WordsFault>
     requires { at + length words.now + 1 < 2 ^ 64 }
-    ensures { (k : ℕ) (x : Written factors_words) → May factors_words x → (at ≡ k) × (map string_bytes words.now ≡ words_of factors_words x)
+    ensures { (k : ℕ) (x : Written factors_words) → May factors_words x
+        → (at ≡ k) × (map string_bytes words.now ≡ words_of factors_words x)
         → IsJudged (λ f. f ≡ factors_said x) (first_offence (part_offends FactorsPart k x)) result }
 {
     let (first, rest) = list_first(words);

@@ -1,5 +1,6 @@
 //! Partitions as they are written.
-ghost use Rattle.std.specs.Prelude.{◌≡◌, ◌≤◌, ◌<◌, ◌+◌, ◌^◌, map, length, string_bytes, IfOk, IfErr};
+ghost use Rattle.std.specs.Prelude.{◌≡◌, ◌≤◌, ◌<◌, ◌+◌, ◌^◌, map, length, string_bytes, IfOk};
+ghost use Rattle.std.specs.Prelude.{IfErr};
 ghost use Rattle.sym_model.specs.Partition.{without_last_zeros};
 ghost use Rattle.sym_model.specs.CommandOffence.{first_offence, part_offences};
 ghost use Rattle.sym_model.specs.WordForms.{numbers as numbers_of, partition};
@@ -18,7 +19,8 @@ const MOST_PARTS: usize = 64;
 
 const MOST_CELLS: u128 = 512;
 
-/// What a number offends by that stands behind so many with so many cells, the last of them this one.
+/// What a number offends by that stands behind so many with so many cells,
+/// the last of them this one.
 fn part_offence(count: usize, cells: u16, last: Option<u16>, value: u128) -> Option<Kind>
     requires { value < 2 ^ 127 }
     ensures { result ≡ part_kind count cells last value }
@@ -41,7 +43,8 @@ fn partition_of(alloc: Global, numbers: &[u16]) -> Result<Partition, WordsFault>
     Ok(Partition::from_valid_numbers(alloc, numbers)?)
 }
 
-/// The partition of the numbers that are these words, the first of which is the word `at`, or their first offence.
+/// The partition of the numbers that are these words, the first of which is the word `at`,
+/// or their first offence.
 pub fn read_partition(alloc: Global, at: u64, words: &[String]) -> Result<Partition, WordsFault>
     requires { at + length words.now < 2 ^ 64 }
     ensures { IsJudged (λ p. p ≡ partition (map string_bytes words.now))

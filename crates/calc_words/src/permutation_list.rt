@@ -1,7 +1,9 @@
 //! Permutations as they are written.
-ghost use Rattle.std.specs.Prelude.{◌≡◌, ◌≤◌, ◌<◌, ◌+◌, ◌^◌, map, length, string_bytes, IfOk, IfErr};
+ghost use Rattle.std.specs.Prelude.{◌≡◌, ◌≤◌, ◌<◌, ◌+◌, ◌^◌, map, length, string_bytes, IfOk};
+ghost use Rattle.std.specs.Prelude.{IfErr};
 ghost use Rattle.perm_codes.specs.Limits.{IsShortPermutation};
-ghost use Rattle.sym_model.specs.CommandOffence.{first_offence, permutation_offences_within, stands_in as stands_in_list};
+ghost use Rattle.sym_model.specs.CommandOffence.{first_offence, permutation_offences_within};
+ghost use Rattle.sym_model.specs.CommandOffence.{stands_in as stands_in_list};
 ghost use Rattle.sym_model.specs.Permutation.{kept};
 ghost use Rattle.sym_model.specs.WordForms.{numbers as numbers_of};
 ghost use Rattle.calc_words.specs.LetterRules.{letter_kind};
@@ -26,7 +28,8 @@ fn stands_in(letter: u16, letters: &[u16]) -> bool
     letters.contains(&letter)
 }
 
-/// What a letter offends by that stands behind these in a list of so many, where at most so many may be written.
+/// What a letter offends by that stands behind these in a list of so many,
+/// where at most so many may be written.
 fn letter_offence(most: usize, count: usize, before: &[u16], value: u128) -> Option<Kind>
     requires { most ≤ 16 }
     ensures { result ≡ letter_kind most count before.now value }
@@ -49,8 +52,8 @@ fn permutation_of(alloc: Global, letters: &[u16]) -> Result<Perm, WordsFault>
     Ok(Perm::from_valid_letters(alloc, letters)?)
 }
 
-/// The permutation of the letters that are these words, the first of which is the word `at`, or their first offence; at most
-/// so many letters may be written.
+/// The permutation of the letters that are these words, the first of which is the word `at`, or
+/// their first offence; at most so many letters may be written.
 pub(crate) fn read_permutation(
     alloc: Global,
     most: usize,
@@ -61,7 +64,8 @@ pub(crate) fn read_permutation(
     requires some { 0 < length words.now }
     requires room { at + length words.now < 2 ^ 64 }
     ensures { IsJudged (λ w. w ≡ kept (numbers_of (map string_bytes words.now)))
-        (first_offence (permutation_offences_within most at (numbers_of (map string_bytes words.now)))) result }
+        (first_offence (permutation_offences_within
+        most at (numbers_of (map string_bytes words.now)))) result }
 {
     let mut letters: [u16; MOST_PERMUTED] = [0; MOST_PERMUTED];
     for (i, word) in words.iter().enumerate() {

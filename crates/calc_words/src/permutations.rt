@@ -1,6 +1,8 @@
-//! The words of the commands on permutations and words of letters: `schubert`, `growth`, `schubmult`, `dschubmult`, `stanley` and `rsk`.
+//! The words of the commands on permutations and words of letters: `schubert`, `growth`,
+//! `schubmult`, `dschubmult`, `stanley` and `rsk`.
 ghost use Rattle.std.specs.Prelude.{[], ◌∷◌, map, string_bytes};
-ghost use Rattle.sym_model.specs.Grammar.{schubert_entry, growth_entry, schubmult_entry, dschubmult_entry, stanley_entry, rsk_entry};
+ghost use Rattle.sym_model.specs.Grammar.{schubert_entry, growth_entry, schubmult_entry};
+ghost use Rattle.sym_model.specs.Grammar.{dschubmult_entry, stanley_entry, rsk_entry};
 ghost use Rattle.calc_words.specs.Reading.{IsRead};
 
 use crate::command_cuts::{cut, piece_at};
@@ -12,9 +14,10 @@ use std::alloc::Global;
 
 /// Reads the words of `schubert`: that word and the letters of a permutation.
 ///
-/// Words that are no such command are refused as `Syntax`, at the word where they go wrong. Otherwise the first offence of
-/// the letters is refused: one past 2^127 - 1 as `Literal`; one past 16, or the 17th, as `Range`; one that is 0, past the
-/// number of letters, or stands earlier, as `Shape`.
+/// Words that are no such command are refused as `Syntax`, at the word where they go wrong.
+/// Otherwise the first offence of the letters is refused: one past 2^127 - 1 as `Literal`; one past
+/// 16, or the 17th, as `Range`; one that is 0, past the number of letters, or stands earlier,
+/// as `Shape`.
 pub fn read_schubert(alloc: Global, words: &[String]) -> Result<Command, WordsFault>
     ensures { IsRead (schubert_entry ∷ []) (map string_bytes words.now) result }
 {
@@ -24,7 +27,8 @@ pub fn read_schubert(alloc: Global, words: &[String]) -> Result<Command, WordsFa
     Ok(Command::Schubert { perm })
 }
 
-/// Reads the words of `growth`: that word and the letters of a permutation. Words are refused as `read_schubert` says.
+/// Reads the words of `growth`: that word and the letters of a permutation. Words are refused as
+/// `read_schubert` says.
 pub fn read_growth(alloc: Global, words: &[String]) -> Result<Command, WordsFault>
     ensures { IsRead (growth_entry ∷ []) (map string_bytes words.now) result }
 {
@@ -34,7 +38,8 @@ pub fn read_growth(alloc: Global, words: &[String]) -> Result<Command, WordsFaul
     Ok(Command::Growth { perm })
 }
 
-/// Reads the words of `schubmult`: that word and two permutations with `-` between them. Words are refused as
+/// Reads the words of `schubmult`: that word and two permutations with `-` between them. Words are
+/// refused as
 /// `read_schubert` says.
 pub fn read_schubmult(alloc: Global, words: &[String]) -> Result<Command, WordsFault>
     ensures { IsRead (schubmult_entry ∷ []) (map string_bytes words.now) result }
@@ -48,7 +53,8 @@ pub fn read_schubmult(alloc: Global, words: &[String]) -> Result<Command, WordsF
     Ok(Command::Schubmult { left, right })
 }
 
-/// Reads the words of `dschubmult`: that word and two permutations with `-` between them. Words are refused as
+/// Reads the words of `dschubmult`: that word and two permutations with `-` between them. Words are
+/// refused as
 /// `read_schubert` says, with 8 in the place of 16.
 pub fn read_dschubmult(alloc: Global, words: &[String]) -> Result<Command, WordsFault>
     ensures { IsRead (dschubmult_entry ∷ []) (map string_bytes words.now) result }
@@ -62,8 +68,9 @@ pub fn read_dschubmult(alloc: Global, words: &[String]) -> Result<Command, Words
     Ok(Command::Dschubmult { left, right })
 }
 
-/// Reads the words of `stanley`: that word, `-r` and a number of variables, and the letters of a permutation. Words are refused
-/// as `read_schubert` says, and a number of variables that is not from 1 to 64 as `Range`.
+/// Reads the words of `stanley`: that word, `-r` and a number of variables, and the letters of a
+/// permutation. Words are refused as `read_schubert` says, and a number of variables that is not
+/// from 1 to 64 as `Range`.
 pub fn read_stanley(alloc: Global, words: &[String]) -> Result<Command, WordsFault>
     ensures { IsRead (stanley_entry ∷ []) (map string_bytes words.now) result }
 {
@@ -77,8 +84,9 @@ pub fn read_stanley(alloc: Global, words: &[String]) -> Result<Command, WordsFau
 
 /// Reads the words of `rsk`: that word and the letters of a word.
 ///
-/// Words that are no such command are refused as `Syntax`, at the word where they go wrong. Otherwise the first offence is
-/// refused: a letter past 2^127 - 1 as `Literal`; one that is 0 or past 65,535, and the 257th, as `Range`.
+/// Words that are no such command are refused as `Syntax`, at the word where they go wrong.
+/// Otherwise the first offence is refused: a letter past 2^127 - 1 as `Literal`; one that is 0 or
+/// past 65,535, and the 257th, as `Range`.
 pub fn read_rsk(alloc: Global, words: &[String]) -> Result<Command, WordsFault>
     ensures { IsRead (rsk_entry ∷ []) (map string_bytes words.now) result }
 {

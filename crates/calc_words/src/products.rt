@@ -10,13 +10,14 @@ use calc_base::WordsFault;
 use calc_commands::Command;
 use std::alloc::Global;
 
-/// Reads the words of `mult`: that word, `-r` and a number of rows where a bound is wanted, `-m` where the answer is wanted
-/// on one line, and two to eight partitions with `-` between them.
+/// Reads the words of `mult`: that word, `-r` and a number of rows where a bound is wanted, `-m`
+/// where the answer is wanted on one line, and two to eight partitions with `-` between them.
 ///
-/// Words that are no such command are refused as `Syntax`, at the word where they go wrong. Otherwise the first offence is
-/// refused: a number past 2^127 - 1 as `Literal`; a number of rows that is not from 1 to 64, the 65th number of a partition,
-/// the one at which its sum passes 512, and the `-` in front of a ninth partition, as `Range`; a number of a partition
-/// greater than the one before it as `Shape`.
+/// Words that are no such command are refused as `Syntax`, at the word where they go wrong.
+/// Otherwise the first offence is refused: a number past 2^127 - 1 as `Literal`; a number of rows
+/// that is not from 1 to 64, the 65th number of a partition, the one at which its sum passes 512,
+/// and the `-` in front of a ninth partition, as `Range`; a number of a partition greater than the
+/// one before it as `Shape`.
 pub fn read_mult(alloc: Global, words: &[String]) -> Result<Command, WordsFault>
     ensures { IsRead (mult_entry ∷ []) (map string_bytes words.now) result }
 {
@@ -35,12 +36,13 @@ pub fn read_mult(alloc: Global, words: &[String]) -> Result<Command, WordsFault>
     })
 }
 
-/// Reads the words of `skew`: that word, `-r` and a number of rows where a bound is wanted, `-m` where the answer is wanted
-/// on one line, and two partitions with `/` between them.
+/// Reads the words of `skew`: that word, `-r` and a number of rows where a bound is wanted, `-m`
+/// where the answer is wanted on one line, and two partitions with `/` between them.
 ///
-/// Words that are no such command are refused as `Syntax`, at the word where they go wrong. Otherwise the first offence is
-/// refused: a number past 2^127 - 1 as `Literal`; a number of rows that is not from 1 to 64, the 65th number of a partition,
-/// and the one at which its sum passes 512, as `Range`; a number of a partition greater than the one before it as `Shape`.
+/// Words that are no such command are refused as `Syntax`, at the word where they go wrong.
+/// Otherwise the first offence is refused: a number past 2^127 - 1 as `Literal`; a number of rows
+/// that is not from 1 to 64, the 65th number of a partition, and the one at which its sum passes
+/// 512, as `Range`; a number of a partition greater than the one before it as `Shape`.
 pub fn read_skew(alloc: Global, words: &[String]) -> Result<Command, WordsFault>
     ensures { IsRead (skew_entry ∷ []) (map string_bytes words.now) result }
 {
@@ -68,7 +70,8 @@ pub fn read_skew(alloc: Global, words: &[String]) -> Result<Command, WordsFault>
     })
 }
 
-/// Reads the words of `coef`: that word and three partitions with `-` between them. Words are refused as `read_skew` says.
+/// Reads the words of `coef`: that word and three partitions with `-` between them. Words are
+/// refused as `read_skew` says.
 pub fn read_coef(alloc: Global, words: &[String]) -> Result<Command, WordsFault>
     ensures { IsRead (coef_entry ∷ []) (map string_bytes words.now) result }
 {
@@ -89,7 +92,8 @@ pub fn read_coef(alloc: Global, words: &[String]) -> Result<Command, WordsFault>
     Ok(Command::Coef { outer, left, right })
 }
 
-/// Reads the words of `coprod`: that word and the numbers of a partition. Words are refused as `read_skew` says.
+/// Reads the words of `coprod`: that word and the numbers of a partition. Words are refused as
+/// `read_skew` says.
 pub fn read_coprod(alloc: Global, words: &[String]) -> Result<Command, WordsFault>
     ensures { IsRead (coprod_entry ∷ []) (map string_bytes words.now) result }
 {

@@ -11,7 +11,8 @@ use calc_commands::Command;
 use std::alloc::Global;
 
 /// Reads the words of `quantum`: that word, a number of rows, a number of columns, and two to eight
-/// partitions with `-` between them. Words are refused as `read_mult` says, and a number of columns as one of rows.
+/// partitions with `-` between them. Words are refused as `read_mult` says,
+/// and a number of columns as one of rows.
 pub fn read_quantum(alloc: Global, words: &[String]) -> Result<Command, WordsFault>
     ensures { IsRead (quantum_entry ∷ []) (map string_bytes words.now) result }
 {
@@ -30,8 +31,8 @@ pub fn read_quantum(alloc: Global, words: &[String]) -> Result<Command, WordsFau
     })
 }
 
-/// Reads the words of `fusion`: that word, a number of rows, a level, and two to eight partitions with `-` between
-/// them. Words are refused as `read_mult` says, and a level as a number of rows.
+/// Reads the words of `fusion`: that word, a number of rows, a level, and two to eight partitions
+/// with `-` between them. Words are refused as `read_mult` says, and a level as a number of rows.
 pub fn read_fusion(alloc: Global, words: &[String]) -> Result<Command, WordsFault>
     ensures { IsRead (fusion_entry ∷ []) (map string_bytes words.now) result }
 {

@@ -1,10 +1,16 @@
 //! Words at the front of others: one that is told, a number, numbers.
-ghost use Rattle.std.specs.Prelude.{◌≡◌, ◌++◌, ◌∷◌, map, string_bytes, MatchOption};
-ghost use Rattle.sym_model.specs.Form.{EachOf};
-ghost use Rattle.calc_words.specs.FactorWords.{BeginsWithDigit, begins_with_digit as begins_with_digit_of};
+ghost use Rattle.std.specs.Prelude.{◌≡◌, false, ◌++◌, ◌∷◌, map, string_bytes, MatchOption};
+ghost use Rattle.sym_model.specs.Form.{EachOf, is_letter_of};
+ghost use Rattle.sym_model.specs.Grammar.{all_bases};
+ghost use Rattle.sym_model.specs.Phrase.{letter};
+ghost use Rattle.expression_reading.specs.Trees.{basis_of};
+ghost use Rattle.calc_words.specs.Cutting.{IsLetter};
+ghost use Rattle.calc_words.specs.FactorWords.{BeginsWithDigit};
+ghost use Rattle.calc_words.specs.FactorWords.{begins_with_digit as begins_with_digit_of};
 ghost use Rattle.calc_words.specs.NumberRuns.{IsNumber, BeginsOtherwise};
 
 use crate::numbers::{is_digit_byte, is_number};
+use calc_base::Basis;
 
 /// The words behind the first, where that is this one.
 pub fn behind<'a>(words: &'a [String], text: &str) -> Option<&'a [String]>
@@ -14,6 +20,10 @@ pub fn behind<'a>(words: &'a [String], text: &str) -> Option<&'a [String]>
     let Some((first, rest)) = words.split_first() else {
         return None;
     };
+    // Most words differ from the text in their length.
+    if first.len() != text.len() {
+        return None;
+    }
     if first.as_str() != text {
         return None;
     }
@@ -23,7 +33,8 @@ pub fn behind<'a>(words: &'a [String], text: &str) -> Option<&'a [String]>
 /// The first word and those behind it, where it is a number.
 pub(crate) fn first_number(words: &[String]) -> Option<(&String, &[String])>
     ensures { MatchOption result (BeginsOtherwise IsNumber (map string_bytes words.now))
-        (λ p. (map string_bytes words.now ≡ string_bytes p.0.now ∷ map string_bytes p.1.now) × IsNumber (string_bytes p.0.now)) }
+        (λ p. (map string_bytes words.now ≡ string_bytes p.0.now ∷ map string_bytes p.1.now)
+        × IsNumber (string_bytes p.0.now)) }
 {
     let Some((first, rest)) = words.split_first() else {
         return None;
@@ -34,9 +45,39 @@ pub(crate) fn first_number(words: &[String]) -> Option<(&String, &[String])>
     Some((first, rest))
 }
 
+/// The target of this letter.
+fn target_named(word: &str) -> Option<Basis>
+    ensures { MatchOption result (is_letter_of all_bases word.now ≡ false)
+        (λ target. word.now ≡ letter (basis_of target)) }
+{
+    match word {
+        "m" => Some(Basis::M),
+        "e" => Some(Basis::E),
+        "h" => Some(Basis::H),
+        "p" => Some(Basis::P),
+        "s" => Some(Basis::S),
+        _ => None,
+    }
+}
+
+/// The target of the first word and the words after it, if it is the letter of a target.
+pub(crate) fn first_target(words: &[String]) -> Option<(Basis, &[String])>
+    ensures { MatchOption result (BeginsOtherwise IsLetter (map string_bytes words.now))
+        (λ p. map string_bytes words.now ≡ letter (basis_of p.0) ∷ map string_bytes p.1.now) }
+{
+    let Some((first, rest)) = words.split_first() else {
+        return None;
+    };
+    let Some(target) = target_named(first.as_str()) else {
+        return None;
+    };
+    Some((target, rest))
+}
+
 /// The numbers at the front, and the words behind them.
 pub fn numbers(words: &[String]) -> (&[String], &[String])
-    ensures parts { map string_bytes words.now ≡ map string_bytes result.0.now ++ map string_bytes result.1.now }
+    ensures parts { map string_bytes words.now
+        ≡ map string_bytes result.0.now ++ map string_bytes result.1.now }
     ensures numbers { EachOf IsNumber (map string_bytes result.0.now) }
     ensures rest { BeginsOtherwise IsNumber (map string_bytes result.1.now) }
 {
@@ -60,7 +101,8 @@ fn begins_with_digit(word: &[u8]) -> bool
 
 /// The words at the front that begin with a digit, and those behind them.
 pub(crate) fn list_first(words: &[String]) -> (&[String], &[String])
-    ensures parts { map string_bytes words.now ≡ map string_bytes result.0.now ++ map string_bytes result.1.now }
+    ensures parts { map string_bytes words.now
+        ≡ map string_bytes result.0.now ++ map string_bytes result.1.now }
     ensures list { EachOf BeginsWithDigit (map string_bytes result.0.now) }
     ensures rest { BeginsOtherwise BeginsWithDigit (map string_bytes result.1.now) }
 {

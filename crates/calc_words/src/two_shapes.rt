@@ -10,7 +10,8 @@ use calc_base::WordsFault;
 use partitions::Partition;
 use std::alloc::Global;
 
-/// The partitions of two lists with a word between them, the first of which begins at the word `at`, or the first offence.
+/// The partitions of two lists with a word between them, the first of which begins at the word
+/// `at`, or the first offence.
 pub fn read_two(
     alloc: Global,
     at: u64,
@@ -18,8 +19,12 @@ pub fn read_two(
     second: &[String],
 ) -> Result<(Partition, Partition), WordsFault>
     requires { at + length first.now + 1 + length second.now < 2 ^ 64 }
-    ensures { IsJudged (λ p. p ≡ (partition (map string_bytes first.now), partition (map string_bytes second.now)))
-        (first_offence (two_partitions at (map string_bytes first.now) (map string_bytes second.now))) result }
+    ensures { IsJudged (λ p. p ≡ (
+      partition (map string_bytes first.now),
+      partition (map string_bytes second.now),
+    ))
+        (first_offence (two_partitions at (map string_bytes first.now)
+        (map string_bytes second.now))) result }
 {
     let behind = at + first.len() as u64 + 1;
     let first = read_partition(alloc, at, first)?;

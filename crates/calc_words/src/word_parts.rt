@@ -1,14 +1,20 @@
-//! The parts of the words of a command, and how many words at the front of others each of them takes.
-ghost use Rattle.std.specs.Prelude.{◌≡◌, ◌++◌, ◌<◌, map, length, string_bytes, IfOk, IfErr, IsTrue, ◌↔◌};
-ghost use Rattle.sym_model.specs.Form.{EachOf, word, number};
-ghost use Rattle.sym_model.specs.WordForms.{the, optional, rows_words, form_words, partition_words, permutation_words, factors_words, row_words, tableau_words, from_words};
-ghost use Rattle.calc_words.specs.Cutting.{Takes, StandsBehind, StopsIn};
+//! The parts of the words of a command, and how many words at the front of others each of them
+//! takes.
+ghost use Rattle.std.specs.Prelude.{ℕ, ◌≡◌, ◌++◌, ◌<◌, map, length, string_bytes, IfOk, IfErr};
+ghost use Rattle.std.specs.Prelude.{IsTrue, ◌↔◌};
+ghost use Rattle.sym_model.specs.Form.{EachOf, word, number, target, formula};
+ghost use Rattle.sym_model.specs.Grammar.{all_bases};
+ghost use Rattle.sym_model.specs.WordForms.{the, optional, rows_words, form_words, partition_words};
+ghost use Rattle.sym_model.specs.WordForms.{permutation_words, factors_words, row_words};
+ghost use Rattle.sym_model.specs.WordForms.{tableau_words, from_words};
+ghost use Rattle.calc_words.specs.Cutting.{Takes, StandsBehind, StopsIn, IsByte};
 ghost use Rattle.calc_words.specs.FactorWords.{IsPieceWord};
 ghost use Rattle.calc_words.specs.NumberRuns.{BeginsOtherwise};
 ghost use Rattle.calc_words.specs.Parts.{form_of_part};
 
 use crate::numbers::is_number;
-use crate::splitting::{behind, first_number, numbers};
+use crate::splitting::{behind, first_number, first_target, numbers};
+use expression_reading::wrong_byte;
 
 /// A part of the words of a command.
 #[derive(Clone, Copy, Debug)]
@@ -43,12 +49,17 @@ pub enum Part {
     Tableau,
     /// `-from` and the rows of a tableau, or no word.
     MaybeFrom,
+    /// The letter of a target.
+    Target,
+    /// An expression.
+    Expression,
 }
 
 /// Whether the first word is this one; else how many words are left from the wrong one on.
 fn the_word(words: &[String], text: &str) -> Result<usize, usize>
     ensures ok { IfOk result (λ n. Takes (the text.now) (map string_bytes words.now) n) }
-    ensures wrong { IfErr result (λ left. StopsIn (the text.now) (map string_bytes words.now) left) }
+    ensures wrong { IfErr result (λ left.
+        StopsIn (the text.now) (map string_bytes words.now) left) }
 {
     match behind(words, text) {
         Some(_) => Ok(1),
@@ -83,7 +94,8 @@ fn rows(words: &[String]) -> Result<usize, usize>
 /// `-r` and a number, or no word.
 fn maybe_rows(words: &[String]) -> Result<usize, usize>
     ensures ok { IfOk result (λ n. Takes (optional rows_words) (map string_bytes words.now) n) }
-    ensures wrong { IfErr result (λ left. StopsIn (optional rows_words) (map string_bytes words.now) left) }
+    ensures wrong { IfErr result (λ left.
+        StopsIn (optional rows_words) (map string_bytes words.now) left) }
 {
     let Some(more) = behind(words, "-r") else {
         return Ok(0);
@@ -116,7 +128,8 @@ fn list(words: &[String]) -> usize
 /// Numbers, one at least.
 fn letters(words: &[String]) -> Result<usize, usize>
     ensures ok { IfOk result (λ n. Takes permutation_words (map string_bytes words.now) n) }
-    ensures wrong { IfErr result (λ left. StopsIn permutation_words (map string_bytes words.now) left) }
+    ensures wrong { IfErr result (λ left.
+        StopsIn permutation_words (map string_bytes words.now) left) }
 {
     let Some(_) = first_number(words) else {
         return Err(words.len());
@@ -134,7 +147,8 @@ fn is_piece(word: &String) -> bool
 
 /// The numbers and `-` at the front, and the words behind them.
 fn pieces(words: &[String]) -> (&[String], &[String])
-    ensures parts { map string_bytes words.now ≡ map string_bytes result.0.now ++ map string_bytes result.1.now }
+    ensures parts { map string_bytes words.now
+        ≡ map string_bytes result.0.now ++ map string_bytes result.1.now }
     ensures pieces { EachOf IsPieceWord (map string_bytes result.0.now) }
     ensures rest { BeginsOtherwise IsPieceWord (map string_bytes result.1.now) }
 {
@@ -161,7 +175,8 @@ fn factors(words: &[String]) -> Result<usize, usize>
 
 /// The words behind the row at the front; else how many words are left from the wrong one on.
 fn behind_row(words: &[String]) -> Result<&[String], usize>
-    ensures ok { IfOk result (λ rest. StandsBehind row_words (map string_bytes rest.now) (map string_bytes words.now)) }
+    ensures ok { IfOk result (λ rest.
+        StandsBehind row_words (map string_bytes rest.now) (map string_bytes words.now)) }
     ensures shorter { IfOk result (λ rest. length rest.now < length words.now) }
     ensures wrong { IfErr result (λ left. StopsIn row_words (map string_bytes words.now) left) }
 {
@@ -175,7 +190,8 @@ fn behind_row(words: &[String]) -> Result<&[String], usize>
     Ok(rest)
 }
 
-/// The rows of a tableau.
+/// The rows of a tableau. It is not inlined, so that `taken` stays small for the other parts.
+#[inline(never)]
 fn tableau(words: &[String]) -> Result<usize, usize>
     ensures ok { IfOk result (λ n. Takes tableau_words (map string_bytes words.now) n) }
     ensures wrong { IfErr result (λ left. StopsIn tableau_words (map string_bytes words.now) left) }
@@ -190,7 +206,8 @@ fn tableau(words: &[String]) -> Result<usize, usize>
 /// `-from` and the rows of a tableau, or no word.
 fn maybe_from(words: &[String]) -> Result<usize, usize>
     ensures ok { IfOk result (λ n. Takes (optional from_words) (map string_bytes words.now) n) }
-    ensures wrong { IfErr result (λ left. StopsIn (optional from_words) (map string_bytes words.now) left) }
+    ensures wrong { IfErr result (λ left.
+        StopsIn (optional from_words) (map string_bytes words.now) left) }
 {
     let Some(more) = behind(words, "-from") else {
         return Ok(0);
@@ -199,10 +216,66 @@ fn maybe_from(words: &[String]) -> Result<usize, usize>
     Ok(1 + rows)
 }
 
+/// The letter of a target.
+fn letter(words: &[String]) -> Result<usize, usize>
+    ensures ok { IfOk result (λ n. Takes (word (target all_bases)) (map string_bytes words.now) n) }
+    ensures wrong { IfErr result (λ left.
+        StopsIn (word (target all_bases)) (map string_bytes words.now) left) }
+{
+    match first_target(words) {
+        Some(_) => Ok(1),
+        None => Err(words.len()),
+    }
+}
+
+/// An expression.
+#[inline(never)]
+fn expression(words: &[String]) -> Result<usize, usize>
+    ensures ok { IfOk result (λ n. Takes (word formula) (map string_bytes words.now) n) }
+    ensures wrong { IfErr result (λ left.
+        StopsIn (word formula) (map string_bytes words.now) left) }
+{
+    let Some((first, _)) = words.split_first() else {
+        return Err(0);
+    };
+    match wrong_byte(first.as_bytes()) {
+        Some(_) => Err(words.len()),
+        None => Ok(1),
+    }
+}
+
+/// The byte at which the first word is no expression.
+fn expression_byte(words: &[String]) -> u64
+    ensures { (left : ℕ) (w : StopsIn (word formula) (map string_bytes words.now) left)
+        → IsByte (word formula) w.0.before w.0.after result }
+{
+    let Some((first, _)) = words.split_first() else {
+        return 0;
+    };
+    match wrong_byte(first.as_bytes()) {
+        Some(byte) => byte,
+        None => 0,
+    }
+}
+
+/// The byte at which the first word is wrong where these words are not of the part:
+/// 0 if the part is no expression.
+#[inline(never)]
+pub(crate) fn byte_of(part: Part, words: &[String]) -> u64
+    ensures { (left : ℕ) (w : StopsIn (form_of_part part) (map string_bytes words.now) left)
+        → IsByte (form_of_part part) w.0.before w.0.after result }
+{
+    match part {
+        Part::Expression => expression_byte(words),
+        _ => 0,
+    }
+}
+
 /// How many words at the front are of the part; else how many words are left from the wrong one on.
 pub(crate) fn taken(part: Part, words: &[String]) -> Result<usize, usize>
     ensures ok { IfOk result (λ n. Takes (form_of_part part) (map string_bytes words.now) n) }
-    ensures wrong { IfErr result (λ left. StopsIn (form_of_part part) (map string_bytes words.now) left) }
+    ensures wrong { IfErr result (λ left.
+        StopsIn (form_of_part part) (map string_bytes words.now) left) }
 {
     match part {
         Part::Minus => the_word(words, "-"),
@@ -216,5 +289,7 @@ pub(crate) fn taken(part: Part, words: &[String]) -> Result<usize, usize>
         Part::Factors => factors(words),
         Part::Tableau => tableau(words),
         Part::MaybeFrom => maybe_from(words),
+        Part::Target => letter(words),
+        Part::Expression => expression(words),
     }
 }

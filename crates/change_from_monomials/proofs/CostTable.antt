@@ -1,11 +1,11 @@
 -- What a list of terms in m costs at most, from its bound: the costs of all partitions up to 15 cells are computed and added up.
 --     cost-within          the cost of a bounded list
 --     has-factors          the factorials of the multiplicities divide the factorial of the greatest size
-use Rattle.std.proofs.Common.{◌≡◌, ◌⊎◌, ℕ, zero, suc, ◌+◌, ◌*◌, ◌/◌, ◌<◌, ◌≤◌, Bool, true, List, [], ◌∷◌, map, length, refl, sym, ap, ◌∙◌, subst, inl, inr, arith, pos, ◌*ℤ◌}
+use Rattle.std.proofs.Common.{◌≡◌, ◌⊎◌, ℕ, zero, suc, ◌+◌, ◌*◌, ◌/◌, ◌<◌, ◌≤◌, Bool, true, List, [], ◌∷◌, map, length, refl, sym, ap, ◌∙◌, subst, inl, inr, arith, pos, ◌*ℤ◌, flat_map}
 use Rattle.std.specs.Prelude.{nat_abs, nat_le, ◌==◌, ◌&&◌}
 use Rattle.std.proofs.lemmas.Int.{unsigned_abs-mul}
 use Rattle.std.proofs.lemmas.Bool.{cases_lt, and_parts, eqb-true, leb-true}
-use Rattle.sym_model.specs.Sum.{each, Among, Once, Within}
+use Rattle.sym_model.specs.Sum.{Among, Once, Within}
 use Rattle.sym_model.specs.Partition.{IsPartition, size}
 use Rattle.sym_model.specs.Bases.{down_from}
 use Rattle.sym_model.specs.PartitionList.{partitions_of, partitions_within}
@@ -18,12 +18,13 @@ use Rattle.basis_change_laws.specs.AugmentedMonomial.{multiplicity_factorials}
 use Rattle.whole_lists.specs.Tables.{IsTable}
 use Rattle.whole_lists.specs.LabelSizes.{AreWithin}
 use Rattle.whole_lists.proofs.WholeLists.{Once-keys}
-use Rattle.whole_lists.proofs.TableSums.{label-partition}
+use Rattle.change_from_monomials.proofs.Fractions.{label-partition}
 use Rattle.change_from_monomials.specs.Mixed.{mixed, weight}
 use Rattle.change_from_monomials.specs.Clearing.{cleared_number, cleared_terms, HasFactors}
 use Rattle.change_from_monomials.specs.Costs.{doubled, cost}
-use native.Mathlib.Nat.{mul-pos, mul-le-mul_left, mul-le-mul_right}
+use native.Mathlib.Nat.{mul-le-mul_left, mul-le-mul_right}
 use Rattle.monomial_laws.proofs.Growths.{factorial-positive}
+use Rattle.monomial_laws.proofs.Powers.{factorials-positive}
 
 -- ---- the table
 
@@ -42,7 +43,7 @@ abbrev pub label_cost : ℕ → List ℕ → ℕ
 label_cost d parts = (multinomial parts * (factorial d / multiplicity_factorials parts)) * (factorial (length parts) * doubled (size parts))
 
 abbrev pub partitions_to : ℕ → List (List ℕ)
-partitions_to d = each partitions_of (down_from d)
+partitions_to d = flat_map partitions_of (down_from d)
 
 abbrev pub divides_all : ℕ → List ℕ → Bool
 divides_all d parts =
@@ -123,10 +124,6 @@ sum-within f (y ∷ ys) xs o w =
     omega arith
 
 -- ---- the cost of a list
-
-pub factorials-positive : (parts : List ℕ) → 0 < factorials parts
-factorials-positive [] = omega arith
-factorials-positive (a ∷ parts) = mul-pos (factorial-positive a) (factorials-positive parts)
 
 pub cancel-le : (a b c : ℕ) → 0 < c → a * c ≤ b * c → a ≤ b
 cancel-le a b c p h = by (cases_lt b a)

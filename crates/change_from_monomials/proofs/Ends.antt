@@ -5,7 +5,6 @@ use Rattle.std.proofs.Common.{◌≡◌, ℕ, ◌*◌, ◌/◌, ◌<◌, ◌≤�
 use Rattle.std.proofs.lemmas.Int.{ints}
 use Rattle.std.proofs.Math.Nat.{div-mul_cancel}
 use Rattle.std.proofs.lemmas.Nat.Gcd.{dvd_of_mod-eq-zero}
-use Rattle.coeff_rings.specs.Proved.Fractions.{product_cancel}
 use Rattle.sym_model.specs.Sum.{total, Among}
 use Rattle.sym_model.specs.Polynomial.{Poly, coefficient, pair, times, one}
 use Rattle.sym_model.specs.Bases.{monomial, product_over}
@@ -25,7 +24,7 @@ use Rattle.whole_lists.specs.Tables.{IsTable}
 use Rattle.whole_lists.specs.LabelSizes.{AreWithin}
 use Rattle.whole_lists.proofs.WholeLists.{Once-keys}
 use Rattle.whole_lists.proofs.Quotients.{Quotients, IsDivided-quotients}
-use Rattle.whole_lists.proofs.TableSums.{label-partition}
+use Rattle.change_from_monomials.proofs.Fractions.{label-partition}
 use Rattle.change_from_monomials.specs.declared.mixed.MixedLabel.{MixedLabel}
 use Rattle.whole_lists.specs.declared.family.Family.{Family}
 use Rattle.whole_lists.specs.declared.family.Family.TheVariants.{Elementary, Complete, PowerSum}
@@ -37,6 +36,7 @@ use Rattle.change_from_monomials.proofs.Walks.{ready_label}
 use Rattle.change_from_monomials.proofs.Values.{In-augmented, weighed-agree}
 use Rattle.change_from_monomials.proofs.PowerSums.{label_value, label_value-is}
 use Rattle.change_from_monomials.proofs.CostTable.{divides-at}
+use Rattle.sym_model.proofs.Integers.{product_cancel}
 use native.Mathlib.Nat.{mul-pos}
 use lib.IntN.{*ℤ-zero}
 

@@ -4,7 +4,7 @@ use Rattle.std.specs.Prelude.{nat_abs}
 use Rattle.std.proofs.lemmas.Int.{ints}
 use Rattle.std.proofs.lemmas.Bool.{cases_lt}
 use Rattle.std.proofs.lemmas.Bool.Decides.{nat_tests}
-use Rattle.sym_model.specs.Expansion.{Terms}
+use Rattle.sym_model.specs.WholeTerms.{WholeTerms}
 use Rattle.sym_model.specs.Partition.{Falls, IsPartition, size, rows}
 use Rattle.sym_model.specs.Bases.{has}
 use Rattle.sym_model.specs.BetaList.{beta, put_falling, greater, from_beta}
@@ -16,12 +16,12 @@ use Rattle.partitions.specs.Limits.{IsWithinLimits}
 use Rattle.beta_list_laws.proofs.BetaLists.{from_beta_partition}
 use Rattle.beta_list_laws.proofs.SortedLists.{greater_first}
 use Rattle.arrangement_laws.specs.SpecialRimHooks.{straight_value, hooked}
-use Rattle.arrangement_laws.proofs.FrontSorting.{strict_falls}
 use Rattle.arrangement_laws.proofs.HookSteps.{beta-last, length-others, strict-others, value-again, value-put, strict-put, size-put}
-use Rattle.sparse_polys.specs.WholeTables.{Gains}
-use Rattle.sparse_polys.proofs.WholeTables.{gains_as}
+use Rattle.change_from_monomials.specs.Sums.{Grows}
+use Rattle.change_from_monomials.proofs.SumSteps.{grows_as}
 use Rattle.whole_lists.proofs.PartitionTerms.{IsWithinLimits-low}
 use Rattle.change_from_monomials.proofs.StraightBounds.{sign-size}
+use Rattle.beta_list_laws.proofs.Lowest.{strict_falls}
 
 take_front : (front t : List ℕ) (n : ℕ) → n ≡ length front → take n (front ++ t) ≡ front
 take_front [] t zero e = none t
@@ -88,9 +88,9 @@ module _ (ν l : List ℕ) (k n a : ℕ) (p : IsPartition ν) (r : rows ν ≤ k
     abs-made c number passes s = ap nat_abs s ∙ sign-size passes c
 
     pub gains-made : (c number : ℤ) (passes : ℕ) → number ≡ minus_one_to passes *ℤ c → passes ≡ k - at → at ≤ k → (label : List ℕ) → label ≡ from_beta entries
-        → (old new : Terms (List ℕ)) → Gains old new (λ φ. number *ℤ φ label) (nat_abs number) → Gains old new (λ φ. c *ℤ straight_value φ (hooked ν (k + 1) a)) (nat_abs c)
+        → (old new : WholeTerms) → Grows old new (λ φ. number *ℤ φ label) (nat_abs number) → Grows old new (λ φ. c *ℤ straight_value φ (hooked ν (k + 1) a)) (nat_abs c)
     gains-made c number passes s t low label i old new gains =
-        gains_as old new (λ φ. number *ℤ φ label) (λ φ. c *ℤ straight_value φ (hooked ν (k + 1) a)) (nat_abs number) (nat_abs c)
+        grows_as old new (λ φ. number *ℤ φ label) (λ φ. c *ℤ straight_value φ (hooked ν (k + 1) a)) (nat_abs number) (nat_abs c)
         (λ φ.
         ap₂ (λ (z : ℤ) (m : List ℕ). z *ℤ φ m) s (i ∙ ap from_beta entries_are)
         ∙ turned (minus_one_to passes) c (φ (from_beta (put_falling a (map suc (beta k ν)))))

@@ -3,23 +3,22 @@
 --     hooks_next, list_next        one row more, one term more
 use Rattle.std.proofs.Common.{◌≡◌, ℕ, ◌+◌, ◌*◌, ◌≤◌, List, [], ◌∷◌, ◌++◌, sym, ap, ◌∙◌, arith, ℤ, pos, ◌+ℤ◌, ◌*ℤ◌}
 use Rattle.std.specs.Prelude.{nat_abs}
-use Rattle.coeff_rings.specs.Fractions.{whole}
-use Rattle.sym_model.specs.Expansion.{Terms}
+use Rattle.sym_model.specs.WholeTerms.{WholeTerms}
 use Rattle.sym_model.specs.Partition.{rows, after}
 use Rattle.sym_model.specs.Sum.{total}
 use Rattle.sym_model.proofs.AfterLists.{after-more}
 use Rattle.sym_model.proofs.Ring.{distributes_left}
 use Rattle.sym_model.proofs.Sums.{total_append}
 use Rattle.arrangement_laws.specs.SpecialRimHooks.{straight_value, hooked, hooks_value}
-use Rattle.sparse_polys.specs.Combination.{terms_of}
-use Rattle.sparse_polys.specs.WholeTables.{over, mass, Gains}
-use Rattle.sparse_polys.proofs.WholeTables.{gains_both, gains_as, over_push, mass_push}
+use Rattle.linear_combinations.specs.Gains.{over, mass}
+use Rattle.change_from_monomials.specs.Sums.{Grows}
+use Rattle.change_from_monomials.proofs.SumSteps.{grows_both, grows_as, over_push, mass_push}
 use native.Mathlib.Nat.{mul-le-mul_right}
 use lib.IntN.{+ℤ_idr}
 
 -- ---- nothing
 
-pub gains_zero : (old : Terms (List ℕ)) (f : (List ℕ → ℤ) → ℤ) (most : ℕ) → ((φ : List ℕ → ℤ) → f φ ≡ pos 0) → Gains old old f most
+pub gains_zero : (old : WholeTerms) (f : (List ℕ → ℤ) → ℤ) (most : ℕ) → ((φ : List ℕ → ℤ) → f φ ≡ pos 0) → Grows old old f most
 gains_zero old f most e = record { sums = λ φ. sym (ap (λ z. over φ old +ℤ z) (e φ) ∙ +ℤ_idr (over φ old)); grows = omega arith }
 
 -- ---- the rows below a shape
@@ -34,27 +33,27 @@ rows_more φ a ν many =
     ∙ total_append (λ (count : ℕ). straight_value φ (hooked ν count a)) (after (rows ν) many) ((rows ν + many + 1) ∷ [])
     ∙ ap (λ z. rows_value φ a ν many +ℤ z) (+ℤ_idr (straight_value φ (hooked ν (rows ν + many + 1) a)))
 
-pub hooks_next : (old cur new : Terms (List ℕ)) (a : ℕ) (ν : List ℕ) (c : ℤ) (many : ℕ)
-    → Gains old cur (λ φ. c *ℤ rows_value φ a ν many) (nat_abs c * many)
-    → Gains cur new (λ φ. c *ℤ straight_value φ (hooked ν (rows ν + many + 1) a)) (nat_abs c)
-    → Gains old new (λ φ. c *ℤ rows_value φ a ν (many + 1)) (nat_abs c * (many + 1))
+pub hooks_next : (old cur new : WholeTerms) (a : ℕ) (ν : List ℕ) (c : ℤ) (many : ℕ)
+    → Grows old cur (λ φ. c *ℤ rows_value φ a ν many) (nat_abs c * many)
+    → Grows cur new (λ φ. c *ℤ straight_value φ (hooked ν (rows ν + many + 1) a)) (nat_abs c)
+    → Grows old new (λ φ. c *ℤ rows_value φ a ν (many + 1)) (nat_abs c * (many + 1))
 hooks_next old cur new a ν c many before here =
-    gains_as old new (λ φ. c *ℤ rows_value φ a ν many +ℤ c *ℤ straight_value φ (hooked ν (rows ν + many + 1) a)) (λ φ. c *ℤ rows_value φ a ν (many + 1)) (nat_abs c * many + nat_abs c) (nat_abs c * (many + 1))
+    grows_as old new (λ φ. c *ℤ rows_value φ a ν many +ℤ c *ℤ straight_value φ (hooked ν (rows ν + many + 1) a)) (λ φ. c *ℤ rows_value φ a ν (many + 1)) (nat_abs c * many + nat_abs c) (nat_abs c * (many + 1))
     (λ φ. sym (ap (λ z. c *ℤ z) (rows_more φ a ν many) ∙ distributes_left c (rows_value φ a ν many) (straight_value φ (hooked ν (rows ν + many + 1) a))))
     (omega arith)
-    (gains_both old cur new (λ φ. c *ℤ rows_value φ a ν many) (λ φ. c *ℤ straight_value φ (hooked ν (rows ν + many + 1) a)) (nat_abs c * many) (nat_abs c) before here)
+    (grows_both old cur new (λ φ. c *ℤ rows_value φ a ν many) (λ φ. c *ℤ straight_value φ (hooked ν (rows ν + many + 1) a)) (nat_abs c * many) (nat_abs c) before here)
 
 -- ---- the terms of a list
 
-pub list_next : (old cur new : Terms (List ℕ)) (a : ℕ) (done : List (List ℕ × ℤ)) (ν : List ℕ) (c : ℤ)
-    → Gains old cur (λ φ. over (hooks_value φ a) (terms_of whole done)) (mass (terms_of whole done) * a)
-    → Gains cur new (λ φ. c *ℤ hooks_value φ a ν) (nat_abs c * a)
-    → Gains old new (λ φ. over (hooks_value φ a) (terms_of whole (done ++ (ν, c) ∷ []))) (mass (terms_of whole (done ++ (ν, c) ∷ [])) * a)
+pub list_next : (old cur new : WholeTerms) (a : ℕ) (done : List (List ℕ × ℤ)) (ν : List ℕ) (c : ℤ)
+    → Grows old cur (λ φ. over (hooks_value φ a) done) (mass done * a)
+    → Grows cur new (λ φ. c *ℤ hooks_value φ a ν) (nat_abs c * a)
+    → Grows old new (λ φ. over (hooks_value φ a) (done ++ (ν, c) ∷ [])) (mass (done ++ (ν, c) ∷ []) * a)
 list_next old cur new a done ν c before here =
-    gains_as old new (λ φ. over (hooks_value φ a) (terms_of whole done) +ℤ c *ℤ hooks_value φ a ν) (λ φ. over (hooks_value φ a) (terms_of whole (done ++ (ν, c) ∷ []))) (mass (terms_of whole done) * a + nat_abs c * a) (mass (terms_of whole (done ++ (ν, c) ∷ [])) * a)
+    grows_as old new (λ φ. over (hooks_value φ a) done +ℤ c *ℤ hooks_value φ a ν) (λ φ. over (hooks_value φ a) (done ++ (ν, c) ∷ [])) (mass done * a + nat_abs c * a) (mass (done ++ (ν, c) ∷ []) * a)
     (λ φ. sym (over_push (hooks_value φ a) done ν c))
-    (within (mass (terms_of whole done)) (nat_abs c) (mass (terms_of whole (done ++ (ν, c) ∷ []))) (mass_push done ν c))
-    (gains_both old cur new (λ φ. over (hooks_value φ a) (terms_of whole done)) (λ φ. c *ℤ hooks_value φ a ν) (mass (terms_of whole done) * a) (nat_abs c * a) before here)
+    (within (mass done) (nat_abs c) (mass (done ++ (ν, c) ∷ [])) (mass_push done ν c))
+    (grows_both old cur new (λ φ. over (hooks_value φ a) done) (λ φ. c *ℤ hooks_value φ a ν) (mass done * a) (nat_abs c * a) before here)
   where
     within : (x y z : ℕ) → z ≡ x + y → x * a + y * a ≤ z * a
     within x y z e =

@@ -10,47 +10,41 @@ use Rattle.std.proofs.lemmas.List.{map-append, append-nil, drop_all}
 use Rattle.std.proofs.lemmas.Int.{ints, unsigned_abs-mul}
 use Rattle.std.proofs.lemmas.Bool.Decides.{nat_tests}
 use Rattle.sym_model.specs.Sum.{Among}
-use Rattle.sym_model.specs.Polynomial.{pair}
+use Rattle.sym_model.specs.Polynomial.{coefficient, pair}
 use Rattle.sym_model.specs.Partition.{IsPartition, size, rows}
 use Rattle.sym_model.specs.RaisedPart.{without_one, distinct}
-use Rattle.sym_model.specs.Expansion.{Fraction, Terms}
-use Rattle.sym_model.specs.WholeTerms.{WholeTerms, numerators}
+use Rattle.sym_model.specs.WholeTerms.{WholeTerms}
 use Rattle.sym_model.specs.Weight.{factorial}
 use Rattle.sym_model.proofs.Ring.{ring}
 use Rattle.sym_model.proofs.Sums.{total_ext, total_among, total_map, total_scale, total_append, Among_from_append}
 use Rattle.sym_model.proofs.SortedParts.{rows_within_size, size-without_one, has-zero}
 use Rattle.sym_model.proofs.Parts.{size-append}
-use Rattle.sym_model.proofs.Lists.{drop-next, map-map}
+use Rattle.sym_model.proofs.Lists.{drop-next}
 use Rattle.sym_model.specs.Bases.{has}
 use Rattle.monomial_laws.proofs.Growths.{factorial-mono}
 use Rattle.arrangement_laws.specs.SpecialRimHooks.{within_rows, hooks_value, IsStraightening, AreStraightenings, all_hooks}
 use Rattle.arrangement_laws.proofs.StraightenedArrangements.{no_part, last_part}
-use Rattle.coeff_rings.specs.Fractions.{whole}
-use Rattle.sparse_polys.specs.Combination.{terms_of}
-use Rattle.sparse_polys.specs.WholeTables.{over, mass, Gains}
-use Rattle.sparse_polys.proofs.WholeTables.{gains_both, gains_as}
-use Rattle.whole_lists.specs.Tables.{found, IsTable}
+use Rattle.linear_combinations.specs.Gains.{over, mass}
+use Rattle.change_from_monomials.specs.Sums.{Grows}
+use Rattle.change_from_monomials.proofs.SumSteps.{grows_both, grows_as}
+use Rattle.whole_lists.specs.Tables.{IsWholeTable}
 use Rattle.whole_lists.specs.LabelSizes.{AreWithin}
-use Rattle.whole_lists.proofs.TableSums.{label-partition}
-use Rattle.whole_lists.proofs.WholeLists.{found-among}
+use Rattle.whole_lists.proofs.WholeLists.{label-partition}
+use Rattle.linear_combinations.proofs.Found.{coefficient_of_term}
 use Rattle.change_from_monomials.specs.declared.mixed.MixedLabel.{MixedLabel}
 use Rattle.change_from_monomials.specs.Mixed.{Mixed, mixed, weighed, weight, Added}
 use Rattle.change_from_monomials.specs.Arranging.{straight_terms, at_label, OverflowsSomewhere}
 use Rattle.change_from_monomials.specs.KeptLists.{IsKept, multiple}
 use Rattle.change_from_monomials.proofs.StraightTerms.{weight-total, plain, straight_terms-weighed, Somewhere-between}
 use Rattle.change_from_monomials.proofs.Tables.{at_label-itself}
+use Rattle.sym_model.proofs.Integers.{sign_of}
 use native.Mathlib.Nat.{mul-le-mul_left, mul-le-mul_right}
 use lib.IntN.{+ℤ_idl, +ℤ_idr}
 
 -- ---- the same sums
 
-pub over-pair : (φ : List ℕ → ℤ) (terms : Terms (List ℕ)) → pair (numerators terms) φ ≡ over φ terms
-over-pair φ terms = total_map (λ (t : List ℕ × ℤ). t.1 *ℤ φ t.0) (λ (t : List ℕ × Fraction). (t.0, t.1.0)) terms
-
--- the sign of a number
-abbrev sign_of : ℤ → ℤ
-sign_of (pos k) = pos 1
-sign_of (negsuc k) = negsuc 0
+pub over-pair : (φ : List ℕ → ℤ) (terms : WholeTerms) → pair terms φ ≡ over φ terms
+over-pair φ terms = refl
 
 sign-one : (y : ℤ) → nat_abs (sign_of y) ≡ 1
 sign-one (pos k) = refl
@@ -79,23 +73,23 @@ sign-bounds z y w =
     below (pos n) = omega (arith, ints)
     below (negsuc n) = omega (arith, ints)
 
-module _ (c : ℤ) (parts : List ℕ) (n : ℕ) (terms : Terms (List ℕ)) (kept : IsKept parts terms) (is : IsTable terms) (low : size parts ≤ n) where
+module _ (c : ℤ) (parts : List ℕ) (n : ℕ) (terms : WholeTerms) (kept : IsKept parts terms) (is : IsWholeTable terms) (low : size parts ≤ n) where
   rows-within : (g : List ℕ → ℤ) → over (within_rows n g) terms ≡ over g terms
   rows-within g =
-      total_among (λ (t : List ℕ × Fraction). t.1.0 *ℤ within_rows n g t.0) (λ (t : List ℕ × Fraction). t.1.0 *ℤ g t.0) terms
+      total_among (λ (t : List ℕ × ℤ). t.1 *ℤ within_rows n g t.0) (λ (t : List ℕ × ℤ). t.1 *ℤ g t.0) terms
       (λ t m.
       let r = rows_within_size t.0 (label-partition terms is t m).positive in
       let s = kept.within t m in
-      ap (λ b. t.1.0 *ℤ cond b (g t.0) (pos 0)) (below (rows t.0) n (omega arith)))
+      ap (λ b. t.1 *ℤ cond b (g t.0) (pos 0)) (below (rows t.0) n (omega arith)))
     where
       below : (a b : ℕ) → a ≤ b → nat_le a b ≡ true
       below a b h = grind (arith, nat_tests)
 
   multiple-weighed : (f : MixedLabel → ℤ) → weighed f (multiple c terms) ≡ weighed f (straight_terms c parts n)
   multiple-weighed f =
-      total_map (λ (t : MixedLabel × ℤ). t.1 *ℤ f t.0) (λ (t : List ℕ × Fraction). (mixed t.0 [], t.1.0 *ℤ c)) terms
-      ∙ total_ext (λ (t : List ℕ × Fraction). (t.1.0 *ℤ c) *ℤ f (mixed t.0 [])) (λ (t : List ℕ × Fraction). c *ℤ (t.1.0 *ℤ plain f t.0)) (λ t. turned t.1.0 c (f (mixed t.0 []))) terms
-      ∙ total_scale c (λ (t : List ℕ × Fraction). t.1.0 *ℤ plain f t.0) terms
+      total_map (λ (t : MixedLabel × ℤ). t.1 *ℤ f t.0) (λ (t : List ℕ × ℤ). (mixed t.0 [], t.1 *ℤ c)) terms
+      ∙ total_ext (λ (t : List ℕ × ℤ). (t.1 *ℤ c) *ℤ f (mixed t.0 [])) (λ (t : List ℕ × ℤ). c *ℤ (t.1 *ℤ plain f t.0)) (λ t. turned t.1 c (f (mixed t.0 []))) terms
+      ∙ total_scale c (λ (t : List ℕ × ℤ). t.1 *ℤ plain f t.0) terms
       ∙ ap (λ z. c *ℤ z) (sym (kept.straightens n (plain f) ∙ over-pair (within_rows n (plain f)) terms ∙ rows-within (plain f)))
       ∙ sym (straight_terms-weighed f c parts n)
     where
@@ -106,12 +100,12 @@ module _ (c : ℤ) (parts : List ℕ) (n : ℕ) (terms : Terms (List ℕ)) (kept
   multiple-weight : (w : MixedLabel → ℕ) → weight w (multiple c terms) ≤ weight w (straight_terms c parts n)
   multiple-weight w =
       let own : weighed signs (multiple c terms) ≡ pos (weight w (multiple c terms)) =
-      total_map (λ (t : MixedLabel × ℤ). t.1 *ℤ signs t.0) (λ (t : List ℕ × Fraction). (mixed t.0 [], t.1.0 *ℤ c)) terms
-      ∙ total_among (λ (t : List ℕ × Fraction). (t.1.0 *ℤ c) *ℤ signs (mixed t.0 [])) (λ (t : List ℕ × Fraction). pos (nat_abs (t.1.0 *ℤ c) * w (mixed t.0 []))) terms
+      total_map (λ (t : MixedLabel × ℤ). t.1 *ℤ signs t.0) (λ (t : List ℕ × ℤ). (mixed t.0 [], t.1 *ℤ c)) terms
+      ∙ total_among (λ (t : List ℕ × ℤ). (t.1 *ℤ c) *ℤ signs (mixed t.0 [])) (λ (t : List ℕ × ℤ). pos (nat_abs (t.1 *ℤ c) * w (mixed t.0 []))) terms
       (λ t m.
-      ap (λ (r : Fraction). (t.1.0 *ℤ c) *ℤ (sign_of (r.0 *ℤ c) *ℤ pos (w (mixed t.0 [])))) (found-among terms is.distinct t m)
-      ∙ sign-itself (t.1.0 *ℤ c) (w (mixed t.0 [])))
-      ∙ sym (total_map (λ (t : MixedLabel × ℤ). pos (nat_abs t.1 * w t.0)) (λ (t : List ℕ × Fraction). (mixed t.0 [], t.1.0 *ℤ c)) terms)
+      ap (λ r. (t.1 *ℤ c) *ℤ (sign_of (r *ℤ c) *ℤ pos (w (mixed t.0 [])))) (coefficient_of_term terms is.distinct t m)
+      ∙ sign-itself (t.1 *ℤ c) (w (mixed t.0 [])))
+      ∙ sym (total_map (λ (t : MixedLabel × ℤ). pos (nat_abs t.1 * w t.0)) (λ (t : List ℕ × ℤ). (mixed t.0 [], t.1 *ℤ c)) terms)
       ∙ sym (weight-total w (multiple c terms)) in
       let same = multiple-weighed signs in
       let b = bound (straight_terms c parts n) in
@@ -119,11 +113,11 @@ module _ (c : ℤ) (parts : List ℕ) (n : ℕ) (terms : Terms (List ℕ)) (kept
       omega (arith, ints)
     where
       signs : MixedLabel → ℤ
-      signs l = sign_of ((found terms l.converted).0 *ℤ c) *ℤ pos (w l)
+      signs l = sign_of (coefficient terms l.converted *ℤ c) *ℤ pos (w l)
 
       bound : (xs : Mixed) → weighed signs xs ≤ℤ pos (weight w xs)
       bound [] = omega (arith, ints)
-      bound (x ∷ xs) = let a = sign-bounds x.1 ((found terms x.0.converted).0 *ℤ c) (w x.0) in let r = bound xs in omega (arith, ints)
+      bound (x ∷ xs) = let a = sign-bounds x.1 (coefficient terms x.0.converted *ℤ c) (w x.0) in let r = bound xs in omega (arith, ints)
 
   pub Added-multiple : (old new : Mixed) → Added (multiple c terms) old new → Added (straight_terms c parts n) old new
   Added-multiple old new a = record {
@@ -136,7 +130,7 @@ module _ (c : ℤ) (parts : List ℕ) (n : ℕ) (terms : Terms (List ℕ)) (kept
 
 -- ---- when a list is one to keep
 
-pub kept-nothing : (new : Terms (List ℕ)) → Gains [] new (λ φ. pos 1 *ℤ φ []) 1 → AreWithin 0 new → IsKept [] new
+pub kept-nothing : (new : WholeTerms) → Grows [] new (λ φ. pos 1 *ℤ φ []) 1 → AreWithin 0 new → IsKept [] new
 kept-nothing new gains within = record {
   straightens = λ n g. let a = no_part n g in let b = over-pair (within_rows n g) new in let c = gains.sums (within_rows n g) in omega (arith, ints);
   few = let g = gains.grows in omega arith;
@@ -166,10 +160,10 @@ within-factorial parts numbers p e =
     let f = factorial-step (size parts) p in
     omega arith
 
-pub kept-step : (parts : List ℕ) (lists : List (ℕ × WholeTerms)) (sum : Terms (List ℕ)) → IsPartition parts → 0 < length parts → AreStraightenings parts lists
-    → Gains [] sum (λ φ. all_hooks φ lists) (size (parts_of lists) * factorial (size parts - 1)) → AreWithin (size parts) sum → IsKept parts sum
+pub kept-step : (parts : List ℕ) (lists : List (ℕ × WholeTerms)) (sum : WholeTerms) → IsPartition parts → 0 < length parts → AreStraightenings parts lists
+    → Grows [] sum (λ φ. all_hooks φ lists) (size (parts_of lists) * factorial (size parts - 1)) → AreWithin (size parts) sum → IsKept parts sum
 kept-step parts lists sum p l s gains within = record {
-  straightens = last_part parts lists (numerators sum) p l s (λ g. over-pair g sum ∙ gains.sums g ∙ +ℤ_idl (all_hooks g lists));
+  straightens = last_part parts lists sum p l s (λ g. over-pair g sum ∙ gains.sums g ∙ +ℤ_idl (all_hooks g lists));
   few =
       let g = gains.grows in
       let r = rows_within_size parts p.positive in
@@ -194,7 +188,7 @@ pub part-positive : (parts : List ℕ) (a : ℕ) → IsPartition parts → has a
 part-positive parts zero p h = absurd (let z = has-zero parts p.positive in cc)
 part-positive parts (suc a) p h = omega arith
 
-module _ (parts : List ℕ) (a : ℕ) (p : IsPartition parts) (here : has a parts ≡ true) (list : Terms (List ℕ)) (kept : IsKept (without_one a parts) list) where
+module _ (parts : List ℕ) (a : ℕ) (p : IsPartition parts) (here : has a parts ≡ true) (list : WholeTerms) (kept : IsKept (without_one a parts) list) where
   pub size-rest : a + size (without_one a parts) ≡ size parts
   size-rest = size-without_one a parts here
 
@@ -206,15 +200,15 @@ module _ (parts : List ℕ) (a : ℕ) (p : IsPartition parts) (here : has a part
       let k = kept.few in
       omega arith
 
-  pub hooks_added : (done : List (ℕ × WholeTerms)) (sum new : Terms (List ℕ))
-      → Gains [] sum (λ φ. all_hooks φ done) (size (parts_of done) * factorial (size parts - 1)) → Gains sum new (λ φ. over (hooks_value φ a) list) (mass list * a)
-      → Gains [] new (λ φ. all_hooks φ (done ++ (a, numerators list) ∷ [])) (size (parts_of (done ++ (a, numerators list) ∷ [])) * factorial (size parts - 1))
+  pub hooks_added : (done : List (ℕ × WholeTerms)) (sum new : WholeTerms)
+      → Grows [] sum (λ φ. all_hooks φ done) (size (parts_of done) * factorial (size parts - 1)) → Grows sum new (λ φ. over (hooks_value φ a) list) (mass list * a)
+      → Grows [] new (λ φ. all_hooks φ (done ++ (a, list) ∷ [])) (size (parts_of (done ++ (a, list) ∷ [])) * factorial (size parts - 1))
   hooks_added done sum new before now =
-      gains_as [] new (λ φ. all_hooks φ done +ℤ over (hooks_value φ a) list) (λ φ. all_hooks φ (done ++ (a, numerators list) ∷ []))
-      (size (parts_of done) * factorial (size parts - 1) + mass list * a) (size (parts_of (done ++ (a, numerators list) ∷ [])) * factorial (size parts - 1))
-      (λ φ. sym (all_hooks-push φ done a (numerators list) ∙ ap (λ z. all_hooks φ done +ℤ z) (over-pair (hooks_value φ a) list)))
-      (bounded (size (parts_of done)) (size (parts_of (done ++ (a, numerators list) ∷ []))) (factorial (size parts - 1)) (size-push done a (numerators list)) few-cells)
-      (gains_both [] sum new (λ φ. all_hooks φ done) (λ φ. over (hooks_value φ a) list) (size (parts_of done) * factorial (size parts - 1)) (mass list * a) before now)
+      grows_as [] new (λ φ. all_hooks φ done +ℤ over (hooks_value φ a) list) (λ φ. all_hooks φ (done ++ (a, list) ∷ []))
+      (size (parts_of done) * factorial (size parts - 1) + mass list * a) (size (parts_of (done ++ (a, list) ∷ [])) * factorial (size parts - 1))
+      (λ φ. sym (all_hooks-push φ done a list ∙ ap (λ z. all_hooks φ done +ℤ z) (over-pair (hooks_value φ a) list)))
+      (bounded (size (parts_of done)) (size (parts_of (done ++ (a, list) ∷ []))) (factorial (size parts - 1)) (size-push done a list) few-cells)
+      (grows_both [] sum new (λ φ. all_hooks φ done) (λ φ. over (hooks_value φ a) list) (size (parts_of done) * factorial (size parts - 1)) (mass list * a) before now)
     where
       bounded : (x y f : ℕ) → y ≡ x + a → mass list ≤ f → x * f + mass list * a ≤ y * f
       bounded x y f e h =
@@ -224,8 +218,8 @@ module _ (parts : List ℕ) (a : ℕ) (p : IsPartition parts) (here : has a part
           omega arith
 
   -- which is never too much
-  pub not_large : (done : List (ℕ × WholeTerms)) (later : List ℕ) (sum : Terms (List ℕ)) → size parts ≤ 20 → parts_of done ++ (a ∷ later) ≡ distinct parts
-      → Gains [] sum (λ φ. all_hooks φ done) (size (parts_of done) * factorial (size parts - 1)) → 2 ^ 127 ≤ mass sum + mass list * a → ⊥
+  pub not_large : (done : List (ℕ × WholeTerms)) (later : List ℕ) (sum : WholeTerms) → size parts ≤ 20 → parts_of done ++ (a ∷ later) ≡ distinct parts
+      → Grows [] sum (λ φ. all_hooks φ done) (size (parts_of done) * factorial (size parts - 1)) → 2 ^ 127 ≤ mass sum + mass list * a → ⊥
   not_large done later sum low listed gains large =
       let g = gains.grows in
       let m = mul-le-mul_right a few-cells in
@@ -283,27 +277,21 @@ straightens-next parts a done terms before here x m = by (Among_from_append x do
 abbrev times_term : ℤ → List ℕ × ℤ → MixedLabel × ℤ
 times_term c p = (mixed p.0 [], p.1 *ℤ c)
 
-multiple-is : (c : ℤ) (es : List (List ℕ × ℤ)) → multiple c (terms_of whole es) ≡ map (times_term c) es
-multiple-is c es = map-map (λ (t : List ℕ × Fraction). (mixed t.0 [], t.1.0 *ℤ c)) (λ (p : List ℕ × ℤ). (p.0, whole p.1)) es
+pub multiple-push : (c : ℤ) (done : WholeTerms) (k : List ℕ) (v : ℤ) → multiple c (done ++ (k, v) ∷ []) ≡ multiple c done ++ (mixed k [], v *ℤ c) ∷ []
+multiple-push c done k v = map-append (times_term c) done ((k, v) ∷ [])
 
-pub multiple-push : (c : ℤ) (done : List (List ℕ × ℤ)) (k : List ℕ) (v : ℤ) → multiple c (terms_of whole (done ++ (k, v) ∷ [])) ≡ multiple c (terms_of whole done) ++ (mixed k [], v *ℤ c) ∷ []
-multiple-push c done k v =
-    multiple-is c (done ++ (k, v) ∷ []) ∙ map-append (times_term c) done ((k, v) ∷ []) ∙ ap (λ (xs : Mixed). xs ++ (mixed k [], v *ℤ c) ∷ []) (sym (multiple-is c done))
-
-multiple-split : (c : ℤ) (done rest : List (List ℕ × ℤ)) (k : List ℕ) (v : ℤ) (all : Terms (List ℕ)) → terms_of whole (done ++ (k, v) ∷ rest) ≡ all
-    → multiple c all ≡ (multiple c (terms_of whole done) ++ (mixed k [], v *ℤ c) ∷ []) ++ map (times_term c) rest
+multiple-split : (c : ℤ) (done rest : WholeTerms) (k : List ℕ) (v : ℤ) (all : WholeTerms) → done ++ (k, v) ∷ rest ≡ all
+    → multiple c all ≡ (multiple c done ++ (mixed k [], v *ℤ c) ∷ []) ++ multiple c rest
 multiple-split c done rest k v all e =
     ap (multiple c) (sym e)
-    ∙ multiple-is c (done ++ (k, v) ∷ rest)
     ∙ map-append (times_term c) done ((k, v) ∷ rest)
-    ∙ ap (λ (xs : Mixed). xs ++ map (times_term c) ((k, v) ∷ rest)) (sym (multiple-is c done))
-    ∙ sym (append_assoc (multiple c (terms_of whole done)) ((mixed k [], v *ℤ c) ∷ []) (map (times_term c) rest))
+    ∙ sym (append_assoc (multiple c done) ((mixed k [], v *ℤ c) ∷ []) (multiple c rest))
 
 -- a term that is refused
-pub multiple-past : (c : ℤ) (done rest : List (List ℕ × ℤ)) (k : List ℕ) (v : ℤ) (all : Terms (List ℕ)) (old mid : Mixed) → terms_of whole (done ++ (k, v) ∷ rest) ≡ all
-    → Added (multiple c (terms_of whole done)) old mid → OverflowsSomewhere ((mixed k [], v *ℤ c) ∷ []) mid → OverflowsSomewhere (multiple c all) old
+pub multiple-past : (c : ℤ) (done rest : List (List ℕ × ℤ)) (k : List ℕ) (v : ℤ) (all : WholeTerms) (old mid : Mixed) → done ++ (k, v) ∷ rest ≡ all
+    → Added (multiple c done) old mid → OverflowsSomewhere ((mixed k [], v *ℤ c) ∷ []) mid → OverflowsSomewhere (multiple c all) old
 multiple-past c done rest k v all old mid e a o =
-    Somewhere-between (multiple c (terms_of whole done)) ((mixed k [], v *ℤ c) ∷ []) (map (times_term c) rest) (multiple c all) old mid (multiple-split c done rest k v all e) a o
+    Somewhere-between (multiple c done) ((mixed k [], v *ℤ c) ∷ []) (multiple c rest) (multiple c all) old mid (multiple-split c done rest k v all e) a o
 
 pub term-past : (k : List ℕ) (z : ℤ) (mid : Mixed) → 2 ^ 127 ≤ nat_abs z → OverflowsSomewhere ((mixed k [], z) ∷ []) mid
 term-past k z mid large = (k, let l = at_label-itself (mixed k []) in let m = mul-le-mul_left (nat_abs z) l in omega arith)

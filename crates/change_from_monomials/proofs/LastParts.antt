@@ -4,14 +4,9 @@
 use Rattle.std.proofs.Common.{◌≡◌, ℕ, suc, ◌+◌, ◌-◌, ◌<◌, List, [], ◌∷◌, ◌++◌, length, take, refl, sym, ap, ◌∙◌, subst, arith}
 use Rattle.std.proofs.lemmas.List.{length-append}
 use Rattle.std.proofs.Math.Seq.{take-append_seam, get_or-append_seam}
-use Rattle.sym_model.specs.Partition.{Falls, ArePositive, IsPartition, size, rows, part, insert_part}
-use Rattle.sym_model.proofs.Parts.{size-append, part-get_or}
+use Rattle.sym_model.specs.Partition.{ArePositive, IsPartition, size, rows, part, insert_part}
+use Rattle.sym_model.proofs.Parts.{size-append, part-get_or, falls_front}
 use Rattle.sym_model.proofs.SortedParts.{insert_part-front, insert_part_comm, IsPartition_tail}
-
-Falls-before : (front : List ℕ) (a : ℕ) → Falls (front ++ a ∷ []) → Falls front
-Falls-before [] a f = tt
-Falls-before (b ∷ []) a f = tt
-Falls-before (b ∷ c ∷ front) a f = (f.0, Falls-before (c ∷ front) a f.1)
 
 ArePositive-before : (front : List ℕ) (a : ℕ) → ArePositive (front ++ a ∷ []) → ArePositive front
 ArePositive-before [] a p = tt
@@ -22,7 +17,7 @@ positive-last [] a p = p.0
 positive-last (b ∷ front) a p = positive-last front a p.1
 
 IsPartition-before : (front : List ℕ) (a : ℕ) → IsPartition (front ++ a ∷ []) → IsPartition front
-IsPartition-before front a p = record { falls = Falls-before front a p.falls; positive = ArePositive-before front a p.positive }
+IsPartition-before front a p = record { falls = falls_front front a p.falls; positive = ArePositive-before front a p.positive }
 
 pub insert_part-end : (a : ℕ) (front : List ℕ) → IsPartition (front ++ a ∷ []) → insert_part a front ≡ front ++ a ∷ []
 insert_part-end a [] p = insert_part-front a [] p.positive.0 tt

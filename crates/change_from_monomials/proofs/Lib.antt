@@ -22,3 +22,5 @@ pub mod MultinomialSums
 pub mod StraightBounds
 pub mod StraightValues
 pub mod WholeSteps
+pub mod SumSteps
+mod Fractions

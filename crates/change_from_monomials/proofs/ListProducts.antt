@@ -3,8 +3,6 @@
 --     label-low                         a term is as low as the list
 use Rattle.std.proofs.Common.{◌≡◌, ℕ, ◌*◌, ◌≤◌, List, [], ◌∷◌, ◌++◌, refl, ap, arith, ℤ, pos, ◌*ℤ◌}
 use Rattle.std.specs.Prelude.{nat_abs}
-use Rattle.coeff_rings.specs.Fractions.{whole}
-use Rattle.sparse_polys.specs.Combination.{terms_of}
 use Rattle.sym_model.specs.Partition.{size}
 use Rattle.basis_change_laws.specs.JoinedLists.{merged}
 use Rattle.change_from_monomials.specs.Mixed.{Mixed, mixed, mixed_list, is_past, AreLow, products}
@@ -13,7 +11,7 @@ use Rattle.change_from_monomials.proofs.Walks.{is_past-tells, zero_weight}
 module _ (c : ℤ) (converted augmented : List ℕ) where
   -- the products with such a list
   abbrev pub list_products : List (List ℕ × ℤ) → Mixed
-  list_products es = products c (mixed_list (terms_of whole es)) converted augmented
+  list_products es = products c (mixed_list es) converted augmented
 
   pub products-push : (done : List (List ℕ × ℤ)) (k : List ℕ) (v : ℤ) → list_products (done ++ (k, v) ∷ []) ≡ list_products done ++ products c ((mixed k [], v) ∷ []) converted augmented
   products-push [] k v = refl
@@ -24,7 +22,7 @@ module _ (c : ℤ) (converted augmented : List ℕ) where
   products-split [] rest k v = refl
   products-split (t ∷ done) rest k v = ap (λ (xs : Mixed). (mixed (merged t.0 converted) augmented, t.1 *ℤ c) ∷ xs) (products-split done rest k v)
 
-pub label-low : (d : ℕ) (done rest : List (List ℕ × ℤ)) (k : List ℕ) (v : ℤ) → AreLow d (mixed_list (terms_of whole (done ++ (k, v) ∷ rest))) → (v ≡ pos 0 → ⊥) → size k ≤ d
+pub label-low : (d : ℕ) (done rest : List (List ℕ × ℤ)) (k : List ℕ) (v : ℤ) → AreLow d (mixed_list (done ++ (k, v) ∷ rest)) → (v ≡ pos 0 → ⊥) → size k ≤ d
 label-low d [] rest k v h n =
     let here : nat_abs v * is_past d (mixed k []) ≡ 0 = omega arith in
     is_past-tells d (mixed k []) (zero_weight v (is_past d (mixed k [])) n here)

@@ -4,14 +4,14 @@
 --     multinomials-within    those of the arrangements of different partitions of s add up to at most n^s
 --     arranged-within        a number bounded by a multinomial, once for each arrangement
 use Rattle.std.proofs.Common.{◌≡◌, ◌⊎◌, ℕ, zero, suc, ◌*◌, ◌^◌, ◌≤◌, Bool, true, false, cond, eqb, List, [], ◌∷◌, map, refl, sym, ap, ◌∙◌, subst, inl, inr, arith, pow-suc, ℤ, pos, ◌+ℤ◌, ◌*ℤ◌}
-use Rattle.std.specs.Prelude.{◌≤ℤ◌, nat_le}
+use Rattle.std.specs.Prelude.{◌≤ℤ◌}
 use Rattle.std.proofs.Common.{negsuc}
 use Rattle.std.proofs.lemmas.Int.{ints}
 use Rattle.std.proofs.lemmas.Bool.{cases_eq, eq-eqb, ne_eqb}
 use Rattle.std.proofs.Math.Nat.{pow-zero}
 use Rattle.sym_model.specs.Sum.{total, Among, Once}
 use Rattle.sym_model.specs.Polynomial.{same, coefficient, pair}
-use Rattle.sym_model.specs.Partition.{size, after, insert_part, sorted_parts}
+use Rattle.sym_model.specs.Partition.{size, after, sorted_parts}
 use Rattle.sym_model.specs.Bases.{exponent_lists}
 use Rattle.sym_model.specs.Schur.{words, content}
 use Rattle.sym_model.specs.Arrangement.{arrangements}
@@ -22,9 +22,8 @@ use Rattle.sym_model.proofs.Sums.{total_ext, total_map, total_each, total_select
 use Rattle.sym_model.proofs.Exponents.{same_true, same_sym}
 use Rattle.sym_model.proofs.Monomials.{is_exponent_list, total_exponent_lists-only}
 use Rattle.sym_model.proofs.Polynomials.{at_only, coefficient_pair, pair_total}
-use Rattle.whole_lists.proofs.DividedLists.{same_factorials}
-use Rattle.monomial_laws.specs.Majorant.{power, factorials as plain_factorials}
-use Rattle.monomial_laws.proofs.Powers.{coefficient_power, power-nonnegative, factorials-positive}
+use Rattle.monomial_laws.specs.Majorant.{power}
+use Rattle.monomial_laws.proofs.Powers.{coefficient_power, power-nonnegative, factorials-positive, factorials-sorted}
 use Rattle.monomial_laws.proofs.SchurMajorants.{pair-power}
 use Rattle.arrangement_laws.proofs.LastPlaces.{IsArrangement, arrangement}
 use Rattle.change_from_monomials.proofs.CostTable.{cancel-le}
@@ -122,42 +121,25 @@ multinomials-within s n lists o =
 
 -- ---- one partition
 
-factorials-insert : (a : ℕ) (parts : List ℕ) → plain_factorials (insert_part a parts) ≡ factorial a * plain_factorials parts
-factorials-insert zero parts = omega arith
-factorials-insert (suc a) [] = refl
-factorials-insert (suc a) (b ∷ parts) = by (nat_le b (suc a)) (factorials-insert (suc a) parts)
-  where
-    by : (t : Bool) → plain_factorials (insert_part (suc a) parts) ≡ factorial (suc a) * plain_factorials parts
-        → plain_factorials (cond t (suc a ∷ b ∷ parts) (b ∷ insert_part (suc a) parts)) ≡ factorial (suc a) * (factorial b * plain_factorials parts)
-    by true r = refl
-    by false r = ap (λ k. factorial b * k) r ∙ turned (factorial b) (factorial (suc a)) (plain_factorials parts)
-      where
-        turned : (x y z : ℕ) → x * (y * z) ≡ y * (x * z)
-        turned x y z = omega arith
-
-factorials-sorted : (α : List ℕ) → plain_factorials (sorted_parts α) ≡ plain_factorials α
-factorials-sorted [] = refl
-factorials-sorted (a ∷ α) = factorials-insert a (sorted_parts α) ∙ ap (λ k. factorial a * k) (factorials-sorted α)
-
 -- a number bounded by the multinomial of a partition
 bounded_at : (x N n : ℕ) (parts α : List ℕ) → IsArrangement parts n α → x * factorials parts ≤ N * factorial (size parts) → pos x ≤ℤ (pos N *ℤ multinomial (size parts) n α)
 bounded_at x N n parts α a h = by (multinomial (size parts) n α) (power-nonnegative (size parts) n α) whole
   where
     f : ℕ
-    f = plain_factorials α
+    f = factorials α
 
-    same_f : plain_factorials α ≡ factorials parts
-    same_f = sym (factorials-sorted α) ∙ ap plain_factorials a.sorts ∙ same_factorials parts
+    same_f : factorials α ≡ factorials parts
+    same_f = sym (factorials-sorted α) ∙ ap factorials a.sorts
 
-    whole : multinomial (size parts) n α *ℤ pos (plain_factorials α) ≡ pos (factorial (size parts))
+    whole : multinomial (size parts) n α *ℤ pos (factorials α) ≡ pos (factorial (size parts))
     whole = coefficient_power (size parts) n α a.long ∙ ap (λ b. cond b (pos (factorial (size parts))) (pos 0)) (eq-eqb (size α) (size parts) a.sum)
 
-    by : (z : ℤ) → pos 0 ≤ℤ z → z *ℤ pos (plain_factorials α) ≡ pos (factorial (size parts)) → pos x ≤ℤ (pos N *ℤ z)
+    by : (z : ℤ) → pos 0 ≤ℤ z → z *ℤ pos (factorials α) ≡ pos (factorial (size parts)) → pos x ≤ℤ (pos N *ℤ z)
     by (pos m) p e =
-        let k : m * plain_factorials α ≡ factorial (size parts) = let u = e in omega (arith, ints) in
-        let l : x * plain_factorials α ≤ (N * m) * plain_factorials α =
+        let k : m * factorials α ≡ factorial (size parts) = let u = e in omega (arith, ints) in
+        let l : x * factorials α ≤ (N * m) * factorials α =
         subst (λ q. x * q ≤ (N * m) * q) (sym same_f) (let v : N * factorial (size parts) ≡ (N * m) * factorials parts = ap (λ q. N * q) (sym k ∙ ap (λ q. m * q) same_f) ∙ grouped N m (factorials parts) in omega arith) in
-        let c = cancel-le x (N * m) (plain_factorials α) (factorials-positive α) l in
+        let c = cancel-le x (N * m) (factorials α) (factorials-positive α) l in
         omega (arith, ints)
       where
         grouped : (a b c : ℕ) → a * (b * c) ≡ (a * b) * c

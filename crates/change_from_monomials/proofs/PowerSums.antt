@@ -7,8 +7,7 @@ use Rattle.std.proofs.lemmas.Int.{ints}
 use Rattle.sym_model.specs.Polynomial.{Poly, Same, In, same, pair, times, one, scale}
 use Rattle.sym_model.specs.Partition.{sorted_parts}
 use Rattle.sym_model.specs.Bases.{monomial, power_sum_of, product_over}
-use Rattle.sym_model.specs.Expansion.{Terms}
-use Rattle.sym_model.specs.WholeTerms.{numerators, absolute_total, EachLabel}
+use Rattle.sym_model.specs.WholeTerms.{WholeTerms, absolute_total, EachLabel}
 use Rattle.sym_model.proofs.Numbers.{power-positive}
 use Rattle.sym_model.proofs.Polynomials.{pair_scale, pair_determined, same_from_pair, Same_refl, Same_trans, times_respects}
 use Rattle.sym_model.proofs.PolynomialLaws.{times-one}
@@ -55,24 +54,24 @@ label_value-is family n φ l =
 
 -- ---- a list that stands for a power sum
 
-weighed-list : (family : Family) (n : ℕ) (φ : List ℕ → ℤ) (terms : Terms (List ℕ))
-    → weighed (label_value family n φ) (mixed_list terms) ≡ pair (numerators terms) (λ label. pair (product_over (polynomial_of family) label n) φ)
+weighed-list : (family : Family) (n : ℕ) (φ : List ℕ → ℤ) (terms : WholeTerms)
+    → weighed (label_value family n φ) (mixed_list terms) ≡ pair terms (λ label. pair (product_over (polynomial_of family) label n) φ)
 weighed-list family n φ [] = refl
-weighed-list family n φ (t ∷ terms) = ap (λ z. t.1.0 *ℤ pair (product_over (polynomial_of family) t.0 n) φ +ℤ z) (weighed-list family n φ terms)
+weighed-list family n φ (t ∷ terms) = ap (λ z. t.1 *ℤ pair (product_over (polynomial_of family) t.0 n) φ +ℤ z) (weighed-list family n φ terms)
 
-weight-list : (terms : Terms (List ℕ)) → weight (λ l. 1) (mixed_list terms) ≡ absolute_total (numerators terms)
+weight-list : (terms : WholeTerms) → weight (λ l. 1) (mixed_list terms) ≡ absolute_total terms
 weight-list [] = refl
 weight-list (t ∷ terms) = let h = weight-list terms in omega arith
 
-low-list : (k : ℕ) (terms : Terms (List ℕ)) → EachLabel (IsLow k) (numerators terms) → AreLow k (mixed_list terms)
+low-list : (k : ℕ) (terms : WholeTerms) → EachLabel (IsLow k) terms → AreLow k (mixed_list terms)
 low-list k [] h = refl
 low-list k (t ∷ terms) h =
     let u = is_past-from k (mixed t.0 []) h.0.partition h.0.low in
-    let v : nat_abs t.1.0 * is_past k (mixed t.0 []) ≡ 0 = ap (λ x. nat_abs t.1.0 * x) u ∙ omega arith in
+    let v : nat_abs t.1 * is_past k (mixed t.0 []) ≡ 0 = ap (λ x. nat_abs t.1 * x) u ∙ omega arith in
     let w = low-list k terms h.1 in
-    (let s : nat_abs t.1.0 * is_past k (mixed t.0 []) + weight (is_past k) (mixed_list terms) ≡ 0 = omega arith in s)
+    (let s : nat_abs t.1 * is_past k (mixed t.0 []) + weight (is_past k) (mixed_list terms) ≡ 0 = omega arith in s)
 
-power_sum-stands : (family : Family) (k : ℕ) (terms : Terms (List ℕ)) → Stands (polynomial_of family) 1 (2 ^ k - 1) k (λ n. power_sum_of k n) (numerators terms)
+power_sum-stands : (family : Family) (k : ℕ) (terms : WholeTerms) → Stands (polynomial_of family) 1 (2 ^ k - 1) k (λ n. power_sum_of k n) terms
     → IsPowerSum family k (mixed_list terms)
 power_sum-stands family k terms s = record {
   value = λ n φ. weighed-list family n φ terms ∙ s.value n φ ∙ once (pair (power_sum_of k n) φ);
@@ -85,21 +84,21 @@ power_sum-stands family k terms s = record {
 
 -- ---- the lists of p_1, p_2, ..
 
-at-list : (lists : List (Terms (List ℕ))) (i : ℕ) → i < length lists → mixed_at (map mixed_list lists) i ≡ mixed_list (list_at lists i)
+at-list : (lists : List WholeTerms) (i : ℕ) → i < length lists → mixed_at (map mixed_list lists) i ≡ mixed_list (list_at lists i)
 at-list [] i h = absurd (omega arith)
 at-list (m ∷ lists) zero h = refl
 at-list (m ∷ lists) (suc i) h = at-list lists i (omega arith)
 
-pub power_sums-stand : (family : Family) (d : ℕ) (lists : List (Terms (List ℕ))) → length lists ≡ d + 1 → ArePowers (polynomial_of family) (d + 1) lists
+pub power_sums-stand : (family : Family) (d : ℕ) (lists : List WholeTerms) → length lists ≡ d + 1 → ArePowers (polynomial_of family) (d + 1) lists
     → ArePowerSums family d (map mixed_list (drop 1 lists))
 power_sums-stand family d [] l are i h = absurd (omega arith)
 power_sums-stand family d (m ∷ lists) l are i h =
     let e : i + 1 ≡ suc i = omega arith in
     subst (IsPowerSum family (i + 1)) (sym (at-list lists i (omega arith)))
     (power_sum-stands family (i + 1) (list_at lists i)
-    (subst (λ (x : Terms (List ℕ)). Stands (polynomial_of family) 1 (2 ^ (i + 1) - 1) (i + 1) (λ n. power_sum_of (i + 1) n) (numerators x)) (ap (list_at (m ∷ lists)) e)
+    (subst (λ (x : WholeTerms). Stands (polynomial_of family) 1 (2 ^ (i + 1) - 1) (i + 1) (λ n. power_sum_of (i + 1) n) x) (ap (list_at (m ∷ lists)) e)
     (are (i + 1) (omega arith) (omega arith))))
 
-pub behind-first : (lists : List (Terms (List ℕ))) (d : ℕ) → length lists ≡ d + 1 → length (drop 1 lists) ≡ d
+pub behind-first : (lists : List WholeTerms) (d : ℕ) → length lists ≡ d + 1 → length (drop 1 lists) ≡ d
 behind-first [] d h = absurd (omega arith)
 behind-first (m ∷ lists) d h = omega arith

@@ -10,7 +10,7 @@ use Rattle.sym_model.specs.Weight.{factorial, growth}
 use Rattle.sym_model.proofs.SortedParts.{rows_within_size, IsPartition-none}
 use Rattle.whole_lists.specs.Tables.{IsTable}
 use Rattle.whole_lists.specs.LabelSizes.{AreWithin}
-use Rattle.whole_lists.proofs.TableSums.{label-partition}
+use Rattle.change_from_monomials.proofs.Fractions.{label-partition}
 use Rattle.change_from_monomials.specs.Mixed.{Mixed, mixed, weight, Added, unready, AreReady}
 use Rattle.change_from_monomials.specs.Clearing.{cleared_number, cleared_terms}
 use Rattle.change_from_monomials.specs.Costs.{cost}

@@ -1,12 +1,12 @@
 -- Bounds of the numbers that straightening meets, for each partition of the target by itself.
 --     list-within          the terms of a bounded list
 --     large-start, -end    what is refused is past the bound
-use Rattle.std.proofs.Common.{◌≡◌, ◌⊎◌, ℕ, zero, suc, ◌+◌, ◌-◌, ◌*◌, ◌/◌, ◌^◌, ◌<◌, ◌≤◌, Bool, true, false, cond, eqb, List, [], map, length, refl, sym, ap, ◌∙◌, subst, inl, inr, arith, pow-suc, ℤ, pos, ◌*ℤ◌}
+use Rattle.std.proofs.Common.{◌≡◌, ◌⊎◌, ℕ, zero, suc, ◌+◌, ◌-◌, ◌*◌, ◌/◌, ◌^◌, ◌<◌, ◌≤◌, Bool, true, false, cond, eqb, List, [], map, length, refl, sym, ap, ◌∙◌, subst, inl, inr, arith, pow-suc, ℤ, pos, ◌*ℤ◌, flat_map}
 use Rattle.std.specs.Prelude.{◌≤ℤ◌, nat_abs, Some, None}
 use Rattle.std.proofs.lemmas.Int.{ints, unsigned_abs-mul}
 use Rattle.std.proofs.lemmas.Bool.{cases_eq, cases_lt, eq-eqb, ne_eqb}
 use Rattle.std.proofs.Math.Nat.{pow-zero}
-use Rattle.sym_model.specs.Sum.{total, each, Among}
+use Rattle.sym_model.specs.Sum.{total, Among}
 use Rattle.sym_model.specs.Partition.{size}
 use Rattle.sym_model.specs.Polynomial.{same}
 use Rattle.sym_model.specs.Alternant.{staircase}
@@ -34,10 +34,10 @@ use Rattle.change_from_monomials.specs.Straightening.{straightened_list, IsPast}
 use Rattle.change_from_monomials.proofs.StraightTerms.{weight-total, straight_term-some}
 use Rattle.arrangement_laws.proofs.LastPlaces.{IsArrangement, arrangement}
 use Rattle.change_from_monomials.proofs.MultinomialSums.{total-mono, multinomial, arranged, multinomials-within, arranged-within}
-use Rattle.change_from_monomials.proofs.CostTable.{factorials-positive}
 use Rattle.sym_model.proofs.Ring.{distributes_right}
 use Rattle.sym_model.proofs.Sums.{total_among}
 use Rattle.sym_model.proofs.Parts.{length-staircase}
+use Rattle.monomial_laws.proofs.Powers.{factorials-positive}
 use native.Mathlib.Nat.{mul-le-mul_left, mul-le-mul_right}
 use lib.IntN.{*ℤ-zero, zero-*ℤ}
 
@@ -99,9 +99,9 @@ one-within ν z parts n α a = by (has_equal_entries (shifted α)) refl
 
 -- ---- one label
 
-weight-each : {A : Type 0} (w : MixedLabel → ℕ) (h : A → Mixed) (xs : List A) → pos (weight w (each h xs)) ≡ total (λ (x : A). pos (weight w (h x))) xs
+weight-each : {A : Type 0} (w : MixedLabel → ℕ) (h : A → Mixed) (xs : List A) → pos (weight w (flat_map h xs)) ≡ total (λ (x : A). pos (weight w (h x))) xs
 weight-each {A} w h xs =
-    weight-total w (each h xs)
+    weight-total w (flat_map h xs)
     ∙ total_each (λ (t : MixedLabel × ℤ). pos (nat_abs t.1 * w t.0)) h xs
     ∙ total_ext (λ (x : A). total (λ (t : MixedLabel × ℤ). pos (nat_abs t.1 * w t.0)) (h x)) (λ (x : A). pos (weight w (h x))) (λ x. sym (weight-total w (h x))) xs
 

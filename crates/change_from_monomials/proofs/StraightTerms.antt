@@ -2,10 +2,10 @@
 --     straight_term-weighed   a sum over the term of one beta list
 --     straight_terms-weighed  over the terms of all arrangements
 --     list-past               a list that is refused
-use Rattle.std.proofs.Common.{◌≡◌, ℕ, ◌*◌, Bool, true, false, cond, List, [], ◌∷◌, ◌++◌, append_assoc, refl, sym, ap, ◌∙◌, subst, arith, ℤ, pos, ◌+ℤ◌, ◌*ℤ◌}
+use Rattle.std.proofs.Common.{◌≡◌, ℕ, ◌*◌, Bool, true, false, cond, List, [], ◌∷◌, ◌++◌, append_assoc, refl, sym, ap, ◌∙◌, subst, arith, ℤ, pos, ◌+ℤ◌, ◌*ℤ◌, flat_map}
 use Rattle.std.specs.Prelude.{Some, None, nat_abs}
 use Rattle.std.proofs.lemmas.Int.{ints}
-use Rattle.sym_model.specs.Sum.{total, each}
+use Rattle.sym_model.specs.Sum.{total}
 use Rattle.sym_model.specs.Expansion.{Fraction, Terms}
 use Rattle.sym_model.specs.BetaList.{has_equal_entries, sorted_falling, sorting_sign, from_beta}
 use Rattle.sym_model.specs.Arrangement.{arrangements}
@@ -76,9 +76,9 @@ Somewhere-between xs ys zs all old mid e a o =
 
 -- ---- the labels of a list one after another
 
-each-append : {A : Type 0} (h : A → Mixed) (xs ys : List A) → each h (xs ++ ys) ≡ each h xs ++ each h ys
+each-append : {A : Type 0} (h : A → Mixed) (xs ys : List A) → flat_map h (xs ++ ys) ≡ flat_map h xs ++ flat_map h ys
 each-append h [] ys = refl
-each-append h (x ∷ xs) ys = ap (λ l. h x ++ l) (each-append h xs ys) ∙ sym (append_assoc (h x) (each h xs) (each h ys))
+each-append h (x ∷ xs) ys = ap (λ l. h x ++ l) (each-append h xs ys) ∙ sym (append_assoc (h x) (flat_map h xs) (flat_map h ys))
 
 append-none : (xs : Mixed) → xs ++ [] ≡ xs
 append-none [] = refl

@@ -24,7 +24,7 @@ use Rattle.alternant_laws.proofs.EnoughPlaces.{enough_places}
 use Rattle.whole_lists.specs.Tables.{IsTable}
 use Rattle.whole_lists.specs.LabelSizes.{AreWithin}
 use Rattle.whole_lists.proofs.Quotients.{Quotients}
-use Rattle.whole_lists.proofs.TableSums.{label-partition}
+use Rattle.change_from_monomials.proofs.Fractions.{label-partition}
 use Rattle.change_from_monomials.specs.declared.mixed.MixedLabel.{MixedLabel}
 use Rattle.change_from_monomials.specs.Mixed.{Mixed, weighed, Added, converted_terms}
 use Rattle.coeff_rings.specs.Fractions.{scaled}

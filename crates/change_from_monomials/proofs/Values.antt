@@ -1,14 +1,14 @@
 -- What terms stand for: the target's polynomial times an augmented monomial.
 --     value-converted        converting the last part changes no value
 --     value-conversions      and so for all terms
-use Rattle.std.proofs.Common.{◌≡◌, ◌⊎◌, ℕ, suc, ◌+◌, ◌*◌, ◌-◌, ◌<◌, ◌≤◌, true, List, [], ◌∷◌, ◌++◌, length, refl, sym, ap, ap₂, ◌∙◌, subst, inl, inr, arith, ℤ, pos, negsuc, neg_ℤ, ◌+ℤ◌, ◌*ℤ◌}
+use Rattle.std.proofs.Common.{◌≡◌, ◌⊎◌, ℕ, suc, ◌+◌, ◌*◌, ◌-◌, ◌<◌, ◌≤◌, List, [], ◌∷◌, ◌++◌, length, refl, sym, ap, ap₂, ◌∙◌, subst, inl, inr, arith, ℤ, pos, negsuc, neg_ℤ, ◌+ℤ◌, ◌*ℤ◌, flat_map}
 use Rattle.std.specs.Prelude.{nat_abs}
 use Rattle.std.proofs.lemmas.Int.{ints}
 use Rattle.std.proofs.lemmas.Bool.{cases_lt, cases_eq}
-use Rattle.sym_model.specs.Sum.{total, each}
+use Rattle.sym_model.specs.Sum.{total}
 use Rattle.sym_model.specs.Polynomial.{Poly, In, same, join, plus, pair, times}
 use Rattle.sym_model.specs.Partition.{IsPartition, size, insert_part, sorted_parts}
-use Rattle.sym_model.specs.Bases.{product_over, power_sum_of, monomial, at_most_one, has}
+use Rattle.sym_model.specs.Bases.{product_over, power_sum_of, monomial}
 use Rattle.sym_model.specs.RaisedPart.{raise}
 use Rattle.sym_model.proofs.Ring.{ring}
 use Rattle.sym_model.proofs.Sums.{total_ext, total_map, total_scale}
@@ -22,21 +22,17 @@ use Rattle.basis_change_laws.proofs.AugmentedMonomials.{power_sum_times_augmente
 use Rattle.basis_change_laws.proofs.MergedParts.{front, product_over-merged}
 use Rattle.change_from_monomials.specs.declared.mixed.MixedLabel.{MixedLabel}
 use Rattle.whole_lists.specs.declared.family.Family.{Family}
-use Rattle.whole_lists.specs.declared.family.Family.TheVariants.{Elementary, Complete, PowerSum}
 use Rattle.basis_change_laws.specs.JoinedLists.{merged}
 use Rattle.change_from_monomials.specs.Mixed.{Mixed, mixed, weighed, weight, is_past, unready, AreReady, products, raised, mixed_at, conversion_at, conversions}
 use Rattle.whole_lists.specs.Families.{polynomial_of}
+use Rattle.whole_lists.proofs.Families.{In-family}
 use Rattle.change_from_monomials.specs.Factors.{product_value, IsPowerSum, ArePowerSums}
 use Rattle.change_from_monomials.proofs.Tables.{weighed-append}
 use Rattle.change_from_monomials.proofs.Walks.{low_label, IsReadyLabel, ready_label, zero_weight}
 use Rattle.change_from_monomials.proofs.Conversions.{conversion_at-zero, conversion_at-other, conversion_at-here}
+use Rattle.whole_lists.proofs.Families.{In-family}
 use lib.IntN.{zero-*ℤ}
 use native.Mathlib.Nat.{mul-pos}
-
-pub In-family : (family : Family) (n k : ℕ) → In n (polynomial_of family k n)
-In-family Elementary n k = In-monomials at_most_one n k
-In-family Complete n k = In-monomials (λ α. true) n k
-In-family PowerSum n k = In-monomials (has k) n k
 
 pub In-augmented : (parts : List ℕ) (n : ℕ) → In n (augmented parts n)
 In-augmented parts n = In_scale n (pos (multiplicity_factorials parts)) (monomial parts n) (In-monomials (λ α. same (sorted_parts α) parts) n (size parts))
@@ -105,7 +101,7 @@ value-power_sum : (n a : ℕ) (C : Poly) (rest : List ℕ) (φ : List ℕ → �
 value-power_sum n a C rest φ h p =
     let A = augmented rest n in
     let X = augmented (insert_part a rest) n in
-    let Y = each (λ b. augmented (raise a b rest) n) rest in
+    let Y = flat_map (λ b. augmented (raise a b rest) n) rest in
     pair_determined (times (power_sum_of a n) (times C A)) (times C (times (power_sum_of a n) A)) φ (front (power_sum_of a n) C A)
     ∙ pair_determined (times C (times (power_sum_of a n) A)) (times C (plus X Y)) φ
     (times_respects C C (times (power_sum_of a n) A) (plus X Y) (Same_refl C) (power_sum_times_augmented a n rest h p))
@@ -113,10 +109,10 @@ value-power_sum n a C rest φ h p =
     ∙ pair_plus (times C X) (times C Y) φ
     ∙ ap (λ z. pair (times C X) φ +ℤ z) spread
   where
-    spread : pair (times C (each (λ b. augmented (raise a b rest) n) rest)) φ ≡ total (λ (b : ℕ). pair (times C (augmented (raise a b rest) n)) φ) rest
+    spread : pair (times C (flat_map (λ b. augmented (raise a b rest) n) rest)) φ ≡ total (λ (b : ℕ). pair (times C (augmented (raise a b rest) n)) φ) rest
     spread =
-        pair_times C (each (λ b. augmented (raise a b rest) n) rest) φ
-        ∙ pair_ext C (λ α. pair (each (λ b. augmented (raise a b rest) n) rest) (λ β. φ (join α β))) (λ α. total (λ (b : ℕ). pair (augmented (raise a b rest) n) (λ β. φ (join α β))) rest)
+        pair_times C (flat_map (λ b. augmented (raise a b rest) n) rest) φ
+        ∙ pair_ext C (λ α. pair (flat_map (λ b. augmented (raise a b rest) n) rest) (λ β. φ (join α β))) (λ α. total (λ (b : ℕ). pair (augmented (raise a b rest) n) (λ β. φ (join α β))) rest)
         (λ α. pair_each (λ b. augmented (raise a b rest) n) rest (λ β. φ (join α β)))
         ∙ pair_total C (λ (b : ℕ) α. pair (augmented (raise a b rest) n) (λ β. φ (join α β))) rest
         ∙ total_ext (λ (b : ℕ). pair C (λ α. pair (augmented (raise a b rest) n) (λ β. φ (join α β)))) (λ (b : ℕ). pair (times C (augmented (raise a b rest) n)) φ)

@@ -1,9 +1,8 @@
 -- Lists that are walked through by an index.
-use Rattle.std.proofs.Common.{◌≡◌, ◌⊎◌, ℕ, zero, suc, ◌+◌, ◌*◌, ◌<◌, ◌≤◌, Bool, true, false, cond, List, [], ◌∷◌, ◌++◌, map, length, take, drop, get_or, refl, sym, ap, ap₂, ◌∙◌, inl, inr, arith, append_assoc, ℤ, pos, negsuc}
+use Rattle.std.proofs.Common.{◌≡◌, ◌⊎◌, ℕ, zero, suc, ◌+◌, ◌*◌, ◌<◌, ◌≤◌, Bool, true, false, cond, List, [], ◌∷◌, ◌++◌, map, length, take, drop, get_or, refl, sym, ap, ap₂, ◌∙◌, inl, inr, arith, append_assoc, ℤ, pos, negsuc, flat_map}
 use Rattle.std.specs.Prelude.{Some, slice_get, nat_abs, nat_le, ◌&&◌, ◌||◌, ◌==◌}
 use Rattle.std.proofs.lemmas.Bool.{cases_lt, le-leb, leb-true, and_parts}
 use Rattle.std.proofs.lemmas.Int.{ints}
-use Rattle.sym_model.specs.Sum.{each}
 use Rattle.sym_model.specs.Partition.{IsPartition, size}
 use Rattle.sym_model.specs.LabelLimits.{is_partition}
 use Rattle.sym_model.proofs.Orders.{is_partition-tells, is_partition-from}
@@ -31,7 +30,7 @@ map-whole {A} {B} h (y ∷ xs) (suc i) x e =
     let s : suc i + 1 ≡ suc (i + 1) = omega arith in
     ap (λ k. (map h (take (suc i) (y ∷ xs)) ++ (h x ∷ [])) ++ map h (drop k (y ∷ xs))) s ∙ ap (λ l. h y ∷ l) (map-whole h xs i x e)
 
-pub each-next : {A B : Type 0} (h : A → List B) (xs : List A) (i : ℕ) (x : A) → slice_get xs i ≡ Some x → each h (take (i + 1) xs) ≡ each h (take i xs) ++ h x
+pub each-next : {A B : Type 0} (h : A → List B) (xs : List A) (i : ℕ) (x : A) → slice_get xs i ≡ Some x → flat_map h (take (i + 1) xs) ≡ flat_map h (take i xs) ++ h x
 each-next {A} {B} h [] i x e = cc
 each-next {A} {B} h (y ∷ xs) zero x e = let here : y ≡ x = cc in append_nil (h y) ∙ ap h here
   where
@@ -40,16 +39,16 @@ each-next {A} {B} h (y ∷ xs) zero x e = let here : y ≡ x = cc in append_nil 
     append_nil (b ∷ l) = ap (λ m. b ∷ m) (append_nil l)
 each-next {A} {B} h (y ∷ xs) (suc i) x e =
     let s : suc i + 1 ≡ suc (i + 1) = omega arith in
-    ap (λ k. each h (take k (y ∷ xs))) s ∙ ap (λ l. h y ++ l) (each-next h xs i x e) ∙ sym (append_assoc (h y) (each h (take i xs)) (h x))
+    ap (λ k. flat_map h (take k (y ∷ xs))) s ∙ ap (λ l. h y ++ l) (each-next h xs i x e) ∙ sym (append_assoc (h y) (flat_map h (take i xs)) (h x))
 
-pub each-whole : {A B : Type 0} (h : A → List B) (xs : List A) (i : ℕ) (x : A) → slice_get xs i ≡ Some x → (each h (take i xs) ++ h x) ++ each h (drop (i + 1) xs) ≡ each h xs
+pub each-whole : {A B : Type 0} (h : A → List B) (xs : List A) (i : ℕ) (x : A) → slice_get xs i ≡ Some x → (flat_map h (take i xs) ++ h x) ++ flat_map h (drop (i + 1) xs) ≡ flat_map h xs
 each-whole {A} {B} h [] i x e = cc
-each-whole {A} {B} h (y ∷ xs) zero x e = let here : y ≡ x = cc in ap (λ (z : A). h z ++ each h xs) (sym here)
+each-whole {A} {B} h (y ∷ xs) zero x e = let here : y ≡ x = cc in ap (λ (z : A). h z ++ flat_map h xs) (sym here)
 each-whole {A} {B} h (y ∷ xs) (suc i) x e =
     let s : suc i + 1 ≡ suc (i + 1) = omega arith in
-    ap (λ k. (each h (take (suc i) (y ∷ xs)) ++ h x) ++ each h (drop k (y ∷ xs))) s
-    ∙ ap (λ l. l ++ each h (drop (i + 1) xs)) (append_assoc (h y) (each h (take i xs)) (h x))
-    ∙ append_assoc (h y) (each h (take i xs) ++ h x) (each h (drop (i + 1) xs))
+    ap (λ k. (flat_map h (take (suc i) (y ∷ xs)) ++ h x) ++ flat_map h (drop k (y ∷ xs))) s
+    ∙ ap (λ l. l ++ flat_map h (drop (i + 1) xs)) (append_assoc (h y) (flat_map h (take i xs)) (h x))
+    ∙ append_assoc (h y) (flat_map h (take i xs) ++ h x) (flat_map h (drop (i + 1) xs))
     ∙ ap (λ l. h y ++ l) (each-whole h xs i x e)
 
 -- ---- parts at an index

@@ -9,8 +9,8 @@ use Rattle.sym_model.specs.Expansion.{Fraction, Terms}
 use Rattle.sym_model.specs.ListWeight.{absolute_sum}
 use Rattle.sym_model.specs.WholeTerms.{absolute_total}
 use Rattle.monomial_laws.specs.ExpressionTerms.{over}
-use Rattle.basis_change_laws.proofs.JoinedLists.{absolute-append}
 use Rattle.family_lists.proofs.Totals.{absolute-over, coefficient-few}
+use Rattle.sym_model.proofs.WholeTerms.{absolute-append}
 
 pub over-push : (m : ℕ) (done : Terms (List ℕ)) (k : List ℕ) (c : Fraction) → over m (done ++ (k, c) ∷ []) ≡ over m done ++ (k, scaled m c) ∷ []
 over-push m done k c = map-append (λ (t : List ℕ × Fraction). (t.0, t.1.0 *ℤ pos (m / t.1.1))) done ((k, c) ∷ [])

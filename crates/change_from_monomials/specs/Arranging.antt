@@ -1,6 +1,7 @@
--- What the arrangements of a partition straighten to, as terms (this project's own; the straightening is Macdonald's, I.3).
+-- What the arrangements of a partition straighten to, as terms (this project's own; the
+-- straightening is Macdonald's, I.3).
 use Rattle.std.specs.Prelude.{ℕ, ◌+◌, ◌^◌, ◌≤◌, cond, ℤ, ◌*ℤ◌, List, [], ◌∷◌, Option, Some, None}
-use Rattle.sym_model.specs.Sum.{each}
+use Rattle.std.specs.Prelude.{flat_map}
 use Rattle.sym_model.specs.Polynomial.{same}
 use Rattle.sym_model.specs.BetaList.{has_equal_entries, sorted_falling, sorting_sign, from_beta}
 use Rattle.sym_model.specs.Arrangement.{arrangements}
@@ -8,10 +9,12 @@ use Rattle.sym_model.specs.Straightening.{shifted}
 use Rattle.change_from_monomials.specs.declared.mixed.MixedLabel.{MixedLabel}
 use Rattle.change_from_monomials.specs.Mixed.{Mixed, mixed, weight}
 
--- what a list of exponents with this beta list straightens to: 0 (None) where two entries are equal; otherwise the sign of
--- sorting it, and the partition of the sorted list
+-- what a list of exponents with this beta list straightens to: 0 (None) where two entries are
+-- equal; otherwise the sign of sorting it, and the partition of the sorted list
 abbrev pub straight : List ℕ → Option (ℤ × List ℕ)
-straight entries = cond (has_equal_entries entries) None (Some (sorting_sign entries, from_beta (sorted_falling entries)))
+straight entries =
+    cond (has_equal_entries entries) None
+    (Some (sorting_sign entries, from_beta (sorted_falling entries)))
 
 -- c times that, as a list of terms
 abbrev pub times_straight : ℤ → Option (ℤ × List ℕ) → Mixed
@@ -24,7 +27,7 @@ straight_term c entries = times_straight c (straight entries)
 
 -- c times what the arrangements of a partition in n places come to
 abbrev pub straight_terms : ℤ → List ℕ → ℕ → Mixed
-straight_terms c parts n = each (λ α. straight_term c (shifted α)) (arrangements parts n)
+straight_terms c parts n = flat_map (λ α. straight_term c (shifted α)) (arrangements parts n)
 
 -- 1 at the labels of this partition of the target, 0 at the others
 abbrev pub at_label : List ℕ → MixedLabel → ℕ

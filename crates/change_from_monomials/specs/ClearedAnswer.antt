@@ -1,12 +1,14 @@
--- A number that clears all fractions of a list, and what the list then adds up to (this project's own).
+-- A number that clears all fractions of a list,
+-- and what the list then adds up to (this project's own).
 use Rattle.std.specs.Prelude.{◌≡◌, ℕ, ◌%◌, ◌≤◌, List}
 use Rattle.sym_model.specs.Sum.{Among}
-use Rattle.sym_model.specs.Expansion.{Basis, monomials, elementaries, completes, power_sums, schurs, Fraction, Terms}
+use Rattle.sym_model.specs.Expansion.{Basis, monomials, elementaries, completes, power_sums, schurs}
+use Rattle.sym_model.specs.Expansion.{Fraction, Terms}
 use Rattle.sym_model.specs.ListWeight.{absolute_sum}
 use Rattle.whole_lists.specs.LabelSizes.{AreWithin}
 
--- m times each coefficient is whole, the absolute values of these products add up to at most `most`, and no label has more
--- than d cells
+-- m times each coefficient is whole, the absolute values of these products add up to at most
+-- `most`, and no label has more than d cells
 pub record IsClearedBy (m most d : ℕ) (terms : Terms (List ℕ)) : Type 0 where
   pub whole : (t : List ℕ × Fraction) → Among t terms → m % t.1.1 ≡ 0
   pub few : absolute_sum m terms ≤ most

@@ -17,4 +17,5 @@ cleared_terms den factor terms =
 
 -- no label has greater factorials of its multiplicities than `factor`
 abbrev pub HasFactors : ℕ → Terms (List ℕ) → Type 0
-HasFactors factor terms = (t : List ℕ × Fraction) → Among t terms → multiplicity_factorials t.0 ≤ factor
+HasFactors factor terms =
+    (t : List ℕ × Fraction) → Among t terms → multiplicity_factorials t.0 ≤ factor

@@ -4,7 +4,8 @@ use Rattle.sym_model.specs.Partition.{size}
 use Rattle.sym_model.specs.Weight.{factorial}
 use Rattle.change_from_monomials.specs.declared.mixed.MixedLabel.{MixedLabel}
 
--- 2^s - 1, and 1 for s = 0: the absolute values of the coefficients of p_λ in h or in e, λ of size s, add up to no more
+-- 2^s - 1, and 1 for s = 0: the absolute values of the coefficients of p_λ in h or in e,
+-- λ of size s, add up to no more
 abbrev pub doubled : ℕ → ℕ
 doubled zero = 1
 doubled (suc s) = 2 ^ suc s - 1

@@ -7,3 +7,4 @@ pub mod Arranging
 pub mod KeptLists
 pub mod Straightening
 pub mod ClearedAnswer
+pub mod Sums

@@ -1,11 +1,12 @@
--- Sums of products of a polynomial of the target and an augmented monomial symmetric polynomial (this project's own): what stands
--- half way between two bases.
-use Rattle.std.specs.Prelude.{◌≡◌, ℕ, zero, suc, ◌+◌, ◌-◌, ◌*◌, ◌^◌, ◌≤◌, nat_abs, nat_le, nat_eq, Bool, true, false, ◌&&◌, cond, ℤ, pos, negsuc, ◌+ℤ◌, ◌*ℤ◌, neg_ℤ, List, [], ◌∷◌, ◌++◌, map, length, take}
-use Rattle.sym_model.specs.Sum.{total, each}
+-- Sums of products of a polynomial of the target and an augmented monomial symmetric polynomial
+-- (this project's own): what stands half way between two bases.
+use Rattle.std.specs.Prelude.{◌≡◌, ℕ, zero, suc, ◌+◌, ◌-◌, ◌*◌, ◌^◌, ◌≤◌, nat_abs, nat_le, nat_eq}
+use Rattle.std.specs.Prelude.{Bool, true, false, ◌&&◌, cond, ℤ, pos, negsuc, ◌+ℤ◌, ◌*ℤ◌, neg_ℤ}
+use Rattle.std.specs.Prelude.{List, [], ◌∷◌, ◌++◌, map, length, take, flat_map}
+use Rattle.sym_model.specs.Sum.{total}
 use Rattle.sym_model.specs.Partition.{size, rows, part}
 use Rattle.sym_model.specs.RaisedPart.{raise}
 use Rattle.sym_model.specs.LabelLimits.{is_partition}
-use Rattle.sym_model.specs.Expansion.{Fraction, Terms}
 use Rattle.sym_model.specs.WholeTerms.{WholeTerms}
 use Rattle.basis_change_laws.specs.JoinedLists.{merged}
 use Rattle.change_from_monomials.specs.declared.mixed.MixedLabel.{MixedLabel}
@@ -19,8 +20,8 @@ abbrev pub mixed : List ℕ → List ℕ → MixedLabel
 mixed converted augmented = record { converted = converted; augmented = augmented }
 
 -- a list of terms with no augmented monomial
-abbrev pub mixed_list : Terms (List ℕ) → Mixed
-mixed_list terms = map (λ (t : List ℕ × Fraction). (mixed t.0 [], t.1.0)) terms
+abbrev pub mixed_list : WholeTerms → Mixed
+mixed_list terms = map (λ (t : List ℕ × ℤ). (mixed t.0 [], t.1)) terms
 
 -- the sum over the terms of the coefficient times f of the label
 abbrev pub weighed : (MixedLabel → ℤ) → Mixed → ℤ
@@ -36,17 +37,21 @@ pub record Added (added old new : Mixed) : Type 0 where
   pub sums : (f : MixedLabel → ℤ) → weighed f new ≡ weighed f old +ℤ weighed f added
   pub weights : (w : MixedLabel → ℕ) → weight w new ≤ weight w old + weight w added
 
--- with the added terms the old ones reach 2^127, whatever positive numbers the labels are weighed by
+-- with the added terms the old ones reach 2^127,
+-- whatever positive numbers the labels are weighed by
 abbrev pub Overflows : Mixed → Mixed → Type 0
-Overflows added old = (w : MixedLabel → ℕ) → ((label : MixedLabel) → 1 ≤ w label) → 2 ^ 127 ≤ weight w old + weight w added
+Overflows added old =
+    (w : MixedLabel → ℕ) → ((label : MixedLabel) → 1 ≤ w label)
+    → 2 ^ 127 ≤ weight w old + weight w added
 
--- 0 where both lists are partitions, of at most d cells together, and that of the augmented monomial has at most `rows` parts;
--- else 1
+-- 0 where both lists are partitions, of at most d cells together, and that of the augmented
+-- monomial has at most `rows` parts; else 1
 abbrev pub unready : ℕ → ℕ → MixedLabel → ℕ
 unready d rows label =
     cond
     (is_partition label.converted && is_partition label.augmented
-    && nat_le (size label.converted + size label.augmented) d && nat_le (length label.augmented) rows)
+    && nat_le (size label.converted + size label.augmented) d
+    && nat_le (length label.augmented) rows)
     0 1
 
 -- no label with a coefficient that is not 0 is past these limits
@@ -61,12 +66,15 @@ is_past d label = cond (is_partition label.converted && nat_le (size label.conve
 abbrev pub AreLow : ℕ → Mixed → Type 0
 AreLow d terms = weight (is_past d) terms ≡ 0
 
--- c times each term of a list, times the target's polynomial of a partition, times an augmented monomial
+-- c times each term of a list, times the target's polynomial of a partition,
+-- times an augmented monomial
 abbrev pub products : ℤ → Mixed → List ℕ → List ℕ → Mixed
 products c factor converted augmented =
-    map (λ (t : MixedLabel × ℤ). (mixed (merged t.0.converted converted) augmented, t.1 *ℤ c)) factor
+    map (λ (t : MixedLabel × ℤ). (mixed (merged t.0.converted converted) augmented, t.1 *ℤ c))
+    factor
 
--- for each of the numbers b, the augmented monomial with the part b made a + b, with the coefficient -c
+-- for each of the numbers b, the augmented monomial with the part b made a + b,
+-- with the coefficient -c
 abbrev pub raised : ℤ → List ℕ → ℕ → List ℕ → List ℕ → Mixed
 raised c converted a augmented numbers =
     map (λ (b : ℕ). (mixed converted (raise a b augmented), neg_ℤ c)) numbers
@@ -77,9 +85,10 @@ mixed_at [] i = []
 mixed_at (m ∷ lists) zero = m
 mixed_at (m ∷ lists) (suc i) = mixed_at lists i
 
--- what comes of a term whose last part is converted, a smallest one: with this part a of the augmented monomial and the parts
--- `rest` before it, p_a times that of `rest` less those in which a part of `rest` is raised by a; the lists are those of p_1,
--- p_2 and so on
+-- what comes of a term whose last part is converted, a smallest one: with this part a of the
+-- augmented monomial and the parts
+-- `rest` before it, p_a times that of `rest` less those in which a part of `rest` is raised by a;
+-- the lists are those of p_1, p_2 and so on
 abbrev pub conversion : List Mixed → ℤ → List ℕ → List ℕ → Mixed
 conversion factors c converted [] = (mixed converted [], c) ∷ []
 conversion factors c converted (b ∷ others) =
@@ -98,11 +107,13 @@ is_zero (negsuc n) = false
 abbrev pub conversion_at : List Mixed → ℕ → MixedLabel × ℤ → Mixed
 conversion_at factors rows t =
     cond (is_zero t.1) []
-    (cond (nat_eq (length t.0.augmented) rows) (conversion factors t.1 t.0.converted t.0.augmented) ((t.0, t.1) ∷ []))
+    (cond (nat_eq (length t.0.augmented) rows) (conversion factors t.1 t.0.converted t.0.augmented)
+    ((t.0, t.1) ∷ []))
 
 -- what comes of all terms
 abbrev pub conversions : List Mixed → ℕ → Mixed → Mixed
-conversions factors rows terms = each (λ (t : MixedLabel × ℤ). conversion_at factors rows t) terms
+conversions factors rows terms =
+    flat_map (λ (t : MixedLabel × ℤ). conversion_at factors rows t) terms
 
 -- the terms as terms of the target, where all is converted
 abbrev pub converted_terms : Mixed → WholeTerms

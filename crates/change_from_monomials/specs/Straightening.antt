@@ -1,6 +1,6 @@
 -- A list of terms in m with its fractions cleared, in Schur polynomials (this project's own).
-use Rattle.std.specs.Prelude.{ℕ, ◌^◌, ◌≤◌, ◌⊎◌, nat_abs, List, []}
-use Rattle.sym_model.specs.Sum.{each, Among}
+use Rattle.std.specs.Prelude.{ℕ, ◌^◌, ◌≤◌, ◌⊎◌, nat_abs, List, [], flat_map}
+use Rattle.sym_model.specs.Sum.{Among}
 use Rattle.sym_model.specs.Expansion.{Fraction, Terms}
 use Rattle.change_from_monomials.specs.Mixed.{Mixed}
 use Rattle.coeff_rings.specs.Fractions.{scaled}
@@ -9,7 +9,7 @@ use Rattle.change_from_monomials.specs.Arranging.{straight_terms, OverflowsSomew
 -- the list times den, each label straightened in so many places
 abbrev pub straightened_list : ℕ → ℕ → Terms (List ℕ) → Mixed
 straightened_list den places terms =
-    each (λ (t : List ℕ × Fraction). straight_terms (scaled den t.1) t.0 places) terms
+    flat_map (λ (t : List ℕ × Fraction). straight_terms (scaled den t.1) t.0 places) terms
 
 -- a coefficient of the list times den reaches 2^127, or one of the Schur polynomials does
 abbrev pub IsPast : ℕ → ℕ → Terms (List ℕ) → Type 0

@@ -7,11 +7,12 @@ ghost use Rattle.sym_model.specs.Weight.{factorial, growth};
 ghost use Rattle.sparse_polys.specs.MonomialProducts.{greatest_size};
 ghost use Rattle.expression_reading.specs.Trees.{basis_of};
 ghost use Rattle.whole_lists.specs.LabelSizes.{AreWithin};
+ghost use Rattle.whole_lists.specs.Tables.{IsTable};
 ghost use Rattle.change_from_monomials.specs.Limits.{most_cells};
 ghost use Rattle.whole_lists.specs.Families.{basis_in};
 ghost use Rattle.change_from_monomials.specs.ClearedAnswer.{IsClearedBy, IsMultiplied};
 
-use crate::clearing::{greatest_size, in_augmented, is_table};
+use crate::clearing::{greatest_size, in_augmented};
 use crate::division::divided;
 use crate::rewriting::converted;
 use crate::straightening::by_arrangements;
@@ -24,16 +25,17 @@ use std::alloc::Global;
 use whole_lists::Family;
 use whole_numbers::{denominator_product, factorial};
 
-/// The list, read as an expansion in m, as an expansion in the target, in every number of variables: of whatever polynomial the
-/// one is an expansion, of that the other is.
+/// The list, read as an expansion in m, as an expansion in the target, in every number of
+/// variables: of whatever polynomial the one is an expansion, of that the other is.
 ///
-/// The list is bounded by `bound`, of which both numbers are at least 1, and its labels have at most 20 cells for the targets m
-/// and s, at most 15 for e, h and p. It is refused as `Large` only where the product of the two numbers and of the growth into the
-/// target at the greatest size of a label is 2^127 or more.
+/// The list is bounded by `bound`, of which both numbers are at least 1, and its labels have at
+/// most 20 cells for the targets m and s, at most 15 for e, h and p. It is refused as `Large` only
+/// where the product of the two numbers and of the growth into the target at the greatest size of a
+/// label is 2^127 or more.
 ///
-/// Into e, h and p, with d the greatest size of a label: `bound.den` times d! times each coefficient of the answer is whole, the
-/// absolute values of these products add up to at most `bound.num` times the growth at d, and no label of the answer has more
-/// than d cells.
+/// Into e, h and p, with d the greatest size of a label: `bound.den` times d! times each
+/// coefficient of the answer is whole, the absolute values of these products add up to at most
+/// `bound.num` times the growth at d, and no label of the answer has more than d cells.
 pub fn to_basis(
     alloc: Global,
     list: &Lin<Partition, Frac>,
@@ -45,13 +47,15 @@ pub fn to_basis(
     requires sizes { AreWithin (most_cells (basis_of target)) list.now }
     ensures value { IfOk result (λ answer. (n : ℕ) (f : Poly) (q : ℕ)
         → IsExpansionOf monomials list.now n f q → IsExpansionOf (basis_of target) answer n f q) }
-    ensures cleared { let d = greatest_size list.now in IfOk result (λ answer. IsMultiplied (basis_of target)
+    ensures cleared { let d = greatest_size list.now in
+        IfOk result (λ answer. IsMultiplied (basis_of target)
         → IsClearedBy (bound.den * factorial d) (bound.num * growth (basis_of target) d) d answer) }
+    ensures table { IfOk result IsTable }
     ensures large { IsErrOf result SumFault.Large → (d : ℕ) → AreWithin d list.now
         → 2 ^ 127 ≤ bound.num * bound.den * growth (basis_of target) d }
 {
     match target {
-        Basis::M => copy_of(list),
+        Basis::M => copy_of(alloc, list),
         Basis::E => by_augmented(alloc, list, bound, Family::Elementary),
         Basis::H => by_augmented(alloc, list, bound, Family::Complete),
         Basis::P => by_augmented(alloc, list, bound, Family::PowerSum),
@@ -60,17 +64,20 @@ pub fn to_basis(
 }
 
 /// An equal list.
-fn copy_of(list: &Lin<Partition, Frac>) -> Result<Lin<Partition, Frac>, SumFault>
+fn copy_of(alloc: Global, list: &Lin<Partition, Frac>) -> Result<Lin<Partition, Frac>, SumFault>
     ensures value { IfOk result (λ answer. (n : ℕ) (f : Poly) (q : ℕ)
         → IsExpansionOf monomials list.now n f q → IsExpansionOf monomials answer n f q) }
+    ensures table { IfOk result IsTable }
     ensures small { ¬ IsErrOf result SumFault.Large }
 {
-    is_table(list);
+    if list.len() == 0 {
+        return Ok(Lin::new(alloc));
+    }
     Ok(list.copy()?)
 }
 
-/// The change into a family whose polynomials are multiplied over the parts: by augmented monomials, whose parts become power
-/// sums one after another.
+/// The change into a family whose polynomials are multiplied over the parts: by augmented
+/// monomials, whose parts become power sums one after another.
 fn by_augmented(
     alloc: Global,
     list: &Lin<Partition, Frac>,
@@ -83,11 +90,12 @@ fn by_augmented(
     ensures value { IfOk result (λ answer. (n : ℕ) (f : Poly) (q : ℕ)
         → IsExpansionOf monomials list.now n f q → IsExpansionOf (basis_in family) answer n f q) }
     ensures cleared { let d = greatest_size list.now in
-        IfOk result (IsClearedBy (bound.den * factorial d) (bound.num * growth (basis_in family) d) d) }
+        IfOk result (IsClearedBy (bound.den * factorial d)
+        (bound.num * growth (basis_in family) d) d) }
+    ensures table { IfOk result IsTable }
     ensures large { IsErrOf result SumFault.Large → (d : ℕ) → AreWithin d list.now
         → 2 ^ 127 ≤ bound.num * bound.den * growth (basis_in family) d }
 {
-    is_table(list);
     let size = greatest_size(list);
     let factor = factorial(size);
     let Some(den) = denominator_product(bound.den, factor) else {

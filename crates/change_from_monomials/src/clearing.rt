@@ -1,12 +1,13 @@
-//! A list of terms with its fractions cleared: with whole coefficients, and a list in m in augmented monomials.
-ghost use Rattle.std.specs.Prelude.{◌≡◌, ℕ, ◌+◌, ◌*◌, ◌/◌, ◌^◌, ◌<◌, ◌≤◌, [], ◌∷◌, pos, nat_abs, MatchOption, IfOk, OnOk, IsErrOf};
+//! A list of terms with its fractions cleared: with whole coefficients,
+//! and a list in m in augmented monomials.
+ghost use Rattle.std.specs.Prelude.{◌≡◌, ℕ, ◌+◌, ◌*◌, ◌/◌, ◌^◌, ◌<◌, ◌≤◌, [], ◌∷◌, pos, nat_abs};
+ghost use Rattle.std.specs.Prelude.{MatchOption, IfOk, OnOk, IsErrOf};
 ghost use Rattle.sym_model.specs.ListWeight.{absolute_sum};
 ghost use Rattle.sym_model.specs.Polynomial.{Same};
-ghost use Rattle.sym_model.specs.WholeTerms.{numerators};
 ghost use Rattle.monomial_laws.specs.ExpressionTerms.{over};
 ghost use Rattle.basis_change_laws.specs.AugmentedMonomial.{multiplicity_factorials};
 ghost use Rattle.whole_lists.specs.LabelSizes.{AreWithin};
-ghost use Rattle.whole_lists.specs.Tables.{IsTable};
+ghost use Rattle.whole_lists.specs.Tables.{IsTable, IsWholeTable};
 ghost use Rattle.coeff_rings.specs.Fractions.{scaled};
 ghost use Rattle.change_from_monomials.specs.Clearing.{cleared_number, cleared_terms, HasFactors};
 ghost use Rattle.change_from_monomials.specs.Mixed.{mixed, Added, Overflows};
@@ -17,10 +18,11 @@ use crate::table::{Mixed, add};
 use calc_base::SumFault;
 use coeff_rings::{Frac, Int, Ring};
 use indexmap::IndexMap;
+use linear_combinations::Lin as Table;
 use partitions::Partition;
 use sparse_polys::Lin;
 use std::alloc::Global;
-use whole_lists::{Whole, is_whole};
+use whole_lists::Whole;
 
 /// Denominators are below this.
 pub(crate) const LIMIT: u128 = 1 << 127;
@@ -29,6 +31,7 @@ pub(crate) const LIMIT: u128 = 1 << 127;
 pub fn greatest_size(list: &Lin<Partition, Frac>) -> u16
     ensures within { AreWithin result list.now }
     ensures least { (d : ℕ) → AreWithin d list.now → result ≤ d }
+    ensures table { IsTable list.now }
 {
     let mut greatest = 0;
     for (label, _) in list.iter() {
@@ -38,13 +41,6 @@ pub fn greatest_size(list: &Lin<Partition, Frac>) -> u16
         }
     }
     greatest
-}
-
-/// Does nothing when it runs: it tells a proof what a list is.
-pub fn is_table(list: &Lin<Partition, Frac>)
-    ensures { IsTable list.now }
-{
-    let _ = list.len();
 }
 
 /// The whole number.
@@ -80,16 +76,15 @@ pub fn scaled_number(c: Frac, den: u128) -> Option<Int>
     numerator_of(c).mul(whole_of(scale))
 }
 
-/// The list times the number, each coefficient over its own denominator. It is refused as `Large` only where the absolute values
-/// come to 2^127 or more.
+/// The list times the number, each coefficient over its own denominator. It is refused as `Large`
+/// only where the absolute values come to 2^127 or more.
 pub fn whole_terms(alloc: Global, list: &Lin<Partition, Frac>, den: u128) -> Result<Whole, SumFault>
     requires { den < 2 ^ 127 }
-    ensures value { IfOk result (λ terms. Same (numerators terms) (over den list.now)) }
+    ensures value { IfOk result (λ terms. Same terms (over den list.now)) }
+    ensures table { IfOk result IsWholeTable }
     ensures large { IsErrOf result SumFault.Large → 2 ^ 127 ≤ absolute_sum den list.now }
 {
-    is_table(list);
-    let mut terms = Lin::new(alloc);
-    is_whole(&terms);
+    let mut terms = Table::new(alloc);
     for (label, c) in list.iter() {
         let Some(number) = scaled_number(*c, den) else {
             return Err(SumFault::Large);
@@ -99,8 +94,8 @@ pub fn whole_terms(alloc: Global, list: &Lin<Partition, Frac>, den: u128) -> Res
     Ok(terms)
 }
 
-/// The coefficient times the common denominator, times `factor` over the factorials of the multiplicities; none where it is too
-/// large.
+/// The coefficient times the common denominator, times `factor` over the factorials of the
+/// multiplicities; none where it is too large.
 fn cleared_number(c: Frac, den: u128, factor: u128, label: &Partition) -> Option<Int>
     requires den { den < 2 ^ 127 }
     requires factor { factor < 2 ^ 127 }
@@ -127,9 +122,12 @@ fn add_cleared(
     requires den { den < 2 ^ 127 }
     requires factor { factor < 2 ^ 127 }
     requires multiplicities { multiplicity_factorials label.now ≤ factor }
-    ensures ok { OnOk result (Added ((mixed [] label.now, cleared_number den factor label.now c) ∷ []) sum.old.entries sum.new.entries) }
+    ensures ok { OnOk result (Added
+        ((mixed [] label.now, cleared_number den factor label.now c) ∷ []) sum.old.entries
+        sum.new.entries) }
     ensures large { IsErrOf result SumFault.Large
-        → Overflows ((mixed [] label.now, cleared_number den factor label.now c) ∷ []) sum.old.entries }
+        → Overflows ((mixed [] label.now, cleared_number den factor label.now c) ∷ [])
+        sum.old.entries }
 {
     let Some(number) = cleared_number(c, den, factor, label) else {
         return Err(SumFault::Large);
@@ -152,7 +150,8 @@ pub(crate) fn in_augmented(
     requires factor { factor < 2 ^ 127 }
     requires multiplicities { HasFactors factor list.now }
     ensures ok { IfOk result (λ sum. Added (cleared_terms den factor list.now) [] sum.entries) }
-    ensures large { IsErrOf result SumFault.Large → Overflows (cleared_terms den factor list.now) [] }
+    ensures large { IsErrOf result SumFault.Large
+        → Overflows (cleared_terms den factor list.now) [] }
 {
     let mut sum = IndexMap::new(alloc);
     for (label, c) in list.iter() {

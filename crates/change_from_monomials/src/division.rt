@@ -22,7 +22,8 @@ pub(crate) fn divided(
 ) -> Result<Lin<Partition, Frac>, SumFault>
     requires { (0 < den) × (den < 2 ^ 127) }
     ensures value { IfOk result (λ list. (label : List ℕ)
-        → found list label ≡ lowest_terms (coefficient (converted_terms sum.now.entries) label) den) }
+        → found list label ≡ lowest_terms
+        (coefficient (converted_terms sum.now.entries) label) den) }
     ensures table { IfOk result IsTable }
     ensures large { IsErrOf result SumFault.Large → 2 ^ 127 ≤ weight (λ l. 1) sum.now.entries }
     ensures large_here { IsErrOf result SumFault.Large

@@ -10,10 +10,10 @@ use crate::sorting::has;
 use calc_base::SumFault;
 use coeff_rings::{Int, Scalar};
 use family_lists::{Lists, keep, list_at, place_of};
+use linear_combinations::Lin;
 use partitions::Partition;
-use sparse_polys::Lin;
 use std::alloc::Global;
-use whole_lists::{Whole, is_whole};
+use whole_lists::Whole;
 
 /// The list for no parts: the empty partition.
 fn of_nothing(alloc: Global) -> Result<Whole, SumFault>
@@ -22,12 +22,12 @@ fn of_nothing(alloc: Global) -> Result<Whole, SumFault>
 {
     let mut list = Lin::new(alloc);
     let label = Partition::from_valid_parts(alloc, &[])?;
-    is_whole(&list);
     list.add_term(label, Int::one())?;
     Ok(list)
 }
 
-/// The place of the list for these parts, which is made of those with one part less where it is not kept yet.
+/// The place of the list for these parts, which is made of those with one part less where it is not
+/// kept yet.
 pub(crate) fn kept_list(alloc: Global, lists: &mut Lists, parts: &[u16]) -> Result<usize, SumFault>
     requires partition { IsPartition parts.now }
     requires low { size parts.now ≤ 20 }

@@ -26,5 +26,5 @@ mod table;
 
 pub use change::to_basis;
 pub use clearing::{
-    denominator_of, greatest_size, is_table, numerator_of, scaled_number, whole_of, whole_terms,
+    denominator_of, greatest_size, numerator_of, scaled_number, whole_of, whole_terms,
 };

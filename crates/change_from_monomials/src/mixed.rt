@@ -1,5 +1,6 @@
 //! Sums of products of a polynomial of the target and an augmented monomial symmetric polynomial.
-ghost use Rattle.std.specs.Prelude.{◌≡◌, ◌<◌, ℤ, ◌∷◌, [], length, slice_get, IfOk, OnOk, IsErrOf, Some};
+ghost use Rattle.std.specs.Prelude.{◌≡◌, ◌<◌, ℤ, ◌∷◌, [], length, slice_get, IfOk, OnOk, IsErrOf};
+ghost use Rattle.std.specs.Prelude.{Some};
 
 use calc_base::{NoMemory, SumFault};
 use indexmap::IndexMap;

@@ -39,7 +39,8 @@ fn insert_part(parts: &mut Vec<u16>, part: u16) -> Result<(), AllocError>
     Ok(())
 }
 
-/// Puts the parts in the place of what the first vector holds, with the first one that is `from` made `by` greater.
+/// Puts the parts in the place of what the first vector holds,
+/// with the first one that is `from` made `by` greater.
 pub(crate) fn put_raised(
     raised: &mut Vec<u16>,
     parts: &[u16],

@@ -1,10 +1,12 @@
 //! Products of terms put into a table.
-ghost use Rattle.std.specs.Prelude.{◌≡◌, ◌≢◌, ◌+◌, ◌-◌, ◌*◌, ◌<◌, ◌≤◌, ◌∷◌, [], pos, neg_ℤ, length, OnOk, IsErrOf};
+ghost use Rattle.std.specs.Prelude.{◌≡◌, ◌≢◌, ◌+◌, ◌-◌, ◌*◌, ◌<◌, ◌≤◌, ◌∷◌, [], pos, neg_ℤ, length};
+ghost use Rattle.std.specs.Prelude.{OnOk, IsErrOf};
 ghost use Rattle.sym_model.specs.Partition.{IsPartition, size};
 ghost use Rattle.sym_model.specs.RaisedPart.{raise};
 ghost use Rattle.partitions.specs.Limits.{IsWithinLimits};
 ghost use Rattle.basis_change_laws.specs.JoinedLists.{merged};
-ghost use Rattle.change_from_monomials.specs.Mixed.{mixed, mixed_list, Added, Overflows, AreLow, products, raised};
+ghost use Rattle.change_from_monomials.specs.Mixed.{mixed, mixed_list, Added, Overflows, AreLow};
+ghost use Rattle.change_from_monomials.specs.Mixed.{products, raised};
 
 use crate::mixed::MixedLabel;
 use crate::parts::put_raised;
@@ -16,7 +18,8 @@ use partitions::Partition;
 use std::alloc::Global;
 use whole_lists::Whole;
 
-/// Adds a term whose converted partition has the parts of both lists, which are put together in `room`.
+/// Adds a term whose converted partition has the parts of both lists,
+/// which are put together in `room`.
 fn add_merged(
     alloc: Global,
     sum: &mut Mixed,
@@ -30,9 +33,12 @@ fn add_merged(
     requires converted { IsPartition converted.now }
     requires sizes { size more.now + size converted.now ≤ 512 }
     requires augmented { IsWithinLimits augmented.now }
-    ensures ok { OnOk result (Added ((mixed (merged more.now converted.now) augmented.now, c) ∷ []) sum.old.entries sum.new.entries) }
+    ensures ok { OnOk result (Added
+        ((mixed (merged more.now converted.now) augmented.now, c) ∷ []) sum.old.entries
+        sum.new.entries) }
     ensures large { IsErrOf result SumFault.Large
-        → Overflows ((mixed (merged more.now converted.now) augmented.now, c) ∷ []) sum.old.entries }
+        → Overflows ((mixed (merged more.now converted.now) augmented.now, c) ∷ [])
+        sum.old.entries }
 {
     put_merged(room, more, converted)?;
     let label = MixedLabel {
@@ -42,8 +48,8 @@ fn add_merged(
     add(sum, label, c)
 }
 
-/// Adds a term of a list times c, times the target's polynomial of a partition, times an augmented monomial. The parts of the two
-/// partitions are put together in `room`.
+/// Adds a term of a list times c, times the target's polynomial of a partition, times an augmented
+/// monomial. The parts of the two partitions are put together in `room`.
 fn add_product(
     alloc: Global,
     sum: &mut Mixed,
@@ -57,10 +63,12 @@ fn add_product(
     requires low { have ≢ pos 0 → size label.now + size converted.now ≤ 512 }
     requires converted { IsPartition converted.now }
     requires augmented { IsWithinLimits augmented.now }
-    ensures ok { OnOk result (Added (products c ((mixed label.now [], have) ∷ []) converted.now augmented.now)
+    ensures ok { OnOk result (Added
+        (products c ((mixed label.now [], have) ∷ []) converted.now augmented.now)
         sum.old.entries sum.new.entries) }
     ensures large { IsErrOf result SumFault.Large
-        → Overflows (products c ((mixed label.now [], have) ∷ []) converted.now augmented.now) sum.old.entries }
+        → Overflows (products c ((mixed label.now [], have) ∷ []) converted.now augmented.now)
+        sum.old.entries }
 {
     if have.is_zero() {
         return Ok(());
@@ -79,7 +87,8 @@ fn add_product(
     )
 }
 
-/// Adds c times each term of a list, times the target's polynomial of a partition, times an augmented monomial.
+/// Adds c times each term of a list, times the target's polynomial of a partition,
+/// times an augmented monomial.
 pub(crate) fn add_products(
     alloc: Global,
     sum: &mut Mixed,
@@ -95,7 +104,8 @@ pub(crate) fn add_products(
     ensures ok { OnOk result (Added (products c (mixed_list factor.now) converted.now augmented.now)
         sum.old.entries sum.new.entries) }
     ensures large { IsErrOf result SumFault.Large
-        → Overflows (products c (mixed_list factor.now) converted.now augmented.now) sum.old.entries }
+        → Overflows (products c (mixed_list factor.now) converted.now augmented.now)
+        sum.old.entries }
 {
     let mut room = Vec::new(alloc);
     for (label, have) in factor.iter() {
@@ -104,7 +114,8 @@ pub(crate) fn add_products(
     Ok(())
 }
 
-/// Takes c times the augmented monomial away in which a part is raised; its parts are put together in `room`.
+/// Takes c times the augmented monomial away in which a part is raised;
+/// its parts are put together in `room`.
 fn take_one(
     alloc: Global,
     sum: &mut Mixed,
@@ -118,7 +129,8 @@ fn take_one(
     requires by { 0 < by }
     requires small { by + part ≤ 4096 }
     requires limits { IsWithinLimits (raise by part augmented.now) }
-    ensures ok { OnOk result (Added (raised c converted.now by augmented.now (part ∷ [])) sum.old.entries sum.new.entries) }
+    ensures ok { OnOk result (Added
+        (raised c converted.now by augmented.now (part ∷ [])) sum.old.entries sum.new.entries) }
     ensures large { IsErrOf result SumFault.Large
         → Overflows (raised c converted.now by augmented.now (part ∷ [])) sum.old.entries }
 {
@@ -145,7 +157,8 @@ pub(crate) fn take_raised(
     requires by { 0 < by }
     requires partition { IsPartition augmented.now }
     requires small { by + size augmented.now ≤ 512 }
-    ensures ok { OnOk result (Added (raised c converted.now by augmented.now augmented.now) sum.old.entries sum.new.entries) }
+    ensures ok { OnOk result (Added
+        (raised c converted.now by augmented.now augmented.now) sum.old.entries sum.new.entries) }
     ensures large { IsErrOf result SumFault.Large
         → Overflows (raised c converted.now by augmented.now augmented.now) sum.old.entries }
 {

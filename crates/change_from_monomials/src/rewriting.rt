@@ -1,6 +1,8 @@
 //! The parts of augmented monomials converted one after another, the smallest first.
-ghost use Rattle.std.specs.Prelude.{◌≡◌, ℕ, ◌+◌, ◌*◌, ◌^◌, ◌<◌, ◌≤◌, ℤ, List, ◌∷◌, [], map, length, IfOk, OnOk, IsErrOf};
-ghost use Rattle.change_from_monomials.specs.Mixed.{mixed_list, weighed, weight, Added, Overflows, AreReady, conversion_at, conversions};
+ghost use Rattle.std.specs.Prelude.{◌≡◌, ℕ, ◌+◌, ◌*◌, ◌^◌, ◌<◌, ◌≤◌, ℤ, List, ◌∷◌, [], map, length};
+ghost use Rattle.std.specs.Prelude.{IfOk, OnOk, IsErrOf};
+ghost use Rattle.change_from_monomials.specs.Mixed.{mixed_list, weighed, weight, Added, Overflows};
+ghost use Rattle.change_from_monomials.specs.Mixed.{AreReady, conversion_at, conversions};
 ghost use Rattle.change_from_monomials.specs.Factors.{ArePowerSums, product_value};
 ghost use Rattle.change_from_monomials.specs.Costs.{cost};
 
@@ -13,7 +15,8 @@ use indexmap::IndexMap;
 use std::alloc::Global;
 use whole_lists::{Family, Whole};
 
-/// Adds what comes of a term where augmented monomials of so many parts are converted. The smallest part is the one converted:
+/// Adds what comes of a term where augmented monomials of so many parts are converted. The smallest
+/// part is the one converted:
 /// its power sum has the fewest terms.
 fn add_conversion(
     alloc: Global,
@@ -27,11 +30,13 @@ fn add_conversion(
     requires factors { ArePowerSums family (length factors.now) (map mixed_list factors.now) }
     requires few { length factors.now ≤ 15 }
     requires ready { AreReady (length factors.now) rows ((label.now, c) ∷ []) }
-    ensures ok { OnOk result (Added (conversion_at (map mixed_list factors.now) rows (label.now, c)) next.old.entries next.new.entries) }
+    ensures ok { OnOk result (Added
+        (conversion_at (map mixed_list factors.now) rows (label.now, c)) next.old.entries
+        next.new.entries) }
     ensures large { IsErrOf result SumFault.Large
-        → Overflows (conversion_at (map mixed_list factors.now) rows (label.now, c)) next.old.entries }
+        → Overflows (conversion_at (map mixed_list factors.now) rows (label.now, c))
+        next.old.entries }
 {
-    let _ = family;
     if c.is_zero() {
         return Ok(());
     }
@@ -46,7 +51,8 @@ fn add_conversion(
     take_raised(alloc, next, &label.converted, rest, *last, c)
 }
 
-/// The terms whose augmented monomials have `rows` parts with the last one converted, and the other terms.
+/// The terms whose augmented monomials have `rows` parts with the last one converted,
+/// and the other terms.
 fn step(
     alloc: Global,
     family: Family,
@@ -57,7 +63,8 @@ fn step(
     requires factors { ArePowerSums family (length factors.now) (map mixed_list factors.now) }
     requires few { length factors.now ≤ 15 }
     requires ready { AreReady (length factors.now) rows table.now.entries }
-    ensures ok { IfOk result (λ next. Added (conversions (map mixed_list factors.now) rows table.now.entries) [] next.entries) }
+    ensures ok { IfOk result (λ next.
+        Added (conversions (map mixed_list factors.now) rows table.now.entries) [] next.entries) }
     ensures large { IsErrOf result SumFault.Large
         → Overflows (conversions (map mixed_list factors.now) rows table.now.entries) [] }
 {
@@ -81,7 +88,8 @@ pub(crate) fn converted(
     requires few { length factors.now ≤ 15 }
     requires ready { AreReady (length factors.now) most table.entries }
     ensures value { IfOk result (λ end. (n : ℕ) (φ : List ℕ → ℤ)
-        → weighed (product_value family n φ) end.entries ≡ weighed (product_value family n φ) table.entries) }
+        → weighed (product_value family n φ) end.entries
+        ≡ weighed (product_value family n φ) table.entries) }
     ensures cost { IfOk result (λ end. weight cost end.entries ≤ weight cost table.entries) }
     ensures ready { IfOk result (λ end. AreReady (length factors.now) 0 end.entries) }
     ensures large { IsErrOf result SumFault.Large → 2 ^ 127 ≤ weight cost table.entries }

@@ -6,13 +6,14 @@ ghost use Rattle.sym_model.specs.Partition.{size};
 ghost use Rattle.sym_model.specs.Polynomial.{Poly};
 ghost use Rattle.sym_model.specs.Weight.{growth};
 ghost use Rattle.whole_lists.specs.LabelSizes.{AreWithin};
+ghost use Rattle.whole_lists.specs.Tables.{IsTable, IsWholeTable};
 ghost use Rattle.change_from_monomials.specs.Mixed.{Added};
 ghost use Rattle.coeff_rings.specs.Fractions.{scaled};
 ghost use Rattle.change_from_monomials.specs.Arranging.{straight_terms, OverflowsSomewhere};
 ghost use Rattle.change_from_monomials.specs.KeptLists.{multiple};
 ghost use Rattle.change_from_monomials.specs.Straightening.{straightened_list, IsPast};
 
-use crate::clearing::{LIMIT, greatest_size, is_table, scaled_number};
+use crate::clearing::{LIMIT, greatest_size, scaled_number};
 use crate::division::divided;
 use crate::kept::kept_list;
 use crate::mixed::MixedLabel;
@@ -24,12 +25,14 @@ use indexmap::IndexMap;
 use partitions::Partition;
 use sparse_polys::Lin;
 use std::alloc::Global;
-use whole_lists::{Whole, is_whole};
+use whole_lists::Whole;
 
 /// Adds c times each term of a list.
 fn add_multiple(alloc: Global, sum: &mut Mixed, list: &Whole, c: Int) -> Result<(), SumFault>
     ensures ok { OnOk result (Added (multiple c list.now) sum.old.entries sum.new.entries) }
-    ensures large { IsErrOf result SumFault.Large → OverflowsSomewhere (multiple c list.now) sum.old.entries }
+    ensures large { IsErrOf result SumFault.Large
+        → OverflowsSomewhere (multiple c list.now) sum.old.entries }
+    ensures table { IsWholeTable list.now }
 {
     for (shape, k) in list.iter() {
         let Some(number) = k.mul(c) else {
@@ -44,7 +47,8 @@ fn add_multiple(alloc: Global, sum: &mut Mixed, list: &Whole, c: Int) -> Result<
     Ok(())
 }
 
-/// The list times `den` in Schur polynomials, by what the arrangements of each label in so many places straighten to.
+/// The list times `den` in Schur polynomials,
+/// by what the arrangements of each label in so many places straighten to.
 fn straightened(
     alloc: Global,
     list: &Lin<Partition, Frac>,
@@ -65,7 +69,6 @@ fn straightened(
         };
         let at = kept_list(alloc, &mut lists, label.parts())?;
         let (_, kept) = list_at(&lists, at);
-        is_whole(kept);
         add_multiple(alloc, &mut sum, kept, number)?;
     }
     Ok(sum)
@@ -82,10 +85,10 @@ pub(crate) fn by_arrangements(
     requires sizes { AreWithin 20 list.now }
     ensures value { IfOk result (λ answer. (n : ℕ) (f : Poly) (q : ℕ)
         → IsExpansionOf monomials list.now n f q → IsExpansionOf schurs answer n f q) }
+    ensures table { IfOk result IsTable }
     ensures large { IsErrOf result SumFault.Large → (d : ℕ) → AreWithin d list.now
         → 2 ^ 127 ≤ bound.num * bound.den * growth schurs d }
 {
-    is_table(list);
     if bound.den >= LIMIT {
         return Err(SumFault::Large);
     }

@@ -16,7 +16,8 @@ pub(crate) type Mixed = IndexMap<MixedLabel, Int>;
 pub(crate) fn add(sum: &mut Mixed, label: MixedLabel, c: Int) -> Result<(), SumFault>
     ensures ok { OnOk result (Added ((label, c) ∷ []) sum.old.entries sum.new.entries) }
     ensures large { IsErrOf result SumFault.Large → Overflows ((label, c) ∷ []) sum.old.entries }
-    ensures large_here { IsErrOf result SumFault.Large → OverflowsAt label.converted ((label, c) ∷ []) sum.old.entries }
+    ensures large_here { IsErrOf result SumFault.Large
+        → OverflowsAt label.converted ((label, c) ∷ []) sum.old.entries }
 {
     match sum.get_index_of(&label) {
         Some(at) => add_at(sum, at, c),
@@ -30,12 +31,15 @@ pub(crate) fn add(sum: &mut Mixed, label: MixedLabel, c: Int) -> Result<(), SumF
 /// Adds to the coefficient at an index.
 fn add_at(sum: &mut Mixed, at: usize, c: Int) -> Result<(), SumFault>
     requires { at < length sum.old.entries }
-    ensures ok { OnOk result ((label : Label) (had : ℤ) → slice_get sum.old.entries at ≡ Some (label, had)
+    ensures ok { OnOk result ((label : Label) (had : ℤ)
+        → slice_get sum.old.entries at ≡ Some (label, had)
         → Added ((label, c) ∷ []) sum.old.entries sum.new.entries) }
     ensures large { IsErrOf result SumFault.Large → (label : Label) (had : ℤ)
-        → slice_get sum.old.entries at ≡ Some (label, had) → Overflows ((label, c) ∷ []) sum.old.entries }
+        → slice_get sum.old.entries at ≡ Some (label, had)
+        → Overflows ((label, c) ∷ []) sum.old.entries }
     ensures large_here { IsErrOf result SumFault.Large → (label : Label) (had : ℤ)
-        → slice_get sum.old.entries at ≡ Some (label, had) → OverflowsAt label.converted ((label, c) ∷ []) sum.old.entries }
+        → slice_get sum.old.entries at ≡ Some (label, had)
+        → OverflowsAt label.converted ((label, c) ∷ []) sum.old.entries }
 {
     let had = sum[at];
     let Some(both) = had.add(c) else {

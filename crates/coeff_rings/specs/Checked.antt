@@ -1,10 +1,14 @@
--- What the types of scalars hold, and the answers of their checked operations: a value where it fits.
-use Rattle.std.specs.Prelude.{ℕ, ◌*◌, ◌/◌, ◌^◌, ◌<◌, Bool, ◌&&◌, ℤ, pos, ◌+ℤ◌, ◌-ℤ◌, ◌*ℤ◌, neg_ℤ, nat_lt, FitsSigned, Option, Some, None, if◌then◌else◌}
+-- What the types of scalars hold, and the answers of their checked operations:
+-- a value where it fits.
+use Rattle.std.specs.Prelude.{ℕ, ◌*◌, ◌/◌, ◌^◌, ◌<◌, Bool, ◌&&◌, ℤ, pos, ◌+ℤ◌, ◌-ℤ◌, ◌*ℤ◌, neg_ℤ}
+use Rattle.std.specs.Prelude.{nat_lt, FitsSigned, Option, Some, None, if◌then◌else◌}
 use Rattle.std.specs.Int.{w128}
 use Rattle.std.specs.Ordering.{int_eq}
 use Rattle.sym_model.specs.Canonical.{fits_128_bits}
 use Rattle.sym_model.specs.Expansion.{Fraction}
-use Rattle.coeff_rings.specs.Fractions.{whole, InLowestTerms, greatest_common_divisor, fraction_sum, fraction_difference, fraction_product, fraction_negation, fraction_quotient}
+use Rattle.coeff_rings.specs.Fractions.{whole, InLowestTerms, greatest_common_divisor, fraction_sum}
+use Rattle.coeff_rings.specs.Fractions.{fraction_difference, fraction_product, fraction_negation}
+use Rattle.coeff_rings.specs.Fractions.{fraction_quotient}
 
 -- a value where a test of it holds, and None otherwise
 abbrev pub where_fits : {A : Type 0} → Bool → A → Option A
@@ -58,12 +62,14 @@ four_numbers_fit a b total =
 -- the sum, refused where one of its four numbers does not fit i128
 abbrev pub checked_fraction_sum : Fraction → Fraction → Option Fraction
 checked_fraction_sum a b =
-    where_fits (four_numbers_fit a b (numerator_over_common a b +ℤ numerator_over_common b a)) (fraction_sum a b)
+    where_fits (four_numbers_fit a b (numerator_over_common a b +ℤ numerator_over_common b a))
+    (fraction_sum a b)
 
 -- the difference, refused where one of its four numbers does not fit i128
 abbrev pub checked_fraction_difference : Fraction → Fraction → Option Fraction
 checked_fraction_difference a b =
-    where_fits (four_numbers_fit a b (numerator_over_common a b -ℤ numerator_over_common b a)) (fraction_difference a b)
+    where_fits (four_numbers_fit a b (numerator_over_common a b -ℤ numerator_over_common b a))
+    (fraction_difference a b)
 
 -- the product, refused where the reduced fraction does not fit
 abbrev pub checked_fraction_product : Fraction → Fraction → Option Fraction
@@ -75,8 +81,10 @@ checked_fraction_quotient a b = checked_fraction (fraction_quotient a b)
 
 -- the negation, refused at the numerator -2^127 alone
 abbrev pub checked_fraction_negation : Fraction → Option Fraction
-checked_fraction_negation a = if int_eq a.0 (neg_ℤ (pos (2 ^ 127))) then None else Some (fraction_negation a)
+checked_fraction_negation a =
+    if int_eq a.0 (neg_ℤ (pos (2 ^ 127))) then None else Some (fraction_negation a)
 
 -- the fraction num/den, refused where den is 0 or the reduced fraction does not fit
 abbrev pub checked_fraction_of : ℤ → ℤ → Option Fraction
-checked_fraction_of num den = if int_eq den (pos 0) then None else checked_fraction_quotient (whole num) (whole den)
+checked_fraction_of num den =
+    if int_eq den (pos 0) then None else checked_fraction_quotient (whole num) (whole den)

@@ -1,5 +1,6 @@
 -- Fractions of whole numbers, the values of scalars, and their arithmetic (school arithmetic).
-use Rattle.std.specs.Prelude.{ℕ, zero, suc, ◌*◌, ◌/◌, ◌%◌, ◌<◌, Bool, ◌&&◌, ℤ, pos, negsuc, neg_ℤ, ◌+ℤ◌, ◌-ℤ◌, ◌*ℤ◌, unsigned_abs, int_div, nat_eq, if◌then◌else◌}
+use Rattle.std.specs.Prelude.{ℕ, zero, suc, ◌*◌, ◌/◌, ◌%◌, ◌<◌, Bool, ◌&&◌, ℤ, pos, negsuc, neg_ℤ}
+use Rattle.std.specs.Prelude.{◌+ℤ◌, ◌-ℤ◌, ◌*ℤ◌, unsigned_abs, int_div, nat_eq, if◌then◌else◌}
 use Rattle.std.specs.Int.{IsGcd}
 use Rattle.sym_model.specs.Expansion.{Fraction}
 
@@ -27,7 +28,8 @@ divides_both k a b = nat_eq (a % k) 0 && nat_eq (b % k) 0
 -- the greatest number up to the first that divides both others
 unfoldable pub greatest_divisor_to : ℕ → ℕ → ℕ → ℕ
 greatest_divisor_to zero a b = 0
-greatest_divisor_to (suc k) a b = if divides_both (suc k) a b then suc k else greatest_divisor_to k a b
+greatest_divisor_to (suc k) a b =
+    if divides_both (suc k) a b then suc k else greatest_divisor_to k a b
 
 -- the greatest common divisor of a number and a positive one
 unfoldable pub greatest_common_divisor : ℕ → ℕ → ℕ

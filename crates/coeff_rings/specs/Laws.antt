@@ -2,33 +2,45 @@
 use Rattle.std.specs.Prelude.{◌≡◌, ◌≢◌, ℕ, ◌*◌, ◌<◌, pos, ◌+ℤ◌, ◌*ℤ◌}
 use Rattle.std.specs.Int.{◌∣◌}
 use Rattle.sym_model.specs.Expansion.{Fraction}
-use Rattle.coeff_rings.specs.Fractions.{whole, scaled, fraction_sum, fraction_difference, fraction_product, fraction_negation, fraction_quotient}
+use Rattle.coeff_rings.specs.Fractions.{whole, scaled, fraction_sum, fraction_difference}
+use Rattle.coeff_rings.specs.Fractions.{fraction_product, fraction_negation, fraction_quotient}
 
--- sums commute and associate, 0 is neutral, and a sum times a common denominator is the sum of both times it
+-- sums commute and associate, 0 is neutral, and a sum times a common denominator is the sum of both
+-- times it
 pub record SumLaws {A : Type 0} (held : A → Type 0) (value : A → Fraction) : Type 0 where
   pub commutes : (a b : A) → fraction_sum (value a) (value b) ≡ fraction_sum (value b) (value a)
   pub associates : (a b c : A) → held a → held b → held c
-      → fraction_sum (fraction_sum (value a) (value b)) (value c) ≡ fraction_sum (value a) (fraction_sum (value b) (value c))
+      → fraction_sum (fraction_sum (value a) (value b)) (value c)
+      ≡ fraction_sum (value a) (fraction_sum (value b) (value c))
   pub zero_is_neutral : (a : A) → held a → fraction_sum (value a) (whole (pos 0)) ≡ value a
   pub cleared : (d : ℕ) (a b : A) → held a → held b → 0 < d → (value a).1 ∣ d → (value b).1 ∣ d
       → ((fraction_sum (value a) (value b)).1 ∣ d)
       × (scaled d (fraction_sum (value a) (value b)) ≡ scaled d (value a) +ℤ scaled d (value b))
 
--- products commute, associate and distribute over sums, 1 is neutral, a negation cancels, a difference
--- adds a negation, and a product times denominators of both is the product of both times theirs
+-- products commute, associate and distribute over sums, 1 is neutral, a negation cancels, a
+-- difference adds a negation, and a product times denominators of both is the product of both times
+-- theirs
 pub record RingLaws {A : Type 0} (held : A → Type 0) (value : A → Fraction) : Type 0 where
-  pub commutes : (a b : A) → fraction_product (value a) (value b) ≡ fraction_product (value b) (value a)
+  pub commutes : (a b : A) → fraction_product (value a) (value b)
+      ≡ fraction_product (value b) (value a)
   pub associates : (a b c : A) → held a → held b → held c
-      → fraction_product (fraction_product (value a) (value b)) (value c) ≡ fraction_product (value a) (fraction_product (value b) (value c))
+      → fraction_product (fraction_product (value a) (value b)) (value c)
+      ≡ fraction_product (value a) (fraction_product (value b) (value c))
   pub one_is_neutral : (a : A) → held a → fraction_product (value a) (whole (pos 1)) ≡ value a
   pub distributes : (a b c : A) → held a → held b → held c
-      → fraction_product (value a) (fraction_sum (value b) (value c)) ≡ fraction_sum (fraction_product (value a) (value b)) (fraction_product (value a) (value c))
-  pub negation_cancels : (a : A) → held a → fraction_sum (value a) (fraction_negation (value a)) ≡ whole (pos 0)
+      → fraction_product (value a) (fraction_sum (value b) (value c))
+      ≡ fraction_sum (fraction_product (value a) (value b))
+      (fraction_product (value a) (value c))
+  pub negation_cancels : (a : A) → held a
+      → fraction_sum (value a) (fraction_negation (value a)) ≡ whole (pos 0)
   pub difference_adds_negation : (a b : A) → held a → held b
-      → fraction_difference (value a) (value b) ≡ fraction_sum (value a) (fraction_negation (value b))
-  pub cleared : (d e : ℕ) (a b : A) → held a → held b → 0 < d → 0 < e → (value a).1 ∣ d → (value b).1 ∣ e
+      → fraction_difference (value a) (value b)
+      ≡ fraction_sum (value a) (fraction_negation (value b))
+  pub cleared : (d e : ℕ) (a b : A) → held a → held b → 0 < d → 0 < e → (value a).1 ∣ d
+      → (value b).1 ∣ e
       → ((fraction_product (value a) (value b)).1 ∣ d * e)
-      × (scaled (d * e) (fraction_product (value a) (value b)) ≡ scaled d (value a) *ℤ scaled e (value b))
+      × (scaled (d * e) (fraction_product (value a) (value b))
+      ≡ scaled d (value a) *ℤ scaled e (value b))
 
 -- a quotient by what is not 0, times what it was divided by, is back
 pub record FieldLaws {A : Type 0} (held : A → Type 0) (value : A → Fraction) : Type 0 where

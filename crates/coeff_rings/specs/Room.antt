@@ -1,5 +1,5 @@
--- Where a sum, a difference, a product, a quotient or a negation must be answered: its numbers, with the
--- fractions cleared, stay below 2^127 (this project's own).
+-- Where a sum, a difference, a product, a quotient or a negation must be answered: its numbers,
+-- with the fractions cleared, stay below 2^127.
 use Rattle.std.specs.Prelude.{ℕ, ◌+◌, ◌*◌, ◌/◌, ◌^◌, ◌<◌, unsigned_abs}
 use Rattle.std.specs.Int.{◌∣◌}
 use Rattle.sym_model.specs.Expansion.{Fraction}
@@ -9,7 +9,8 @@ use Rattle.coeff_rings.specs.Fractions.{reciprocal}
 abbrev pub magnitude : ℕ → Fraction → ℕ
 magnitude d r = unsigned_abs r.0 * (d / r.1)
 
--- d is a common denominator below 2^127, and the two absolute values times d add up to less than 2^127
+-- d is a common denominator below 2^127, and the two absolute values times d add up to less than
+-- 2^127
 pub record HasRoomForSum (d : ℕ) (a b : Fraction) : Type 0 where
   pub positive : 0 < d
   pub small : d < 2 ^ 127

@@ -1,4 +1,4 @@
--- How numbers are printed (this project's own).
+-- How numbers are printed.
 use Rattle.std.specs.Prelude.{ℕ, List, ◌++◌, codes, decimal, ◌==◌, if◌then◌else◌}
 use Rattle.std.specs.Fmt.{signed_decimal}
 use Rattle.sym_model.specs.Expansion.{Fraction}

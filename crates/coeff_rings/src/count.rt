@@ -4,7 +4,9 @@ ghost use Rattle.std.proofs.Common.{sym};
 ghost use Rattle.coeff_rings.specs.Fractions.{whole_count};
 ghost use Rattle.coeff_rings.specs.Checked.{checked_u128};
 ghost use Rattle.coeff_rings.specs.Proved.Fractions.{InLowestTerms-whole};
-ghost use Rattle.coeff_rings.specs.Proved.Whole.{sum-whole, count_fitted, zero_fits_u128, one_fits_u128, same_count, checked_u128-held, sum_answers_u128, sum_laws_u128};
+ghost use Rattle.coeff_rings.specs.Proved.Whole.{sum-whole, count_fitted, zero_fits_u128};
+ghost use Rattle.coeff_rings.specs.Proved.Whole.{one_fits_u128, same_count, checked_u128-held};
+ghost use Rattle.coeff_rings.specs.Proved.Whole.{sum_answers_u128, sum_laws_u128};
 
 use crate::digits::Digits;
 use crate::scalar::Scalar;

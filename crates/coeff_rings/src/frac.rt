@@ -1,11 +1,30 @@
 //! Fractions of whole numbers of 128 bits, in lowest terms.
-ghost use Rattle.std.specs.Prelude.{refl, ◌≡◌, ℕ, ℤ, pos, neg_ℤ, ◌+◌, ◌*◌, ◌<◌, ◌^◌, ◌*ℤ◌, Bool, unsigned_abs, FitsSigned, SomeIff, IfSome};
+ghost use Rattle.std.specs.Prelude.{refl, ◌≡◌, ℕ, ℤ, pos, neg_ℤ, ◌+◌, ◌*◌, ◌<◌, ◌^◌, ◌*ℤ◌, Bool};
+ghost use Rattle.std.specs.Prelude.{unsigned_abs, FitsSigned, SomeIff, IfSome};
 ghost use Rattle.std.specs.Int.{w128, IsGcd, ◌∣◌};
 ghost use Rattle.sym_model.specs.Expansion.{Fraction};
-ghost use Rattle.coeff_rings.specs.Fractions.{whole, lowest_terms, greatest_common_divisor, fraction_sum, fraction_product};
+ghost use Rattle.coeff_rings.specs.Fractions.{whole, lowest_terms, greatest_common_divisor};
+ghost use Rattle.coeff_rings.specs.Fractions.{fraction_sum, fraction_product};
 ghost use Rattle.coeff_rings.specs.Signs.{signed, signs_differ};
-ghost use Rattle.coeff_rings.specs.Checked.{IsFraction, CommonFits, checked_i128, checked_fraction, checked_fraction_of, numerator_over_common, common_denominator, checked_fraction_sum, checked_fraction_difference, checked_fraction_product, checked_fraction_quotient, checked_fraction_negation};
-ghost use Rattle.coeff_rings.specs.Proved.FractionAnswers.{fitted_sum, fitted_product, zero_is_fraction, one_is_fraction, sum_answers_fraction, sum_held_fraction, sum_laws_fraction, negation_answers_fraction, negation_held_fraction, difference_answers_fraction, difference_held_fraction, product_answers_fraction, product_held_fraction, ring_laws_fraction, quotient_answers_fraction, quotient_held_fraction, field_laws_fraction};
+ghost use Rattle.coeff_rings.specs.Checked.{IsFraction, CommonFits, checked_i128, checked_fraction};
+ghost use Rattle.coeff_rings.specs.Checked.{checked_fraction_of, numerator_over_common};
+ghost use Rattle.coeff_rings.specs.Checked.{common_denominator, checked_fraction_sum};
+ghost use Rattle.coeff_rings.specs.Checked.{checked_fraction_difference, checked_fraction_product};
+ghost use Rattle.coeff_rings.specs.Checked.{checked_fraction_quotient, checked_fraction_negation};
+ghost use Rattle.coeff_rings.specs.Proved.FractionAnswers.{fitted_sum, fitted_product};
+ghost use Rattle.coeff_rings.specs.Proved.FractionAnswers.{zero_is_fraction, one_is_fraction};
+ghost use Rattle.coeff_rings.specs.Proved.FractionAnswers.{sum_answers_fraction, sum_held_fraction};
+ghost use Rattle.coeff_rings.specs.Proved.FractionAnswers.{sum_laws_fraction};
+ghost use Rattle.coeff_rings.specs.Proved.FractionAnswers.{negation_answers_fraction};
+ghost use Rattle.coeff_rings.specs.Proved.FractionAnswers.{negation_held_fraction};
+ghost use Rattle.coeff_rings.specs.Proved.FractionAnswers.{difference_answers_fraction};
+ghost use Rattle.coeff_rings.specs.Proved.FractionAnswers.{difference_held_fraction};
+ghost use Rattle.coeff_rings.specs.Proved.FractionAnswers.{product_answers_fraction};
+ghost use Rattle.coeff_rings.specs.Proved.FractionAnswers.{product_held_fraction};
+ghost use Rattle.coeff_rings.specs.Proved.FractionAnswers.{ring_laws_fraction};
+ghost use Rattle.coeff_rings.specs.Proved.FractionAnswers.{quotient_answers_fraction};
+ghost use Rattle.coeff_rings.specs.Proved.FractionAnswers.{quotient_held_fraction};
+ghost use Rattle.coeff_rings.specs.Proved.FractionAnswers.{field_laws_fraction};
 
 use crate::digits::Digits;
 use crate::scalar::{Field, Ring, Scalar};
@@ -219,8 +238,8 @@ struct Sizes {
     den: u128,
 }
 
-/// The numerators of two fractions over their least common denominator, that denominator, and the greatest common
-/// divisor of the two denominators.
+/// The numerators of two fractions over their least common denominator, that denominator, and the
+/// greatest common divisor of the two denominators.
 #[derive(Clone, Copy)]
 struct Common {
     left: i128,
@@ -331,8 +350,9 @@ fn reduced(negative: bool, num: u128, den: u128) -> Option<Frac>
     from_sizes(negative, num / divisor, den / divisor)
 }
 
-/// A whole number over a positive one in lowest terms, where it fits. Each common divisor of the two divides `divisor`,
-/// so that nothing is left to cancel where that is 1, and little to search where it is small.
+/// A whole number over a positive one in lowest terms, where it fits. Each common divisor of the
+/// two divides `divisor`, so that nothing is left to cancel where that is 1,
+/// and little to search where it is small.
 #[inline(always)]
 fn quotient(num: i128, den: u128, divisor: u128) -> Option<Frac>
     requires positive { 0 < den }
@@ -355,7 +375,8 @@ fn quotient(num: i128, den: u128, divisor: u128) -> Option<Frac>
 fn product(negative: bool, left: Sizes, right: Sizes) -> Option<Frac>
     requires left { (0 < left.den) × IsGcd left.num left.den 1 }
     requires right { (0 < right.den) × IsGcd right.num right.den 1 }
-    ensures { result ≡ checked_fraction (lowest_terms (signed negative (left.num * right.num)) (left.den * right.den)) }
+    ensures { result ≡ checked_fraction
+        (lowest_terms (signed negative (left.num * right.num)) (left.den * right.den)) }
 {
     let down = common_divisor(left.num, right.den);
     let up = common_divisor(right.num, left.den);

@@ -5,7 +5,12 @@ ghost use Rattle.std.proofs.Common.{sym};
 ghost use Rattle.coeff_rings.specs.Fractions.{whole};
 ghost use Rattle.coeff_rings.specs.Checked.{checked_i128};
 ghost use Rattle.coeff_rings.specs.Proved.Fractions.{InLowestTerms-whole};
-ghost use Rattle.coeff_rings.specs.Proved.Whole.{sum-whole, product-whole, whole_fitted, zero_fits_128_bits, one_fits_128_bits, same_whole, checked_i128-held, sum_answers_i128, sum_laws_i128, negation_answers_i128, difference_answers_i128, product_answers_i128, ring_laws_i128};
+ghost use Rattle.coeff_rings.specs.Proved.Whole.{sum-whole, product-whole, whole_fitted};
+ghost use Rattle.coeff_rings.specs.Proved.Whole.{zero_fits_128_bits, one_fits_128_bits, same_whole};
+ghost use Rattle.coeff_rings.specs.Proved.Whole.{checked_i128-held, sum_answers_i128};
+ghost use Rattle.coeff_rings.specs.Proved.Whole.{sum_laws_i128, negation_answers_i128};
+ghost use Rattle.coeff_rings.specs.Proved.Whole.{difference_answers_i128, product_answers_i128};
+ghost use Rattle.coeff_rings.specs.Proved.Whole.{ring_laws_i128};
 
 use crate::digits::Digits;
 use crate::scalar::{Ring, Scalar};

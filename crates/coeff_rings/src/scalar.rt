@@ -1,14 +1,17 @@
-//! What every coefficient can do. A scalar has a value, a fraction in lowest terms, and each of its
-//! operations gives the exact value or `None`. A contract says which by a function of the scalars
-//! (as `checked_sum`), so that code over any scalar can say where its ring refuses. What is exact, whether
-//! it fits or not, has a name too (as `sum`).
+//! Traits of coefficients. A scalar has a value, a fraction in lowest terms, and each of its
+//! operations gives the exact value or `None`. A contract says which by a ghost function of the
+//! scalars, such as
+//! `checked_sum`, so that code over any scalar can say when its ring refuses. The exact result,
+//! whether it fits or not, has a name too, such as `sum`.
 //!
-//! The laws under a trait's functions serve code over any scalar. Where they ask `is_held`, what is
-//! true of every scalar that a program meets, each function gives that of what it takes and answers.
+//! The laws below a trait's functions are for code over any scalar. Some of them require `is_held`,
+//! which is true of every scalar in a program:
+//! each function states it of its arguments and of its result.
 ghost use Rattle.std.specs.Prelude.{◌≡◌, ◌≢◌, ◌↔◌, ℕ, ℤ, pos, List, Option, Some, IsTrue, IfSome};
 ghost use Rattle.sym_model.specs.Expansion.{Fraction};
 ghost use Rattle.coeff_rings.specs.Fractions.{whole, InLowestTerms, fraction_sum, fraction_product};
-ghost use Rattle.coeff_rings.specs.Answers.{AnswersSum, AnswersDifference, AnswersProduct, AnswersNegation, AnswersQuotient};
+ghost use Rattle.coeff_rings.specs.Answers.{AnswersSum, AnswersDifference, AnswersProduct};
+ghost use Rattle.coeff_rings.specs.Answers.{AnswersNegation, AnswersQuotient};
 ghost use Rattle.coeff_rings.specs.Laws.{SumLaws, RingLaws, FieldLaws};
 ghost use Rattle.coeff_rings.specs.Text.{decimal_text};
 
@@ -16,7 +19,7 @@ use crate::digits::Digits;
 
 /// Numbers that are added, tested for 0 and printed.
 pub trait Scalar: Copy {
-    // The fraction that a scalar stands for.
+    // The value of a scalar, as a fraction.
     ghost value: { Self → Fraction };
 
     // The scalars 0 and 1.
@@ -30,7 +33,7 @@ pub trait Scalar: Copy {
     // The exact sum, whether it fits or not.
     ghost sum: { Self → Self → Self };
 
-    // The answer of `add`.
+    // The result of `add`.
     ghost checked_sum: { Self → Self → Option Self };
 
     /// The scalar 0.
@@ -50,17 +53,17 @@ pub trait Scalar: Copy {
         ensures zero { IsTrue result ↔ (value self.now ≡ whole (pos 0)) }
         ensures held { is_held self.now };
 
-    /// The sum, or `None` where the type refuses it. The sum with 0 is always there, and so is one
-    /// with room: under a common denominator below 2^127 at which the absolute values add up to
-    /// less than 2^127.
+    /// The sum, or `None` if the type cannot hold it. A sum with 0 is always given, and so is one
+    /// with room: over a common denominator below 2^127 with which the absolute values of the
+    /// numerators add up to less than 2^127.
     fn add(self, other: Self) -> Option<Self>
         ensures sum { result ≡ checked_sum self other }
         ensures answer { AnswersSum value self other result }
         ensures held { is_held self × is_held other }
         ensures held_sum { IfSome result is_held };
 
-    /// Puts the value's decimal text in the place of what the buffer held: `NUM/DEN` in lowest
-    /// terms, and a whole value without its denominator.
+    /// Replaces the contents of the buffer by the value's decimal text: `NUM/DEN` in lowest terms,
+    /// and a whole value without its denominator.
     fn digits(&self, out: &mut Digits)
         ensures text { out.new ≡ decimal_text (value self.now) }
         ensures held { is_held self.now };
@@ -77,16 +80,17 @@ pub trait Scalar: Copy {
 
     ghost sum_value: { (a b : Self) → value (sum a b) ≡ fraction_sum (value a) (value b) };
 
-    ghost sum_answers: { (a b : Self) → is_held a → is_held b → AnswersSum value a b (checked_sum a b) };
+    ghost sum_answers: { (a b : Self) → is_held a → is_held b
+        → AnswersSum value a b (checked_sum a b) };
 
     ghost sum_held: { (a b : Self) → is_held a → is_held b → IfSome (checked_sum a b) is_held };
 
     ghost sum_laws: { SumLaws is_held value };
 }
 
-/// Scalars that are also negated, subtracted and multiplied.
+/// Scalars that can also be negated, subtracted and multiplied.
 pub trait Ring: Scalar {
-    // The answers of `neg`, `sub` and `mul`.
+    // The results of `neg`, `sub` and `mul`.
     ghost checked_negation: { Self → Option Self };
 
     ghost checked_difference: { Self → Self → Option Self };
@@ -101,7 +105,7 @@ pub trait Ring: Scalar {
         ensures value { Self.value result ≡ whole v }
         ensures held { Self.is_held result };
 
-    /// The negation, or `None` where the type refuses it. It is there where the absolute value times
+    /// The negation, or `None` if the type cannot hold it. It is given if the absolute value times
     /// its denominator is below 2^127.
     fn neg(self) -> Option<Self>
         ensures negation { result ≡ checked_negation self }
@@ -109,23 +113,24 @@ pub trait Ring: Scalar {
         ensures held { Self.is_held self }
         ensures held_negation { IfSome result Self.is_held };
 
-    /// The difference, or `None` where the type refuses it. It is there where a sum has room.
+    /// The difference, or `None` if the type cannot hold it. It is given if a sum would have room.
     fn sub(self, other: Self) -> Option<Self>
         ensures difference { result ≡ checked_difference self other }
         ensures answer { AnswersDifference Self.value self other result }
         ensures held { Self.is_held self × Self.is_held other }
         ensures held_difference { IfSome result Self.is_held };
 
-    /// The product, or `None` where the type refuses it. It is there where it has room: with
-    /// multiples of the two denominators whose product is below 2^127, at which the product of the
-    /// absolute values is below 2^127.
+    /// The product, or `None` if the type cannot hold it. It is given if it has room: over
+    /// multiples of the two denominators whose product is below 2^127, with which the product of
+    /// the absolute values of the numerators is below 2^127.
     fn mul(self, other: Self) -> Option<Self>
         ensures product { result ≡ checked_product self other }
         ensures answer { AnswersProduct Self.value self other result }
         ensures held { Self.is_held self × Self.is_held other }
         ensures held_product { IfSome result Self.is_held };
 
-    ghost negation_answers: { (a : Self) → Self.is_held a → AnswersNegation Self.value a (checked_negation a) };
+    ghost negation_answers: { (a : Self) → Self.is_held a
+        → AnswersNegation Self.value a (checked_negation a) };
 
     ghost negation_held: { (a : Self) → Self.is_held a → IfSome (checked_negation a) Self.is_held };
 
@@ -137,7 +142,8 @@ pub trait Ring: Scalar {
 
     ghost product_is: { (a b p : Self) → checked_product a b ≡ Some p → p ≡ product a b };
 
-    ghost product_value: { (a b : Self) → Self.value (product a b) ≡ fraction_product (Self.value a) (Self.value b) };
+    ghost product_value: { (a b : Self)
+        → Self.value (product a b) ≡ fraction_product (Self.value a) (Self.value b) };
 
     ghost product_answers: { (a b : Self) → Self.is_held a → Self.is_held b
         → AnswersProduct Self.value a b (checked_product a b) };
@@ -148,13 +154,13 @@ pub trait Ring: Scalar {
     ghost ring_laws: { RingLaws Self.is_held Self.value };
 }
 
-/// A ring with quotients by what is not 0.
+/// A ring with quotients by scalars other than 0.
 pub trait Field: Ring {
-    // The answer of `div`.
+    // The result of `div`.
     ghost checked_quotient: { Self → Self → Option Self };
 
-    /// The quotient, or `None` where the type refuses it. It is there where the product of the first and one over the
-    /// second has room.
+    /// The quotient, or `None` if the type cannot hold it. It is given if the product of the first
+    /// and one over the second has room.
     fn div(self, other: Self) -> Option<Self>
         requires { Self.value other ≢ whole (pos 0) }
         ensures quotient { result ≡ checked_quotient self other }
@@ -162,10 +168,12 @@ pub trait Field: Ring {
         ensures held { Self.is_held self × Self.is_held other }
         ensures held_quotient { IfSome result Self.is_held };
 
-    ghost quotient_answers: { (a b : Self) → Self.is_held a → Self.is_held b → Self.value b ≢ whole (pos 0)
+    ghost quotient_answers: { (a b : Self) → Self.is_held a → Self.is_held b
+        → Self.value b ≢ whole (pos 0)
         → AnswersQuotient Self.value a b (checked_quotient a b) };
 
-    ghost quotient_held: { (a b : Self) → Self.is_held a → Self.is_held b → Self.value b ≢ whole (pos 0)
+    ghost quotient_held: { (a b : Self) → Self.is_held a → Self.is_held b
+        → Self.value b ≢ whole (pos 0)
         → IfSome (checked_quotient a b) Self.is_held };
 
     ghost field_laws: { FieldLaws Self.is_held Self.value };

@@ -4,7 +4,6 @@ use Rattle.std.specs.Prelude.{nat_abs, neg_ℤ, ◌&&◌}
 use Rattle.std.specs.Cmp.{IsEquivalence}
 use Rattle.std.specs.Cmp.Lexicographic.{nat_list_eq_equiv}
 use Rattle.std.proofs.lemmas.Bool.{and_parts}
-use Rattle.std.proofs.lemmas.Int.{ints}
 use Rattle.coeff_rings.specs.Fractions.{whole}
 use Rattle.sym_model.specs.DividedDifference.{raised}
 use Rattle.sym_model.specs.DoubleSchubert.{difference_in, shifted_in}
@@ -25,9 +24,10 @@ use Rattle.linear_combinations.specs.Gains.{over, mass, scaled, replaced, HaveLa
 use Rattle.linear_combinations.proofs.Gains.{scaled_append, replaced_over, gains_both, overflows_both, overflows_more, overflows_as, overflows_alone, mass_at_append}
 use Rattle.linear_combinations.proofs.Masses.{mass_replaced, labels_replaced, labels_gained}
 use Rattle.linear_combinations.proofs.Totals.{term-among}
-use Rattle.schubert_transition.proofs.Labels.{label_one_line}
+use Rattle.transition_walk.proofs.Labels.{label_one_line, one_one_line}
 use Rattle.double_schubert.specs.Shifts.{ShiftedSum, IsWithin, IsTable, equal, each_beside, factor_terms, greatest_length}
 use Rattle.double_schubert.specs.FactorLaws.{over_terms, mass_terms, labels_terms}
+use Rattle.sym_model.proofs.Integers.{product-neg_one}
 
 pub label_laws : IsEquivalence equal
 label_laws = record {
@@ -39,9 +39,6 @@ label_laws = record {
 }
 
 -- ---- the terms of one product, as they are added
-
-neg_one : (c : ℤ) → c *ℤ negsuc 0 ≡ neg_ℤ c
-neg_one c = omega (arith, ints)
 
 scaled_beside : (k a : ℤ) (e : List ℕ) (vs : List (List ℕ)) → scaled k (each_beside a e vs) ≡ each_beside (k *ℤ a) e vs
 scaled_beside k a e [] = refl
@@ -59,7 +56,7 @@ factor_scaled k minus r c letter_is label up down more less m l u d a b =
     ap (λ z. added k z label up down more less) m
     ∙ ap₂ (λ x y. added k (neg_ℤ k) label x y more less) u d
     ∙ ap₂ (λ x y. added k (neg_ℤ k) label (covers_up r label.0) (covers_down r label.0) x y) (a ∙ ap (λ i. raised i label.1) l) b
-    ∙ ap₂ (λ x y. added x y label (covers_up r label.0) (covers_down r label.0) (raised (letter label.0 r) label.1) (raised c label.1)) (sym (product-one k)) (sym (neg_one k))
+    ∙ ap₂ (λ x y. added x y label (covers_up r label.0) (covers_down r label.0) (raised (letter label.0 r) label.1) (raised c label.1)) (sym (product-one k)) (sym (product-neg_one k))
     ∙ sym
     (scaled_append k (each_beside (pos 1) label.1 (covers_up r label.0)) (each_beside (negsuc 0) label.1 (covers_down r label.0) ++ rest)
     ∙ ap₂ (λ x y. x ++ y) (scaled_beside k (pos 1) label.1 (covers_up r label.0))
@@ -181,9 +178,6 @@ longest (u ∷ list) r letters degree h t (inr m) =
     let l = longest list r letters degree (λ v i. h v (inr i)) t m in
     let a = l.short in
     record { short = omega arith; small = l.small }
-
-one_one_line : IsOneLine (1 ∷ [])
-one_one_line = record { letters = λ a m. elim m [ inl e ↦ (omega arith, omega arith) | inr k ↦ absurd k ]; once = ((λ m. m), tt) }
 
 -- the identity leaves the list
 pub alone : (n : ℕ) (φ : List ℕ → ℤ) (list : ShiftedSum) → over (λ label. pair (shifted_in label n) φ) list ≡ over (acted n φ (1 ∷ [])) list

@@ -1,5 +1,6 @@
 -- Lists of terms y^e·S_w, by their labels (w, e), and their products with x_r - y_c.
-use Rattle.std.specs.Prelude.{ℕ, ◌≤◌, max, nat_eq, Bool, ◌&&◌, ℤ, pos, negsuc, List, [], ◌∷◌, ◌++◌, length}
+use Rattle.std.specs.Prelude.{ℕ, ◌≤◌, max, nat_eq, Bool, ◌&&◌, ℤ, pos, negsuc, List, [], ◌∷◌, ◌++◌}
+use Rattle.std.specs.Prelude.{length}
 use Rattle.std.specs.Cmp.Lexicographic.{pointwise}
 use Rattle.coeff_rings.specs.Fractions.{whole}
 use Rattle.sym_model.specs.DividedDifference.{raised}
@@ -48,4 +49,5 @@ abbrev pub factor_terms : ℕ → ℕ → List ℕ × List ℕ → ShiftedSum
 factor_terms r c label =
     each_beside (pos 1) label.1 (covers_up r label.0)
     ++ (each_beside (negsuc 0) label.1 (covers_down r label.0)
-    ++ (((label.0, raised (letter label.0 r) label.1), pos 1) ∷ ((label.0, raised c label.1), negsuc 0) ∷ []))
+    ++ (((label.0, raised (letter label.0 r) label.1), pos 1)
+    ∷ ((label.0, raised c label.1), negsuc 0) ∷ []))

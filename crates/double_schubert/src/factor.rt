@@ -1,5 +1,6 @@
 //! Lists of terms y^e·S_w, and their products with x_r - y_c.
-ghost use Rattle.std.specs.Prelude.{ℕ, ◌+◌, ◌*◌, ◌^◌, ◌≤◌, max, [], ◌∷◌, length, IfOk, OnOk, IsErrOf};
+ghost use Rattle.std.specs.Prelude.{ℕ, ◌+◌, ◌*◌, ◌^◌, ◌≤◌, max, [], ◌∷◌, length, IfOk, OnOk};
+ghost use Rattle.std.specs.Prelude.{IsErrOf};
 ghost use Rattle.sym_model.specs.DoubleSchubert.{difference_in, shifted_in};
 ghost use Rattle.sym_model.specs.Expansion.{Represents};
 ghost use Rattle.sym_model.specs.ListWeight.{list_weight};
@@ -19,8 +20,9 @@ use transition_walk::Factor;
 /// A list of terms y^e·S_w with whole coefficients.
 pub(crate) type Shifts = Lin<Shifted, Int>;
 
-/// The factor x_r - y_c: by Monk's rule (x_r - y_c)·y^e·S_w is the sum of the y^e·S_v over the covers v = w·t_rj with j > r,
-/// and of y_w(r)·y^e·S_w, less that of the y^e·S_v over the covers v = w·t_ir with i < r, and less y_c·y^e·S_w.
+/// The factor x_r - y_c: by Monk's rule (x_r - y_c)·y^e·S_w is the sum of the y^e·S_v over the
+/// covers v = w·t_rj with j > r, and of y_w(r)·y^e·S_w, less that of the y^e·S_v over the covers v
+/// = w·t_ir with i < r, and less y_c·y^e·S_w.
 #[derive(Drop)]
 pub(crate) struct TimesFactor {
     pub(crate) r: u16,
@@ -50,16 +52,18 @@ impl Rule<Shifted, Shifted> for TimesFactor {
 /// Adds a coefficient at a permutation beside the monomial y.
 fn add_one(sum: &mut Shifts, perm: &Perm, y: Monomial, k: Int) -> Result<(), SumFault>
     ensures gains { OnOk result (Gains sum.old (((perm.now, y), k) ∷ []) sum.new) }
-    ensures large { IsErrOf result SumFault.Large → Overflows equal sum.old (((perm.now, y), k) ∷ []) }
+    ensures large { IsErrOf result SumFault.Large
+        → Overflows equal sum.old (((perm.now, y), k) ∷ []) }
 {
     let perm = perm.copy()?;
-    sum.add_at_label(&Shifted { perm, y }, k)
+    sum.add_owned(Shifted { perm, y }, k)
 }
 
 /// Adds a coefficient at each of some permutations beside the monomial y.
 fn add_beside(sum: &mut Shifts, perms: &[Perm], y: &Monomial, k: Int) -> Result<(), SumFault>
     ensures gains { OnOk result (Gains sum.old (each_beside k y.now perms.now) sum.new) }
-    ensures large { IsErrOf result SumFault.Large → Overflows equal sum.old (each_beside k y.now perms.now) }
+    ensures large { IsErrOf result SumFault.Large
+        → Overflows equal sum.old (each_beside k y.now perms.now) }
 {
     for perm in perms {
         add_one(sum, perm, y.copy()?, k)?;
@@ -78,6 +82,8 @@ impl Factor<Shifted> for TimesFactor {
 
     ghost extent = { λ label. max (length label.0) (size label.1) };
 
+    ghost most = { 254 };
+
     ghost extra = { 2 };
 
     ghost product = { acted };
@@ -94,12 +100,13 @@ impl Factor<Shifted> for TimesFactor {
     ghost grows = { factor_grows };
 }
 
-/// The product of a sum of terms y^e·S_w and x_r - y_c, by Monk's rule and x_r·S_w = (x_r - y_w(r))·S_w + y_w(r)·S_w
-/// (Lascoux and Schützenberger). The places r and c are from 1 to 254, each permutation has at most 254 letters, and each
-/// monomial in y a degree below 32,385.
+/// The product of a sum of terms y^e·S_w and x_r - y_c, by Monk's rule and x_r·S_w = (x_r -
+/// y_w(r))·S_w + y_w(r)·S_w (Lascoux and Schützenberger). The places r and c are from 1 to 254,
+/// each permutation has at most 254 letters, and each monomial in y a degree below 32,385.
 ///
-/// With m the greater of r and the greatest number of letters of a permutation, the weight of the product is at most that
-/// of the list times m + 2. It is refused as `Large` only where that bound is 2^127 or more.
+/// With m the greater of r and the greatest number of letters of a permutation, the weight of the
+/// product is at most that of the list times m + 2. It is refused as `Large` only where that bound
+/// is 2^127 or more.
 pub fn times_factor(
     alloc: Global,
     list: Lin<Shifted, Int>,
@@ -111,11 +118,13 @@ pub fn times_factor(
     requires column { 1 ≤ c }
     requires last_column { c ≤ 254 }
     requires labels { HaveLabels (IsWithin 254 32384) list }
-    ensures value { IfOk result (λ product. (n : ℕ) → Represents (λ label. shifted_in label n) (as_fractions product)
+    ensures value { IfOk result (λ product. (n : ℕ)
+        → Represents (λ label. shifted_in label n) (as_fractions product)
         (times (difference_in r c n) (combined (λ label. shifted_in label n) list)) 1) }
     ensures weight { IfOk result (λ product. list_weight (as_fractions product)
         ≤ list_weight (as_fractions list) * (max r (greatest_length list) + 2)) }
-    ensures labels { IfOk result (λ product. (letters degree : ℕ) → HaveLabels (IsWithin letters degree) list → r ≤ letters
+    ensures labels { IfOk result (λ product. (letters degree : ℕ)
+        → HaveLabels (IsWithin letters degree) list → r ≤ letters
         → HaveLabels (IsWithin (letters + 1) (degree + 1)) product) }
     ensures large { IsErrOf result SumFault.Large
         → 2 ^ 127 ≤ list_weight (as_fractions list) * (max r (greatest_length list) + 2) }

@@ -21,14 +21,15 @@ use sparse_polys::{Monomial, Shifted};
 use std::alloc::Global;
 use transition_walk::product_of;
 
-/// The product of the double Schubert polynomials of two permutations of at most 8 letters, as a sum of terms y^e·S_w in
-/// the printed order of their labels.
+/// The product of the double Schubert polynomials of two permutations of at most 8 letters, as a
+/// sum of terms y^e·S_w in the printed order of their labels.
 ///
 /// It is refused as `Large` only where the weight of the pair is 2^127 or more.
 pub fn dschubmult(alloc: Global, u: &Perm, v: &Perm) -> Result<Terms<Shifted, Int>, SumFault>
     requires first { length u.now ≤ 8 }
     requires second { length v.now ≤ 8 }
-    ensures meets { IfOk result (λ terms. Meets (commands.dschubmult u.now v.now) (answer shifts (as_fractions terms))) }
+    ensures meets { IfOk result (λ terms.
+        Meets (commands.dschubmult u.now v.now) (answer shifts (as_fractions terms))) }
     ensures large { IsErrOf result SumFault.Large → IsHeavy (commands.dschubmult u.now v.now) }
 {
     if u.inversions() <= v.inversions() {
@@ -38,12 +39,15 @@ pub fn dschubmult(alloc: Global, u: &Perm, v: &Perm) -> Result<Terms<Shifted, In
     }
 }
 
-/// The product, where the transition rule works off the first permutation on the polynomial of the second.
+/// The product, where the transition rule works off the first permutation on the polynomial of the
+/// second.
 fn act(alloc: Global, w: &Perm, other: &Perm) -> Result<Terms<Shifted, Int>, SumFault>
     requires { max (length w.now) (length other.now) + inversions w.now ≤ 255 }
-    ensures value { IfOk result (λ terms. (n : ℕ) → Represents (λ label. shifted_in label n) (as_fractions terms)
+    ensures value { IfOk result (λ terms. (n : ℕ)
+        → Represents (λ label. shifted_in label n) (as_fractions terms)
         (times (double_schubert_in w.now n) (double_schubert_in other.now n)) 1) }
-    ensures large { IsErrOf result SumFault.Large → 2 ^ 127 ≤ nat_abs (value_at_ones (polynomials.schubert w.now))
+    ensures large { IsErrOf result SumFault.Large
+        → 2 ^ 127 ≤ nat_abs (value_at_ones (polynomials.schubert w.now))
         * (max (length w.now) (length other.now) + inversions w.now + 2) ^ inversions w.now }
 {
     let label = Shifted {

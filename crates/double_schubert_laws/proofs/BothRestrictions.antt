@@ -1,9 +1,8 @@
 -- Double Schubert polynomials in any number of variables: however many places they are made with, they are the same, and
 -- what is dropped passes products and sums.
-use Rattle.std.proofs.Common.{◌≡◌, ℕ, zero, suc, ◌+◌, ◌<◌, ◌≤◌, List, [], ◌∷◌, ◌++◌, ◌==◌, ◌&&◌, take, drop, length, replicate, refl, sym, ◌∙◌, ap, ap₂, subst, arith, inl, inr, ◌⊎◌, cond, Bool, true, false, None, ℤ, pos, ◌-ℤ◌, ◌*ℤ◌}
+use Rattle.std.proofs.Common.{◌≡◌, ℕ, zero, suc, ◌+◌, ◌<◌, ◌≤◌, List, [], ◌∷◌, ◌++◌, ◌==◌, ◌&&◌, take, drop, length, replicate, refl, sym, ◌∙◌, ap, ap₂, subst, arith, inl, inr, ◌⊎◌, cond, Bool, true, false, None, ℤ, pos, ◌-ℤ◌, ◌*ℤ◌, filter}
 use Rattle.std.proofs.lemmas.List.{replicate-append-replicate}
 use lib.IntN.{*ℤ-zero}
-use Rattle.sym_model.specs.Sum.{select}
 use Rattle.sym_model.specs.Polynomial.{Term, Poly, Same, In, times, pair, join, resize, all_zero, fits_in}
 use Rattle.sym_model.specs.Alternant.{staircase}
 use Rattle.sym_model.specs.BetaList.{rising_pairs}
@@ -25,7 +24,7 @@ both m n φ α = cond (fits_in n (take m α) && fits_in n (drop m α)) (φ (resi
 
 pub pair_restrict_both : (m n : ℕ) (f : Poly) (φ : List ℕ → ℤ) → pair (restrict_both m n f) φ ≡ pair f (both m n φ)
 pair_restrict_both m n f φ =
-    total_map (λ (t : Term). t.1 *ℤ φ t.0) (λ (t : Term). (resize n (take m t.0) ++ resize n (drop m t.0), t.1)) (select (λ (t : Term). fits_in n (take m t.0) && fits_in n (drop m t.0)) f)
+    total_map (λ (t : Term). t.1 *ℤ φ t.0) (λ (t : Term). (resize n (take m t.0) ++ resize n (drop m t.0), t.1)) (filter (λ (t : Term). fits_in n (take m t.0) && fits_in n (drop m t.0)) f)
     ∙ total_select (λ (t : Term). t.1 *ℤ φ (resize n (take m t.0) ++ resize n (drop m t.0))) (λ (t : Term). fits_in n (take m t.0) && fits_in n (drop m t.0)) f
     ∙ total_ext (λ (t : Term). cond (fits_in n (take m t.0) && fits_in n (drop m t.0)) (t.1 *ℤ φ (resize n (take m t.0) ++ resize n (drop m t.0))) (pos 0)) (λ (t : Term). t.1 *ℤ both m n φ t.0)
     (λ t. inside (fits_in n (take m t.0) && fits_in n (drop m t.0)) t.1 (φ (resize n (take m t.0) ++ resize n (drop m t.0)))) f

@@ -1,10 +1,10 @@
 -- The double Schubert polynomial of a dominant list is the product over the diagram of its code, and a last letter that
 -- is greater than all others changes nothing.
-use Rattle.std.proofs.Common.{◌≡◌, ℕ, zero, suc, ◌+◌, ◌-◌, ◌<◌, ◌≤◌, List, [], ◌∷◌, ◌++◌, map, length, get_or, replicate, refl, sym, ◌∙◌, ap, ap₂, subst, arith, inl, inr, ◌⊎◌, cond, None, ℤ, pos, ◌+ℤ◌, ◌-ℤ◌, neg_ℤ, length-append}
+use Rattle.std.proofs.Common.{◌≡◌, ℕ, zero, suc, ◌+◌, ◌-◌, ◌<◌, ◌≤◌, List, [], ◌∷◌, ◌++◌, map, length, get_or, replicate, refl, sym, ◌∙◌, ap, ap₂, subst, arith, inl, inr, ◌⊎◌, cond, None, ℤ, pos, ◌+ℤ◌, ◌-ℤ◌, neg_ℤ, length-append, flat_map}
 use Rattle.std.proofs.lemmas.Simd.{map-map}
 use Rattle.std.proofs.lemmas.List.{map-append, length-replicate, replicate-append-replicate, append-nil}
 use Rattle.std.proofs.lemmas.Int.{ints}
-use Rattle.sym_model.specs.Sum.{each, Among, Once}
+use Rattle.sym_model.specs.Sum.{Among, Once}
 use Rattle.sym_model.specs.Polynomial.{Poly, Same, In, one, plus, negate, times, pair, join, resize, fits_in}
 use Rattle.sym_model.specs.Partition.{part, after, cells, Falls}
 use Rattle.sym_model.specs.Alternant.{staircase}
@@ -135,7 +135,7 @@ pair_factors m r i j (suc c) fs φ d h l n =
 
 -- the factors of the rows after row r, k of them, where row i has c i factors
 abbrev rows_from : ℕ → (ℕ → ℕ) → ℕ → ℕ → List Poly
-rows_from m c r k = each (λ i. map (λ j. difference_in i j m) (after 0 (c i))) (after r k)
+rows_from m c r k = flat_map (λ i. map (λ j. difference_in i j m) (after 0 (c i))) (after r k)
 
 In_rows : (m : ℕ) (c : ℕ → ℕ) (r k : ℕ) → In (m + m) (product_of (m + m) (rows_from m c r k))
 In_rows m c r zero = In_one (m + m)
@@ -243,11 +243,11 @@ pair_cells m cs φ h b =
     ∙ pair_rows m (λ i. part cs i - part [] i) 0 (length cs) φ (λ i. let x = b (i - 1) in omega arith) (omega arith)
     ∙ ap (λ l. diagram m 0 l φ (replicate (m + m) 0)) (parts_after cs 0 cs (λ i. let e : 0 + i ≡ i = omega arith in ap (λ j. get_or cs j 0) e))
   where
-    row_factors : (rs : List ℕ) → map (λ cell. difference_in cell.0 cell.1 m) (each (λ r. map {B = ℕ × ℕ} (λ c. (r, c)) (after (part [] r) (part cs r - part [] r))) rs)
-        ≡ each (λ i. map (λ j. difference_in i j m) (after 0 (part cs i - part [] i))) rs
+    row_factors : (rs : List ℕ) → map (λ cell. difference_in cell.0 cell.1 m) (flat_map (λ r. map {B = ℕ × ℕ} (λ c. (r, c)) (after (part [] r) (part cs r - part [] r))) rs)
+        ≡ flat_map (λ i. map (λ j. difference_in i j m) (after 0 (part cs i - part [] i))) rs
     row_factors [] = refl
     row_factors (r ∷ rs) =
-        map-append (λ (cell : ℕ × ℕ). difference_in cell.0 cell.1 m) (map {B = ℕ × ℕ} (λ c. (r, c)) (after (part [] r) (part cs r - part [] r))) (each (λ r. map {B = ℕ × ℕ} (λ c. (r, c)) (after (part [] r) (part cs r - part [] r))) rs)
+        map-append (λ (cell : ℕ × ℕ). difference_in cell.0 cell.1 m) (map {B = ℕ × ℕ} (λ c. (r, c)) (after (part [] r) (part cs r - part [] r))) (flat_map (λ r. map {B = ℕ × ℕ} (λ c. (r, c)) (after (part [] r) (part cs r - part [] r))) rs)
         ∙ ap₂ (λ x y. x ++ y) (map-map (λ (cell : ℕ × ℕ). difference_in cell.0 cell.1 m) (λ (c : ℕ). (r, c)) (after 0 (part cs r - part [] r))) (row_factors rs)
 
     parts_after : (γ : List ℕ) (a : ℕ) (β : List ℕ) → ((i : ℕ) → get_or γ (a + i) 0 ≡ get_or β i 0) → map (λ i. part γ i - part [] i) (after a (length β)) ≡ β

@@ -1,9 +1,9 @@
 -- Monk's rule and the transition rule for double Schubert polynomials of permutations.
-use Rattle.std.proofs.Common.{◌≡◌, ℕ, zero, suc, ◌+◌, ◌-◌, ◌<◌, ◌≤◌, max, List, [], ◌∷◌, ◌++◌, length, get_or, refl, sym, ◌∙◌, ap, ap₂, subst, arith, inl, inr, cond, ℤ, pos, ◌-ℤ◌, length-append}
+use Rattle.std.proofs.Common.{◌≡◌, ℕ, zero, suc, ◌+◌, ◌-◌, ◌<◌, ◌≤◌, max, List, [], ◌∷◌, ◌++◌, length, get_or, refl, sym, ◌∙◌, ap, ap₂, subst, arith, inl, inr, cond, ℤ, pos, ◌-ℤ◌, length-append, flat_map}
 use Rattle.std.proofs.lemmas.Int.{ints}
 use Rattle.std.proofs.lemmas.Bool.{cases_lt}
 use Rattle.std.proofs.lemmas.List.{append-nil}
-use Rattle.sym_model.specs.Sum.{total, each}
+use Rattle.sym_model.specs.Sum.{total}
 use Rattle.sym_model.specs.Polynomial.{Poly, Same, In, plus, times, pair, coefficient}
 use Rattle.sym_model.specs.Partition.{after}
 use Rattle.sym_model.specs.Permutation.{IsOneLine, IsTransition, letter, kept, times_swap, covers_up, covers_down}
@@ -60,7 +60,7 @@ letter_longer w k q h =
 
 -- the sum of the double Schubert polynomials of permutations
 abbrev pub doubles : ℕ → List (List ℕ) → Poly
-doubles m ws = each (λ w. double_schubert w m) ws
+doubles m ws = flat_map (λ w. double_schubert w m) ws
 
 monk_long : (m k q : ℕ) (w : List ℕ) → IsOneLine w → q < length w + k → length w + k + 1 ≤ m → IsMonk (difference_product (length (longer w k)) m) (minus_y m) (longer w k) q
 monk_long m k q w o h n =

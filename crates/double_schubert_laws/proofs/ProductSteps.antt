@@ -3,10 +3,10 @@
 --     product_step       what the rule makes of the product
 --     product_identity   the identity leaves the term
 --     product_start      where e is nothing, it is the product of two double Schubert polynomials
-use Rattle.std.proofs.Common.{◌≡◌, ℕ, ◌+◌, ◌≤◌, List, [], ◌++◌, ◌&&◌, take, drop, length, replicate, cond, sym, ◌∙◌, ap, arith, length-append, None, ℤ, pos, ◌+ℤ◌, ◌-ℤ◌}
+use Rattle.std.proofs.Common.{◌≡◌, ℕ, ◌+◌, ◌≤◌, List, [], ◌++◌, ◌&&◌, take, drop, length, replicate, cond, sym, ◌∙◌, ap, arith, length-append, None, ℤ, pos, ◌+ℤ◌, filter}
 use Rattle.std.proofs.lemmas.Int.{ints}
 use Rattle.std.proofs.lemmas.List.{replicate-append-replicate}
-use Rattle.sym_model.specs.Sum.{total, select}
+use Rattle.sym_model.specs.Sum.{total}
 use Rattle.sym_model.specs.Polynomial.{Term, Poly, Same, In, one, plus, negate, times, pair, resize, fits_in}
 use Rattle.sym_model.specs.Permutation.{IsOneLine, IsTransition, last_descent, letter, times_swap, covers_up, covers_down}
 use Rattle.sym_model.specs.DividedDifference.{x_to, x_to_in, raised}
@@ -14,25 +14,12 @@ use Rattle.sym_model.specs.Expansion.{beside}
 use Rattle.sym_model.specs.DoubleSchubert.{difference_in, double_schubert, double_schubert_in, double_schuberts_in, shifted_in}
 use Rattle.sym_model.proofs.Sums.{total_ext}
 use Rattle.sym_model.proofs.Exponents.{length-resize, resize-nil, fits_in_length}
-use Rattle.sym_model.proofs.Polynomials.{pair_one, pair_plus, pair_negate, pair_restrict, pair_times_each, pair_beside, pair_determined, same_from_pair, Same_refl, Same_trans, Same_sym, times_respects, In_one, In_map, In_times, In_beside, In_restrict}
-use Rattle.sym_model.proofs.PolynomialLaws.{times_comm, times_assoc, times-plus, times-negate, one-times}
+use Rattle.sym_model.proofs.Polynomials.{pair_one, pair_restrict, pair_times_each, pair_beside, pair_determined, same_from_pair, Same_refl, Same_trans, Same_sym, times_respects, In_one, In_map, In_times, In_beside, In_restrict}
+use Rattle.sym_model.proofs.PolynomialLaws.{times_comm, times_assoc, one-times, pair_times_comm, pair_times_plus, pair_times_minus}
 use Rattle.schubert_laws.proofs.Dominant.{pair_x_to}
 use Rattle.double_schubert_laws.specs.Factors.{over_factor, acted}
 use Rattle.double_schubert_laws.proofs.DoubleVariables.{double_transition_in, identity_double}
 use Rattle.double_schubert_laws.proofs.ShiftedStep.{shifts_in, shifted_product}
-
-pair_times_plus : (p f g : Poly) (φ : List ℕ → ℤ) → pair (times p (plus f g)) φ ≡ pair (times p f) φ +ℤ pair (times p g) φ
-pair_times_plus p f g φ = pair_determined (times p (plus f g)) (plus (times p f) (times p g)) φ (times-plus p f g) ∙ pair_plus (times p f) (times p g) φ
-
-pair_times_minus : (p f g : Poly) (φ : List ℕ → ℤ) → pair (times p (plus f (negate g))) φ ≡ pair (times p f) φ -ℤ pair (times p g) φ
-pair_times_minus p f g φ =
-    let a = pair_times_plus p f (negate g) φ in
-    let b = pair_determined (times p (negate g)) (negate (times p g)) φ (times-negate p g) in
-    let c = pair_negate (times p g) φ in
-    omega (arith, ints)
-
-pair_times_comm : (p f : Poly) (φ : List ℕ → ℤ) → pair (times p f) φ ≡ pair (times f p) φ
-pair_times_comm p f φ = pair_determined (times p f) (times f p) φ (times_comm p f)
 
 pub factor_step : (n r c : ℕ) (p : Poly) (w e : List ℕ) (φ : List ℕ → ℤ) → IsOneLine w → 1 ≤ r
     → pair (times p (times (difference_in r c n) (shifted_in (w, e) n))) φ ≡ over_factor r c (λ label. pair (times p (shifted_in label n)) φ) (w, e)
@@ -77,7 +64,7 @@ In_double_in : (n : ℕ) (w : List ℕ) → In (n + n) (double_schubert_in w n)
 In_double_in n w =
     let m : ℕ = length w in
     In_map (n + n) (λ (t : Term). (resize n (take m t.0) ++ resize n (drop m t.0), t.1))
-    (select (λ (t : Term). fits_in n (take m t.0) && fits_in n (drop m t.0)) (double_schubert w (length w)))
+    (filter (λ (t : Term). fits_in n (take m t.0) && fits_in n (drop m t.0)) (double_schubert w (length w)))
     (λ t i.
     let a = length-resize n (take m t.0) in
     let b = length-resize n (drop m t.0) in

@@ -1,9 +1,9 @@
 -- The product of y^e·S_w with x_r - y_c as a sum of such terms.
-use Rattle.std.proofs.Common.{◌≡◌, ℕ, ◌≤◌, List, ◌++◌, replicate, refl, sym, ◌∙◌, ap, ℤ, ◌+ℤ◌, ◌-ℤ◌}
+use Rattle.std.proofs.Common.{◌≡◌, ℕ, ◌≤◌, List, ◌++◌, replicate, refl, sym, ◌∙◌, ap, ℤ, ◌+ℤ◌, ◌-ℤ◌, flat_map}
 use Rattle.std.proofs.lemmas.Int.{ints}
 use Rattle.std.proofs.lemmas.List.{length-replicate}
-use Rattle.std.proofs.Common.{arith}
-use Rattle.sym_model.specs.Sum.{total, each}
+use Rattle.std.proofs.Common.{arith, flat_map}
+use Rattle.sym_model.specs.Sum.{total}
 use Rattle.sym_model.specs.Polynomial.{Poly, Same, one, plus, negate, times, pair, join}
 use Rattle.sym_model.specs.Permutation.{IsOneLine, letter, covers_up, covers_down}
 use Rattle.sym_model.specs.DividedDifference.{x_to, x_to_in, variable, variable_in, raised}
@@ -104,7 +104,7 @@ shifted_step n r c w e φ o h =
 
 -- the sum of y^e·S_v over permutations
 abbrev pub shifts_in : List (List ℕ) → List ℕ → ℕ → Poly
-shifts_in ws e n = each (λ v. shifted_in (v, e) n) ws
+shifts_in ws e n = flat_map (λ v. shifted_in (v, e) n) ws
 
 pub shifted_product : (w e : List ℕ) (r c n : ℕ) → IsOneLine w → 1 ≤ r
     → Same (times (difference_in r c n) (shifted_in (w, e) n))

@@ -1,4 +1,5 @@
--- Terms y^e·S_w, by their labels (w, e), as they are multiplied by x_r - y_c and by double Schubert polynomials.
+-- Terms y^e·S_w, by their labels (w, e), as they are multiplied by x_r - y_c and by double Schubert
+-- polynomials.
 use Rattle.std.specs.Prelude.{ℕ, ◌+ℤ◌, ◌-ℤ◌, ℤ, List}
 use Rattle.sym_model.specs.Sum.{total}
 use Rattle.sym_model.specs.Polynomial.{times, pair}
@@ -9,7 +10,8 @@ use Rattle.sym_model.specs.DoubleSchubert.{double_schubert_in, shifted_in}
 -- the sum of a test function over the terms of the product of a term and x_r - y_c, by Monk's rule
 abbrev pub over_factor : ℕ → ℕ → (List ℕ × List ℕ → ℤ) → List ℕ × List ℕ → ℤ
 over_factor r c φ label =
-    ((total (λ v. φ (v, label.1)) (covers_up r label.0) -ℤ total (λ v. φ (v, label.1)) (covers_down r label.0))
+    ((total (λ v. φ (v, label.1)) (covers_up r label.0)
+    -ℤ total (λ v. φ (v, label.1)) (covers_down r label.0))
     +ℤ φ (label.0, raised (letter label.0 r) label.1))
     -ℤ φ (label.0, raised c label.1)
 

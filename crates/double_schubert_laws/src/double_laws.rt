@@ -1,21 +1,25 @@
-//! Double Schubert polynomials do not depend on the path of divided differences, nor on fixed letters.
+//! Double Schubert polynomials do not depend on the path of divided differences,
+//! nor on fixed letters.
 
 ghost use Rattle.std.specs.Prelude.{◌≡◌, ℕ, ◌+◌, ◌≤◌, List, [], None, map, length};
 ghost use Rattle.sym_model.specs.Sum.{Once};
 ghost use Rattle.sym_model.specs.Polynomial.{Same, In, one};
 ghost use Rattle.sym_model.specs.Partition.{Falls, cells};
-ghost use Rattle.sym_model.specs.Permutation.{IsOneLine, IsDescent, exchanged, last_descent, kept, code};
+ghost use Rattle.sym_model.specs.Permutation.{IsOneLine, IsDescent, exchanged, last_descent, kept};
+ghost use Rattle.sym_model.specs.Permutation.{code};
 ghost use Rattle.sym_model.specs.DividedDifference.{divided_difference};
-ghost use Rattle.sym_model.specs.DoubleSchubert.{product_of, difference_in, double_schubert, double_schubert_in, restrict_both};
+ghost use Rattle.sym_model.specs.DoubleSchubert.{product_of, difference_in, double_schubert};
+ghost use Rattle.sym_model.specs.DoubleSchubert.{double_schubert_in, restrict_both};
 
-/// Every path of divided differences in x gives the same: ∂_i takes S(w; x, y) to S(w·s_i; x, y) for
-/// each descent i of a list w. S(w; x, y) in m variables of each is a polynomial in 2m variables.
-/// Where the code of w falls, it is the product of the x_i - y_j over the cells (i, j) of the diagram
-/// of the code. However many variables it is made with, and however many fixed letters end w, it is
-/// the same polynomial in n variables of each; of the identity it is 1.
+/// Every path of divided differences in x gives the same: ∂_i takes S(w; x, y) to S(w·s_i; x, y)
+/// for each descent i of a list w. S(w; x, y) in m variables of each is a polynomial in 2m
+/// variables.
+/// Where the code of w falls, it is the product of the x_i - y_j over the cells (i, j) of the
+/// diagram of the code. However many variables it is made with, and however many fixed letters end
+/// w, it is the same polynomial in n variables of each; of the identity it is 1.
 ///
-/// Example: ∂_2 takes (x_1 - y_1)(x_1 - y_2)(x_2 - y_1) = S(3,2,1; x, y) to (x_1 - y_1)(x_1 - y_2) =
-/// S(3,1,2; x, y).
+/// Example: ∂_2 takes (x_1 - y_1)(x_1 - y_2)(x_2 - y_1) = S(3,2,1; x, y) to (x_1 - y_1)(x_1 - y_2)
+/// = S(3,1,2; x, y).
 pub fn double_schubert_law()
     ensures descent { (w : List ℕ) (m i : ℕ) → IsDescent w i
         → Same (divided_difference i (double_schubert w m)) (double_schubert (exchanged i w) m) }
@@ -27,5 +31,6 @@ pub fn double_schubert_law()
         → Same (restrict_both m n (double_schubert w m)) (double_schubert_in w n) }
     ensures identity { (w : List ℕ) (n : ℕ) → IsOneLine w → last_descent w ≡ None
         → Same (double_schubert_in w n) (one (n + n)) }
-    ensures kept { (w : List ℕ) (n : ℕ) → IsOneLine w → Same (double_schubert_in (kept w) n) (double_schubert_in w n) }
+    ensures kept { (w : List ℕ) (n : ℕ) → IsOneLine w
+        → Same (double_schubert_in (kept w) n) (double_schubert_in w n) }
 {}

@@ -11,7 +11,6 @@ use Rattle.basis_change_laws.proofs.GrowthBounds.{grown, grown-raised}
 use Rattle.basis_change_laws.proofs.FactorialQuotients.{rise-is}
 use native.Mathlib.Nat.{mul-le-mul_left, dvd-mul_left}
 use Rattle.std.proofs.lemmas.Bool.{and_parts}
-use Rattle.coeff_rings.specs.Proved.Fractions.{product_cancel}
 use Rattle.sym_model.specs.Sum.{Among}
 use Rattle.sym_model.specs.Polynomial.{Poly, coefficient, scale}
 use Rattle.sym_model.specs.Bases.{product_over}
@@ -35,6 +34,7 @@ use Rattle.family_lists.proofs.Totals.{absolute-over}
 use Rattle.monomial_laws.proofs.DividedTerms.{value-divided}
 use Rattle.basis_change_laws.specs.JoinedLists.{IsLow, Stands}
 use Rattle.basis_change_laws.proofs.JoinedLists.{each-label}
+use Rattle.sym_model.proofs.Integers.{product_cancel}
 
 module _ (m most d : ℕ) (terms : Terms (List ℕ)) (is : IsTable terms) (c : IsClearedBy m most d terms) where
   divided : 0 < denominators terms → IsDivided m (over m terms) terms

@@ -1,6 +1,5 @@
 -- The list divided at the end is the expression.
 use Rattle.std.proofs.Common.{◌≡◌, ℕ, ◌*◌, ◌<◌, List, sym, ap, ◌∙◌, ℤ, pos, ◌*ℤ◌}
-use Rattle.coeff_rings.specs.Proved.Fractions.{product_cancel}
 use Rattle.sym_model.specs.Polynomial.{Poly, coefficient}
 use Rattle.sym_model.specs.Bases.{product_over}
 use Rattle.sym_model.specs.Expansion.{Terms, denominators, value_by, Represents}
@@ -12,6 +11,7 @@ use Rattle.whole_lists.specs.Tables.{IsTable}
 use Rattle.whole_lists.proofs.Quotients.{Quotients, IsDivided-quotients}
 use Rattle.monomial_laws.proofs.DividedTerms.{value-divided}
 use Rattle.basis_change_laws.specs.JoinedLists.{Stands}
+use Rattle.sym_model.proofs.Integers.{product_cancel}
 use native.Mathlib.Nat.{mul-pos}
 
 pub expansion-divided : (P : ℕ → ℕ → Poly) (q A d den : ℕ) (f : ℕ → Poly) (W : WholeTerms) (terms : Terms (List ℕ)) → 0 < q → 0 < den → Stands P q A d f W → IsTable terms → Quotients (den * q) terms W

@@ -3,11 +3,10 @@
 --     hook-product     the part of one hook, as a list
 --     hooks-next       one hook more
 --     hooks-done       all of them
-use Rattle.std.proofs.Common.{◌≡◌, ℕ, zero, suc, ◌+◌, ◌-◌, ◌*◌, ◌^◌, ◌<◌, ◌≤◌, List, [], ◌∷◌, ◌++◌, map, length, get_or, take, drop, take_all, Some, slice_get, refl, sym, ap, ap₂, ◌∙◌, subst, inl, inr, arith, ℤ, pos, neg_ℤ, ◌*ℤ◌, append-nil, append_assoc, pow-suc}
+use Rattle.std.proofs.Common.{◌≡◌, ℕ, zero, suc, ◌+◌, ◌-◌, ◌*◌, ◌^◌, ◌<◌, ◌≤◌, List, [], ◌∷◌, ◌++◌, map, length, get_or, take, drop, take_all, Some, slice_get, refl, sym, ap, ap₂, ◌∙◌, subst, inl, inr, arith, ℤ, pos, ◌*ℤ◌, append-nil, append_assoc, pow-suc, flat_map}
 use Rattle.std.specs.Prelude.{nat_abs, ◌≢◌}
-use Rattle.std.proofs.lemmas.Int.{ints}
 use Rattle.std.proofs.lemmas.Nat.{mul-le, pow-add}
-use Rattle.sym_model.specs.Sum.{each, Among}
+use Rattle.sym_model.specs.Sum.{Among}
 use Rattle.sym_model.specs.Polynomial.{Poly, In, Same, scale, times, plus}
 use Rattle.sym_model.specs.Partition.{IsPartition, size, rows}
 use Rattle.sym_model.specs.PlaceOrders.{minus_one_to}
@@ -68,15 +67,15 @@ hook-rest parts i p h = hook_rest parts (hook_of parts i) p (among-at (special_h
 abbrev pub hook_term : Family → ℕ → SpecialHook → Poly
 hook_term family n h = scale h.sign (times (polynomial_of family h.cells n) (schur_in family h.rest n))
 
-hook-law : (family : Family) → family ≢ PowerSum → (parts : List ℕ) → IsPartition parts → 1 ≤ rows parts → (n : ℕ) → Same (schur_in family parts n) (each (hook_term family n) (special_hooks parts))
+hook-law : (family : Family) → family ≢ PowerSum → (parts : List ℕ) → IsPartition parts → 1 ≤ rows parts → (n : ℕ) → Same (schur_in family parts n) (flat_map (hook_term family n) (special_hooks parts))
 hook-law Elementary f parts p some n = elementary_sum n parts p some
 hook-law Complete f parts p some n = complete_sum n parts p some
 hook-law PowerSum f parts p some n = absurd (f refl)
 
-each-more : (f : SpecialHook → Poly) (hs : List SpecialHook) (i : ℕ) (h : SpecialHook) → slice_get hs i ≡ Some h → each f (take (suc i) hs) ≡ each f (take i hs) ++ f h
+each-more : (f : SpecialHook → Poly) (hs : List SpecialHook) (i : ℕ) (h : SpecialHook) → slice_get hs i ≡ Some h → flat_map f (take (suc i) hs) ≡ flat_map f (take i hs) ++ f h
 each-more f [] i h e = cc
 each-more f (g ∷ hs) zero h e = let same : g ≡ h = cc in append-nil (f g) ∙ ap f same
-each-more f (g ∷ hs) (suc i) h e = ap (λ l. f g ++ l) (each-more f hs i h e) ∙ sym (append_assoc (f g) (each f (take i hs)) (f h))
+each-more f (g ∷ hs) (suc i) h e = ap (λ l. f g ++ l) (each-more f hs i h e) ∙ sym (append_assoc (f g) (flat_map f (take i hs)) (f h))
 
 -- ---- bounds: of d hooks, each with so much, there is no more than the growth
 
@@ -122,13 +121,6 @@ peeled-part (suc j) s c h e =
 
 -- ---- lists
 
-pub sign-unit : (k : ℕ) → nat_abs (minus_one_to k) ≡ 1
-sign-unit zero = refl
-sign-unit (suc k) = turned (minus_one_to k) ∙ sign-unit k
-  where
-    turned : (x : ℤ) → nat_abs (neg_ℤ x) ≡ nat_abs x
-    turned x = omega (arith, ints)
-
 module _ (P : ℕ → ℕ → Poly) (places : (n k : ℕ) → In n (P k n)) where
   pub hook-product : (k s c : ℕ) (σ z : ℤ) (f g : ℕ → Poly) (W V : WholeTerms) → 0 < k → nat_abs σ ≡ 1 → z ≡ pos c *ℤ σ → c * (factorial k * factorial s) ≡ factorial (k + s)
       → Stands P (factorial k) (factorial k * 2 ^ k) k f W → Stands P (factorial s) (grown s) s g V
@@ -143,19 +135,19 @@ module _ (P : ℕ → ℕ → Poly) (places : (n k : ℕ) → In n (P k n)) wher
 
 -- one hook more
 pub hooks-next : (P : ℕ → ℕ → Poly) (q B d : ℕ) (f : ℕ → SpecialHook → Poly) (hs : List SpecialHook) (i : ℕ) (h : SpecialHook) (S T : WholeTerms) → slice_get hs i ≡ Some h
-    → Stands P q (i * B) d (λ n. each (f n) (take i hs)) S → Stands P q B d (λ n. f n h) T → Stands P q ((i + 1) * B) d (λ n. each (f n) (take (i + 1) hs)) (S ++ T)
+    → Stands P q (i * B) d (λ n. flat_map (f n) (take i hs)) S → Stands P q B d (λ n. f n h) T → Stands P q ((i + 1) * B) d (λ n. flat_map (f n) (take (i + 1) hs)) (S ++ T)
 hooks-next P q B d f hs i h S T e s t =
     let j : suc i ≡ i + 1 = omega arith in
-    stands-same P q ((i + 1) * B) d (λ n. plus (each (f n) (take i hs)) (f n h)) (λ n. each (f n) (take (i + 1) hs)) (S ++ T)
-    (λ n. subst (λ g. Same (each (f n) (take i hs) ++ f n h) g) (sym (each-more (f n) hs i h e) ∙ ap (λ k. each (f n) (take k hs)) j) (Same_refl (each (f n) (take i hs) ++ f n h)))
-    (stands-plus P q (i * B) B ((i + 1) * B) d (λ n. each (f n) (take i hs)) (λ n. f n h) S T s t (one_more i B))
+    stands-same P q ((i + 1) * B) d (λ n. plus (flat_map (f n) (take i hs)) (f n h)) (λ n. flat_map (f n) (take (i + 1) hs)) (S ++ T)
+    (λ n. subst (λ g. Same (flat_map (f n) (take i hs) ++ f n h) g) (sym (each-more (f n) hs i h e) ∙ ap (λ k. flat_map (f n) (take k hs)) j) (Same_refl (flat_map (f n) (take i hs) ++ f n h)))
+    (stands-plus P q (i * B) B ((i + 1) * B) d (λ n. flat_map (f n) (take i hs)) (λ n. f n h) S T s t (one_more i B))
   where
     one_more : (i x : ℕ) → i * x + x ≤ (i + 1) * x
     one_more i x = omega arith
 
 -- all of them: there are no more hooks than cells
 pub hooks-done : (P : ℕ → ℕ → Poly) (family : Family) → family ≢ PowerSum → (parts : List ℕ) (i : ℕ) (S : WholeTerms) → IsPartition parts → 1 ≤ length parts → length parts ≡ i
-    → Stands P (factorial (size parts)) (i * peeled (size parts)) (size parts) (λ n. each (hook_term family n) (take i (special_hooks parts))) S
+    → Stands P (factorial (size parts)) (i * peeled (size parts)) (size parts) (λ n. flat_map (hook_term family n) (take i (special_hooks parts))) S
     → Stands P (factorial (size parts)) (grown (size parts)) (size parts) (schur_in family parts) S
 hooks-done P family f parts i S p some e s =
     let r = rows_within_size parts p.positive in
@@ -163,7 +155,7 @@ hooks-done P family f parts i S p some e s =
     let m : i * peeled (size parts) ≤ size parts * peeled (size parts) = mul-le i (peeled (size parts)) (size parts) (peeled (size parts)) (omega arith) (omega arith) in
     let t = peeled-all (size parts) (omega arith) in
     stands-weaken P (factorial (size parts)) (i * peeled (size parts)) (grown (size parts)) (size parts) (size parts) (schur_in family parts) S
-    (stands-same P (factorial (size parts)) (i * peeled (size parts)) (size parts) (λ n. each (hook_term family n) (take i (special_hooks parts))) (schur_in family parts) S
-    (λ n. subst (λ hs. Same (each (hook_term family n) hs) (schur_in family parts n)) (sym all)
-    (Same_sym (schur_in family parts n) (each (hook_term family n) (special_hooks parts)) (hook-law family f parts p some n))) s)
+    (stands-same P (factorial (size parts)) (i * peeled (size parts)) (size parts) (λ n. flat_map (hook_term family n) (take i (special_hooks parts))) (schur_in family parts) S
+    (λ n. subst (λ hs. Same (flat_map (hook_term family n) hs) (schur_in family parts n)) (sym all)
+    (Same_sym (schur_in family parts n) (flat_map (hook_term family n) (special_hooks parts)) (hook-law family f parts p some n))) s)
     (omega arith) (omega arith)

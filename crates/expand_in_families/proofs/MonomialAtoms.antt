@@ -12,7 +12,7 @@ use Rattle.sym_model.specs.Expression.{atom}
 use Rattle.sym_model.specs.LabelLimits.{is_label}
 use Rattle.sym_model.specs.ListWeight.{absolute_sum}
 use Rattle.sym_model.specs.Weight.{factorial, growth, weight}
-use Rattle.sym_model.specs.WholeTerms.{numerators}
+use Rattle.sym_model.specs.WholeTerms.{WholeTerms}
 use Rattle.sym_model.proofs.CanonicalLists.{each_term-among}
 use Rattle.sym_model.proofs.Orders.{is_reduced-tells}
 use Rattle.monomial_laws.specs.ExpressionTerms.{over}
@@ -21,7 +21,7 @@ use Rattle.sparse_polys.specs.MonomialProducts.{greatest_size}
 use Rattle.expression_reading.specs.Trees.{basis_of}
 use Rattle.basis_change_laws.specs.JoinedLists.{Stands}
 use Rattle.basis_change_laws.proofs.GrowthBounds.{grown}
-use Rattle.whole_lists.specs.Tables.{IsTable}
+use Rattle.whole_lists.specs.Tables.{IsTable, IsWholeTable}
 use Rattle.whole_lists.specs.LabelSizes.{AreWithin}
 use Rattle.whole_lists.proofs.Bounds.{greatest-within}
 use Rattle.whole_lists.specs.declared.family.Family.{Family}
@@ -96,8 +96,8 @@ module _ (target : Family) (letter : Letter) (e : basis_of letter ≡ basis_in t
     large-whole h = large-atom basis label (let f = is-cleared.few in omega arith)
 
     -- that list
-    pub atom-stands : (terms : Terms (List ℕ)) → IsTable terms → ((n : ℕ) → IsExpansionOf (basis_of letter) answer n (basis_polynomial basis label n) 1) → Same (numerators terms) (over (factorial (size label)) answer)
-        → Stands (polynomial_of target) (factorial (size label)) (grown (size label)) (size label) (λ n. basis_polynomial basis label n) (numerators terms)
+    pub atom-stands : (terms : WholeTerms) → IsWholeTable terms → ((n : ℕ) → IsExpansionOf (basis_of letter) answer n (basis_polynomial basis label n) 1) → Same terms (over (factorial (size label)) answer)
+        → Stands (polynomial_of target) (factorial (size label)) (grown (size label)) (size label) (λ n. basis_polynomial basis label n) terms
     atom-stands terms table h same =
         table-stands terms (over (factorial (size label)) answer) table same (polynomial_of target) (factorial (size label)) (grown (size label)) (size label) (λ n. basis_polynomial basis label n)
         (stands-cleared (factorial (size label)) (grown (size label)) (size label) answer is is-cleared (polynomial_of target) (λ n. basis_polynomial basis label n)

@@ -6,21 +6,21 @@ use Rattle.sym_model.specs.Polynomial.{Poly, Same, plus, scale}
 use Rattle.sym_model.specs.Expansion.{Basis}
 use Rattle.sym_model.specs.Expression.{Tree, sum, degree, lcm, denominator, cleared_value}
 use Rattle.sym_model.specs.Weight.{factorial, numerator, weight}
-use Rattle.sym_model.specs.WholeTerms.{WholeTerms, numerators, absolute_total}
+use Rattle.sym_model.specs.WholeTerms.{WholeTerms, absolute_total}
 use Rattle.monomial_laws.specs.ExpressionTerms.{HasDenominators}
 use Rattle.monomial_laws.proofs.WeightBounds.{numerator-positive}
 use Rattle.whole_lists.specs.Large.{SumIsLarge}
-use Rattle.whole_lists.specs.Tables.{IsTable}
 use Rattle.monomial_laws.proofs.Growths.{factorial-positive}
 use Rattle.expand_in_families.specs.declared.node.Node.{Node}
 use Rattle.basis_change_laws.specs.JoinedLists.{Stands}
 use Rattle.expand_in_families.specs.Nodes.{ClearsTo}
-use Rattle.basis_change_laws.proofs.JoinedLists.{absolute-append, absolute-scale, stands-plus, stands-scale, stands-raised, stands-weaken}
+use Rattle.basis_change_laws.proofs.JoinedLists.{absolute-scale, stands-plus, stands-scale, stands-raised, stands-weaken}
 use Rattle.basis_change_laws.proofs.GrowthBounds.{grown, grown-raised, grown-positive}
 use Rattle.basis_change_laws.proofs.NewtonLists.{scale-scale}
 use Rattle.family_lists.proofs.Totals.{coefficient-few}
 use Rattle.family_lists.proofs.TableLists.{table-stands}
 use Rattle.expand_in_families.proofs.Nodes.{growth-within_weight, denominator-within_weight}
+use Rattle.sym_model.proofs.WholeTerms.{absolute-append}
 use native.Mathlib.Nat.{mul-le-mul_left, mul-pos}
 
 -- a sum that is refused is one of large numbers
@@ -49,16 +49,16 @@ part-bound e l k d h w =
     regroup l k n b = omega arith
 
 part-stands : (P : ℕ → ℕ → Poly) (e : Tree) (c : Node) (l k d : ℕ) → degree e ≤ d → k * factorial (degree e) ≡ factorial d → ClearsTo P e c
-    → Stands P (factorial d) ((numerator e * l) * grown d) d (λ n. scale (pos l) (cleared_value e n)) (scale (pos l *ℤ pos k) (numerators c.terms))
+    → Stands P (factorial d) ((numerator e * l) * grown d) d (λ n. scale (pos l) (cleared_value e n)) (scale (pos l *ℤ pos k) c.terms)
 part-stands P e c l k d h w i =
     let N = numerator e * grown (degree e) in
     let raised =
-    stands-raised P (factorial (degree e)) (numerator e * grown (degree e)) (k * (numerator e * grown (degree e))) (degree e) (factorial d) k (cleared_value e) (numerators c.terms) i.stands w (omega arith) in
-    let wide = stands-weaken P (factorial d) (k * (numerator e * grown (degree e))) (k * (numerator e * grown (degree e))) (degree e) d (cleared_value e) (scale (pos k) (numerators c.terms)) raised (omega arith) h in
+    stands-raised P (factorial (degree e)) (numerator e * grown (degree e)) (k * (numerator e * grown (degree e))) (degree e) (factorial d) k (cleared_value e) c.terms i.stands w (omega arith) in
+    let wide = stands-weaken P (factorial d) (k * (numerator e * grown (degree e))) (k * (numerator e * grown (degree e))) (degree e) d (cleared_value e) (scale (pos k) c.terms) raised (omega arith) h in
     let b = part-bound e l k d h w in
     let g : l * (k * (numerator e * grown (degree e))) ≡ (l * k) * (numerator e * grown (degree e)) = grouped l k (numerator e * grown (degree e)) in
-    subst (λ W. Stands P (factorial d) ((numerator e * l) * grown d) d (λ n. scale (pos l) (cleared_value e n)) W) (scale-scale (pos l) (pos k) (numerators c.terms))
-    (stands-scale P (factorial d) (k * (numerator e * grown (degree e))) ((numerator e * l) * grown d) d (pos l) (cleared_value e) (scale (pos k) (numerators c.terms)) wide (omega arith))
+    subst (λ W. Stands P (factorial d) ((numerator e * l) * grown d) d (λ n. scale (pos l) (cleared_value e n)) W) (scale-scale (pos l) (pos k) c.terms)
+    (stands-scale P (factorial d) (k * (numerator e * grown (degree e))) ((numerator e * l) * grown d) d (pos l) (cleared_value e) (scale (pos k) c.terms) wide (omega arith))
   where
     grouped : (x y z : ℕ) → x * (y * z) ≡ (x * y) * z
     grouped x y z = omega arith
@@ -72,10 +72,10 @@ module _ (P : ℕ → ℕ → Poly) (e f : Tree) (c d : Node) (k j : ℕ) (he : 
   jd : j * factorial (degree f) ≡ factorial (max (degree e) (degree f))
   jd = ap (λ a. j * factorial a) (sym y.degree_is) ∙ jw ∙ ap₂ (λ a b. factorial (max a b)) x.degree_is y.degree_is
 
-  pub clears-sum : (s : Node) (p q : ℤ) → IsTable s.terms → s.den ≡ lcm c.den d.den → s.degree ≡ max c.degree d.degree
+  pub clears-sum : (s : Node) (p q : ℤ) → s.den ≡ lcm c.den d.den → s.degree ≡ max c.degree d.degree
       → p ≡ pos (lcm c.den d.den / c.den) *ℤ pos k → q ≡ pos (lcm c.den d.den / d.den) *ℤ pos j
-      → Same (numerators s.terms) (plus (scale p (numerators c.terms)) (scale q (numerators d.terms))) → ClearsTo P (sum e f) s
-  clears-sum s p q is m g pi qi h =
+      → Same s.terms (plus (scale p c.terms) (scale q d.terms)) → ClearsTo P (sum e f) s
+  clears-sum s p q m g pi qi h =
       let l = lcm (denominator e) (denominator f) / denominator e in
       let r = lcm (denominator e) (denominator f) / denominator f in
       let D = max (degree e) (degree f) in
@@ -85,15 +85,15 @@ module _ (P : ℕ → ℕ → Poly) (e f : Tree) (c d : Node) (k j : ℕ) (he : 
       let right = part-stands P f d (lcm (denominator e) (denominator f) / denominator f) j (max (degree e) (degree f)) (omega arith) jd y in
       let both = stands-plus P (factorial D) ((numerator e * l) * grown D) ((numerator f * r) * grown D) ((numerator e * l + numerator f * r) * grown D) D
       (λ n. scale (pos (lcm (denominator e) (denominator f) / denominator e)) (cleared_value e n)) (λ n. scale (pos (lcm (denominator e) (denominator f) / denominator f)) (cleared_value f n))
-      (scale (pos (lcm (denominator e) (denominator f) / denominator e) *ℤ pos k) (numerators c.terms)) (scale (pos (lcm (denominator e) (denominator f) / denominator f) *ℤ pos j) (numerators d.terms))
+      (scale (pos (lcm (denominator e) (denominator f) / denominator e) *ℤ pos k) c.terms) (scale (pos (lcm (denominator e) (denominator f) / denominator f) *ℤ pos j) d.terms)
       left right (spread (numerator e * l) (numerator f * r) (grown D)) in
       record {
         den_is = m ∙ ap₂ lcm x.den_is y.den_is;
         degree_is = g ∙ ap₂ max x.degree_is y.degree_is;
         stands =
-            table-stands s.terms (plus (scale (pos l *ℤ pos k) (numerators c.terms)) (scale (pos r *ℤ pos j) (numerators d.terms))) is
-            (subst (λ z. Same (numerators s.terms) (plus (scale z (numerators c.terms)) (scale (pos (lcm (denominator e) (denominator f) / denominator f) *ℤ pos j) (numerators d.terms)))) pe
-            (subst (λ z. Same (numerators s.terms) (plus (scale p (numerators c.terms)) (scale z (numerators d.terms)))) qe h))
+            table-stands s.terms (plus (scale (pos l *ℤ pos k) c.terms) (scale (pos r *ℤ pos j) d.terms)) s.table
+            (subst (λ z. Same s.terms (plus (scale z c.terms) (scale (pos (lcm (denominator e) (denominator f) / denominator f) *ℤ pos j) d.terms))) pe
+            (subst (λ z. Same s.terms (plus (scale p c.terms) (scale z d.terms))) qe h))
             P (factorial D) ((numerator e * l + numerator f * r) * grown D) D (cleared_value (sum e f)) both;
       }
     where
@@ -135,14 +135,14 @@ module _ (P : ℕ → ℕ → Poly) (e f : Tree) (c d : Node) (k j : ℕ) (he : 
       by (inr h) u v m a b = omega arith
 
   pub large-sum : (p q : ℤ) → p ≡ pos (lcm c.den d.den / c.den) *ℤ pos k → q ≡ pos (lcm c.den d.den / d.den) *ℤ pos j
-      → SumIsLarge (numerators c.terms) (numerators d.terms) p q → 2 ^ 127 ≤ weight Basis.completes (sum e f)
+      → SumIsLarge c.terms d.terms p q → 2 ^ 127 ≤ weight Basis.completes (sum e f)
   large-sum p q pi qi large =
       let m = met (lcm c.den d.den / c.den) (lcm c.den d.den / d.den) (ap₂ (λ (a b : ℕ). lcm a b / a) x.den_is y.den_is) (ap₂ (λ (a b : ℕ). lcm a b / b) x.den_is y.den_is) in
-      let s = sum-large (numerators c.terms) (numerators d.terms) p q large in
+      let s = sum-large c.terms d.terms p q large in
       let a = ap nat_abs pi in
       let b = ap nat_abs qi in
-      let u = mul-le (nat_abs p) (absolute_total (numerators c.terms)) (lcm c.den d.den / c.den * k) (numerator e * grown (degree e)) (omega arith) x.stands.few in
-      let v = mul-le (nat_abs q) (absolute_total (numerators d.terms)) (lcm c.den d.den / d.den * j) (numerator f * grown (degree f)) (omega arith) y.stands.few in
+      let u = mul-le (nat_abs p) (absolute_total c.terms) (lcm c.den d.den / c.den * k) (numerator e * grown (degree e)) (omega arith) x.stands.few in
+      let v = mul-le (nat_abs q) (absolute_total d.terms) (lcm c.den d.den / d.den * j) (numerator f * grown (degree f)) (omega arith) y.stands.few in
       omega arith
 
 pub large-sum_denominator : (P : ℕ → ℕ → Poly) (e f : Tree) (c d : Node) → HasDenominators e → HasDenominators f → ClearsTo P e c → ClearsTo P f d → 2 ^ 127 ≤ lcm c.den d.den → 2 ^ 127 ≤ weight Basis.completes (sum e f)

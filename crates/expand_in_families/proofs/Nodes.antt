@@ -7,14 +7,13 @@ use Rattle.sym_model.specs.Polynomial.{Poly, In, Same, coefficient, negate, scal
 use Rattle.sym_model.specs.Expansion.{Basis}
 use Rattle.sym_model.specs.Expression.{Tree, number, fraction, negation, product, degree, denominator, cleared_value}
 use Rattle.sym_model.specs.Weight.{factorial, numerator, weight}
-use Rattle.sym_model.specs.WholeTerms.{numerators, absolute_total}
+use Rattle.sym_model.specs.WholeTerms.{absolute_total}
 use Rattle.sym_model.proofs.Numbers.{times-more}
 use Rattle.sym_model.proofs.Polynomials.{coefficient_scale, coefficient_negate, pair_scale}
 use Rattle.monomial_laws.specs.ExpressionTerms.{HasDenominators}
 use Rattle.monomial_laws.proofs.WeightBounds.{denominator-positive, numerator-positive}
 use Rattle.sparse_polys.specs.MonomialProducts.{greatest_size}
 use Rattle.whole_lists.specs.Large.{HasLarge}
-use Rattle.whole_lists.specs.Tables.{IsTable}
 use Rattle.monomial_laws.proofs.Growths.{factorial-positive}
 use Rattle.expand_in_families.specs.declared.node.Node.{Node}
 use Rattle.basis_change_laws.specs.JoinedLists.{joined, Stands}
@@ -49,11 +48,11 @@ stands-number P a = record {
     closing : (a x y : ℤ) → y ≡ a *ℤ x → a *ℤ x +ℤ pos 0 ≡ pos 1 *ℤ y
     closing a x y e = omega (arith, ints)
 
-pub clears-number : (P : ℕ → ℕ → Poly) (a : ℕ) (c : Node) → IsTable c.terms → c.den ≡ 1 → c.degree ≡ 0 → Same (numerators c.terms) (([], pos a) ∷ []) → ClearsTo P (number a) c
-clears-number P a c is d g h = record { den_is = d; degree_is = g; stands = table-stands c.terms (([], pos a) ∷ []) is h P 1 (max 1 a * 1) 0 (cleared_value (number a)) (stands-number P a) }
+pub clears-number : (P : ℕ → ℕ → Poly) (a : ℕ) (c : Node) → c.den ≡ 1 → c.degree ≡ 0 → Same c.terms (([], pos a) ∷ []) → ClearsTo P (number a) c
+clears-number P a c d g h = record { den_is = d; degree_is = g; stands = table-stands c.terms (([], pos a) ∷ []) c.table h P 1 (max 1 a * 1) 0 (cleared_value (number a)) (stands-number P a) }
 
-pub clears-fraction : (P : ℕ → ℕ → Poly) (a b : ℕ) (c : Node) → IsTable c.terms → c.den ≡ b → c.degree ≡ 0 → Same (numerators c.terms) (([], pos a) ∷ []) → ClearsTo P (fraction a b) c
-clears-fraction P a b c is d g h = record { den_is = d; degree_is = g; stands = table-stands c.terms (([], pos a) ∷ []) is h P 1 (max 1 a * 1) 0 (cleared_value (fraction a b)) (stands-number P a) }
+pub clears-fraction : (P : ℕ → ℕ → Poly) (a b : ℕ) (c : Node) → c.den ≡ b → c.degree ≡ 0 → Same c.terms (([], pos a) ∷ []) → ClearsTo P (fraction a b) c
+clears-fraction P a b c d g h = record { den_is = d; degree_is = g; stands = table-stands c.terms (([], pos a) ∷ []) c.table h P 1 (max 1 a * 1) 0 (cleared_value (fraction a b)) (stands-number P a) }
 
 -- ---- negations
 
@@ -63,28 +62,28 @@ negated-is f α = coefficient_scale (negsuc 0) f α ∙ minus (coefficient f α)
     minus : (z : ℤ) → negsuc 0 *ℤ z ≡ neg_ℤ z
     minus z = omega (arith, ints)
 
-pub clears-negation : (P : ℕ → ℕ → Poly) (e : Tree) (c d : Node) → IsTable d.terms → d.den ≡ c.den → d.degree ≡ c.degree → Same (numerators d.terms) (scale (negsuc 0) (numerators c.terms)) → ClearsTo P e c → ClearsTo P (negation e) d
-clears-negation P e c d is i j h k =
+pub clears-negation : (P : ℕ → ℕ → Poly) (e : Tree) (c d : Node) → d.den ≡ c.den → d.degree ≡ c.degree → Same d.terms (scale (negsuc 0) c.terms) → ClearsTo P e c → ClearsTo P (negation e) d
+clears-negation P e c d i j h k =
     let N = numerator e * grown (degree e) in
     record {
       den_is = i ∙ k.den_is;
       degree_is = j ∙ k.degree_is;
       stands =
-          table-stands d.terms (scale (negsuc 0) (numerators c.terms)) is h P (factorial (degree e)) (numerator e * grown (degree e)) (degree e) (cleared_value (negation e))
-          (stands-same P (factorial (degree e)) (numerator e * grown (degree e)) (degree e) (λ n. scale (negsuc 0) (cleared_value e n)) (cleared_value (negation e)) (scale (negsuc 0) (numerators c.terms)) (λ n. negated-is (cleared_value e n))
-          (stands-scale P (factorial (degree e)) (numerator e * grown (degree e)) (numerator e * grown (degree e)) (degree e) (negsuc 0) (cleared_value e) (numerators c.terms) k.stands
+          table-stands d.terms (scale (negsuc 0) c.terms) d.table h P (factorial (degree e)) (numerator e * grown (degree e)) (degree e) (cleared_value (negation e))
+          (stands-same P (factorial (degree e)) (numerator e * grown (degree e)) (degree e) (λ n. scale (negsuc 0) (cleared_value e n)) (cleared_value (negation e)) (scale (negsuc 0) c.terms) (λ n. negated-is (cleared_value e n))
+          (stands-scale P (factorial (degree e)) (numerator e * grown (degree e)) (numerator e * grown (degree e)) (degree e) (negsuc 0) (cleared_value e) c.terms k.stands
           (let u : nat_abs (negsuc 0) ≡ 1 = refl in let v : 1 * (numerator e * grown (degree e)) ≡ numerator e * grown (degree e) = omega arith in omega arith)));
     }
 
-pub large-negation : (P : ℕ → ℕ → Poly) (e : Tree) (c : Node) → HasDenominators e → ClearsTo P e c → HasLarge (scale (negsuc 0) (numerators c.terms)) → 2 ^ 127 ≤ weight Basis.completes (negation e)
+pub large-negation : (P : ℕ → ℕ → Poly) (e : Tree) (c : Node) → HasDenominators e → ClearsTo P e c → HasLarge (scale (negsuc 0) c.terms) → 2 ^ 127 ≤ weight Basis.completes (negation e)
 large-negation P e c d h l =
-    let a = coefficient-few (scale (negsuc 0) (numerators c.terms)) l.label in
-    let b = absolute-scale (negsuc 0) (numerators c.terms) in
+    let a = coefficient-few (scale (negsuc 0) c.terms) l.label in
+    let b = absolute-scale (negsuc 0) c.terms in
     let s = h.stands.few in
     let w = growth-within_weight e d in
     let g = l.large in
     let u : nat_abs (negsuc 0) ≡ 1 = refl in
-    let v : 1 * absolute_total (numerators c.terms) ≡ absolute_total (numerators c.terms) = omega arith in
+    let v : 1 * absolute_total c.terms ≡ absolute_total c.terms = omega arith in
     omega arith
 
 -- ---- products
@@ -103,10 +102,10 @@ joined-bound e f k h =
     regroup : (k n b m c : ℕ) → k * ((n * b) * (m * c)) ≡ (n * m) * (k * (b * c))
     regroup k n b m c = omega arith
 
-pub clears-product : (P : ℕ → ℕ → Poly) → ((n k : ℕ) → In n (P k n)) → (e f : Tree) (c d s : Node) (k : ℕ) → IsTable s.terms → s.den ≡ c.den * d.den → s.degree ≡ c.degree + d.degree
-    → k * (factorial c.degree * factorial d.degree) ≡ factorial (c.degree + d.degree) → Same (numerators s.terms) (joined (scale (pos k) (numerators c.terms)) (numerators d.terms))
+pub clears-product : (P : ℕ → ℕ → Poly) → ((n k : ℕ) → In n (P k n)) → (e f : Tree) (c d s : Node) (k : ℕ) → s.den ≡ c.den * d.den → s.degree ≡ c.degree + d.degree
+    → k * (factorial c.degree * factorial d.degree) ≡ factorial (c.degree + d.degree) → Same s.terms (joined (scale (pos k) c.terms) d.terms)
     → ClearsTo P e c → ClearsTo P f d → ClearsTo P (product e f) s
-clears-product P places e f c d s k is m g w h i j =
+clears-product P places e f c d s k m g w h i j =
     let x = i.degree_is in
     let y = j.degree_is in
     let v : k * (factorial (degree e) * factorial (degree f)) ≡ factorial (degree e + degree f) = sym (ap₂ (λ p q. k * (factorial p * factorial q)) x y) ∙ w ∙ ap₂ (λ p q. factorial (p + q)) x y in
@@ -114,14 +113,14 @@ clears-product P places e f c d s k is m g w h i j =
       den_is = m ∙ ap₂ ◌*◌ i.den_is j.den_is;
       degree_is = g ∙ ap₂ ◌+◌ x y;
       stands =
-          table-stands s.terms (joined (scale (pos k) (numerators c.terms)) (numerators d.terms)) is h P (factorial (degree e + degree f)) ((numerator e * numerator f) * grown (degree e + degree f)) (degree e + degree f) (cleared_value (product e f))
+          table-stands s.terms (joined (scale (pos k) c.terms) d.terms) s.table h P (factorial (degree e + degree f)) ((numerator e * numerator f) * grown (degree e + degree f)) (degree e + degree f) (cleared_value (product e f))
           (stands-product P places (factorial (degree e)) (numerator e * grown (degree e)) (degree e) (factorial (degree f)) (numerator f * grown (degree f)) (degree f) (factorial (degree e + degree f))
-          ((numerator e * numerator f) * grown (degree e + degree f)) k (cleared_value e) (cleared_value f) (numerators c.terms) (numerators d.terms) i.stands j.stands v (joined-bound e f k v));
+          ((numerator e * numerator f) * grown (degree e + degree f)) k (cleared_value e) (cleared_value f) c.terms d.terms i.stands j.stands v (joined-bound e f k v));
     }
 
 pub large-product : (P : ℕ → ℕ → Poly) (e f : Tree) (c d : Node) (k : ℕ) (z : ℤ) → HasDenominators e → HasDenominators f → z ≡ pos k → k * (factorial c.degree * factorial d.degree) ≡ factorial (c.degree + d.degree)
     → ClearsTo P e c → ClearsTo P f d
-    → ((m : ℕ) → absolute_total (numerators d.terms) ≤ m → 1 ≤ m → 2 ^ 127 ≤ 0 + nat_abs z * absolute_total (numerators c.terms) * m)
+    → ((m : ℕ) → absolute_total d.terms ≤ m → 1 ≤ m → 2 ^ 127 ≤ 0 + nat_abs z * absolute_total c.terms * m)
     → 2 ^ 127 ≤ weight Basis.completes (product e f)
 large-product P e f c d k z he hf zk w i j large =
     let x = i.degree_is in
@@ -134,9 +133,9 @@ large-product P e f c d k z he hf zk w i j large =
     let a = i.stands.few in
     let q = growth-within_weight (product e f) (he, hf) in
     let u = ap nat_abs zk in
-    let t : k * absolute_total (numerators c.terms) ≤ k * (numerator e * grown (degree e)) = mul-le-mul_left k a in
-    let r : k * absolute_total (numerators c.terms) * (numerator f * grown (degree f)) ≤ k * (numerator e * grown (degree e)) * (numerator f * grown (degree f)) = mul-le-mul_right (numerator f * grown (degree f)) t in
-    let n : nat_abs z * absolute_total (numerators c.terms) * (numerator f * grown (degree f)) ≡ k * absolute_total (numerators c.terms) * (numerator f * grown (degree f)) = ap (λ p. p * absolute_total (numerators c.terms) * (numerator f * grown (degree f))) u in
+    let t : k * absolute_total c.terms ≤ k * (numerator e * grown (degree e)) = mul-le-mul_left k a in
+    let r : k * absolute_total c.terms * (numerator f * grown (degree f)) ≤ k * (numerator e * grown (degree e)) * (numerator f * grown (degree f)) = mul-le-mul_right (numerator f * grown (degree f)) t in
+    let n : nat_abs z * absolute_total c.terms * (numerator f * grown (degree f)) ≡ k * absolute_total c.terms * (numerator f * grown (degree f)) = ap (λ p. p * absolute_total c.terms * (numerator f * grown (degree f))) u in
     let o = grouped k (numerator e * grown (degree e)) (numerator f * grown (degree f)) in
     omega arith
   where

@@ -2,7 +2,7 @@
 --     left-numbers, left-limits      what a hook leaves, as it is written down
 --     left-rest                      it is a partition of the other cells
 --     peeled-term, peeled-next, peeled-large      the part of the hook
-use Rattle.std.proofs.Common.{◌≡◌, ℕ, zero, suc, ◌+◌, ◌-◌, ◌*◌, ◌^◌, ◌<◌, ◌≤◌, List, [], ◌∷◌, ◌++◌, map, length, get_or, take, drop, refl, sym, ap, ◌∙◌, subst, arith, ℤ, pos, ◌*ℤ◌, Ok, Err}
+use Rattle.std.proofs.Common.{◌≡◌, ℕ, zero, suc, ◌+◌, ◌-◌, ◌*◌, ◌^◌, ◌<◌, ◌≤◌, List, [], ◌∷◌, ◌++◌, map, length, get_or, take, drop, refl, sym, ap, ◌∙◌, subst, arith, ℤ, pos, ◌*ℤ◌, Ok, Err, flat_map}
 use Rattle.std.specs.Prelude.{nat_abs, ◌≢◌, Result, IfOk}
 use Rattle.calc_base.specs.declared.faults.SumFault.{SumFault}
 use Rattle.sym_model.specs.Conjugate.{conjugate}
@@ -11,14 +11,12 @@ use Rattle.sym_model.proofs.Conjugates.{size-conjugate}
 use Rattle.special_hook_laws.proofs.ConjugateStrips.{conjugate_twice}
 use Rattle.std.proofs.lemmas.Int.{unsigned_abs-mul}
 use Rattle.std.proofs.lemmas.Nat.{mul-le}
-use Rattle.sym_model.specs.Sum.{each}
-use Rattle.sym_model.specs.Expansion.{Terms}
 use Rattle.sym_model.specs.Partition.{IsPartition, ArePositive, size, in_front, without_last_zeros}
 use Rattle.sym_model.specs.PlaceOrders.{minus_one_to}
 use Rattle.sym_model.specs.Polynomial.{Poly, Same, one, scale, times}
 use Rattle.sym_model.specs.Bases.{elementary_of, complete_of}
 use Rattle.sym_model.specs.Weight.{factorial}
-use Rattle.sym_model.specs.WholeTerms.{numerators, absolute_total}
+use Rattle.sym_model.specs.WholeTerms.{WholeTerms, absolute_total}
 use Rattle.sym_model.proofs.Parts.{in_front-positive}
 use Rattle.sym_model.proofs.Contents.{map-zeros}
 use Rattle.sym_model.proofs.Numbers.{times-more}
@@ -26,7 +24,7 @@ use Rattle.sym_model.proofs.PolynomialLaws.{times-one}
 use Rattle.sym_model.proofs.Polynomials.{Same_refl}
 use Rattle.sym_model.proofs.SortedParts.{rows_within_size}
 use Rattle.partitions.specs.Limits.{IsWithinLimits}
-use Rattle.whole_lists.specs.Tables.{IsTable}
+use Rattle.whole_lists.specs.Tables.{IsWholeTable}
 use Rattle.basis_change_laws.specs.JoinedLists.{joined, Stands}
 use Rattle.basis_change_laws.proofs.GrowthBounds.{grown, grown-positive}
 use Rattle.basis_change_laws.proofs.JoinedLists.{stands-same, stands-weaken}
@@ -39,10 +37,11 @@ use Rattle.sym_model.proofs.Numbers.{power-positive}
 use Rattle.whole_lists.proofs.Families.{In-family}
 use Rattle.family_lists.specs.FactorLists.{list_at, AreFactors}
 use Rattle.expand_in_families.specs.SchurLists.{schur_in, IsSchurList}
-use Rattle.expand_in_families.proofs.HookProducts.{hook_of, hook-at, hook-rest, hook_term, peeled, peeled-all, peeled-part, sign-unit, hook-product, hooks-next}
+use Rattle.expand_in_families.proofs.HookProducts.{hook_of, hook-at, hook-rest, hook_term, peeled, peeled-all, peeled-part, hook-product, hooks-next}
 use Rattle.family_lists.proofs.PartLists.{parts-none, stands-itself}
 use Rattle.family_lists.proofs.PlacedLists.{list_at-index, placed-push}
 use Rattle.family_lists.proofs.TableLists.{table-stands}
+use Rattle.sym_model.proofs.Integers.{sign_size}
 use native.Mathlib.Nat.{mul-le-mul_left, mul-le-mul_right}
 
 -- ---- what a hook leaves
@@ -62,6 +61,11 @@ left_by parts i rest = record { sign = minus_one_to (length parts - 1 - i); cell
 pub left-rest : (parts : List ℕ) (i : ℕ) (rest : List ℕ) → IsPartition parts → i < length parts → rest ≡ take i parts ++ shortened (drop (i + 1) parts) → IsRest parts (left_by parts i rest)
 left-rest parts i rest p h e = subst (λ (r : List ℕ). IsRest parts (left_by parts i r)) (sym e) (hook-rest parts i p h)
 
+-- its cells and those of what it leaves are all
+pub left-sized : (parts : List ℕ) (i : ℕ) (rest : List ℕ) → IsPartition parts → i < length parts → rest ≡ take i parts ++ shortened (drop (i + 1) parts)
+    → get_or parts i 0 + (length parts - 1 - i) + size rest ≡ size parts
+left-sized parts i rest p h e = let s = (left-rest parts i rest p h e).sized in omega arith
+
 pub left-limits : (parts : List ℕ) (i : ℕ) (numbers : List ℕ) → IsPartition parts → i < length parts → size parts ≤ 20 → numbers ≡ take i parts ++ map (λ a. a - 1) (drop (i + 1) parts) → IsWithinLimits (without_last_zeros numbers)
 left-limits parts i numbers p h low e =
     let is = ap without_last_zeros e ∙ left-numbers parts i p in
@@ -73,58 +77,58 @@ left-limits parts i numbers p h low e =
 
 -- ---- the list of the hook's cells
 
-pub factor-at : (P : ℕ → ℕ → Poly) (family : Family) → family ≢ PowerSum → (lists : List (Terms (List ℕ))) → AreFactors P family (length lists) lists → (k i : ℕ) (d W : Terms (List ℕ)) → 0 < k → k < length lists → i ≡ k → W ≡ get_or lists i d
-    → Stands P (factorial k) (factorial k * 2 ^ k) k (λ n. polynomial_of family k n) (numerators W)
+pub factor-at : (P : ℕ → ℕ → Poly) (family : Family) → family ≢ PowerSum → (lists : List WholeTerms) → AreFactors P family (length lists) lists → (k i : ℕ) (d W : WholeTerms) → 0 < k → k < length lists → i ≡ k → W ≡ get_or lists i d
+    → Stands P (factorial k) (factorial k * 2 ^ k) k (λ n. polynomial_of family k n) W
 factor-at P family f lists are k i d W some h e is =
     let at : list_at lists k ≡ W = ap (list_at lists) (sym e) ∙ list_at-index lists i d W (omega arith) is in
-    subst (λ (ts : Terms (List ℕ)). Stands P (factorial k) (factorial k * 2 ^ k) k (λ n. polynomial_of family k n) (numerators ts)) at (by family f are)
+    subst (λ (ts : WholeTerms). Stands P (factorial k) (factorial k * 2 ^ k) k (λ n. polynomial_of family k n) ts) at (by family f are)
   where
-    by : (family : Family) → family ≢ PowerSum → AreFactors P family (length lists) lists → Stands P (factorial k) (factorial k * 2 ^ k) k (λ n. polynomial_of family k n) (numerators (list_at lists k))
+    by : (family : Family) → family ≢ PowerSum → AreFactors P family (length lists) lists → Stands P (factorial k) (factorial k * 2 ^ k) k (λ n. polynomial_of family k n) (list_at lists k)
     by Elementary g a = a k some h
     by Complete g a = a k some h
     by PowerSum g a = absurd (g refl)
 
 -- ---- its part of the sum
 
-module _ (target family : Family) (newton : family ≢ PowerSum) (parts : List ℕ) (i c : ℕ) (z : ℤ) (rest : List ℕ) (W V : Terms (List ℕ)) (p : IsPartition parts) (lo : i < length parts)
+module _ (target family : Family) (newton : family ≢ PowerSum) (parts : List ℕ) (i c : ℕ) (z : ℤ) (rest : List ℕ) (W V : WholeTerms) (p : IsPartition parts) (lo : i < length parts)
     (e : rest ≡ take i parts ++ shortened (drop (i + 1) parts)) (many : c * (factorial (get_or parts i 0 + (length parts - 1 - i)) * factorial (size rest)) ≡ factorial (get_or parts i 0 + (length parts - 1 - i) + size rest))
     (signed : z ≡ pos c *ℤ minus_one_to (length parts - 1 - i))
-    (w : Stands (polynomial_of target) (factorial (get_or parts i 0 + (length parts - 1 - i))) (factorial (get_or parts i 0 + (length parts - 1 - i)) * 2 ^ (get_or parts i 0 + (length parts - 1 - i))) (get_or parts i 0 + (length parts - 1 - i)) (λ n. polynomial_of family (get_or parts i 0 + (length parts - 1 - i)) n) (numerators W))
+    (w : Stands (polynomial_of target) (factorial (get_or parts i 0 + (length parts - 1 - i))) (factorial (get_or parts i 0 + (length parts - 1 - i)) * 2 ^ (get_or parts i 0 + (length parts - 1 - i))) (get_or parts i 0 + (length parts - 1 - i)) (λ n. polynomial_of family (get_or parts i 0 + (length parts - 1 - i)) n) W)
     (v : IsSchurList (polynomial_of target) family rest V) where
   sized : get_or parts i 0 + (length parts - 1 - i) + size rest ≡ size parts
-  sized = let r = left-rest parts i rest p lo e in let s = r.sized in omega arith
+  sized = left-sized parts i rest p lo e
 
   some : 1 ≤ get_or parts i 0 + (length parts - 1 - i)
   some = (left-rest parts i rest p lo e).some
 
-  peeled-term : Stands (polynomial_of target) (factorial (size parts)) (peeled (size parts)) (size parts) (λ n. hook_term family n (hook_of parts i)) (joined (scale z (numerators W)) (numerators V))
+  peeled-term : Stands (polynomial_of target) (factorial (size parts)) (peeled (size parts)) (size parts) (λ n. hook_term family n (hook_of parts i)) (joined (scale z W) V)
   peeled-term =
-      subst (λ (r : List ℕ). Stands (polynomial_of target) (factorial (size parts)) (peeled (size parts)) (size parts) (λ n. hook_term family n (left_by parts i r)) (joined (scale z (numerators W)) (numerators V))) e
-      (subst (λ d. Stands (polynomial_of target) (factorial d) (peeled d) d (λ n. hook_term family n (left_by parts i rest)) (joined (scale z (numerators W)) (numerators V))) sized
+      subst (λ (r : List ℕ). Stands (polynomial_of target) (factorial (size parts)) (peeled (size parts)) (size parts) (λ n. hook_term family n (left_by parts i r)) (joined (scale z W) V)) e
+      (subst (λ d. Stands (polynomial_of target) (factorial d) (peeled d) d (λ n. hook_term family n (left_by parts i rest)) (joined (scale z W) V)) sized
       (hook-product (polynomial_of target) (In-family target) (get_or parts i 0 + (length parts - 1 - i)) (size rest) c (minus_one_to (length parts - 1 - i)) z
-      (λ n. polynomial_of family (get_or parts i 0 + (length parts - 1 - i)) n) (schur_in family rest) (numerators W) (numerators V) some (sign-unit (length parts - 1 - i)) signed many w v))
+      (λ n. polynomial_of family (get_or parts i 0 + (length parts - 1 - i)) n) (schur_in family rest) W V some (sign_size (length parts - 1 - i)) signed many w v))
 
-  pub peeled-next : (S N : Terms (List ℕ)) → IsTable N
-      → Stands (polynomial_of target) (factorial (size parts)) (i * peeled (size parts)) (size parts) (λ n. each (hook_term family n) (take i (special_hooks parts))) (numerators S)
-      → Same (numerators N) (numerators S ++ joined (scale z (numerators W)) (numerators V))
-      → Stands (polynomial_of target) (factorial (size parts)) ((i + 1) * peeled (size parts)) (size parts) (λ n. each (hook_term family n) (take (i + 1) (special_hooks parts))) (numerators N)
+  pub peeled-next : (S N : WholeTerms) → IsWholeTable N
+      → Stands (polynomial_of target) (factorial (size parts)) (i * peeled (size parts)) (size parts) (λ n. flat_map (hook_term family n) (take i (special_hooks parts))) S
+      → Same N (S ++ joined (scale z W) V)
+      → Stands (polynomial_of target) (factorial (size parts)) ((i + 1) * peeled (size parts)) (size parts) (λ n. flat_map (hook_term family n) (take (i + 1) (special_hooks parts))) N
   peeled-next S N is s h =
-      table-stands N (numerators S ++ joined (scale z (numerators W)) (numerators V)) is h (polynomial_of target) (factorial (size parts)) ((i + 1) * peeled (size parts)) (size parts)
-      (λ n. each (hook_term family n) (take (i + 1) (special_hooks parts)))
-      (hooks-next (polynomial_of target) (factorial (size parts)) (peeled (size parts)) (size parts) (hook_term family) (special_hooks parts) i (hook_of parts i) (numerators S) (joined (scale z (numerators W)) (numerators V))
+      table-stands N (S ++ joined (scale z W) V) is h (polynomial_of target) (factorial (size parts)) ((i + 1) * peeled (size parts)) (size parts)
+      (λ n. flat_map (hook_term family n) (take (i + 1) (special_hooks parts)))
+      (hooks-next (polynomial_of target) (factorial (size parts)) (peeled (size parts)) (size parts) (hook_term family) (special_hooks parts) i (hook_of parts i) S (joined (scale z W) V)
       (hook-at parts i lo) s peeled-term)
 
   -- it is refused only where the growth is too large
-  pub peeled-large : (S : Terms (List ℕ)) → absolute_total (numerators S) ≤ i * peeled (size parts)
-      → ((m : ℕ) → absolute_total (numerators V) ≤ m → 1 ≤ m → 2 ^ 127 ≤ absolute_total (numerators S) + nat_abs z * absolute_total (numerators W) * m) → 2 ^ 127 ≤ grown (size parts)
+  pub peeled-large : (S : WholeTerms) → absolute_total S ≤ i * peeled (size parts)
+      → ((m : ℕ) → absolute_total V ≤ m → 1 ≤ m → 2 ^ 127 ≤ absolute_total S + nat_abs z * absolute_total W * m) → 2 ^ 127 ≤ grown (size parts)
   peeled-large S s large =
       let k = get_or parts i 0 + (length parts - 1 - i) in
       let l = large (grown (size rest)) v.few (grown-positive (size rest)) in
       let b = peeled-part (get_or parts i 0 + (length parts - 1 - i)) (size rest) c some many in
-      let u : nat_abs z ≡ c = ap nat_abs signed ∙ unsigned_abs-mul (pos c) (minus_one_to (length parts - 1 - i)) ∙ ap (λ x. c * x) (sign-unit (length parts - 1 - i)) ∙ (let o : c * 1 ≡ c = omega arith in o) in
+      let u : nat_abs z ≡ c = ap nat_abs signed ∙ unsigned_abs-mul (pos c) (minus_one_to (length parts - 1 - i)) ∙ ap (λ x. c * x) (sign_size (length parts - 1 - i)) ∙ (let o : c * 1 ≡ c = omega arith in o) in
       let t = mul-le-mul_left c w.few in
       let r = mul-le-mul_right (grown (size rest)) t in
-      let n : nat_abs z * absolute_total (numerators W) * grown (size rest) ≡ c * absolute_total (numerators W) * grown (size rest) = ap (λ x. x * absolute_total (numerators W) * grown (size rest)) u in
+      let n : nat_abs z * absolute_total W * grown (size rest) ≡ c * absolute_total W * grown (size rest) = ap (λ x. x * absolute_total W * grown (size rest)) u in
       let g = grouped c (factorial (get_or parts i 0 + (length parts - 1 - i)) * 2 ^ (get_or parts i 0 + (length parts - 1 - i))) (grown (size rest)) in
       let q = ap peeled sized in
       let rows = rows_within_size parts p.positive in
@@ -146,33 +150,33 @@ nothing-schur Elementary n = ap (λ (l : List ℕ). (l, pos 1) ∷ []) (map-zero
 nothing-schur Complete n = ap (λ (l : List ℕ). (l, pos 1) ∷ []) (map-zeros 0 n)
 nothing-schur PowerSum n = ap (λ (l : List ℕ). (l, pos 1) ∷ []) (map-zeros 0 n)
 
-pub nothing-list : (P : ℕ → ℕ → Poly) (family : Family) (parts : List ℕ) (terms : Terms (List ℕ)) → length parts ≡ 0 → IsTable terms → Same (numerators terms) (([], pos 1) ∷ []) → IsSchurList P family parts terms
+pub nothing-list : (P : ℕ → ℕ → Poly) (family : Family) (parts : List ℕ) (terms : WholeTerms) → length parts ≡ 0 → IsWholeTable terms → Same terms (([], pos 1) ∷ []) → IsSchurList P family parts terms
 nothing-list P family [] terms e is h =
-    stands-same P 1 1 0 (λ n. one n) (schur_in family []) (numerators terms) (λ n. subst (Same (one n)) (sym (nothing-schur family n)) (Same_refl (one n))) (parts-none P P terms is h)
+    stands-same P 1 1 0 (λ n. one n) (schur_in family []) terms (λ n. subst (Same (one n)) (sym (nothing-schur family n)) (Same_refl (one n))) (parts-none P P terms is h)
 nothing-list P family (a ∷ parts) terms e is h = absurd (omega arith)
 
 -- ---- a family's own polynomials in it
 
-pub own-stands : (target : Family) (k : ℕ) (terms : Terms (List ℕ)) → 0 < k → IsTable terms → Same (numerators terms) ((k ∷ [], pos (factorial k)) ∷ [])
-    → Stands (polynomial_of target) (factorial k) (factorial k * 2 ^ k) k (λ n. polynomial_of target k n) (numerators terms)
+pub own-stands : (target : Family) (k : ℕ) (terms : WholeTerms) → 0 < k → IsWholeTable terms → Same terms ((k ∷ [], pos (factorial k)) ∷ [])
+    → Stands (polynomial_of target) (factorial k) (factorial k * 2 ^ k) k (λ n. polynomial_of target k n) terms
 own-stands target k terms h is s =
-    stands-same (polynomial_of target) (factorial k) (factorial k * 2 ^ k) k (λ n. times (polynomial_of target k n) (one n)) (λ n. polynomial_of target k n) (numerators terms) (λ n. times-one n (polynomial_of target k n) (In-family target n k))
-    (stands-weaken (polynomial_of target) (factorial k) (factorial k) (factorial k * 2 ^ k) (k + 0) k (λ n. times (polynomial_of target k n) (one n)) (numerators terms)
+    stands-same (polynomial_of target) (factorial k) (factorial k * 2 ^ k) k (λ n. times (polynomial_of target k n) (one n)) (λ n. polynomial_of target k n) terms (λ n. times-one n (polynomial_of target k n) (In-family target n k))
+    (stands-weaken (polynomial_of target) (factorial k) (factorial k) (factorial k * 2 ^ k) (k + 0) k (λ n. times (polynomial_of target k n) (one n)) terms
     (stands-itself (polynomial_of target) (k ∷ []) (factorial k) (factorial k) terms (record { falls = tt; positive = (h, tt) }) (omega arith) is s) (times-more (factorial k) (2 ^ k) (power-positive 2 k (omega arith))) (omega arith))
 
 -- one more at its place
-pub own-push : (target : Family) → target ≢ PowerSum → (lists : List (Terms (List ℕ))) (next : Terms (List ℕ)) (d : ℕ) → length lists ≡ d → AreFactors (polynomial_of target) target d lists
-    → (0 < d → Stands (polynomial_of target) (factorial d) (factorial d * 2 ^ d) d (λ n. polynomial_of target d n) (numerators next))
+pub own-push : (target : Family) → target ≢ PowerSum → (lists : List WholeTerms) (next : WholeTerms) (d : ℕ) → length lists ≡ d → AreFactors (polynomial_of target) target d lists
+    → (0 < d → Stands (polynomial_of target) (factorial d) (factorial d * 2 ^ d) d (λ n. polynomial_of target d n) next)
     → AreFactors (polynomial_of target) target (d + 1) (lists ++ next ∷ [])
-own-push Elementary f lists next d e are is = λ k some h. placed-push (λ k m. 0 < k → Stands elementary_of (factorial k) (factorial k * 2 ^ k) k (λ n. elementary_of k n) (numerators m)) lists next d e (λ j l o. are j o l) is k h some
-own-push Complete f lists next d e are is = λ k some h. placed-push (λ k m. 0 < k → Stands complete_of (factorial k) (factorial k * 2 ^ k) k (λ n. complete_of k n) (numerators m)) lists next d e (λ j l o. are j o l) is k h some
+own-push Elementary f lists next d e are is = λ k some h. placed-push (λ k m. 0 < k → Stands elementary_of (factorial k) (factorial k * 2 ^ k) k (λ n. elementary_of k n) m) lists next d e (λ j l o. are j o l) is k h some
+own-push Complete f lists next d e are is = λ k some h. placed-push (λ k m. 0 < k → Stands complete_of (factorial k) (factorial k * 2 ^ k) k (λ n. complete_of k n) m) lists next d e (λ j l o. are j o l) is k h some
 own-push PowerSum f lists next d e are is = absurd (f refl)
 
 -- ---- the conjugate shape
 
-pub conjugate-list : (P : ℕ → ℕ → Poly) (parts shape : List ℕ) (r : Result (Terms (List ℕ)) SumFault) → IsPartition parts → shape ≡ conjugate parts → IfOk r (IsSchurList P Elementary shape)
-    → IfOk r (λ terms. Stands P (factorial (size parts)) (grown (size parts)) (size parts) (λ n. schur parts n) (numerators terms))
+pub conjugate-list : (P : ℕ → ℕ → Poly) (parts shape : List ℕ) (r : Result WholeTerms SumFault) → IsPartition parts → shape ≡ conjugate parts → IfOk r (IsSchurList P Elementary shape)
+    → IfOk r (λ terms. Stands P (factorial (size parts)) (grown (size parts)) (size parts) (λ n. schur parts n) terms)
 conjugate-list P parts shape (Ok terms) p e h =
-    subst (λ (κ : List ℕ). Stands P (factorial (size parts)) (grown (size parts)) (size parts) (λ n. schur κ n) (numerators terms)) (ap conjugate e ∙ conjugate_twice parts p)
-    (subst (λ d. Stands P (factorial d) (grown d) d (λ n. schur (conjugate shape) n) (numerators terms)) (ap size e ∙ size-conjugate parts p.falls) h)
+    subst (λ (κ : List ℕ). Stands P (factorial (size parts)) (grown (size parts)) (size parts) (λ n. schur κ n) terms) (ap conjugate e ∙ conjugate_twice parts p)
+    (subst (λ d. Stands P (factorial d) (grown d) d (λ n. schur (conjugate shape) n) terms) (ap size e ∙ size-conjugate parts p.falls) h)
 conjugate-list P parts shape (Err y) p e h = tt

@@ -5,16 +5,17 @@ use Rattle.sym_model.specs.Polynomial.{Poly}
 use Rattle.sym_model.specs.Expansion.{Basis}
 use Rattle.sym_model.specs.Expression.{Tree, denominator, degree, cleared_value}
 use Rattle.sym_model.specs.Weight.{factorial, growth, numerator, weight}
-use Rattle.sym_model.specs.WholeTerms.{numerators}
 use Rattle.basis_change_laws.specs.JoinedLists.{Stands}
 use Rattle.expression_evaluation.specs.Values.{IsMade}
 use Rattle.expand_in_families.specs.declared.node.Node.{Node}
 
--- the list is the cleared value of the expression times the factorial of its degree, and is bounded by N and the growth
+-- the list is the cleared value of the expression times the factorial of its degree,
+-- and is bounded by N and the growth
 pub record ClearsTo (P : ℕ → ℕ → Poly) (e : Tree) (c : Node) : Type 0 where
   pub den_is : c.den ≡ denominator e
   pub degree_is : c.degree ≡ degree e
-  pub stands : Stands P (factorial (degree e)) (numerator e * growth Basis.completes (degree e)) (degree e) (cleared_value e) (numerators c.terms)
+  pub stands : Stands P (factorial (degree e)) (numerator e * growth Basis.completes (degree e))
+      (degree e) (cleared_value e) c.terms
 
 -- the weight is 2^127 or more
 abbrev pub IsHeavy : Tree → Type 0

@@ -2,28 +2,29 @@
 use Rattle.std.specs.Prelude.{ℕ, List}
 use Rattle.sym_model.specs.Polynomial.{Poly}
 use Rattle.sym_model.specs.Conjugate.{conjugate}
-use Rattle.sym_model.specs.Expansion.{Terms, completes}
+use Rattle.sym_model.specs.Expansion.{completes}
 use Rattle.sym_model.specs.Partition.{size}
 use Rattle.sym_model.specs.Schur.{schur}
 use Rattle.sym_model.specs.Weight.{factorial, growth}
-use Rattle.sym_model.specs.WholeTerms.{numerators}
+use Rattle.sym_model.specs.WholeTerms.{WholeTerms}
 use Rattle.basis_change_laws.specs.JoinedLists.{Stands}
 use Rattle.family_lists.specs.KeptLists.{AreListsOf}
 use Rattle.whole_lists.specs.declared.family.Family.{Family}
 use Rattle.whole_lists.specs.declared.family.Family.TheVariants.{Elementary, Complete, PowerSum}
 
--- what a shape stands for by the family of its special rim hooks: its Schur polynomial where a hook of k cells is read as h_k, that
--- of its conjugate where it is read as e_k; no hook is read as p_k
+-- what a shape stands for by the family of its special rim hooks: its Schur polynomial where a hook
+-- of k cells is read as h_k, that of its conjugate where it is read as e_k; no hook is read as p_k
 abbrev pub schur_in : Family → List ℕ → ℕ → Poly
 schur_in Elementary shape = schur (conjugate shape)
 schur_in Complete shape = schur shape
 schur_in PowerSum shape = schur shape
 
 -- the list is that polynomial times the factorial of the size, and is bounded by the growth
-abbrev pub IsSchurList : (ℕ → ℕ → Poly) → Family → List ℕ → Terms (List ℕ) → Type 0
+abbrev pub IsSchurList : (ℕ → ℕ → Poly) → Family → List ℕ → WholeTerms → Type 0
 IsSchurList P family shape terms =
-    Stands P (factorial (size shape)) (growth completes (size shape)) (size shape) (schur_in family shape) (numerators terms)
+    Stands P (factorial (size shape)) (growth completes (size shape)) (size shape)
+    (schur_in family shape) terms
 
 -- each list is that of its shape
-abbrev pub AreSchurLists : (ℕ → ℕ → Poly) → Family → List (List ℕ × Terms (List ℕ)) → Type 0
+abbrev pub AreSchurLists : (ℕ → ℕ → Poly) → Family → List (List ℕ × WholeTerms) → Type 0
 AreSchurLists P family = AreListsOf (IsSchurList P family)

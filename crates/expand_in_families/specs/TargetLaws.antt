@@ -4,7 +4,6 @@ use Rattle.sym_model.specs.Polynomial.{Poly}
 use Rattle.sym_model.specs.Expansion.{Basis}
 use Rattle.sym_model.specs.Expression.{Tree, negation, sum, difference, degree, cleared_value}
 use Rattle.sym_model.specs.Weight.{factorial, growth, numerator}
-use Rattle.sym_model.specs.WholeTerms.{numerators}
 use Rattle.basis_change_laws.proofs.JoinedLists.{stands-same}
 use Rattle.basis_change_laws.proofs.GrowthBounds.{grown-mono}
 use Rattle.expression_evaluation.specs.Values.{IsNoHeavier}
@@ -13,12 +12,15 @@ use Rattle.expand_in_families.specs.declared.node.Node.{Node}
 use Rattle.expand_in_families.specs.Nodes.{ClearsTo, IsHeavy}
 
 -- the sum with the negation is the difference
-pub clears-difference : (P : ℕ → ℕ → Poly) (e f : Tree) (c : Node) → ClearsTo P (sum e (negation f)) c → ClearsTo P (difference e f) c
+pub clears-difference : (P : ℕ → ℕ → Poly) (e f : Tree) (c : Node)
+    → ClearsTo P (sum e (negation f)) c → ClearsTo P (difference e f) c
 clears-difference P e f c h = record {
   den_is = h.den_is;
   degree_is = h.degree_is;
   stands =
-      stands-same P (factorial (degree (sum e f))) (numerator (sum e f) * growth Basis.completes (degree (sum e f))) (degree (sum e f)) (cleared_value (sum e (negation f))) (cleared_value (difference e f)) (numerators c.terms)
+      stands-same P (factorial (degree (sum e f)))
+      (numerator (sum e f) * growth Basis.completes (degree (sum e f))) (degree (sum e f))
+      (cleared_value (sum e (negation f))) (cleared_value (difference e f)) c.terms
       (difference-value e f) h.stands;
 }
 

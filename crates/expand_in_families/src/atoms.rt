@@ -6,9 +6,9 @@ ghost use Rattle.sym_model.specs.Expression.{atom};
 ghost use Rattle.sym_model.specs.Partition.{IsPartition, columns, size};
 ghost use Rattle.sym_model.specs.Schur.{schur};
 ghost use Rattle.sym_model.specs.Weight.{factorial, growth};
-ghost use Rattle.sym_model.specs.WholeTerms.{numerators};
 ghost use Rattle.basis_change_laws.specs.JoinedLists.{Stands};
 ghost use Rattle.whole_lists.specs.Families.{basis_in, polynomial_of};
+ghost use Rattle.whole_lists.specs.Tables.{IsWholeTable};
 ghost use Rattle.expression_reading.specs.Trees.{basis_of};
 ghost use Rattle.family_lists.specs.FactorLists.{over_number, AreFactors};
 ghost use Rattle.expand_in_families.specs.Nodes.{IsConverted};
@@ -17,16 +17,17 @@ use crate::factorials::{binomial, rise};
 use crate::node::Node;
 use crate::schur_lists::schur_list;
 use calc_base::{Basis, SumFault, Weight};
-use change_from_monomials::{is_table, to_basis, whole_of, whole_terms};
+use change_from_monomials::{to_basis, whole_of, whole_terms};
 use expand_in_monomials::atom_to_monomial;
 use family_lists::{add_products, factor_lists};
+use linear_combinations::Lin;
 use partitions::Partition;
-use sparse_polys::Lin;
 use std::alloc::Global;
-use whole_lists::{Family, Whole, is_whole, single};
+use whole_lists::{Family, Whole, single};
 use whole_numbers::factorial;
 
-/// What the product of the list of k with a list over size! is multiplied by, to be over (k + size)!.
+/// What the product of the list of k with a list over size! is multiplied by,
+/// to be over (k + size)!.
 fn ways(family: Family, k: u16, size: u16) -> u128
     requires { k + size ≤ 20 }
     ensures value { result * (over_number family k * factorial size) ≡ factorial (k + size) }
@@ -39,7 +40,8 @@ fn ways(family: Family, k: u16, size: u16) -> u128
     }
 }
 
-/// The product over the parts, times the factorial of their sum, and their sum. The lists are those of the family's polynomials.
+/// The product over the parts, times the factorial of their sum, and their sum. The lists are those
+/// of the family's polynomials.
 fn over_parts(
     alloc: Global,
     target: Family,
@@ -51,14 +53,16 @@ fn over_parts(
     requires partition { IsPartition parts.now }
     requires low { size parts.now ≤ 20 }
     requires enough { columns parts.now < length lists.now }
-    ensures value { IfOk result (λ r. Stands (polynomial_of target) (factorial (size parts.now)) (growth completes (size parts.now))
-        (size parts.now) (product_over (polynomial_of family) parts.now) (numerators r.0)) }
+    ensures value { IfOk result (λ r.
+        Stands (polynomial_of target) (factorial (size parts.now))
+        (growth completes (size parts.now))
+        (size parts.now) (product_over (polynomial_of family) parts.now) r.0) }
     ensures size { IfOk result (λ r. r.1 ≡ size parts.now) }
+    ensures table { IfOk result (λ r. IsWholeTable r.0) }
     ensures large { IsErrOf result SumFault.Large → 2 ^ 127 ≤ growth completes (size parts.now) }
 {
     let [k, rest @ ..] = parts else {
         let one = single(alloc, &[], 1)?;
-        is_whole(&one);
         return Ok((one, 0));
     };
     let (others, size) = over_parts(alloc, target, family, lists, rest)?;
@@ -90,11 +94,11 @@ fn by_parts(
 /// A partition in the target, whatever that is.
 fn itself(alloc: Global, label: &Partition) -> Result<Node, SumFault>
     requires { size label.now ≤ 20 }
-    ensures { (target : Family) → IsConverted (polynomial_of target) (atom (basis_in target) label.now) result }
+    ensures { (target : Family) → IsConverted (polynomial_of target)
+        (atom (basis_in target) label.now) result }
 {
     let degree = label.size();
     let terms = single(alloc, label.parts(), whole_of(factorial(degree)).get())?;
-    is_whole(&terms);
     Ok(Node {
         terms,
         den: 1,
@@ -129,7 +133,8 @@ fn letter_of(family: Family) -> Basis
     }
 }
 
-/// A partition in s, by special rim hooks: read as h_k, those of its shape, and into e as e_k, those of the conjugate shape.
+/// A partition in s, by special rim hooks: read as h_k, those of its shape, and into e as e_k,
+/// those of the conjugate shape.
 fn by_hooks(alloc: Global, target: Family, label: &Partition) -> Result<Node, SumFault>
     requires { size label.now ≤ 15 }
     ensures { IsConverted (polynomial_of target) (atom schurs label.now) result }
@@ -147,8 +152,11 @@ fn by_hooks(alloc: Global, target: Family, label: &Partition) -> Result<Node, Su
 fn schur_terms(alloc: Global, target: Family, label: &Partition) -> Result<Whole, SumFault>
     requires partition { IsPartition label.now }
     requires low { size label.now ≤ 15 }
-    ensures value { IfOk result (λ terms. Stands (polynomial_of target) (factorial (size label.now)) (growth completes (size label.now))
-        (size label.now) (λ n. schur label.now n) (numerators terms)) }
+    ensures value { IfOk result (λ terms.
+        Stands (polynomial_of target) (factorial (size label.now))
+        (growth completes (size label.now))
+        (size label.now) (λ n. schur label.now n) terms) }
+    ensures table { IfOk result IsWholeTable }
     ensures large { IsErrOf result SumFault.Large → 2 ^ 127 ≤ growth completes (size label.now) }
 {
     if target == Family::Elementary {
@@ -170,11 +178,8 @@ fn by_monomials(
 {
     let list = atom_to_monomial(alloc, basis, label)?;
     let answer = to_basis(alloc, &list, Weight { num: 1, den: 1 }, letter_of(target))?;
-    is_table(&list);
-    is_table(&answer);
     let degree = label.size();
     let terms = whole_terms(alloc, &answer, factorial(degree))?;
-    is_whole(&terms);
     Ok(Node {
         terms,
         den: 1,

@@ -17,7 +17,8 @@ use std::alloc::Global;
 use whole_lists::{Family, divided};
 use whole_numbers::{denominator_product, factorial};
 
-/// The expansion of a formula of degree at most 15 in the basis of a family, in every number of variables.
+/// The expansion of a formula of degree at most 15 in the basis of a family,
+/// in every number of variables.
 ///
 /// It is refused as `Large` only where the weight for the target is 2^127 or more.
 ///
@@ -29,8 +30,10 @@ pub fn to_family(
 ) -> Result<Lin<Partition, Frac>, SumFault>
     requires { degree (tree_of formula.now.tree) ≤ 15 }
     ensures value { let e = tree_of formula.now.tree in
-        IfOk result (λ list. (n : ℕ) → IsExpansionOf (basis_in target) list n (cleared_value e n) (denominator e)) }
-    ensures large { IsErrOf result SumFault.Large → 2 ^ 127 ≤ weight (basis_in target) (tree_of formula.now.tree) }
+        IfOk result (λ list. (n : ℕ)
+        → IsExpansionOf (basis_in target) list n (cleared_value e n) (denominator e)) }
+    ensures large { IsErrOf result SumFault.Large
+        → 2 ^ 127 ≤ weight (basis_in target) (tree_of formula.now.tree) }
 {
     let node = evaluate(alloc, &InFamily { family: target }, formula.tree())?;
     let Some(den) = denominator_product(node.den, factorial(node.degree)) else {

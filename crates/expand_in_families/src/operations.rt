@@ -12,10 +12,10 @@ use change_from_monomials::whole_of;
 use coeff_rings::Int;
 use expression_evaluation::Target;
 use family_lists::{add_products, product_of};
+use linear_combinations::Lin;
 use partitions::Partition;
-use sparse_polys::Lin;
 use std::alloc::Global;
-use whole_lists::{Family, is_whole, single, sum_of};
+use whole_lists::{Family, single, sum_of};
 use whole_numbers::{common_denominator, denominator_product};
 
 /// The target of a family.
@@ -43,7 +43,6 @@ impl Target for InFamily {
 
     fn quotient(&self, alloc: Global, num: i128, den: u128) -> Result<Node, SumFault> {
         let terms = single(alloc, &[], num)?;
-        is_whole(&terms);
         Ok(Node {
             terms,
             den,
@@ -57,9 +56,7 @@ impl Target for InFamily {
 
     fn negated(&self, _: Global, inner: Node) -> Result<Node, SumFault> {
         let Node { terms, den, degree } = inner;
-        is_whole(&terms);
         let terms = terms.scale(Int::new(-1))?;
-        is_whole(&terms);
         Ok(Node { terms, den, degree })
     }
 
@@ -78,7 +75,6 @@ impl Target for InFamily {
             return Err(SumFault::Large);
         };
         let terms = sum_of(left.terms, p.get(), right.terms, q.get())?;
-        is_whole(&terms);
         Ok(Node {
             terms,
             den: common.den,
@@ -93,7 +89,6 @@ impl Target for InFamily {
         let ways = whole_of(binomial(left.degree, right.degree));
         let mut terms = Lin::new(alloc);
         add_products(alloc, &mut terms, &left.terms, ways, &right.terms)?;
-        is_whole(&terms);
         Ok(Node {
             terms,
             den,

@@ -1,14 +1,15 @@
-//! Schur polynomials as lists in e, h and p, by special rim hooks (Egecioglu and Remmel). A shape is peeled once: its list is kept
-//! in a store.
-ghost use Rattle.std.specs.Prelude.{◌≡◌, ◌≢◌, ℕ, ◌+◌, ◌-◌, ◌*◌, ◌<◌, ◌≤◌, ◌^◌, ◌*ℤ◌, ◌++◌, pos, length, take, drop, vec_len, IfOk, OnOk, IsErrOf};
+//! Schur polynomials as lists in e, h and p, by special rim hooks (Egecioglu and Remmel). A shape
+//! is peeled once: its list is kept in a store.
+ghost use Rattle.std.specs.Prelude.{◌≡◌, ◌≢◌, ℕ, ◌+◌, ◌-◌, ◌*◌, ◌<◌, ◌≤◌, ◌^◌, ◌*ℤ◌, ◌++◌, pos};
+ghost use Rattle.std.specs.Prelude.{length, take, drop, vec_len, IfOk, OnOk, IsErrOf};
 ghost use Rattle.sym_model.specs.Expansion.{completes};
 ghost use Rattle.sym_model.specs.Partition.{IsPartition, size};
 ghost use Rattle.sym_model.specs.PlaceOrders.{minus_one_to};
 ghost use Rattle.sym_model.specs.Weight.{factorial, growth};
-ghost use Rattle.sym_model.specs.WholeTerms.{numerators};
 ghost use Rattle.basis_change_laws.specs.JoinedLists.{Stands};
 ghost use Rattle.special_hook_laws.specs.SpecialHooks.{shortened};
 ghost use Rattle.whole_lists.specs.Families.{polynomial_of};
+ghost use Rattle.whole_lists.specs.Tables.{IsWholeTable};
 ghost use Rattle.family_lists.specs.FactorLists.{AreFactors};
 ghost use Rattle.family_lists.specs.KeptLists.{StandsAt};
 ghost use Rattle.expand_in_families.specs.SchurLists.{AreSchurLists, IsSchurList};
@@ -19,10 +20,10 @@ use change_from_monomials::whole_of;
 use coeff_rings::Int;
 use family_lists::{Lists, add_products, factor_lists, is_negative, keep, list_at, place_of};
 use indexmap::IndexMap;
+use linear_combinations::Lin;
 use partitions::Partition;
-use sparse_polys::Lin;
 use std::alloc::Global;
-use whole_lists::{Family, Whole, is_whole, single};
+use whole_lists::{Family, Whole, single};
 use whole_numbers::factorial;
 
 /// The number with the sign of a special rim hook that has so many rows below its first one.
@@ -37,13 +38,14 @@ fn signed(below: u16, number: u128) -> Int
     }
 }
 
-/// What the special rim hook that goes from a row, counted from 0, down to the last one leaves: the rows above, and each row below
-/// a cell shorter.
+/// What the special rim hook that goes from a row, counted from 0, down to the last one leaves: the
+/// rows above, and each row below a cell shorter.
 fn left_by_hook(alloc: Global, shape: &[u16], row: usize) -> Result<Partition, NoMemory>
     requires within { row < length shape.now }
     requires partition { IsPartition shape.now }
     requires low { size shape.now ≤ 20 }
-    ensures { IfOk result (λ rest. rest ≡ take row shape.now ++ shortened (drop (row + 1) shape.now)) }
+    ensures { IfOk result (λ rest. rest
+        ≡ take row shape.now ++ shortened (drop (row + 1) shape.now)) }
 {
     let mut parts = Vec::from_slice(alloc, &shape[..row])?;
     for part in &shape[row + 1..] {
@@ -52,8 +54,9 @@ fn left_by_hook(alloc: Global, shape: &[u16], row: usize) -> Result<Partition, N
     Partition::from_valid_numbers(alloc, &parts)
 }
 
-/// The list of a shape: over its special rim hooks, the sum of the list of the hook's cells times that of what the hook leaves,
-/// with the hook's sign. Each summand is brought over the factorial of the size, and that of no rows is 1.
+/// The list of a shape: over its special rim hooks, the sum of the list of the hook's cells times
+/// that of what the hook leaves, with the hook's sign. Each summand is brought over the factorial
+/// of the size, and that of no rows is 1.
 #[cycle(peeling)]
 fn list_of(
     alloc: Global,
@@ -70,13 +73,12 @@ fn list_of(
     requires low { size shape.now ≤ 20 }
     requires enough { size shape.now < length lists.now }
     ensures value { IfOk result (IsSchurList (polynomial_of target) family shape.now) }
+    ensures table { IfOk result IsWholeTable }
     ensures store { OnOk result (AreSchurLists (polynomial_of target) family store.new.entries) }
     ensures large { IsErrOf result SumFault.Large → 2 ^ 127 ≤ growth completes (size shape.now) }
 {
     if shape.is_empty() {
-        let one = single(alloc, &[], 1)?;
-        is_whole(&one);
-        return Ok(one);
+        return single(alloc, &[], 1);
     }
     let mut sum = Lin::new(alloc);
     for row in 0..shape.len() {
@@ -122,26 +124,24 @@ fn index_of(
 fn own_list(alloc: Global, k: u16) -> Result<Whole, SumFault>
     requires { k ≤ 20 }
     ensures value { IfOk result (λ list. (target : Family) → 0 < k
-        → Stands (polynomial_of target) (factorial k) (factorial k * 2 ^ k) k (λ n. polynomial_of target k n) (numerators list)) }
+        → Stands (polynomial_of target) (factorial k) (factorial k * 2 ^ k) k
+        (λ n. polynomial_of target k n) list) }
     ensures small { ¬ IsErrOf result SumFault.Large }
 {
     if k == 0 {
         return Ok(Lin::new(alloc));
     }
-    let list = single(alloc, &[k], whole_of(factorial(k)).get())?;
-    is_whole(&list);
-    Ok(list)
+    single(alloc, &[k], whole_of(factorial(k)).get())
 }
 
 /// 1!·e_1, .., d!·e_d in e, or those of h in h, each at its place.
-fn own_lists(alloc: Global, target: Family, d: u16) -> Result<Vec<Whole>, SumFault>
-    requires newton { target ≢ Family.PowerSum }
-    requires low { d ≤ 20 }
+fn own_lists(alloc: Global, d: u16) -> Result<Vec<Whole>, SumFault>
+    requires { d ≤ 20 }
     ensures length { IfOk result (λ lists. vec_len lists ≡ d + 1) }
-    ensures ok { IfOk result (λ lists. AreFactors (polynomial_of target) target (d + 1) lists.items) }
+    ensures ok { IfOk result (λ lists. (target : Family) → target ≢ Family.PowerSum
+        → AreFactors (polynomial_of target) target (d + 1) lists.items) }
     ensures small { ¬ IsErrOf result SumFault.Large }
 {
-    let _ = target;
     let mut lists = Vec::new(alloc);
     for k in 0..d + 1 {
         let next = own_list(alloc, k)?;
@@ -155,17 +155,19 @@ fn hook_lists(alloc: Global, target: Family, family: Family, d: u16) -> Result<V
     requires hooks { family ≢ Family.PowerSum }
     requires low { d ≤ 20 }
     ensures length { IfOk result (λ lists. vec_len lists ≡ d + 1) }
-    ensures ok { IfOk result (λ lists. AreFactors (polynomial_of target) family (d + 1) lists.items) }
+    ensures ok { IfOk result (λ lists.
+        AreFactors (polynomial_of target) family (d + 1) lists.items) }
     ensures small { ¬ IsErrOf result SumFault.Large }
 {
     if family == target {
-        return own_lists(alloc, target, d);
+        return own_lists(alloc, d);
     }
     factor_lists(alloc, target, family, d)
 }
 
-/// The list in the target of the Schur polynomial of a shape, where its special rim hooks are read as h_k; where they are read as
-/// e_k, it is that of the conjugate shape. It is refused as `Large` only where the growth is 2^127 or more.
+/// The list in the target of the Schur polynomial of a shape, where its special rim hooks are read
+/// as h_k; where they are read as e_k, it is that of the conjugate shape. It is refused as `Large`
+/// only where the growth is 2^127 or more.
 pub(crate) fn schur_list(
     alloc: Global,
     target: Family,
@@ -175,6 +177,7 @@ pub(crate) fn schur_list(
     requires hooks { family ≢ Family.PowerSum }
     requires low { size shape.now ≤ 20 }
     ensures value { IfOk result (IsSchurList (polynomial_of target) family shape.now) }
+    ensures table { IfOk result IsWholeTable }
     ensures large { IsErrOf result SumFault.Large → 2 ^ 127 ≤ growth completes (size shape.now) }
 {
     let lists = hook_lists(alloc, target, family, shape.size())?;

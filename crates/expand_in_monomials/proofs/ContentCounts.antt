@@ -1,38 +1,30 @@
 -- Contents made part by part, with the ways to take a list of terms off with them.
---     counts-end, -none, -missed, -step   the contents by their next part, if any
+--     counts-end, -missed, -step          the contents by their next part, if any
 --     fresh-longer, limits-longer         what holds of the parts chosen holds with one more
 --     list-counted, lists-counted         with all contents the list is the Schur polynomial, or the list of these
-use Rattle.std.proofs.Common.{◌≡◌, ◌⊎◌, ℕ, ◌-◌, ◌≤◌, ◌<◌, min, List, [], ◌∷◌, ◌++◌, length, sym, ◌∙◌, ap, ap₂, subst, refl, inl, inr, arith, append_assoc, append-nil, cond, drop, length-append, ℤ, pos, ◌+ℤ◌, ◌*ℤ◌}
-use Rattle.std.specs.Prelude.{FitsSigned}
-use Rattle.std.specs.Int.{w128}
+use Rattle.std.proofs.Common.{◌≡◌, ◌⊎◌, ℕ, ◌-◌, ◌≤◌, ◌<◌, min, List, [], ◌∷◌, ◌++◌, length, sym, ◌∙◌, ap, ap₂, subst, inl, inr, arith, append_assoc, append-nil, cond, drop, length-append, ℤ, pos, ◌+ℤ◌, ◌*ℤ◌, Bool, true, false, refl}
 use Rattle.std.proofs.Math.Nat.{eq-or-lt_of_le}
 use Rattle.std.proofs.lemmas.Bool.{cases_lt}
-use Rattle.coeff_rings.specs.Checked.{checked_i128}
-use Rattle.coeff_rings.specs.Fractions.{whole}
-use Rattle.coeff_rings.specs.Proved.Whole.{same_whole}
 use Rattle.sym_model.specs.Partition.{IsPartition, ArePositive, Falls, size}
 use Rattle.sym_model.specs.Polynomial.{same, coefficient, pair, Same}
 use Rattle.sym_model.specs.Schur.{schur}
-use Rattle.sym_model.specs.Expansion.{Fraction, Terms}
-use Rattle.sym_model.specs.WholeTerms.{WholeTerms, AreWhole, combined, numerators}
-use Rattle.sym_model.specs.Sum.{Among}
-use Rattle.sym_model.proofs.Sums.{total_none, Among_from_map}
+use Rattle.sym_model.specs.WholeTerms.{WholeTerms, combined}
+use Rattle.sym_model.proofs.Sums.{total_none}
 use Rattle.sym_model.proofs.Polynomials.{coefficient_pair, coefficient_plus, pair_determined}
 use Rattle.sym_model.proofs.Exponents.{same_apart, same_from}
 use Rattle.monomial_laws.specs.ExpressionTerms.{IsList}
 use Rattle.partitions.specs.Limits.{IsWithinLimits}
-use Rattle.sparse_polys.specs.Combination.{HasMoreAt}
-use Rattle.sparse_polys.specs.Refusal.{IsRefused}
 use Rattle.schur_laws.specs.Kostka.{kostka}
 use Rattle.schur_laws.proofs.SchurLists.{list-schur, kostka-other_size}
 use Rattle.whole_lists.specs.LabelSizes.{AreWithin}
 use Rattle.expand_in_monomials.specs.Contents.{IsContent, HasNoneBehind, CountsContents}
 use Rattle.expand_in_monomials.specs.Strips.{strip_terms}
-use Rattle.whole_lists.specs.Tables.{equal, found, IsTable}
-use Rattle.whole_lists.proofs.WholeLists.{Finds, Finds-next, Same-from_look_ups, coefficient-whole, not_refused}
+use Rattle.linear_combinations.specs.Entries.{coefficient as found}
+use Rattle.linear_combinations.proofs.Found.{coefficient_found}
+use Rattle.whole_lists.specs.Tables.{equal, IsWholeTable}
 use Rattle.whole_lists.proofs.PartitionTerms.{IsWithinLimits-low}
 use Rattle.expand_in_monomials.proofs.SchurSums.{list-schurs}
-use Rattle.whole_lists.proofs.TableSums.{label-partition}
+use Rattle.whole_lists.proofs.WholeLists.{label-partition}
 use Rattle.expand_in_monomials.proofs.StripTables.{ways-alone, pair-strip_terms}
 use lib.IntN.{+ℤ_idl, +ℤ_idr, *ℤ-zero}
 
@@ -160,58 +152,44 @@ counts-step terms next chosen longer part left old list new l p low e so_far mor
             more.others (chosen ++ (a ∷ rest)) (λ other d is. let h = same_behind chosen a part rest other (is ∙ behind other) in omega arith)
             ∙ so_far.counted (a ∷ rest) ((c.0.0, omega arith, c.0.2), c.1)
 
--- the ways to the empty shape
-number-nothing : (terms : Terms (List ℕ)) (nothing : List ℕ) (number : ℤ) → IsTable terms → AreWhole terms → nothing ≡ [] → whole number ≡ found terms nothing
-    → number ≡ pair (numerators terms) (λ shape. kostka shape [])
-number-nothing terms nothing number is w n f =
-    same_whole number (coefficient (numerators terms) []) (f ∙ ap (found terms) n ∙ coefficient-whole terms is w [])
-    ∙ coefficient_pair (numerators terms) []
+-- a term with the coefficient 0 changes nothing
+pub nothing-more : (label : List ℕ) (number : ℤ) (list : WholeTerms) → number ≡ pos 0 → Same list (list ++ (label, number) ∷ [])
+nothing-more label number list z other =
+    sym (coefficient_plus list ((label, number) ∷ []) other
+    ∙ ap (λ n. coefficient list other +ℤ (cond (same label other) n (pos 0) +ℤ pos 0)) z
+    ∙ ap (λ n. coefficient list other +ℤ n) (none (same label other))
+    ∙ +ℤ_idr (coefficient list other))
+  where
+    none : (b : Bool) → cond b (pos 0) (pos 0) +ℤ pos 0 ≡ pos 0
+    none true = refl
+    none false = refl
 
--- the chosen parts alone
-pub counts-end : (terms : Terms (List ℕ)) (chosen label nothing : List ℕ) (left : ℕ) (number : ℤ) (old new : Terms (List ℕ)) → IsTable terms → AreWhole terms
-    → IsTable old → AreWhole old → IsTable new → label ≡ chosen → nothing ≡ [] → whole number ≡ found terms nothing → HasNoneBehind chosen (numerators old)
-    → HasMoreAt equal old label (whole number) new → CountsContents (numerators terms) chosen 0 left (numerators old) (numerators new)
-counts-end terms chosen label nothing left number old new is w old_is old_w new_is l n f none more = record {
+-- the chosen parts alone, with the ways to the empty shape
+pub counts-end : (terms : WholeTerms) (chosen nothing : List ℕ) (left : ℕ) (number : ℤ) (old new : WholeTerms) → IsWholeTable terms → nothing ≡ []
+    → number ≡ found equal (pos 0) terms nothing → HasNoneBehind chosen old → Same new (old ++ (chosen, number) ∷ []) → CountsContents terms chosen 0 left old new
+counts-end terms chosen nothing left number old new is n f none more = record {
   counted = counted;
   others = λ other no.
       told other
-      ∙ ap (λ b. coefficient (numerators old) other +ℤ (cond b number (pos 0) +ℤ pos 0)) (same_apart chosen other (λ e. no [] tt (sym (append-nil chosen ∙ e))))
-      ∙ +ℤ_idr (coefficient (numerators old) other);
+      ∙ ap (λ b. coefficient old other +ℤ (cond b number (pos 0) +ℤ pos 0)) (same_apart chosen other (λ e. no [] tt (sym (append-nil chosen ∙ e))))
+      ∙ +ℤ_idr (coefficient old other);
 }
   where
-    finds : Finds new (numerators old ++ (chosen, number) ∷ [])
-    finds = Finds-next old new (numerators old) chosen number (coefficient-whole old old_is old_w) (subst (λ (x : List ℕ). HasMoreAt equal old x (whole number) new) l more)
+    told : (other : List ℕ) → coefficient new other ≡ coefficient old other +ℤ (cond (same chosen other) number (pos 0) +ℤ pos 0)
+    told other = more other ∙ coefficient_plus old ((chosen, number) ∷ []) other
 
-    told : (other : List ℕ) → coefficient (numerators new) other ≡ coefficient (numerators old) other +ℤ (cond (same chosen other) number (pos 0) +ℤ pos 0)
-    told other = Same-from_look_ups new (numerators old ++ (chosen, number) ∷ []) new_is finds other ∙ coefficient_plus (numerators old) ((chosen, number) ∷ []) other
-
-    counted : (rest : List ℕ) → IsContent 0 left rest → coefficient (numerators new) (chosen ++ rest) ≡ pair (numerators terms) (λ shape. kostka shape rest)
+    counted : (rest : List ℕ) → IsContent 0 left rest → coefficient new (chosen ++ rest) ≡ pair terms (λ shape. kostka shape rest)
     counted (a ∷ rest) c = absurd (let p = c.0.0 in let few = c.0.1 in omega arith)
     counted [] c =
         told (chosen ++ [])
         ∙ ap₂ (λ z b. z +ℤ (cond b number (pos 0) +ℤ pos 0)) (none []) (same_from chosen (chosen ++ []) (sym (append-nil chosen)))
         ∙ +ℤ_idl (number +ℤ pos 0) ∙ +ℤ_idr number
-        ∙ number-nothing terms nothing number is w n f
+        ∙ f ∙ ap (found equal (pos 0) terms) n ∙ sym (coefficient_found terms is.distinct []) ∙ coefficient_pair terms []
 
--- where no way leads to the empty shape
-pub counts-none : (terms : Terms (List ℕ)) (chosen nothing : List ℕ) (left : ℕ) (number : ℤ) (old : WholeTerms) → IsTable terms → AreWhole terms → nothing ≡ []
-    → whole number ≡ found terms nothing → whole number ≡ whole (pos 0) → HasNoneBehind chosen old → CountsContents (numerators terms) chosen 0 left old old
-counts-none terms chosen nothing left number old is w n f z none = record {
-  counted = counted;
-  others = λ label no. refl;
-}
-  where
-    counted : (rest : List ℕ) → IsContent 0 left rest → coefficient old (chosen ++ rest) ≡ pair (numerators terms) (λ shape. kostka shape rest)
-    counted (a ∷ rest) c = absurd (let p = c.0.0 in let few = c.0.1 in omega arith)
-    counted [] c = none [] ∙ sym (same_whole number (pos 0) z) ∙ number-nothing terms nothing number is w n f
-
--- which is never refused
-pub fresh-fits : (chosen label : List ℕ) (number : ℤ) (old : Terms (List ℕ)) → IsTable old → AreWhole old → label ≡ chosen → HasNoneBehind chosen (numerators old)
-    → IsRefused (FitsSigned w128) whole (λ (x y : ℤ). checked_i128 (x +ℤ y)) (found old label) (whole number) → ⊥
-fresh-fits chosen label number old is w l none r =
-    not_refused (pos 0) number refl
-    (subst (λ (x : Fraction). IsRefused (FitsSigned w128) whole (λ (x y : ℤ). checked_i128 (x +ℤ y)) x (whole number))
-    (ap (found old) l ∙ coefficient-whole old is w chosen ∙ ap whole (ap (coefficient (numerators old)) (sym (append-nil chosen)) ∙ none [])) r)
+-- nothing stands there before
+pub fresh-found : (chosen label : List ℕ) (old : WholeTerms) → IsWholeTable old → label ≡ chosen → HasNoneBehind chosen old → found equal (pos 0) old label ≡ pos 0
+fresh-found chosen label old is l none =
+    ap (found equal (pos 0) old) l ∙ sym (coefficient_found old is.distinct chosen) ∙ ap (coefficient old) (sym (append-nil chosen)) ∙ none []
 
 -- ---- all contents
 
@@ -226,10 +204,6 @@ counts-all terms chosen most largest left old new e counts = record {
     less : (rest : List ℕ) → IsContent largest left rest → IsContent most left rest
     less [] c = c
     less (a ∷ rest) c = ((c.0.0, let l = c.0.1 in let few = c.0.2 in omega arith, c.0.2), c.1)
-
-pub no_terms : (terms : Terms (List ℕ)) → length terms ≡ 0 → numerators terms ≡ []
-no_terms [] e = refl
-no_terms (t ∷ terms) e = absurd (omega arith)
 
 -- a partition of at most d cells, and one of more
 at_most : (d : ℕ) (W old list : WholeTerms) (κ : List ℕ) → old ≡ [] → CountsContents W [] d d old list → IsPartition κ → size κ ≤ d
@@ -250,25 +224,17 @@ list-counted shape d terms old list p is_d none e counts = list-schur shape list
     at κ is (inl high) = past d terms old list κ none counts high ∙ sym (kostka-other_size shape κ p (λ same_size. omega arith))
 
 -- the same of a list of shapes
-pub lists-counted : (d : ℕ) (terms : Terms (List ℕ)) (old list : WholeTerms) → IsTable terms → AreWithin d terms → old ≡ [] → CountsContents (numerators terms) [] d d old list
-    → IsList list (λ n. combined (λ label. schur label n) (numerators terms))
+pub lists-counted : (d : ℕ) (terms old list : WholeTerms) → IsWholeTable terms → AreWithin d terms → old ≡ [] → CountsContents terms [] d d old list
+    → IsList list (λ n. combined (λ label. schur label n) terms)
 lists-counted d terms old list is within none counts =
-    list-schurs (numerators terms) list partitions (λ κ is. at κ is (cases_lt d (size κ)))
+    list-schurs terms list (label-partition terms is) (λ κ is. at κ is (cases_lt d (size κ)))
   where
-    among : (t : List ℕ × ℤ) → Among t (numerators terms) → IsPartition t.0 × (size t.0 ≤ d)
-    among t m =
-        let u = Among_from_map (λ (u : List ℕ × Fraction). (u.0, u.1.0)) t terms m in
-        subst (λ (label : List ℕ). IsPartition label × (size label ≤ d)) (sym (ap (λ (v : List ℕ × ℤ). v.0) u.2)) (label-partition terms is u.0 u.1, within u.0 u.1)
-
-    partitions : (t : List ℕ × ℤ) → Among t (numerators terms) → IsPartition t.0
-    partitions t m = (among t m).0
-
-    at : (κ : List ℕ) → IsPartition κ → (d < size κ) ⊎ (size κ ≤ d) → coefficient list κ ≡ pair (numerators terms) (λ shape. kostka shape κ)
-    at κ is (inr low) = at_most d (numerators terms) old list κ none counts is low
-    at κ is (inl high) =
-        past d (numerators terms) old list κ none counts high
+    at : (κ : List ℕ) → IsPartition κ → (d < size κ) ⊎ (size κ ≤ d) → coefficient list κ ≡ pair terms (λ shape. kostka shape κ)
+    at κ p (inr low) = at_most d terms old list κ none counts p low
+    at κ p (inl high) =
+        past d terms old list κ none counts high
         ∙ sym
-        (total_none (λ (t : List ℕ × ℤ). t.1 *ℤ kostka t.0 κ) (numerators terms)
+        (total_none (λ (t : List ℕ × ℤ). t.1 *ℤ kostka t.0 κ) terms
         (λ t m.
-        let small = (among t m).1 in
-        ap (λ z. t.1 *ℤ z) (kostka-other_size t.0 κ (among t m).0 (λ same_size. omega arith)) ∙ *ℤ-zero t.1))
+        let small = within t m in
+        ap (λ z. t.1 *ℤ z) (kostka-other_size t.0 κ (label-partition terms is t m) (λ same_size. omega arith)) ∙ *ℤ-zero t.1))

@@ -11,7 +11,7 @@ use Rattle.sym_model.specs.Polynomial.{Same, coefficient, negate, plus, scale}
 use Rattle.sym_model.specs.Expansion.{Basis}
 use Rattle.sym_model.specs.Expression.{Tree, number, fraction, negation, sum, product, degree, lcm, denominator, cleared_value}
 use Rattle.sym_model.specs.Weight.{growth, numerator, weight}
-use Rattle.sym_model.specs.WholeTerms.{WholeTerms, numerators, labels}
+use Rattle.sym_model.specs.WholeTerms.{WholeTerms, labels}
 use Rattle.sym_model.proofs.Polynomials.{coefficient_scale, coefficient_negate, Same_sym, Same_trans}
 use Rattle.monomial_laws.specs.ExpressionTerms.{IsCleared, HasDenominators}
 use Rattle.monomial_laws.specs.MonomialProduct.{product_coefficient}
@@ -25,16 +25,16 @@ use Rattle.whole_lists.proofs.Bounds.{coefficient-within, past-weight}
 
 -- ---- values
 
-pub converted-number : (a : ℕ) (c : Cleared) → c.den ≡ 1 → Same (numerators c.terms) (([], pos a) ∷ []) → ClearsTo (number a) c
+pub converted-number : (a : ℕ) (c : Cleared) → c.den ≡ 1 → Same c.terms (([], pos a) ∷ []) → ClearsTo (number a) c
 converted-number a c d h = record {
   den_is = d;
-  value = list_respects (([], pos a) ∷ []) (numerators c.terms) (cleared_value (number a)) (Same_sym (numerators c.terms) (([], pos a) ∷ []) h) (cleared-number a);
+  value = list_respects (([], pos a) ∷ []) c.terms (cleared_value (number a)) (Same_sym c.terms (([], pos a) ∷ []) h) (cleared-number a);
 }
 
-pub converted-fraction : (a b : ℕ) (c : Cleared) → c.den ≡ b → Same (numerators c.terms) (([], pos a) ∷ []) → ClearsTo (fraction a b) c
+pub converted-fraction : (a b : ℕ) (c : Cleared) → c.den ≡ b → Same c.terms (([], pos a) ∷ []) → ClearsTo (fraction a b) c
 converted-fraction a b c d h = record {
   den_is = d;
-  value = list_respects (([], pos a) ∷ []) (numerators c.terms) (cleared_value (fraction a b)) (Same_sym (numerators c.terms) (([], pos a) ∷ []) h) (cleared-fraction a b);
+  value = list_respects (([], pos a) ∷ []) c.terms (cleared_value (fraction a b)) (Same_sym c.terms (([], pos a) ∷ []) h) (cleared-fraction a b);
 }
 
 minus_once : (W : WholeTerms) → Same (scale (negsuc 0) W) (negate W)
@@ -43,51 +43,51 @@ minus_once W label = coefficient_scale (negsuc 0) W label ∙ minus (coefficient
     minus : (z : ℤ) → negsuc 0 *ℤ z ≡ neg_ℤ z
     minus z = omega (arith, ints)
 
-pub converted-negation : (e : Tree) (c d : Cleared) → d.den ≡ c.den → Same (numerators d.terms) (scale (negsuc 0) (numerators c.terms)) → ClearsTo e c → ClearsTo (negation e) d
+pub converted-negation : (e : Tree) (c d : Cleared) → d.den ≡ c.den → Same d.terms (scale (negsuc 0) c.terms) → ClearsTo e c → ClearsTo (negation e) d
 converted-negation e c d i h k = record {
   den_is = i ∙ k.den_is;
   value =
-      list_respects (negate (numerators c.terms)) (numerators d.terms) (cleared_value (negation e))
-      (Same_sym (numerators d.terms) (negate (numerators c.terms)) (Same_trans (numerators d.terms) (scale (negsuc 0) (numerators c.terms)) (negate (numerators c.terms)) h (minus_once (numerators c.terms))))
-      (cleared-negation (numerators c.terms) e k.value);
+      list_respects (negate c.terms) d.terms (cleared_value (negation e))
+      (Same_sym d.terms (negate c.terms) (Same_trans d.terms (scale (negsuc 0) c.terms) (negate c.terms) h (minus_once c.terms)))
+      (cleared-negation c.terms e k.value);
 }
 
 -- the sum of the two multiples is the cleared value of the sum
 multiples : (e f : Tree) (c d : Cleared) (p q : ℤ) → p ≡ pos (lcm c.den d.den / c.den) → q ≡ pos (lcm c.den d.den / d.den) → ClearsTo e c → ClearsTo f d
-    → IsCleared (plus (scale p (numerators c.terms)) (scale q (numerators d.terms))) (sum e f)
+    → IsCleared (plus (scale p c.terms) (scale q d.terms)) (sum e f)
 multiples e f c d p q i j h k =
-    subst (λ z. IsCleared (plus (scale z (numerators c.terms)) (scale q (numerators d.terms))) (sum e f))
+    subst (λ z. IsCleared (plus (scale z c.terms) (scale q d.terms)) (sum e f))
     (ap₂ (λ (x y : ℕ). pos (lcm x y / x)) (sym h.den_is) (sym k.den_is) ∙ sym i)
-    (subst (λ z. IsCleared (plus (scale (pos (lcm (denominator e) (denominator f) / denominator e)) (numerators c.terms)) (scale z (numerators d.terms))) (sum e f))
+    (subst (λ z. IsCleared (plus (scale (pos (lcm (denominator e) (denominator f) / denominator e)) c.terms) (scale z d.terms)) (sum e f))
     (ap₂ (λ (x y : ℕ). pos (lcm x y / y)) (sym h.den_is) (sym k.den_is) ∙ sym j)
-    (cleared-sum (numerators c.terms) (numerators d.terms) e f h.value k.value))
+    (cleared-sum c.terms d.terms e f h.value k.value))
 
 pub converted-sum : (e f : Tree) (c d s : Cleared) (p q : ℤ) → p ≡ pos (lcm c.den d.den / c.den) → q ≡ pos (lcm c.den d.den / d.den) → s.den ≡ lcm c.den d.den
-    → Same (numerators s.terms) (plus (scale p (numerators c.terms)) (scale q (numerators d.terms))) → ClearsTo e c → ClearsTo f d → ClearsTo (sum e f) s
+    → Same s.terms (plus (scale p c.terms) (scale q d.terms)) → ClearsTo e c → ClearsTo f d → ClearsTo (sum e f) s
 converted-sum e f c d s p q i j m w h k = record {
   den_is = m ∙ ap₂ (λ (x y : ℕ). lcm x y) h.den_is k.den_is;
   value =
-      list_respects (plus (scale p (numerators c.terms)) (scale q (numerators d.terms))) (numerators s.terms) (cleared_value (sum e f))
-      (Same_sym (numerators s.terms) (plus (scale p (numerators c.terms)) (scale q (numerators d.terms))) w)
+      list_respects (plus (scale p c.terms) (scale q d.terms)) s.terms (cleared_value (sum e f))
+      (Same_sym s.terms (plus (scale p c.terms) (scale q d.terms)) w)
       (multiples e f c d p q i j h k);
 }
 
 pub converted-product : (e f : Tree) (c d s : Cleared) → s.den ≡ c.den * d.den
-    → ((ν : List ℕ) → IsPartition ν → coefficient (numerators s.terms) ν ≡ product_coefficient (numerators c.terms) (numerators d.terms) ν)
+    → ((ν : List ℕ) → IsPartition ν → coefficient s.terms ν ≡ product_coefficient c.terms d.terms ν)
     → ClearsTo e c → ClearsTo f d → ClearsTo (product e f) s
 converted-product e f c d s m w h k = record {
   den_is = m ∙ ap₂ ◌*◌ h.den_is k.den_is;
-  value = cleared-product (numerators c.terms) (numerators d.terms) (numerators s.terms) e f h.value k.value w;
+  value = cleared-product c.terms d.terms s.terms e f h.value k.value w;
 }
 
 -- ---- refusals
 
-pub large-negation : (e : Tree) (c : Cleared) → HasDenominators e → ClearsTo e c → HasLarge (scale (negsuc 0) (numerators c.terms)) → 2 ^ 127 ≤ weight Basis.monomials (negation e)
+pub large-negation : (e : Tree) (c : Cleared) → HasDenominators e → ClearsTo e c → HasLarge (scale (negsuc 0) c.terms) → 2 ^ 127 ≤ weight Basis.monomials (negation e)
 large-negation e c d h l =
-    past-weight (negation e) (scale (negsuc 0) (numerators c.terms)) d
-    (list_respects (negate (numerators c.terms)) (scale (negsuc 0) (numerators c.terms)) (cleared_value (negation e))
-    (Same_sym (scale (negsuc 0) (numerators c.terms)) (negate (numerators c.terms)) (minus_once (numerators c.terms)))
-    (cleared-negation (numerators c.terms) e h.value))
+    past-weight (negation e) (scale (negsuc 0) c.terms) d
+    (list_respects (negate c.terms) (scale (negsuc 0) c.terms) (cleared_value (negation e))
+    (Same_sym (scale (negsuc 0) c.terms) (negate c.terms) (minus_once c.terms))
+    (cleared-negation c.terms e h.value))
     l.label l.partition l.large
 
 pub large-sum_denominator : (e f : Tree) (c d : Cleared) → HasDenominators e → HasDenominators f → ClearsTo e c → ClearsTo f d → 2 ^ 127 ≤ lcm c.den d.den → 2 ^ 127 ≤ weight Basis.monomials (sum e f)
@@ -131,26 +131,26 @@ multiple-within e q N d A h n g l =
     four a b c d h k l = omega arith
 
 pub large-sum : (e f : Tree) (c d : Cleared) (p q : ℤ) → HasDenominators e → HasDenominators f → p ≡ pos (lcm c.den d.den / c.den) → q ≡ pos (lcm c.den d.den / d.den) → ClearsTo e c → ClearsTo f d
-    → SumIsLarge (numerators c.terms) (numerators d.terms) p q → 2 ^ 127 ≤ weight Basis.monomials (sum e f)
+    → SumIsLarge c.terms d.terms p q → 2 ^ 127 ≤ weight Basis.monomials (sum e f)
 large-sum e f c d p q i j u v h k (inl l) =
     let r = lcm (denominator e) (denominator f) / denominator e in
     let is : p ≡ pos (lcm (denominator e) (denominator f) / denominator e) = u ∙ ap₂ (λ (x y : ℕ). pos (lcm x y / x)) h.den_is k.den_is in
-    let bound = multiple-within e (lcm (denominator e) (denominator f) / denominator e) (numerator (sum e f)) (max (degree e) (degree f)) (numerators c.terms) h.value (omega arith) (omega arith)
-    (subst (λ z. HasLarge (scale z (numerators c.terms))) is l) in
+    let bound = multiple-within e (lcm (denominator e) (denominator f) / denominator e) (numerator (sum e f)) (max (degree e) (degree f)) c.terms h.value (omega arith) (omega arith)
+    (subst (λ z. HasLarge (scale z c.terms)) is l) in
     three (2 ^ 127) (numerator (sum e f) * growth Basis.monomials (max (degree e) (degree f))) (weight Basis.monomials (sum e f)) bound (growth-within_weight (sum e f) (i, j))
   where
     three : (a b c : ℕ) → a ≤ b → b ≤ c → a ≤ c
     three a b c h k = omega arith
 large-sum e f c d p q i j u v h k (inr (inl l)) =
     let is : q ≡ pos (lcm (denominator e) (denominator f) / denominator f) = v ∙ ap₂ (λ (x y : ℕ). pos (lcm x y / y)) h.den_is k.den_is in
-    let bound = multiple-within f (lcm (denominator e) (denominator f) / denominator f) (numerator (sum e f)) (max (degree e) (degree f)) (numerators d.terms) k.value (omega arith) (omega arith)
-    (subst (λ z. HasLarge (scale z (numerators d.terms))) is l) in
+    let bound = multiple-within f (lcm (denominator e) (denominator f) / denominator f) (numerator (sum e f)) (max (degree e) (degree f)) d.terms k.value (omega arith) (omega arith)
+    (subst (λ z. HasLarge (scale z d.terms)) is l) in
     three (2 ^ 127) (numerator (sum e f) * growth Basis.monomials (max (degree e) (degree f))) (weight Basis.monomials (sum e f)) bound (growth-within_weight (sum e f) (i, j))
   where
     three : (a b c : ℕ) → a ≤ b → b ≤ c → a ≤ c
     three a b c h k = omega arith
 large-sum e f c d p q i j u v h k (inr (inr l)) =
-    past-weight (sum e f) (plus (scale p (numerators c.terms)) (scale q (numerators d.terms))) (i, j) (multiples e f c d p q u v h k) l.label l.partition l.large
+    past-weight (sum e f) (plus (scale p c.terms) (scale q d.terms)) (i, j) (multiples e f c d p q u v h k) l.label l.partition l.large
 
 -- equal multiples
 pub Same-sum_again : (S A B : WholeTerms) (p p' q q' : ℤ) → p ≡ p' → q ≡ q' → Same S (plus (scale p A) (scale q B)) → Same S (plus (scale p' A) (scale q' B))

@@ -1,9 +1,7 @@
-pub mod ListedTerms
 pub mod Conversions
 pub mod AtomLists
 pub mod StripLists
 pub mod AbsoluteTerms
-pub mod StripTerms
 pub mod StripTables
 pub mod SchurSums
 pub mod ContentCounts

@@ -3,11 +3,11 @@
 --     limits-rows          rows are a shape within the limits
 --     rows-lower           and still are with a row made shorter
 --     strips-none, -next   the strips by how many cells they have in the first row
-use Rattle.std.proofs.Common.{◌≡◌, ℕ, zero, suc, ◌+◌, ◌-◌, ◌≤◌, ◌<◌, min, cond, List, [], ◌∷◌, ◌++◌, map, length, length-append, take, refl, sym, ◌∙◌, ap, ap₂, subst, inl, inr, arith, append_assoc, append-nil}
+use Rattle.std.proofs.Common.{◌≡◌, ℕ, zero, suc, ◌+◌, ◌-◌, ◌≤◌, ◌<◌, min, cond, List, [], ◌∷◌, ◌++◌, map, length, length-append, take, refl, sym, ◌∙◌, ap, ap₂, subst, inl, inr, arith, append_assoc, append-nil, flat_map}
 use Rattle.std.proofs.lemmas.Bool.{ne_eqb}
 use Rattle.std.proofs.lemmas.List.{map-append}
 use Rattle.std.proofs.Math.Seq.{take-append_seam}
-use Rattle.sym_model.specs.Sum.{each, Among}
+use Rattle.sym_model.specs.Sum.{Among}
 use Rattle.sym_model.specs.Partition.{Falls, IsPartition, part, in_front, without_last_zeros}
 use Rattle.sym_model.proofs.Lists.{each-append}
 use Rattle.sym_model.proofs.Parts.{Falls-front, size-append, length-without_last_zeros, without_last_zeros-positive}
@@ -19,9 +19,9 @@ use Rattle.expand_in_monomials.specs.Strips.{AreRows}
 
 -- ---- no strips
 
-each-all_none : {A B : Type 0} (f : A → List B) (xs : List A) → ((x : A) → Among x xs → f x ≡ []) → each f xs ≡ []
+each-all_none : {A B : Type 0} (f : A → List B) (xs : List A) → ((x : A) → Among x xs → f x ≡ []) → flat_map f xs ≡ []
 each-all_none f [] h = refl
-each-all_none f (x ∷ xs) h = ap (λ l. l ++ each f xs) (h x (inl refl)) ∙ each-all_none f xs (λ y m. h y (inr m))
+each-all_none f (x ∷ xs) h = ap (λ l. l ++ flat_map f xs) (h x (inl refl)) ∙ each-all_none f xs (λ y m. h y (inr m))
 
 -- the strips by how many cells they have in the first row
 abbrev pub with_cells : ℕ → ℕ → List ℕ → ℕ → List (List ℕ)
@@ -80,7 +80,7 @@ under-row above b (rest ∷ shapes) =
 
 -- at first no shape is listed
 pub strips-none : (k row next start : ℕ) (rest above : List ℕ) (shapes : List (List ℕ)) → next ≡ part rest 1 → start ≡ k - next → IsPartition rest
-    → shapes ≡ shapes ++ under above (each (with_cells k row rest) (below start))
+    → shapes ≡ shapes ++ under above (flat_map (with_cells k row rest) (below start))
 strips-none k row next start rest above shapes e s p =
     sym (append-nil shapes)
     ∙ ap (λ l. shapes ++ under above l)
@@ -89,11 +89,11 @@ strips-none k row next start rest above shapes e s p =
 
 -- then those with i cells in the first row
 pub strips-next : (k row i : ℕ) (rest above longer : List ℕ) (given old new : List (List ℕ)) → longer ≡ above ++ (row - i) ∷ []
-    → old ≡ given ++ under above (each (with_cells k row rest) (below i)) → new ≡ old ++ under longer (strips_off (k - i) rest)
-    → new ≡ given ++ under above (each (with_cells k row rest) (below (i + 1)))
+    → old ≡ given ++ under above (flat_map (with_cells k row rest) (below i)) → new ≡ old ++ under longer (strips_off (k - i) rest)
+    → new ≡ given ++ under above (flat_map (with_cells k row rest) (below (i + 1)))
 strips-next k row i rest above longer given old new l h e =
     let more : i + 1 ≡ suc i = omega arith in
-    let before : List (List ℕ) = each (with_cells k row rest) (below i) in
+    let before : List (List ℕ) = flat_map (with_cells k row rest) (below i) in
     e
     ∙ ap (λ xs. xs ++ under longer (strips_off (k - i) rest)) h
     ∙ ap (λ xs. (given ++ under above before) ++ xs) (ap (λ rows. under rows (strips_off (k - i) rest)) l ∙ under-row above (row - i) (strips_off (k - i) rest))
@@ -101,14 +101,14 @@ strips-next k row i rest above longer given old new l h e =
     ∙ ap (λ xs. given ++ xs)
     (sym (map-append (λ (r : List ℕ). without_last_zeros (above ++ r)) before (with_cells k row rest i))
     ∙ ap (under above) (ap (λ xs. before ++ xs) (sym (append-nil (with_cells k row rest i)))
-    ∙ sym (ap (λ n. each (with_cells k row rest) (below n)) more ∙ each-append (with_cells k row rest) (below i) (i ∷ []))))
+    ∙ sym (ap (λ n. flat_map (with_cells k row rest) (below n)) more ∙ each-append (with_cells k row rest) (below i) (i ∷ []))))
 
 -- and these are all
 pub strips-all : (k row i : ℕ) (rest parts above : List ℕ) (given all : List (List ℕ)) → row ∷ rest ≡ parts → i ≡ suc (min k (row - part rest 1))
-    → all ≡ given ++ under above (each (with_cells k row rest) (below i)) → all ≡ given ++ under above (strips_off k parts)
+    → all ≡ given ++ under above (flat_map (with_cells k row rest) (below i)) → all ≡ given ++ under above (strips_off k parts)
 strips-all k row i rest parts above given all split last e =
     e
-    ∙ ap (λ n. given ++ under above (each (with_cells k row rest) (below n))) last
+    ∙ ap (λ n. given ++ under above (flat_map (with_cells k row rest) (below n))) last
     ∙ ap (λ l. given ++ under above (strips_off k l)) split
 
 -- the row that was put goes off again

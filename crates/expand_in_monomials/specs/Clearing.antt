@@ -4,7 +4,6 @@ use Rattle.calc_base.specs.declared.faults.SumFault.{SumFault}
 use Rattle.sym_model.specs.Expansion.{monomials}
 use Rattle.sym_model.specs.Expression.{Tree, denominator}
 use Rattle.sym_model.specs.Weight.{weight}
-use Rattle.sym_model.specs.WholeTerms.{numerators}
 use Rattle.monomial_laws.specs.ExpressionTerms.{IsCleared}
 use Rattle.expression_evaluation.specs.Values.{IsMade}
 use Rattle.expand_in_monomials.specs.declared.cleared.Cleared.{Cleared}
@@ -12,7 +11,7 @@ use Rattle.expand_in_monomials.specs.declared.cleared.Cleared.{Cleared}
 -- the list is the cleared value of the expression, and the number is its denominator
 pub record ClearsTo (e : Tree) (c : Cleared) : Type 0 where
   pub den_is : c.den ≡ denominator e
-  pub value : IsCleared (numerators c.terms) e
+  pub value : IsCleared c.terms e
 
 -- the weight is 2^127 or more
 abbrev pub IsHeavy : Tree → Type 0

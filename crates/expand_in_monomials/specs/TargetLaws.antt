@@ -1,7 +1,6 @@
 -- The laws of the target m.
 use Rattle.sym_model.specs.Expansion.{Basis}
 use Rattle.sym_model.specs.Expression.{Tree, negation, sum, difference, cleared_value}
-use Rattle.sym_model.specs.WholeTerms.{numerators}
 use Rattle.sym_model.proofs.Polynomials.{Same_trans}
 use Rattle.monomial_laws.specs.ExpressionTerms.{in_monomials}
 use Rattle.monomial_laws.proofs.WeightBounds.{growth-mono}
@@ -11,10 +10,13 @@ use Rattle.expand_in_monomials.specs.declared.cleared.Cleared.{Cleared}
 use Rattle.expand_in_monomials.specs.Clearing.{ClearsTo, IsHeavy}
 
 -- the sum with the negation is the difference
-pub clears-difference : (e f : Tree) (c : Cleared) → ClearsTo (sum e (negation f)) c → ClearsTo (difference e f) c
+pub clears-difference : (e f : Tree) (c : Cleared) → ClearsTo (sum e (negation f)) c
+    → ClearsTo (difference e f) c
 clears-difference e f c h = record {
   den_is = h.den_is;
-  value = λ n. Same_trans (in_monomials (numerators c.terms) n) (cleared_value (sum e (negation f)) n) (cleared_value (difference e f) n) (h.value n) (difference-value e f n);
+  value =
+      λ n. Same_trans (in_monomials c.terms n) (cleared_value (sum e (negation f)) n)
+      (cleared_value (difference e f) n) (h.value n) (difference-value e f n);
 }
 
 pub heavy-whole : (e f : Tree) → IsNoHeavier e f → IsHeavy e → IsHeavy f

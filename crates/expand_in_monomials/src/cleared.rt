@@ -1,5 +1,7 @@
 //! Expressions with their fractions cleared, as lists of terms in m: no fraction is met on the way.
 ghost use Rattle.std.specs.Prelude.{◌<◌, ◌^◌};
+ghost use Rattle.std.proofs.Props.{props};
+ghost use Rattle.whole_lists.specs.Tables.{IsWholeTable};
 
 use whole_lists::Whole;
 
@@ -8,6 +10,7 @@ use whole_lists::Whole;
 pub(crate) struct Cleared {
     pub(crate) terms: Whole,
     pub(crate) den: u128,
+    ghost table: { IsWholeTable terms } by { Prim.hlevel props },
     ghost positive: { 0 < den },
     ghost small: { den < 2 ^ 127 },
 }

@@ -7,6 +7,7 @@ ghost use Rattle.sym_model.specs.Partition.{size};
 ghost use Rattle.sym_model.specs.Weight.{growth, numerator, weight};
 ghost use Rattle.expression_reading.specs.Trees.{basis_of, tree_of};
 ghost use Rattle.whole_lists.specs.LabelSizes.{AreWithin};
+ghost use Rattle.whole_lists.specs.Tables.{IsTable};
 
 use crate::atoms::atom;
 use crate::operations::Monomials;
@@ -19,25 +20,30 @@ use sparse_polys::Lin;
 use std::alloc::Global;
 use whole_lists::divided;
 
-/// The expansion of a formula in m, in every number of variables. Its coefficients are bounded by the two numbers of the
-/// formula's weight.
+/// The expansion of a formula in m, in every number of variables. Its coefficients are bounded by
+/// the two numbers of the formula's weight.
 ///
 /// It is refused as `Large` only where the weight for the target m is 2^127 or more.
 pub fn to_monomial(alloc: Global, formula: &Formula) -> Result<Lin<Partition, Frac>, SumFault>
     ensures value { let e = tree_of formula.now.tree in
-        IfOk result (λ list. (n : ℕ) → IsExpansionOf monomials list n (cleared_value e n) (denominator e)) }
-    ensures bounded { let e = tree_of formula.now.tree in IfOk result (IsBounded (numerator e) (denominator e)) }
+        IfOk result (λ list. (n : ℕ)
+        → IsExpansionOf monomials list n (cleared_value e n) (denominator e)) }
+    ensures bounded { let e = tree_of formula.now.tree in
+        IfOk result (IsBounded (numerator e) (denominator e)) }
     ensures labels { IfOk result (AreWithin (degree (tree_of formula.now.tree))) }
-    ensures large { IsErrOf result SumFault.Large → 2 ^ 127 ≤ weight monomials (tree_of formula.now.tree) }
+    ensures table { IfOk result IsTable }
+    ensures large { IsErrOf result SumFault.Large
+        → 2 ^ 127 ≤ weight monomials (tree_of formula.now.tree) }
 {
     let converted = evaluate(alloc, &Monomials, formula.tree())?;
     divided(alloc, &converted.terms, converted.den)
 }
 
-/// The polynomial of a partition of at most 512 cells in a basis, expanded in m, in every number of variables. Its coefficients are
-/// whole, and bounded by 1.
+/// The polynomial of a partition of at most 512 cells in a basis, expanded in m, in every number of
+/// variables. Its coefficients are whole, and bounded by 1.
 ///
-/// It is refused as `Large` only where the growth for the target m at the size of the partition is 2^127 or more.
+/// It is refused as `Large` only where the growth for the target m at the size of the partition is
+/// 2^127 or more.
 pub fn atom_to_monomial(
     alloc: Global,
     basis: Basis,
@@ -48,6 +54,7 @@ pub fn atom_to_monomial(
         → IsExpansionOf monomials list n (basis_polynomial (basis_of basis) label.now n) 1) }
     ensures bounded { IfOk result (IsBounded 1 1) }
     ensures labels { IfOk result (AreWithin (size label.now)) }
+    ensures table { IfOk result IsTable }
     ensures large { IsErrOf result SumFault.Large → 2 ^ 127 ≤ growth monomials (size label.now) }
 {
     let converted = atom(alloc, basis, label)?;

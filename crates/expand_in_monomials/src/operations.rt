@@ -11,7 +11,7 @@ use expression_evaluation::Target;
 use partitions::Partition;
 use sparse_polys::times_whole_in_m;
 use std::alloc::Global;
-use whole_lists::{is_whole, single, sum_of};
+use whole_lists::{single, sum_of};
 use whole_numbers::{common_denominator, denominator_product};
 
 /// The target m.
@@ -38,9 +38,7 @@ impl Target for Monomials {
 
     fn negated(&self, _: Global, inner: Cleared) -> Result<Cleared, SumFault> {
         let Cleared { terms, den } = inner;
-        is_whole(&terms);
         let terms = terms.scale(Int::new(-1))?;
-        is_whole(&terms);
         Ok(Cleared { terms, den })
     }
 
@@ -65,8 +63,6 @@ impl Target for Monomials {
         let Some(den) = denominator_product(left.den, right.den) else {
             return Err(SumFault::Large);
         };
-        is_whole(&left.terms);
-        is_whole(&right.terms);
         let terms = times_whole_in_m(alloc, &left.terms, &right.terms)?;
         Ok(Cleared { terms, den })
     }

@@ -1,55 +1,38 @@
-//! Schur polynomials as lists of terms in m: the coefficient of a partition is the number of ways in which the shape is
-//! taken off by horizontal strips with so many cells as the parts. All partitions are made in one walk, part by part, and for
-//! all shapes of a list together.
+//! Schur polynomials as lists of terms in m: the coefficient of a partition is the number of ways
+//! in which the shape is taken off by horizontal strips with so many cells as the parts. All
+//! partitions are made in one walk, part by part, and for all shapes of a list together.
 ghost use Rattle.std.specs.Prelude.{◌≡◌, ℕ, ◌≤◌, ◌^◌, [], ◌∷◌, ◌++◌, List, IfOk, OnOk, IsErrOf};
 ghost use Rattle.sym_model.specs.Expansion.{monomials};
 ghost use Rattle.sym_model.specs.Partition.{size};
 ghost use Rattle.sym_model.specs.Polynomial.{Same};
 ghost use Rattle.sym_model.specs.Schur.{schur};
 ghost use Rattle.sym_model.specs.Weight.{growth};
-ghost use Rattle.sym_model.specs.WholeTerms.{WholeTerms, combined, numerators};
+ghost use Rattle.sym_model.specs.WholeTerms.{WholeTerms, combined};
 ghost use Rattle.partitions.specs.Limits.{IsWithinLimits};
-ghost use Rattle.monomial_laws.specs.ExpressionTerms.{IsList, absolute};
-ghost use Rattle.expand_in_monomials.specs.Contents.{CountsContents, HasManyWays, HasNoneBehind, IsContent, Leads};
+ghost use Rattle.linear_combinations.specs.Gains.{Overflows};
+ghost use Rattle.monomial_laws.specs.ExpressionTerms.{IsList};
+ghost use Rattle.expand_in_monomials.specs.Contents.{CountsContents, HasManyWays, HasNoneBehind};
+ghost use Rattle.expand_in_monomials.specs.Contents.{IsContent, Leads};
 ghost use Rattle.whole_lists.specs.LabelSizes.{AreWithin};
-ghost use Rattle.whole_lists.specs.Large.{HasLarge};
-ghost use Rattle.whole_lists.specs.Tables.{IsTable};
-ghost use Rattle.expand_in_monomials.specs.Strips.{terms_at, strip_terms, ArePartitions};
+ghost use Rattle.whole_lists.specs.Tables.{equal, IsWholeTable};
+ghost use Rattle.expand_in_monomials.specs.Strips.{strip_terms};
 
-use crate::strips::strips_off;
+use crate::strips::HorizontalStrip;
 use calc_base::{NoMemory, SumFault};
-use coeff_rings::{Int, Scalar};
+use coeff_rings::Scalar;
+use linear_combinations::Lin;
 use partitions::Partition;
-use sparse_polys::Lin;
 use std::alloc::Global;
-use whole_lists::{Whole, is_whole, single};
-
-/// Adds the shapes to the list, each with the coefficient.
-fn add_each(list: &mut Whole, shapes: Vec<Partition>, c: Int) -> Result<(), SumFault>
-    requires { ArePartitions shapes.items }
-    ensures value { OnOk result (Same (numerators list.new) (numerators list.old ++ terms_at c shapes.items)) }
-    ensures large { IsErrOf result SumFault.Large → (first rest : List (List ℕ)) × (first ++ rest ≡ shapes.items)
-        × HasLarge (numerators list.old ++ terms_at c first) }
-{
-    is_whole(list);
-    for shape in shapes {
-        list.add_term(shape, c)?;
-    }
-    Ok(())
-}
+use whole_lists::{Whole, single};
 
 /// What is left of each shape when a horizontal strip of k cells is taken off.
 fn stripped(alloc: Global, terms: &Whole, k: u16) -> Result<Whole, SumFault>
-    ensures value { IfOk result (λ list. Same (numerators list) (strip_terms k (numerators terms.now))) }
-    ensures table { IfOk result IsTable }
-    ensures large { IsErrOf result SumFault.Large → HasLarge (absolute (strip_terms k (numerators terms.now))) }
+    ensures value { IfOk result (λ list. Same list (strip_terms k terms.now)) }
+    ensures table { IfOk result IsWholeTable }
+    ensures large { IsErrOf result SumFault.Large → Overflows equal [] (strip_terms k terms.now) }
 {
-    is_whole(terms);
     let mut list = Lin::new(alloc);
-    for (shape, c) in terms.iter() {
-        add_each(&mut list, strips_off(alloc, k, shape.parts())?, *c)?;
-    }
-    is_whole(&list);
+    list.add_by(&HorizontalStrip { alloc, cells: k }, terms)?;
     Ok(list)
 }
 
@@ -62,7 +45,8 @@ fn with_part(alloc: Global, parts: &[u16], part: u16) -> Result<Vec<u16>, NoMemo
     Ok(longer)
 }
 
-/// Adds the label of the chosen parts, with the number of ways to the empty shape, where there are any.
+/// Adds the label of the chosen parts, with the number of ways to the empty shape, if there
+/// are any.
 fn add_content(
     alloc: Global,
     terms: &Whole,
@@ -70,13 +54,14 @@ fn add_content(
     list: &mut Whole,
 ) -> Result<(), SumFault>
     requires limits { IsWithinLimits chosen.now }
-    requires fresh { HasNoneBehind chosen.now (numerators list.old) }
+    requires fresh { HasNoneBehind chosen.now list.old }
+    requires table { IsWholeTable list.old }
     ensures counted { (left : ℕ) → OnOk result
-        (CountsContents (numerators terms.now) chosen.now 0 left (numerators list.old) (numerators list.new)) }
+        (CountsContents terms.now chosen.now 0 left list.old list.new) }
+    ensures terms { OnOk result (IsWholeTable terms.now) }
+    ensures table { OnOk result (IsWholeTable list.new) }
     ensures small { ¬ IsErrOf result SumFault.Large }
 {
-    is_whole(terms);
-    is_whole(list);
     let nothing = Partition::from_valid_parts(alloc, &[])?;
     let ways = terms.coefficient(&nothing);
     if ways.is_zero() {
@@ -86,11 +71,11 @@ fn add_content(
     list.add_term(label, ways)
 }
 
-/// Adds each content that begins with the chosen parts and goes on with parts of at most `left` cells, none above the largest,
-/// with the number of ways to take the terms off with what goes on.
+/// Adds each content that begins with the chosen parts and goes on with parts of at most `left`
+/// cells, none above the largest, with the number of ways to take the terms off with what goes on.
 ///
-/// The terms are what is left when strips of the chosen parts are taken off the shapes of a list. So contents that begin alike
-/// share these steps, and none is made on whose way no shape is left.
+/// The terms are what is left when strips of the chosen parts are taken off the shapes of a list.
+/// So contents that begin alike share these steps, and none is made on whose way no shape is left.
 fn add_contents(
     alloc: Global,
     terms: &Whole,
@@ -99,13 +84,17 @@ fn add_contents(
     left: u16,
     list: &mut Whole,
 ) -> Result<(), SumFault>
-    requires limits { (rest : List ℕ) → IsContent largest left rest → IsWithinLimits (chosen.now ++ rest) }
+    requires limits { (rest : List ℕ) → IsContent largest left rest
+        → IsWithinLimits (chosen.now ++ rest) }
     requires low { left ≤ 512 }
-    requires fresh { HasNoneBehind chosen.now (numerators list.old) }
+    requires fresh { HasNoneBehind chosen.now list.old }
+    requires table { IsWholeTable list.old }
     ensures counted { OnOk result
-        (CountsContents (numerators terms.now) chosen.now largest left (numerators list.old) (numerators list.new)) }
+        (CountsContents terms.now chosen.now largest left list.old list.new) }
+    ensures terms { OnOk result (IsWholeTable terms.now) }
+    ensures table { OnOk result (IsWholeTable list.new) }
     ensures large { IsErrOf result SumFault.Large → (start : WholeTerms) (content : List ℕ)
-        → Leads start content (numerators terms.now) → HasManyWays start }
+        → Leads start content terms.now → HasManyWays start }
 {
     add_content(alloc, terms, chosen, list)?;
     for part in 1..largest.min(left) + 1 {
@@ -122,28 +111,31 @@ fn add_contents(
 /// s_λ: the Kostka number of each partition of its size.
 pub(crate) fn schur(alloc: Global, label: &Partition) -> Result<Whole, SumFault>
     requires { size label.now ≤ 512 }
-    ensures value { IfOk result (λ list. IsList (numerators list) (schur label.now)) }
+    ensures value { IfOk result (λ list. IsList list (schur label.now)) }
+    ensures table { IfOk result IsWholeTable }
     ensures large { IsErrOf result SumFault.Large → 2 ^ 127 ≤ growth monomials (size label.now) }
 {
     let terms = single(alloc, label.parts(), 1)?;
-    is_whole(&terms);
     let mut list = Lin::new(alloc);
     let cells = label.size();
     add_contents(alloc, &terms, &[], cells, cells, &mut list)?;
     Ok(list)
 }
 
-/// A list of terms in Schur polynomials, of which none has more cells than `cells`, as a list in m: of each partition of at most so
-/// many cells, the sum over the terms of the coefficient times the Kostka number (Macdonald, I.6).
+/// A list of terms in Schur polynomials, of which none has more cells than `cells`, as a list in m:
+/// of each partition of at most so many cells, the sum over the terms of the coefficient times the
+/// Kostka number (Macdonald, I.6).
 ///
-/// It is refused as `Large` only where, with the absolute values of the coefficients, such a sum is 2^127 or more.
+/// It is refused as `Large` only where, with the absolute values of the coefficients,
+/// such a sum is 2^127 or more.
 pub fn schurs_to_monomials(alloc: Global, terms: &Whole, cells: u16) -> Result<Whole, SumFault>
     requires within { AreWithin cells terms.now }
     requires low { cells ≤ 512 }
-    ensures value { IfOk result (λ list. IsList (numerators list) (λ n. combined (λ label. schur label n) (numerators terms.now))) }
-    ensures large { IsErrOf result SumFault.Large → HasManyWays (numerators terms.now) }
+    ensures value { IfOk result (λ list.
+        IsList list (λ n. combined (λ label. schur label n) terms.now)) }
+    ensures table { IfOk result IsWholeTable }
+    ensures large { IsErrOf result SumFault.Large → HasManyWays terms.now }
 {
-    is_whole(terms);
     let mut list = Lin::new(alloc);
     add_contents(alloc, terms, &[], cells, cells, &mut list)?;
     Ok(list)

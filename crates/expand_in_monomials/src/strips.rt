@@ -1,13 +1,16 @@
-//! Horizontal strips taken off a shape.
+//! Horizontal strips taken off a shape, and off the shapes of a list.
 ghost use Rattle.std.specs.Prelude.{◌≡◌, ◌≤◌, ◌++◌, map, IfOk, OnOk};
 ghost use Rattle.sym_model.specs.Partition.{IsPartition, part, without_last_zeros};
 ghost use Rattle.partitions.specs.Limits.{IsWithinLimits};
 ghost use Rattle.schur_laws.specs.Kostka.{strips_off};
 ghost use Rattle.expand_in_monomials.specs.Strips.{AreRows};
 
-use calc_base::NoMemory;
+use calc_base::{NoMemory, SumFault};
+use coeff_rings::Int;
+use linear_combinations::Rule;
 use partitions::Partition;
 use std::alloc::Global;
+use whole_lists::Whole;
 
 /// The length of the first row; 0 where there is none.
 fn first_row(rows: &[u16]) -> u16
@@ -16,8 +19,8 @@ fn first_row(rows: &[u16]) -> u16
     rows.first().copied().unwrap_or(0)
 }
 
-/// Adds to the list what is left of the rows when a horizontal strip of k cells is taken off, each below the rows of `above`,
-/// which stay as they are. The first row has so many cells.
+/// Adds to the list what is left of the rows when a horizontal strip of k cells is taken off, each
+/// below the rows of `above`, which stay as they are. The first row has so many cells.
 fn add_strips(
     alloc: Global,
     k: u16,
@@ -30,7 +33,8 @@ fn add_strips(
     requires few { k ≤ part rows.now 1 }
     ensures same { OnOk result (above.new.items ≡ above.old.items) }
     ensures shapes { OnOk result (shapes.new.items
-        ≡ shapes.old.items ++ map (λ rest. without_last_zeros (above.old.items ++ rest)) (strips_off k rows.now)) }
+        ≡ shapes.old.items ++ map (λ rest. without_last_zeros (above.old.items ++ rest))
+        (strips_off k rows.now)) }
 {
     let [row, below @ ..] = rows else {
         shapes.push(Partition::from_valid_numbers(alloc, above)?)?;
@@ -47,7 +51,7 @@ fn add_strips(
 }
 
 /// What is left of the shape when a horizontal strip of k cells is taken off, each once.
-pub(crate) fn strips_off(alloc: Global, k: u16, rows: &[u16]) -> Result<Vec<Partition>, NoMemory>
+fn strips_off(alloc: Global, k: u16, rows: &[u16]) -> Result<Vec<Partition>, NoMemory>
     requires { IsWithinLimits rows.now }
     ensures { IfOk result (λ shapes. shapes.items ≡ strips_off k rows.now) }
 {
@@ -58,4 +62,24 @@ pub(crate) fn strips_off(alloc: Global, k: u16, rows: &[u16]) -> Result<Vec<Part
     let mut above = Vec::with_capacity(alloc, rows.len())?;
     add_strips(alloc, k, rows, &mut above, &mut shapes)?;
     Ok(shapes)
+}
+
+/// A horizontal strip of so many cells taken off a shape, in all ways.
+#[derive(Drop)]
+pub(crate) struct HorizontalStrip {
+    pub(crate) alloc: Global,
+    pub(crate) cells: u16,
+}
+
+impl Rule<Partition, Partition> for HorizontalStrip {
+    ghost use Rattle.expand_in_monomials.specs.Strips.{strips};
+
+    ghost takes = { λ _ _. Unit {0} };
+
+    ghost image = { λ rule shape. strips rule.cells shape };
+
+    fn add_image(&self, shape: &Partition, c: Int, sum: &mut Whole) -> Result<(), SumFault> {
+        let left = strips_off(self.alloc, self.cells, shape.parts())?;
+        sum.add_each(&left, c)
+    }
 }

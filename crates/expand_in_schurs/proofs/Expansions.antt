@@ -6,7 +6,6 @@
 use Rattle.std.proofs.Common.{◌≡◌, ℕ, ◌/◌, ◌<◌, List, [], ◌∷◌, sym, ◌∙◌, ap, ap₂, refl, inl, inr, ℤ, pos, ◌+ℤ◌, ◌*ℤ◌}
 use Rattle.std.specs.Int.{◌∣◌}
 use Rattle.std.proofs.Math.Nat.{div-mul_cancel}
-use Rattle.coeff_rings.specs.Proved.Fractions.{product_cancel}
 use Rattle.sym_model.specs.Sum.{Among}
 use Rattle.sym_model.specs.Polynomial.{Poly, pair, scale, times}
 use Rattle.sym_model.specs.Schur.{schur}
@@ -15,10 +14,11 @@ use Rattle.sym_model.proofs.Ring.{ring, product_left_comm}
 use Rattle.sym_model.proofs.Polynomials.{pair_plus, pair_scale, pair_determined, same_from_pair, times_respects, Same_refl}
 use Rattle.sym_model.proofs.PolynomialLaws.{times-scale}
 use Rattle.monomial_laws.proofs.DividedTerms.{divides-denominators}
-use Rattle.sparse_polys.specs.MonomialProducts.{IsCommonDenominator}
 use Rattle.sparse_polys.proofs.Expansions.{common-denominators}
 use Rattle.whole_lists.specs.Tables.{IsTable}
 use Rattle.expand_in_schurs.specs.SchurLists.{sum_at}
+use Rattle.sparse_polys.specs.Products.{IsCommonDenominator}
+use Rattle.sym_model.proofs.Integers.{product_cancel}
 use lib.IntN.{*ℤ_comm, *ℤ-zero}
 
 pub pair_cleared : (q : ℕ) (terms : Terms (List ℕ)) (n : ℕ) (φ : List ℕ → ℤ) → pair (cleared (λ label. schur label n) q terms) φ ≡ sum_at q terms n φ

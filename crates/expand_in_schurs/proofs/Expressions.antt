@@ -1,5 +1,5 @@
 -- Lists that are the parts of an expression, and what comes of them.
-use Rattle.std.proofs.Common.{◌≡◌, ℕ, ◌*◌, ◌/◌, List, sym, ◌∙◌, ap, ap₂, subst, arith, ℤ, pos, ◌+ℤ◌, ◌*ℤ◌, neg_ℤ}
+use Rattle.std.proofs.Common.{◌≡◌, ℕ, ◌*◌, ◌/◌, List, [], ◌∷◌, length, sym, ◌∙◌, ap, ap₂, subst, arith, ℤ, pos, ◌+ℤ◌, ◌*ℤ◌, neg_ℤ}
 use Rattle.std.specs.Prelude.{nat_eq, negsuc}
 use Rattle.std.specs.Int.{◌∣◌}
 use Rattle.std.specs.Cmp.Lexicographic.{pointwise}
@@ -13,8 +13,10 @@ use Rattle.sym_model.proofs.Polynomials.{pair_plus, pair_scale, pair_negate}
 use Rattle.sym_model.proofs.PolynomialLaws.{times_comm}
 use Rattle.monomial_laws.specs.ExpressionTerms.{HasDenominators}
 use Rattle.monomial_laws.proofs.WeightBounds.{lcm-left, lcm-right, denominator-positive}
-use Rattle.sparse_polys.specs.MonomialProducts.{IsCommonDenominator}
 use Rattle.sparse_polys.proofs.Expansions.{common-denominators}
+use Rattle.sparse_polys.proofs.Coefficients.{product-zero}
+use Rattle.sparse_polys.proofs.Steps.{IsCombination-empty}
+use Rattle.sym_model.specs.LabelLimits.{is_label}
 use Rattle.sparse_polys.specs.Combination.{IsMultipleOf, IsSumOf}
 use Rattle.std.proofs.lemmas.Nat.Gcd.{dvd_trans}
 use Rattle.std.proofs.Math.Nat.{dvd-mul_left, dvd-mul_right}
@@ -24,6 +26,7 @@ use Rattle.expand_in_schurs.specs.SchurLists.{StandsFor, sum_at}
 use Rattle.expand_in_schurs.specs.TargetLaws.{expansion_respects}
 use Rattle.expand_in_schurs.proofs.Expansions.{expansion-tells, expansion-from}
 use Rattle.expand_in_schurs.proofs.Tables.{common-sum, sum_at-sum, common-multiple, sum_at-multiple}
+use Rattle.sparse_polys.specs.Products.{IsCommonDenominator}
 
 -- ---- negations
 
@@ -45,6 +48,13 @@ negation-list e list turned is it products h n =
   where
     minus : (z : ℤ) → negsuc 0 *ℤ z ≡ neg_ℤ z
     minus z = negation-product (pos 1) z ∙ ap neg_ℤ (one-product z)
+
+-- the list with no terms is its negation
+pub negation-nothing : (e : Tree) (list : Terms (List ℕ)) → length list ≡ 0 → StandsFor e list → StandsFor (negation e) list
+negation-nothing e [] none h =
+    let empty = IsCombination-empty (pointwise nat_eq) is_label in
+    negation-list e [] [] empty empty (λ ν. sym (product-zero (whole (negsuc 0)) (InLowestTerms-whole (negsuc 0)))) h
+negation-nothing e (t ∷ list) none h = absurd (omega arith)
 
 -- ---- sums
 

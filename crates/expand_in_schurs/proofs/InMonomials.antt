@@ -2,35 +2,29 @@
 --     common-next            a common denominator of one term more
 --     within-whole           the labels of the cleared list
 --     expansion-in_monomials what its list in m stands for, divided again
-use Rattle.std.proofs.Common.{◌≡◌, ◌⊎◌, ℕ, ◌<◌, ◌≤◌, List, [], ◌∷◌, ◌++◌, sym, ◌∙◌, ap, subst, inl, inr, arith, ℤ, pos, ◌*ℤ◌}
-use Rattle.std.specs.Prelude.{nat_abs}
+use Rattle.std.proofs.Common.{◌≡◌, ◌⊎◌, ℕ, ◌/◌, ◌<◌, ◌≤◌, List, [], ◌∷◌, ◌++◌, sym, ◌∙◌, ap, subst, inl, inr, arith, ℤ, pos, ◌*ℤ◌}
 use Rattle.std.specs.Int.{◌∣◌}
-use Rattle.std.proofs.lemmas.Bool.{and_parts}
 use Rattle.std.proofs.lemmas.Nat.Gcd.{dvd_trans}
 use Rattle.sym_model.specs.Sum.{Among}
-use Rattle.sym_model.specs.Canonical.{is_reduced}
-use Rattle.sym_model.specs.LabelLimits.{is_label}
 use Rattle.sym_model.specs.Partition.{size}
-use Rattle.sym_model.specs.Polynomial.{Poly, Same, coefficient, pair, scale}
+use Rattle.sym_model.specs.Polynomial.{Poly, Same, pair, scale}
 use Rattle.sym_model.specs.Schur.{schur}
 use Rattle.sym_model.specs.Expansion.{monomials, schurs, Fraction, Terms, denominators, value, IsExpansionOf}
 use Rattle.sym_model.specs.Expression.{lcm}
-use Rattle.sym_model.specs.WholeTerms.{WholeTerms, combined, numerators}
-use Rattle.sym_model.proofs.CanonicalLists.{each_term-among}
-use Rattle.sym_model.proofs.Orders.{is_reduced-tells}
+use Rattle.sym_model.specs.WholeTerms.{WholeTerms, combined}
 use Rattle.sym_model.proofs.Polynomials.{pair_scale, pair_determined, same_from_pair}
-use Rattle.sym_model.proofs.Sums.{Among_from_append}
+use Rattle.sym_model.proofs.Sums.{Among_from_append, Among_from_map}
 use Rattle.sym_model.proofs.WholeTerms.{pair-combined}
-use Rattle.sparse_polys.specs.MonomialProducts.{IsCommonDenominator}
 use Rattle.monomial_laws.specs.ExpressionTerms.{IsList, over}
-use Rattle.monomial_laws.proofs.DividedTerms.{labels_of, among_or_not, over-missing, expansion_divided}
+use Rattle.monomial_laws.proofs.DividedTerms.{expansion_divided}
 use Rattle.monomial_laws.proofs.WeightBounds.{lcm-left, lcm-right, lcm-positive}
 use Rattle.whole_lists.specs.LabelSizes.{AreWithin}
-use Rattle.whole_lists.specs.Tables.{IsTable}
+use Rattle.whole_lists.specs.Tables.{IsTable, IsWholeTable}
 use Rattle.whole_lists.proofs.Quotients.{Quotients, IsDivided-quotients}
-use Rattle.whole_lists.proofs.WholeLists.{coefficient-numerators, found-among}
+use Rattle.whole_lists.proofs.WholeLists.{labels-same}
 use Rattle.expand_in_schurs.specs.SchurLists.{sum_at}
 use Rattle.expand_in_schurs.proofs.Expansions.{expansion-tells, through}
+use Rattle.sparse_polys.specs.Products.{IsCommonDenominator}
 use native.Mathlib.Nat.{dvd-mul_left}
 
 -- ---- a common denominator
@@ -57,19 +51,12 @@ common-next q r done k c some e is = record {
 
 -- ---- the cleared list
 
-pub within-whole : (d q : ℕ) (list terms : Terms (List ℕ)) → IsTable terms → AreWithin d list → Same (numerators terms) (over q list) → AreWithin d terms
-within-whole d q list terms is within same t m = by (among_or_not t.0 list)
-  where
-    by : ((u : List ℕ × Fraction) × Among u list × (u.0 ≡ t.0)) ⊎ (Among t.0 (labels_of list) → ⊥) → size t.0 ≤ d
-    by (inl u) = subst (λ l. size l ≤ d) u.2 (within u.0 u.1)
-    by (inr none) =
-        absurd
-        (let tests = and_parts (is_reduced t.1) (is_label t.0) (each_term-among _ terms is.proper t m) in
-        let numerator : coefficient (numerators terms) t.0 ≡ t.1.0 =
-        coefficient-numerators terms is.distinct t.0 ∙ ap (λ (x : Fraction). x.0) (found-among terms is.distinct t m) in
-        let zero = ap nat_abs (sym numerator ∙ same t.0 ∙ over-missing q list t.0 none) in
-        let some = (is_reduced-tells t.1 tests.0).nonzero in
-        omega arith)
+pub within-whole : (d q : ℕ) (list : Terms (List ℕ)) (terms : WholeTerms) → IsWholeTable terms → AreWithin d list → Same terms (over q list) → AreWithin d terms
+within-whole d q list terms is within same =
+    labels-same (λ (label : List ℕ). size label ≤ d) terms (over q list) is same
+    (λ t m.
+    let u = Among_from_map (λ (v : List ℕ × Fraction). (v.0, v.1.0 *ℤ pos (q / v.1.1))) t list m in
+    subst (λ (v : List ℕ × ℤ). size v.0 ≤ d) (sym u.2) (within u.0 u.1))
 
 -- ---- what the list in m stands for
 

@@ -2,7 +2,9 @@
 use Rattle.std.proofs.Common.{◌≡◌, ℕ, ◌*◌, ◌<◌, List, [], ◌∷◌, ◌++◌, length, sym, ◌∙◌, ap, subst, refl, arith, ℤ, pos, ◌+ℤ◌, ◌*ℤ◌}
 use Rattle.std.proofs.lemmas.Int.{ints}
 use Rattle.std.proofs.lemmas.List.{map-append}
+use Rattle.std.specs.Prelude.{nat_eq}
 use Rattle.std.specs.Int.{◌∣◌}
+use Rattle.std.specs.Cmp.Lexicographic.{pointwise}
 use Rattle.coeff_rings.specs.Fractions.{InLowestTerms, scaled, whole, fraction_product}
 use Rattle.coeff_rings.specs.Proved.Fractions.{InLowestTerms-whole}
 use Rattle.coeff_rings.specs.Proved.Cleared.{product-cleared}
@@ -16,13 +18,15 @@ use Rattle.sym_model.proofs.PolynomialLaws.{times-scale, scale-times, one-times,
 use Rattle.sym_model.proofs.WholeTerms.{pair-combined, value_by-whole, denominators_of_whole}
 use Rattle.sparse_polys.specs.Combination.{terms_of}
 use Rattle.monomial_laws.specs.ExpressionTerms.{over}
-use Rattle.sparse_polys.proofs.Expansions.{common-denominators}
-use Rattle.whole_lists.specs.Tables.{IsTable}
+use Rattle.monomial_laws.proofs.DividedTerms.{divides-denominators}
+use Rattle.sym_model.specs.LabelLimits.{is_label}
+use Rattle.sparse_polys.proofs.Steps.{IsCombination-empty}
 use Rattle.expand_in_schurs.specs.SchurLists.{Adds, product_at, row_at, products_at}
 use Rattle.expand_in_schurs.proofs.Expansions.{pair_cleared, expansion-from}
 use Rattle.expand_in_schurs.proofs.Tables.{common_of}
 use Rattle.expand_in_schurs.proofs.OneTerms.{schur-nothing}
 use Rattle.monomial_laws.proofs.SchurMajorants.{In-schur}
+use Rattle.sparse_polys.specs.Products.{IsCommonDenominator}
 use lib.IntN.{+ℤ_idl, +ℤ_idr}
 use native.Mathlib.Nat.{mul-pos, dvd-mul_left}
 
@@ -90,14 +94,20 @@ both_scaled a b f g φ =
     ∙ pair_scale a (times f (scale b g)) φ
     ∙ ap (λ z. a *ℤ z) (pair_determined (times f (scale b g)) (scale b (times f g)) φ (times-scale b f g) ∙ pair_scale b (times f g) φ)
 
-pub product-list : (left right both : Terms (List ℕ)) → IsTable left → IsTable right → IsTable both
-    → Adds (denominators left * denominators right) [] (λ n φ. products_at (denominators left) left (denominators right) right n φ) both
+-- the product of the denominators of an expansion is a common one
+common_of_expansion : (terms : Terms (List ℕ)) (n : ℕ) (f : Poly) (q : ℕ) → IsExpansionOf schurs terms n f q → IsCommonDenominator (denominators terms) terms
+common_of_expansion terms n f q h = record { positive = h.positive; multiple = divides-denominators terms }
+
+pub product-list : (left right both : Terms (List ℕ))
+    → ((d e : ℕ) → IsCommonDenominator d left → IsCommonDenominator e right → Adds (d * e) [] (λ n φ. products_at d left e right n φ) both)
     → (n : ℕ) (f g : Poly) (p q : ℕ) → IsExpansionOf schurs left n f p → IsExpansionOf schurs right n g q → IsExpansionOf schurs both n (times f g) (p * q)
-product-list left right both is also it adds n f g p q h k =
+product-list left right both sums n f g p q h k =
     let D = denominators left in
     let E = denominators right in
-    let a = common-denominators left is in
-    let b = common-denominators right also in
+    let a = common_of_expansion left n f p h in
+    let b = common_of_expansion right n g q k in
+    let adds = sums (denominators left) (denominators right) a b in
+    let it = adds.table (IsCombination-empty (pointwise nat_eq) is_label) in
     let V = value schurs left n in
     let W = value schurs right n in
     expansion-from both n (times f g) (p * q) (denominators left * denominators right) it

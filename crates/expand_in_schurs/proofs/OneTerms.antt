@@ -20,7 +20,6 @@ use Rattle.sparse_polys.specs.Combination.{HasMoreAt}
 use Rattle.sparse_polys.proofs.Steps.{IsCombination-empty}
 use Rattle.sym_model.specs.LabelLimits.{is_label}
 use Rattle.monomial_laws.proofs.ExpressionTerms.{list-monomial}
-use Rattle.sparse_polys.proofs.Accumulating.{AreCleared-nothing}
 use Rattle.whole_lists.specs.LabelSizes.{AreWithin}
 use Rattle.whole_lists.proofs.Quotients.{Quotients, Quotients-none, Quotients-next}
 use Rattle.whole_lists.proofs.DividedLists.{expansion-quotients, bounded-quotients, within-quotients}
@@ -28,6 +27,7 @@ use Rattle.expand_in_schurs.specs.SchurLists.{IsOneTerm, StandsFor}
 use Rattle.expand_in_schurs.specs.TargetLaws.{expansion_respects}
 use Rattle.expand_in_schurs.proofs.Expansions.{expansion-from, expansion_rescaled}
 use Rattle.expand_in_schurs.proofs.Tables.{Adds-term, common_of}
+use Rattle.sparse_polys.proofs.ClearedSums.{AreCleared-nothing}
 use native.Mathlib.Nat.{dvd-mul_left}
 use lib.IntN.{+ℤ_idl}
 

@@ -22,12 +22,12 @@ use Rattle.sym_model.proofs.Exponents.{same_from, same_apart, same_or_not}
 use Rattle.sym_model.proofs.Polynomials.{coefficient_plus, coefficient_scale, pair_determined, pair_plus, pair_scale}
 use Rattle.sparse_polys.specs.Combination.{HasMoreAt, IsMultipleOf, IsSumOf}
 use Rattle.monomial_laws.specs.ExpressionTerms.{over}
-use Rattle.sparse_polys.specs.MonomialProducts.{coefficient_at, AreCleared, IsCommonDenominator}
 use Rattle.sparse_polys.proofs.Accumulating.{lowest_at}
 use Rattle.sparse_polys.proofs.Expansions.{coefficient-over, divides_terms}
 use Rattle.whole_lists.proofs.WholeLists.{equal_from, equal_apart}
 use Rattle.whole_lists.specs.Tables.{IsTable}
 use Rattle.expand_in_schurs.specs.SchurLists.{Adds, sum_at}
+use Rattle.sparse_polys.specs.Products.{IsCommonDenominator, coefficient_at, AreCleared}
 use native.Mathlib.Nat.{mul-pos, dvd-mul_left}
 use lib.IntN.{+ℤ_idr, *ℤ_comm}
 
@@ -80,6 +80,7 @@ more_at q old new label c is lc some cd cleared more ν = by (same_or_not label 
 pub Adds-term : (q : ℕ) (old new : Terms (List ℕ)) (label : List ℕ) (c : Fraction) → IsTable old → IsTable new → InLowestTerms c → 0 < q → c.1 ∣ q → AreCleared q old
     → HasMoreAt (pointwise nat_eq) old label c new → Adds q old (λ n φ. scaled q c *ℤ pair (schur label n) φ) new
 Adds-term q old new label c is also lc some cd cleared more = record {
+  table = λ was. also;
   cleared = λ ν. (more_at q old new label c is lc some cd cleared more ν).0;
   sums =
       λ n φ.
@@ -93,6 +94,7 @@ Adds-term q old new label c is also lc some cd cleared more = record {
 pub Adds-then : (q : ℕ) (first second third : Terms (List ℕ)) (a b s : ℕ → (List ℕ → ℤ) → ℤ) → ((n : ℕ) (φ : List ℕ → ℤ) → a n φ +ℤ b n φ ≡ s n φ)
     → Adds q first a second → Adds q second b third → Adds q first s third
 Adds-then q first second third a b s e x y = record {
+  table = λ is. y.table (x.table is);
   cleared = y.cleared;
   sums =
       λ n φ.
@@ -103,10 +105,10 @@ Adds-then q first second third a b s e x y = record {
 }
 
 pub Adds-none : (q : ℕ) (old : Terms (List ℕ)) (a : ℕ → (List ℕ → ℤ) → ℤ) → ((n : ℕ) (φ : List ℕ → ℤ) → a n φ ≡ pos 0) → AreCleared q old → Adds q old a old
-Adds-none q old a e cleared = record { cleared = cleared; sums = λ n φ. let i = e n φ in omega (arith, ints) }
+Adds-none q old a e cleared = record { table = λ is. is; cleared = cleared; sums = λ n φ. let i = e n φ in omega (arith, ints) }
 
 pub Adds-same : (q : ℕ) (old new : Terms (List ℕ)) (a b : ℕ → (List ℕ → ℤ) → ℤ) → ((n : ℕ) (φ : List ℕ → ℤ) → a n φ ≡ b n φ) → Adds q old a new → Adds q old b new
-Adds-same q old new a b e x = record { cleared = x.cleared; sums = λ n φ. x.sums n φ ∙ ap (λ z. sum_at q old n φ +ℤ z) (e n φ) }
+Adds-same q old new a b e x = record { table = x.table; cleared = x.cleared; sums = λ n φ. x.sums n φ ∙ ap (λ z. sum_at q old n φ +ℤ z) (e n φ) }
 
 -- ---- sums and multiples
 

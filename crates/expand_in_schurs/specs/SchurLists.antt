@@ -1,5 +1,5 @@
--- Lists of terms in Schur polynomials: which expression they are, and what they come to as products are added
--- (this project's own).
+-- Lists of terms in Schur polynomials: which expression they are, and what they come to as products
+-- are added (this project's own).
 use Rattle.std.specs.Prelude.{◌≡◌, ℕ, nat_eq, ℤ, ◌+ℤ◌, List, []}
 use Rattle.std.specs.Cmp.Lexicographic.{pointwise}
 use Rattle.sym_model.specs.Polynomial.{pair, times}
@@ -8,8 +8,8 @@ use Rattle.sym_model.specs.Expansion.{schurs, Fraction, Terms, IsExpansionOf}
 use Rattle.sym_model.specs.Expression.{Tree, cleared_value, denominator}
 use Rattle.sparse_polys.specs.Combination.{HasMoreAt}
 use Rattle.monomial_laws.specs.ExpressionTerms.{over}
-use Rattle.sparse_polys.specs.MonomialProducts.{AreCleared}
 use Rattle.whole_lists.specs.Tables.{IsTable}
+use Rattle.sparse_polys.specs.Products.{AreCleared}
 
 -- the list is the expression, in every number of variables
 abbrev pub StandsFor : Tree → Terms (List ℕ) → Type 0
@@ -19,7 +19,8 @@ StandsFor e terms = (n : ℕ) → IsExpansionOf schurs terms n (cleared_value e 
 abbrev pub IsOneTerm : List ℕ → Fraction → Terms (List ℕ) → Type 0
 IsOneTerm label c terms = IsTable terms × HasMoreAt (pointwise nat_eq) [] label c terms
 
--- the list in n variables times q, as a sum over its terms, by what a test function of the exponents comes to
+-- the list in n variables times q, as a sum over its terms,
+-- by what a test function of the exponents comes to
 abbrev pub sum_at : ℕ → Terms (List ℕ) → ℕ → (List ℕ → ℤ) → ℤ
 sum_at q terms n φ = pair (over q terms) (λ label. pair (schur label n) φ)
 
@@ -35,7 +36,10 @@ row_at left e right n φ = pair (over e right) (λ label. product_at left label 
 abbrev pub products_at : ℕ → Terms (List ℕ) → ℕ → Terms (List ℕ) → ℕ → (List ℕ → ℤ) → ℤ
 products_at d left e right n φ = pair (over d left) (λ label. row_at label e right n φ)
 
--- q is a multiple of all denominators of the new list, and the new list times q is the old one times q and what is added
-pub record Adds (q : ℕ) (old : Terms (List ℕ)) (added : ℕ → (List ℕ → ℤ) → ℤ) (new : Terms (List ℕ)) : Type 0 where
+-- the new list is a table where the old one is, q is a multiple of all its denominators, and times
+-- q it is the old one times q and what is added
+pub record Adds (q : ℕ) (old : Terms (List ℕ)) (added : ℕ → (List ℕ → ℤ) → ℤ)
+    (new : Terms (List ℕ)) : Type 0 where
+  pub table : IsTable old → IsTable new
   pub cleared : AreCleared q new
   pub sums : (n : ℕ) (φ : List ℕ → ℤ) → sum_at q new n φ ≡ sum_at q old n φ +ℤ added n φ

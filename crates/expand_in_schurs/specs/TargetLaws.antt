@@ -10,17 +10,21 @@ use Rattle.expand_in_schurs.specs.declared.operand.Operand.TheVariants.{Atom, Ex
 use Rattle.expand_in_schurs.specs.Operands.{IsOperand}
 
 -- an expansion is one of any polynomial that is the same
-pub expansion_respects : (terms : Terms (List ℕ)) (n : ℕ) (f g : Poly) (d : ℕ) → Same f g → IsExpansionOf schurs terms n f d → IsExpansionOf schurs terms n g d
+pub expansion_respects : (terms : Terms (List ℕ)) (n : ℕ) (f g : Poly) (d : ℕ) → Same f g
+    → IsExpansionOf schurs terms n f d → IsExpansionOf schurs terms n g d
 expansion_respects terms n f g d e h = record {
   positive = h.positive;
   equal =
-      Same_trans (scale (pos d) (value schurs terms n)) (scale (pos (denominators terms)) f) (scale (pos (denominators terms)) g)
+      Same_trans (scale (pos d) (value schurs terms n)) (scale (pos (denominators terms)) f)
+      (scale (pos (denominators terms)) g)
       h.equal (scale_respects (pos (denominators terms)) f g e);
 }
 
 -- the sum with the negation is the difference
-pub operand-difference : (e f : Tree) (v : Operand) → IsOperand (sum e (negation f)) v → IsOperand (difference e f) v
+pub operand-difference : (e f : Tree) (v : Operand) → IsOperand (sum e (negation f)) v
+    → IsOperand (difference e f) v
 operand-difference e f (Atom basis label) h = cc
 operand-difference e f (Expanded list) h =
-    λ n. expansion_respects list n (cleared_value (sum e (negation f)) n) (cleared_value (difference e f) n) (denominator (difference e f))
+    λ n. expansion_respects list n (cleared_value (sum e (negation f)) n)
+    (cleared_value (difference e f) n) (denominator (difference e f))
     (difference-value e f n) (h n)

@@ -67,7 +67,8 @@ fn from_parts(
     label: &Partition,
 ) -> Result<Lin<Partition, Frac>, SumFault>
     requires { size label.now ≤ 20 }
-    ensures { IfOk result (λ list. (n : ℕ) → IsExpansionOf schurs list n (product_over (polynomial_of family) label.now n) 1) }
+    ensures { IfOk result (λ list. (n : ℕ)
+        → IsExpansionOf schurs list n (product_over (polynomial_of family) label.now n) 1) }
 {
     let one = single(alloc, &[], Frac::one())?;
     times_parts(alloc, family, one, label.parts())
@@ -80,7 +81,8 @@ pub(crate) fn atom(
     label: &Partition,
 ) -> Result<Lin<Partition, Frac>, SumFault>
     requires { size label.now ≤ 20 }
-    ensures { IfOk result (λ list. (n : ℕ) → IsExpansionOf schurs list n (basis_polynomial (basis_of basis) label.now n) 1) }
+    ensures { IfOk result (λ list. (n : ℕ)
+        → IsExpansionOf schurs list n (basis_polynomial (basis_of basis) label.now n) 1) }
 {
     match basis {
         Basis::M => from_monomial(alloc, label),

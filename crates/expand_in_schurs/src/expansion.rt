@@ -20,8 +20,10 @@ use std::alloc::Global;
 /// It is refused as `Large` only where the weight for the target s is 2^127 or more.
 pub fn to_schur(alloc: Global, formula: &Formula) -> Result<Lin<Partition, Frac>, SumFault>
     ensures value { let e = tree_of formula.now.tree in
-        IfOk result (λ list. (n : ℕ) → IsExpansionOf schurs list n (cleared_value e n) (denominator e)) }
-    ensures large { IsErrOf result SumFault.Large → 2 ^ 127 ≤ weight schurs (tree_of formula.now.tree) }
+        IfOk result (λ list. (n : ℕ)
+        → IsExpansionOf schurs list n (cleared_value e n) (denominator e)) }
+    ensures large { IsErrOf result SumFault.Large
+        → 2 ^ 127 ≤ weight schurs (tree_of formula.now.tree) }
 {
     match converted(alloc, formula.tree()) {
         Ok(list) => Ok(list),
@@ -33,8 +35,10 @@ pub fn to_schur(alloc: Global, formula: &Formula) -> Result<Lin<Partition, Frac>
 /// The same by the expansion in m.
 fn through_monomials(alloc: Global, formula: &Formula) -> Result<Lin<Partition, Frac>, SumFault>
     ensures value { let e = tree_of formula.now.tree in
-        IfOk result (λ list. (n : ℕ) → IsExpansionOf schurs list n (cleared_value e n) (denominator e)) }
-    ensures large { IsErrOf result SumFault.Large → 2 ^ 127 ≤ weight schurs (tree_of formula.now.tree) }
+        IfOk result (λ list. (n : ℕ)
+        → IsExpansionOf schurs list n (cleared_value e n) (denominator e)) }
+    ensures large { IsErrOf result SumFault.Large
+        → 2 ^ 127 ≤ weight schurs (tree_of formula.now.tree) }
 {
     formula.tree();
     let list = to_monomial(alloc, formula)?;

@@ -4,8 +4,8 @@ ghost use Rattle.sym_model.specs.Expansion.{monomials, schurs, IsExpansionOf};
 ghost use Rattle.sym_model.specs.Expression.{cleared_value, denominator};
 ghost use Rattle.sym_model.specs.Polynomial.{Poly};
 ghost use Rattle.sym_model.specs.Weight.{weight};
-ghost use Rattle.sparse_polys.specs.MonomialProducts.{IsCommonDenominator};
 ghost use Rattle.expression_reading.specs.Trees.{tree_of};
+ghost use Rattle.sparse_polys.specs.Products.{IsCommonDenominator};
 
 use crate::operations::converted;
 use calc_base::{Basis, NoMemory, SumFault};
@@ -17,7 +17,7 @@ use expression_reading::{Expr, Formula};
 use partitions::Partition;
 use sparse_polys::Lin;
 use std::alloc::Global;
-use whole_lists::{divided, is_whole};
+use whole_lists::divided;
 use whole_numbers::common_denominator;
 
 /// The most cells of a label that goes into m.
@@ -37,8 +37,9 @@ fn denominator_of_all(list: &Lin<Partition, Frac>) -> Option<u128>
     Some(den)
 }
 
-/// The list, read as an expansion in s, as an expansion in m: its fractions are cleared first, and each coefficient is divided at the
-/// end. It is refused as `Large` where a number on the way is: the caller then goes another way.
+/// The list, read as an expansion in s, as an expansion in m: its fractions are cleared first, and
+/// each coefficient is divided at the end. It is refused as `Large` where a number on the way is:
+/// the caller then goes another way.
 fn in_monomials(
     alloc: Global,
     list: &Lin<Partition, Frac>,
@@ -54,22 +55,23 @@ fn in_monomials(
         return Err(SumFault::Large);
     };
     let terms = whole_terms(alloc, list, den)?;
-    is_whole(&terms);
     let answer = schurs_to_monomials(alloc, &terms, cells)?;
     divided(alloc, &answer, den)
 }
 
-/// The expansion by way of Schur polynomials. It is refused as `Large` where a number on the way is.
+/// The expansion by way of Schur polynomials. It is refused as `Large` where a number on the way
+/// is.
 fn by_schurs(alloc: Global, formula: &Formula) -> Result<Lin<Partition, Frac>, SumFault>
     ensures { let e = tree_of formula.now.tree in
-        IfOk result (λ list. (n : ℕ) → IsExpansionOf monomials list n (cleared_value e n) (denominator e)) }
+        IfOk result (λ list. (n : ℕ)
+        → IsExpansionOf monomials list n (cleared_value e n) (denominator e)) }
 {
     let list = converted(alloc, formula.tree())?;
     in_monomials(alloc, &list)
 }
 
-/// Whether each atom is in e, h or s, and not all in e. Then the way by Schur polynomials is the faster one; either way gives the
-/// same expansion.
+/// Whether each atom is in e, h or s, and not all in e. Then the way by Schur polynomials is the
+/// faster one; either way gives the same expansion.
 fn goes_by_schurs(alloc: Global, tree: &Expr) -> Result<bool, NoMemory> {
     let mut found = false;
     for node in postorder(alloc, tree)? {
@@ -83,7 +85,8 @@ fn goes_by_schurs(alloc: Global, tree: &Expr) -> Result<bool, NoMemory> {
     Ok(found)
 }
 
-/// The expansion of a formula in m, in every number of variables: by way of Schur polynomials where that is faster, and else by
+/// The expansion of a formula in m, in every number of variables: by way of Schur polynomials where
+/// that is faster, and else by
 /// `to_monomial`.
 ///
 /// It is refused as `Large` only where the weight for the target m is 2^127 or more.
@@ -92,8 +95,10 @@ pub fn to_monomial_by_schurs(
     formula: &Formula,
 ) -> Result<Lin<Partition, Frac>, SumFault>
     ensures value { let e = tree_of formula.now.tree in
-        IfOk result (λ list. (n : ℕ) → IsExpansionOf monomials list n (cleared_value e n) (denominator e)) }
-    ensures large { IsErrOf result SumFault.Large → 2 ^ 127 ≤ weight monomials (tree_of formula.now.tree) }
+        IfOk result (λ list. (n : ℕ)
+        → IsExpansionOf monomials list n (cleared_value e n) (denominator e)) }
+    ensures large { IsErrOf result SumFault.Large
+        → 2 ^ 127 ≤ weight monomials (tree_of formula.now.tree) }
 {
     if !goes_by_schurs(alloc, formula.tree())? {
         return to_monomial(alloc, formula);

@@ -4,7 +4,8 @@ use coeff_rings::Frac;
 use partitions::Partition;
 use sparse_polys::Lin;
 
-/// The value of a part: an atom waits as it stands, since a product with one in e, h or p needs no list of it.
+/// The value of a part: an atom waits as it stands, since a product with one in e,
+/// h or p needs no list of it.
 #[derive(Drop)]
 pub(crate) enum Operand {
     Atom { basis: Basis, label: Partition },

@@ -1,7 +1,11 @@
-//! The target s: numbers, atoms, negations, sums and products as lists of terms in Schur polynomials.
-ghost use Rattle.std.specs.Prelude.{ℕ, ◌≤◌, IsTrue, IfOk};
+//! The target s: numbers, atoms, negations, sums and products as lists of terms in Schur
+//! polynomials.
+ghost use Rattle.std.specs.Prelude.{ℕ, ◌≤◌, nat_eq, IsTrue, IfOk};
+ghost use Rattle.std.specs.Cmp.Lexicographic.{pointwise};
 ghost use Rattle.sym_model.specs.Expression.{Tree, degree, product};
 ghost use Rattle.expression_reading.specs.Trees.{tree_of, has_no_signs};
+ghost use Rattle.sparse_polys.specs.Combination.{IsSumOf};
+ghost use Rattle.whole_lists.specs.Tables.{IsTable};
 ghost use Rattle.expand_in_schurs.specs.SchurLists.{StandsFor};
 ghost use Rattle.expand_in_schurs.specs.Operands.{IsOperand, MayBeLarge};
 ghost use Rattle.expand_in_schurs.specs.TargetLaws.{operand-difference};
@@ -11,7 +15,6 @@ use crate::operand::Operand;
 use crate::products::product;
 use crate::strips::{factors_of, times_parts};
 use calc_base::{Basis, SumFault};
-use change_from_monomials::is_table;
 use coeff_rings::{Frac, Ring};
 use expression_evaluation::{Target, evaluate};
 use expression_reading::Expr;
@@ -44,7 +47,9 @@ impl Target for Schurs {
 
     fn negated(&self, alloc: Global, inner: Operand) -> Result<Operand, SumFault> {
         let terms = list_of(alloc, inner)?;
-        is_table(&terms);
+        if terms.len() == 0 {
+            return Ok(Operand::Expanded { list: terms });
+        }
         let list = terms.scale(Frac::from_whole(-1))?;
         Ok(Operand::Expanded { list })
     }
@@ -52,9 +57,7 @@ impl Target for Schurs {
     fn added(&self, alloc: Global, left: Operand, right: Operand) -> Result<Operand, SumFault> {
         let first = list_of(alloc, left)?;
         let second = list_of(alloc, right)?;
-        is_table(&first);
-        is_table(&second);
-        let list = first.add_all(&second)?;
+        let list = sum_of(first, second)?;
         Ok(Operand::Expanded { list })
     }
 
@@ -84,7 +87,23 @@ fn list_of(alloc: Global, operand: Operand) -> Result<Lin<Partition, Frac>, SumF
     }
 }
 
-/// The product of two operands. Where one is in e, h or p, the other is multiplied by it part by part.
+/// The sum of two lists. The shorter one is added to the longer one.
+fn sum_of(
+    first: Lin<Partition, Frac>,
+    second: Lin<Partition, Frac>,
+) -> Result<Lin<Partition, Frac>, SumFault>
+    ensures tables { IsTable first × IsTable second }
+    ensures sum { IfOk result (IsSumOf (pointwise nat_eq) first second) }
+    ensures table { IfOk result IsTable }
+{
+    if first.len() < second.len() {
+        return second.add_all(&first);
+    }
+    first.add_all(&second)
+}
+
+/// The product of two operands. Where one is in e, h or p,
+/// the other is multiplied by it part by part.
 fn product_of(
     alloc: Global,
     left: Operand,
@@ -92,7 +111,8 @@ fn product_of(
 ) -> Result<Lin<Partition, Frac>, SumFault>
     requires left { (e : Tree) × IsOperand e left × (degree e ≤ 20) }
     requires right { (e : Tree) × IsOperand e right × (degree e ≤ 20) }
-    ensures { (e f : Tree) → IsOperand e left → IsOperand f right → IfOk result (StandsFor (product e f)) }
+    ensures { (e f : Tree) → IsOperand e left → IsOperand f right
+        → IfOk result (StandsFor (product e f)) }
 {
     if let Some((family, label)) = factors_of(&right) {
         return times_parts(alloc, family, list_of(alloc, left)?, label.parts());
@@ -105,7 +125,8 @@ fn product_of(
     product(alloc, &first, &second)
 }
 
-/// The expression in Schur polynomials. It is refused as `Large` where a number on the way is: the caller then goes another way.
+/// The expression in Schur polynomials. It is refused as `Large` where a number on the way is: the
+/// caller then goes another way.
 pub(crate) fn converted(alloc: Global, tree: &Expr) -> Result<Lin<Partition, Frac>, SumFault>
     requires plain { IsTrue (has_no_signs tree.now) }
     requires low { degree (tree_of tree.now) ≤ 20 }

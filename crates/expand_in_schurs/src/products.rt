@@ -6,11 +6,10 @@ ghost use Rattle.sym_model.specs.Partition.{rows, size};
 ghost use Rattle.sym_model.specs.Polynomial.{Poly, pair, times};
 ghost use Rattle.sym_model.specs.Schur.{schur};
 ghost use Rattle.coeff_rings.specs.Fractions.{scaled};
-ghost use Rattle.sparse_polys.specs.MonomialProducts.{AreCleared, IsCommonDenominator};
 ghost use Rattle.expand_in_schurs.specs.SchurLists.{Adds, product_at, row_at};
+ghost use Rattle.sparse_polys.specs.Products.{IsCommonDenominator, AreCleared};
 
 use calc_base::SumFault;
-use change_from_monomials::is_table;
 use coeff_rings::{Frac, Ring, Scalar};
 use lr_product::mult;
 use partitions::Partition;
@@ -22,10 +21,11 @@ const MAX_CELLS: u16 = 4096;
 
 const MAX_ROWS: u16 = 512;
 
-/// Whether two labels can be multiplied: exactly where their product is within the limits. Those of an expression's parts
-/// always can.
+/// Whether two labels can be multiplied: exactly where their product is within the limits. Those of
+/// an expression's parts always can.
 fn can_multiply(left: &Partition, right: &Partition) -> bool
-    ensures { IsTrue result ↔ ((size left.now + size right.now ≤ 4096) × (rows left.now + rows right.now ≤ 512)) }
+    ensures { IsTrue result ↔ ((size left.now + size right.now ≤ 4096)
+        × (rows left.now + rows right.now ≤ 512)) }
 {
     left.size() + right.size() <= MAX_CELLS && left.rows() + right.rows() <= MAX_ROWS
 }
@@ -39,7 +39,8 @@ fn add_multiple(label: &Partition, c: Frac, sum: &mut Lin<Partition, Frac>) -> R
     sum.add_term(label.copy()?, c)
 }
 
-/// Adds a number times the product of two Schur polynomials, by the Littlewood-Richardson rule. That of the empty partition is 1.
+/// Adds a number times the product of two Schur polynomials, by the Littlewood-Richardson rule.
+/// That of the empty partition is 1.
 fn add_pair(
     alloc: Global,
     left: &Partition,
@@ -77,7 +78,8 @@ fn add_products(
     right: &Lin<Partition, Frac>,
     sum: &mut Lin<Partition, Frac>,
 ) -> Result<(), SumFault>
-    ensures { OnOk result ((d e : ℕ) → 0 < d → c.1 ∣ d → IsCommonDenominator e right.now → AreCleared (d * e) sum.old
+    ensures { OnOk result ((d e : ℕ) → 0 < d → c.1 ∣ d → IsCommonDenominator e right.now
+        → AreCleared (d * e) sum.old
         → Adds (d * e) sum.old (λ n φ. scaled d c *ℤ row_at left.now e right.now n φ) sum.new) }
 {
     for (other, factor) in right.iter() {
@@ -95,15 +97,13 @@ pub(crate) fn product(
     left: &Lin<Partition, Frac>,
     right: &Lin<Partition, Frac>,
 ) -> Result<Lin<Partition, Frac>, SumFault>
-    ensures { IfOk result (λ list. (n : ℕ) (f g : Poly) (p q : ℕ) → IsExpansionOf schurs left.now n f p
+    ensures { IfOk result (λ list. (n : ℕ) (f g : Poly) (p q : ℕ)
+        → IsExpansionOf schurs left.now n f p
         → IsExpansionOf schurs right.now n g q → IsExpansionOf schurs list n (times f g) (p * q)) }
 {
     let mut sum = Lin::new(alloc);
     for (label, c) in left.iter() {
         add_products(alloc, label, *c, right, &mut sum)?;
     }
-    is_table(left);
-    is_table(right);
-    is_table(&sum);
     Ok(sum)
 }

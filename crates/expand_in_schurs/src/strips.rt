@@ -1,4 +1,5 @@
-//! Lists of terms in Schur polynomials times e_k, h_k and p_k, by the strips and the rim hooks of k cells.
+//! Lists of terms in Schur polynomials times e_k, h_k and p_k,
+//! by the strips and the rim hooks of k cells.
 ghost use Rattle.std.specs.Prelude.{◌≡◌, ◌↔◌, ◌+◌, ◌<◌, ◌≤◌, ℕ, List, IsTrue, IfOk, IfSome};
 ghost use Rattle.sym_model.specs.Bases.{product_over};
 ghost use Rattle.sym_model.specs.Expansion.{schurs, IsExpansionOf};
@@ -16,7 +17,7 @@ use coeff_rings::Frac;
 use partitions::Partition;
 use sparse_polys::Lin;
 use std::alloc::Global;
-use strip_rules::{add_column, add_hook, add_row};
+use strip_rules::times_family;
 use whole_lists::Family;
 
 /// The most cells, and the most rows, of a label.
@@ -55,16 +56,14 @@ fn times_part(
     requires positive { 0 < k }
     requires low { k ≤ 512 }
     ensures { IfOk result (λ product. (n : ℕ) (f : Poly) (q : ℕ)
-        → IsExpansionOf schurs list n f q → IsExpansionOf schurs product n (times (polynomial_of family k n) f) q) }
+        → IsExpansionOf schurs list n f q
+        → IsExpansionOf schurs product n (times (polynomial_of family k n) f) q) }
 {
     if !has_room(&list, k) {
         return Err(SumFault::Large);
     }
-    match family {
-        Family::Elementary => add_column(alloc, list, k),
-        Family::Complete => add_row(alloc, list, k),
-        Family::PowerSum => add_hook(alloc, list, k),
-    }
+    let product = times_family(alloc, list.as_table(), family, k)?;
+    Ok(Lin::from_table(product))
 }
 
 /// The list times e_k, h_k or p_k for each of the parts k.
@@ -77,7 +76,9 @@ pub(crate) fn times_parts(
     requires positive { ArePositive parts.now }
     requires low { size parts.now ≤ 512 }
     ensures { IfOk result (λ product. (n : ℕ) (f : Poly) (q : ℕ) → In n f
-        → IsExpansionOf schurs list n f q → IsExpansionOf schurs product n (times (product_over (polynomial_of family) parts.now n) f) q) }
+        → IsExpansionOf schurs list n f q
+        → IsExpansionOf schurs product n
+        (times (product_over (polynomial_of family) parts.now n) f) q) }
 {
     let [k, rest @ ..] = parts else {
         return Ok(list);

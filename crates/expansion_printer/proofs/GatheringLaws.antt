@@ -44,7 +44,7 @@ HasPut-ends : {start sink new : SinkSeen} {text : List ℕ} {old : Waiting} {now
     → Puts true start now new text
 HasPut-ends h goes = Puts-as h.joined (Puts-then h.goes (Puts-else h.waits goes))
 
--- a piece is kept behind the bytes that wait
+-- a piece is kept after the bytes that wait
 pub Gathers-kept : {old new : Waiting} (sink : SinkSeen)
     {piece : List ℕ} → new ≡ record { bytes = old.bytes ++ piece; well = old.well } → Gathers old sink new sink piece
 Gathers-kept {old = old} {new = new} sink {piece = piece} kept = record {

@@ -1,12 +1,11 @@
 -- The letter that a column reading puts into a cell.
-use Rattle.std.proofs.Common.{zero-add, ◌≡◌, ◌≢◌, ℕ, zero, suc, ◌+◌, ◌-◌, ◌≤◌, ◌<◌, inl, inr, ◌⊎◌, max, length, arith, Bool, true, false, ◌&&◌, List, [], ◌∷◌, ◌++◌, refl, sym, ◌∙◌, ap, ap₂, map, drop, cond, ◌==◌, nat_lt, nat_le, reverse}
+use Rattle.std.proofs.Common.{zero-add, ◌≡◌, ◌≢◌, ℕ, zero, suc, ◌+◌, ◌-◌, ◌≤◌, ◌<◌, inl, inr, ◌⊎◌, max, length, arith, Bool, true, false, ◌&&◌, List, [], ◌∷◌, ◌++◌, refl, sym, ◌∙◌, ap, ap₂, map, drop, cond, ◌==◌, nat_lt, nat_le, reverse, filter, flat_map}
 use Rattle.std.specs.Prelude.{slice_index}
 use Rattle.std.proofs.lemmas.Bool.{eq-eqb, ne_eqb, cases_eq, cond-true, cond-false, lt-ltb, le-leb, and_from, and_right}
 use Rattle.std.proofs.lemmas.Bool.Decides.{nat_tests}
 use Rattle.std.proofs.lemmas.List.{reverse-append, length-map, get_or-drop}
 use Rattle.std.specs.List.{sum_by, count_by}
 use Rattle.std.proofs.lemmas.List.Sums.{sum_by-cons, sum_by-append, sum_by-le-sum_by}
-use Rattle.sym_model.specs.Sum.{each, select}
 use Rattle.sym_model.specs.Partition.{after, part, rows, columns, IsCell, Falls}
 use Rattle.sym_model.specs.TableauList.{column_cells, reading_cells, letter_of_cell}
 use Rattle.sym_model.proofs.Numbers.{nat_lt-false}
@@ -46,18 +45,18 @@ sum_by-ext f h [] same = refl
 sum_by-ext f h (x ∷ xs) same =
     sum_by-cons f x xs ∙ (ap₂ ◌+◌ (same x) (sum_by-ext f h xs same) ∙ sym (sum_by-cons h x xs))
 
-length-select : {A : Type 0} (test : A → Bool) (xs : List A) → length (select test xs) ≡ count_by test xs
+length-select : {A : Type 0} (test : A → Bool) (xs : List A) → length (filter test xs) ≡ count_by test xs
 length-select test [] = refl
 length-select {A} test (x ∷ xs) = by (test x) (length-select test xs) ∙ sym (sum_by-cons (λ (y : A). cond (test y) 1 0) x xs)
   where
-    by : (b : Bool) → length (select test xs) ≡ count_by test xs
-        → length (cond b (x ∷ select test xs) (select test xs)) ≡ cond b 1 0 + count_by test xs
+    by : (b : Bool) → length (filter test xs) ≡ count_by test xs
+        → length (cond b (x ∷ filter test xs) (filter test xs)) ≡ cond b 1 0 + count_by test xs
     by true e = omega arith
     by false e = omega arith
 
 -- ---- cells in a list
 
--- the cells are none of the column
+-- no cell is in the column
 abbrev NotIn : ℕ → List (ℕ × ℕ) → Type 0
 NotIn column [] = Unit {0}
 NotIn column (c ∷ cells) = (c.1 ≢ column) × NotIn column cells
@@ -66,7 +65,7 @@ letter-nothing : (row column : ℕ) (cells : List (ℕ × ℕ)) → letter_of_ce
 letter-nothing row column [] = refl
 letter-nothing row column (c ∷ cells) = refl
 
--- cells of other columns are passed over
+-- cells of other columns are skipped
 letter-past : (row column : ℕ) (cells others : List (ℕ × ℕ)) (w : List ℕ) → NotIn column cells
     → letter_of_cell row column (cells ++ others) w ≡ letter_of_cell row column others (drop (length cells) w)
 letter-past row column [] others w n = refl
@@ -97,21 +96,21 @@ rows_above-past row test a (suc m) far =
     ∙ ap (λ b. cond (b && test (a + 1)) 1 0 + rows_above row test (after (a + 1) m)) (nat_lt-false (a + 1) row far)
     ∙ zero-add (rows_above row test (after (a + 1) m)) ∙ rows_above-past row test (a + 1) m (omega arith)
 
--- the cells of a column in the rows that pass a test, and others behind them
+-- the cells of a column in the rows that pass a test, and others after them
 abbrev cells_then : ℕ → List ℕ → List (ℕ × ℕ) → List (ℕ × ℕ)
 cells_then column is others = map (λ (i : ℕ). (i, column)) is ++ others
 
 -- the letter of a cell of a column, whose rows above it pass the test
 in-column : (row column : ℕ) (test : ℕ → Bool) (others : List (ℕ × ℕ)) (a m : ℕ) → a < row → row ≤ a + m → test row ≡ true → (w : List ℕ)
-    → letter_of_cell row column (cells_then column (select test (after a m)) others) w ≡ slice_index w (rows_above row test (after a m))
+    → letter_of_cell row column (cells_then column (filter test (after a m)) others) w ≡ slice_index w (rows_above row test (after a m))
 in-column row column test others a zero high low h w = absurd (omega arith)
 in-column row column test others a (suc m) high low h w =
     by (test (a + 1)) (cases_eq (a + 1) row) refl w (λ far. in-column row column test others (a + 1) m far (omega arith) h)
     ∙ ap (slice_index w) (sym (rows_above-cons row test (a + 1) (after (a + 1) m)))
   where
     by : (b : Bool) → ((a + 1) ≡ row) ⊎ ((a + 1) ≢ row) → test (a + 1) ≡ b → (w : List ℕ)
-        → (a + 1 < row → (v : List ℕ) → letter_of_cell row column (cells_then column (select test (after (a + 1) m)) others) v ≡ slice_index v (rows_above row test (after (a + 1) m)))
-        → letter_of_cell row column (cells_then column (cond b ((a + 1) ∷ select test (after (a + 1) m)) (select test (after (a + 1) m))) others) w
+        → (a + 1 < row → (v : List ℕ) → letter_of_cell row column (cells_then column (filter test (after (a + 1) m)) others) v ≡ slice_index v (rows_above row test (after (a + 1) m)))
+        → letter_of_cell row column (cells_then column (cond b ((a + 1) ∷ filter test (after (a + 1) m)) (filter test (after (a + 1) m))) others) w
         ≡ slice_index w (cond (nat_lt (a + 1) row && b) 1 0 + rows_above row test (after (a + 1) m))
     by false (inl e) t w ih = let clash : true ≡ false = sym h ∙ ap test (sym e) ∙ t in cc
     by false (inr n) t w ih =
@@ -161,25 +160,25 @@ module _ (outer inner : List ℕ) (row column : ℕ) (cell : IsCell outer inner 
       omega arith
 
   read_from : (k : ℕ) → column ≤ k → (w : List ℕ)
-      → letter_of_cell row column (each (column_cells outer inner) (reverse (after 0 k))) w
+      → letter_of_cell row column (flat_map (column_cells outer inner) (reverse (after 0 k))) w
       ≡ slice_index w (sum_by (λ j. length (column_cells outer inner j)) (after column (k - column)) + above)
   read_from zero low w = let out = cell.outside in absurd (omega arith)
   read_from (suc k) low w =
-      ap (λ js. letter_of_cell row column (each (column_cells outer inner) js) w) (reverse-after k)
+      ap (λ js. letter_of_cell row column (flat_map (column_cells outer inner) js) w) (reverse-after k)
       ∙ by (cases_eq column (suc k)) (λ far. read_from k far)
     where
       others : List (ℕ × ℕ)
-      others = each (column_cells outer inner) (reverse (after 0 k))
+      others = flat_map (column_cells outer inner) (reverse (after 0 k))
 
       by : (column ≡ suc k) ⊎ (column ≢ suc k)
-          → (column ≤ k → (v : List ℕ) → letter_of_cell row column (each (column_cells outer inner) (reverse (after 0 k))) v
+          → (column ≤ k → (v : List ℕ) → letter_of_cell row column (flat_map (column_cells outer inner) (reverse (after 0 k))) v
           ≡ slice_index v (sum_by (λ j. length (column_cells outer inner j)) (after column (k - column)) + above))
-          → letter_of_cell row column (column_cells outer inner (suc k) ++ each (column_cells outer inner) (reverse (after 0 k))) w
+          → letter_of_cell row column (column_cells outer inner (suc k) ++ flat_map (column_cells outer inner) (reverse (after 0 k))) w
           ≡ slice_index w (sum_by (λ j. length (column_cells outer inner j)) (after column (suc k - column)) + above)
       by (inl e) ih =
           let none : suc k - column ≡ 0 = omega arith in
-          ap (λ j. letter_of_cell row column (column_cells outer inner j ++ each (column_cells outer inner) (reverse (after 0 k))) w) (sym e)
-          ∙ in-column row column (reaches outer inner column) (each (column_cells outer inner) (reverse (after 0 k))) 0 (rows outer) cell.row_counts (omega (arith, row_within))
+          ap (λ j. letter_of_cell row column (column_cells outer inner j ++ flat_map (column_cells outer inner) (reverse (after 0 k))) w) (sym e)
+          ∙ in-column row column (reaches outer inner column) (flat_map (column_cells outer inner) (reverse (after 0 k))) 0 (rows outer) cell.row_counts (omega (arith, row_within))
           (and_from _ _ (lt-ltb _ _ cell.outside) (le-leb _ _ cell.within)) w
           ∙ ap (slice_index w) (sym (ap (λ n. sum_by (λ j. length (column_cells outer inner j)) (after column n) + above) none ∙ zero-add above))
       by (inr n) ih =
@@ -187,7 +186,7 @@ module _ (outer inner : List ℕ) (row column : ℕ) (cell : IsCell outer inner 
           let last : column + (k - column) + 1 ≡ suc k = omega arith in
           let long : ℕ = length (column_cells outer inner (suc k)) in
           let before : ℕ = sum_by (λ j. length (column_cells outer inner j)) (after column (k - column)) in
-          letter-past row column (column_cells outer inner (suc k)) (each (column_cells outer inner) (reverse (after 0 k))) w
+          letter-past row column (column_cells outer inner (suc k)) (flat_map (column_cells outer inner) (reverse (after 0 k))) w
           (not_in-column column (suc k) _ (λ e. n (sym e)))
           ∙ ih (omega arith) (drop long w)
           ∙ get_or-drop long w (before + above) 0
@@ -214,7 +213,7 @@ module _ (outer inner : List ℕ) where
   column_long : (c : ℕ) → length (column_cells outer inner (c + 1)) + right_of (c + 1) ≡ right_of c
   column_long c =
       ap (λ n. n + right_of (c + 1))
-      (length-map (select (reaches outer inner (c + 1)) (after 0 (rows outer))) (λ (i : ℕ). (i, c + 1)) ∙ length-select (reaches outer inner (c + 1)) (after 0 (rows outer)))
+      (length-map (filter (reaches outer inner (c + 1)) (after 0 (rows outer))) (λ (i : ℕ). (i, c + 1)) ∙ length-select (reaches outer inner (c + 1)) (after 0 (rows outer)))
       ∙ sym (sum_by-add (λ i. cond (reaches outer inner (c + 1) i) 1 0) (λ i. part outer i - max (part inner i) (c + 1)) (after 0 (rows outer)))
       ∙ sum_by-ext _ _ (after 0 (rows outer)) (λ i. one_column (part inner i) (part outer i) c)
 
@@ -233,7 +232,7 @@ first_greatest (a ∷ []) falls (suc k) = omega arith
 first_greatest (a ∷ b ∷ parts) falls zero = omega arith
 first_greatest (a ∷ b ∷ parts) falls (suc k) = let h = first_greatest (b ∷ parts) falls.1 k in omega (arith, falls.0)
 
--- the letter of a cell stands in the reading behind those of the cells before it
+-- the letter of a cell stands in the reading after those of the cells before it
 letter-is : (outer inner : List ℕ) (row column : ℕ) → Falls outer → IsCell outer inner row column → (w : List ℕ)
     → slice_index w (cells_before outer inner row column) ≡ letter_of_cell row column (reading_cells outer inner) w
 letter-is outer inner row column falls cell w =

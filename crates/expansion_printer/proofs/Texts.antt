@@ -20,7 +20,7 @@ numbers_text-separated [] = refl
 numbers_text-separated (a ∷ []) = refl
 numbers_text-separated (a ∷ b ∷ numbers) = ap (λ t. decimal a ++ (codes "," ++ t)) (numbers_text-separated (b ∷ numbers))
 
--- one more piece behind some others
+-- one more piece after some others
 separated-behind : (separator piece : List ℕ) (first : List ℕ) (pieces : List (List ℕ))
     → separated separator (first ∷ pieces) ++ (separator ++ piece) ≡ separated separator ((first ∷ pieces) ++ piece ∷ [])
 separated-behind separator piece first [] = refl
@@ -29,7 +29,7 @@ separated-behind separator piece first (next ∷ pieces) =
     ∙ ap (λ t. first ++ t) (append_assoc separator (separated separator (next ∷ pieces)) (separator ++ piece)
     ∙ ap (λ t. separator ++ t) (separated-behind separator piece next pieces))
 
--- one more piece, behind a separator but at the first place
+-- one more piece, after a separator but at the first place
 pub separated-push : (separator : List ℕ) (pieces : List (List ℕ)) (piece : List ℕ) (at : ℕ) → length pieces ≡ at
     → separated separator pieces ++ cond (at == 0) piece (separator ++ piece) ≡ separated separator (pieces ++ piece ∷ [])
 separated-push separator [] piece at first =

@@ -1,12 +1,15 @@
--- The answers of the program as plain answers (this project's own).
+-- The answers of the program as plain answers.
 use Rattle.std.specs.Prelude.{ℤ, [], ◌∷◌, cond, nat_lt, nat_abs}
-use Rattle.sym_model.specs.Kind.{Kind as PlainKind, Label, number, expansion, product, pairs, powers, permutations, polynomial, shifts}
+use Rattle.sym_model.specs.Kind.{Kind as PlainKind, Label, number, expansion, product, pairs}
+use Rattle.sym_model.specs.Kind.{powers, permutations, polynomial, shifts}
 use Rattle.sym_model.specs.Expansion.{Terms}
 use Rattle.sym_model.specs.Answer.{Answer as PlainAnswer, answer}
 use Rattle.expansion_printer.specs.declared.answer.Kind.{Kind}
 use Rattle.expansion_printer.specs.declared.answer.Kind.TheVariants as kinds
 use Rattle.expansion_printer.specs.declared.answer.Answer.{Answer}
-use Rattle.expansion_printer.specs.declared.answer.Answer.TheVariants.{Number, Expansion, Product, Pairs, Powers, Permutations, Polynomial, Shifts}
+use Rattle.expansion_printer.specs.declared.answer.Answer.TheVariants.{Number, Expansion, Product}
+use Rattle.expansion_printer.specs.declared.answer.Answer.TheVariants.{Pairs, Powers, Permutations}
+use Rattle.expansion_printer.specs.declared.answer.Answer.TheVariants.{Polynomial, Shifts}
 
 -- the plain kind
 abbrev pub kind_of : Kind → PlainKind

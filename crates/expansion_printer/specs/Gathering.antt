@@ -1,4 +1,4 @@
--- A text that is gathered on its way to a sink (this project's own).
+-- A text that is gathered on its way to a sink.
 use Rattle.std.specs.Prelude.{◌≡◌, ℕ, List, ◌++◌, Bool, true}
 use Rattle.calc_base.specs.Puts.{Puts}
 use Rattle.calc_base.specs.Sink.{SinkSeen}
@@ -8,8 +8,10 @@ pub record Waiting : Type 0 where
   pub bytes : List ℕ
   pub well : Bool
 
--- since the sink was `start`, a text was put to it but for its last part, which waits where all went well
-pub record HasPut (start : SinkSeen) (text : List ℕ) (now : Waiting) (sink : SinkSeen) : Type 0 where
+-- since the sink was `start`, a text was put to it but for its last part,
+-- which waits where all went well
+pub record HasPut (start : SinkSeen) (text : List ℕ) (now : Waiting)
+    (sink : SinkSeen) : Type 0 where
   pub front : List ℕ
   pub last : List ℕ
   pub joined : front ++ last ≡ text
@@ -17,6 +19,7 @@ pub record HasPut (start : SinkSeen) (text : List ℕ) (now : Waiting) (sink : S
   pub goes : Puts true start now.well sink front
 
 -- a text was gathered: whatever was put before, the text is put after it
-pub record Gathers (old : Waiting) (old_sink : SinkSeen) (new : Waiting) (new_sink : SinkSeen) (text : List ℕ) : Type 0 where
+pub record Gathers (old : Waiting) (old_sink : SinkSeen) (new : Waiting) (new_sink : SinkSeen)
+    (text : List ℕ) : Type 0 where
   pub behind : (start : SinkSeen) (before : List ℕ) → HasPut start before old old_sink
       → HasPut start (before ++ text) new new_sink

@@ -3,7 +3,8 @@ use Rattle.std.specs.Prelude.{◌≡◌, [], ◌∷◌}
 use Rattle.sym_model.specs.Expansion.{Fraction, Terms}
 
 -- the fraction is the value of a scalar
-pub record IsValueHeld {R : Type 0} (value : R → Fraction) (is_held : R → Type 0) (c : Fraction) : Type 0 where
+pub record IsValueHeld {R : Type 0} (value : R → Fraction) (is_held : R → Type 0)
+    (c : Fraction) : Type 0 where
   pub scalar : R
   pub same : value scalar ≡ c
   pub held : is_held scalar

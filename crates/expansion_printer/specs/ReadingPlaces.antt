@@ -1,4 +1,4 @@
--- The places of cells in the column reading (this project's own).
+-- The places of cells in the column reading.
 use Rattle.std.specs.Prelude.{◌≡◌, ℕ, List, slice_index}
 use Rattle.sym_model.specs.Partition.{IsCell}
 use Rattle.sym_model.specs.Tableau.{SkewFilling}

@@ -1,11 +1,12 @@
--- The line of a refusal (this project's own).
+-- The line of a refusal.
 use Rattle.std.specs.Prelude.{ℕ, List, [], codes}
 use Rattle.calc_base.specs.declared.words.WordsFault.{WordsFault}
-use Rattle.calc_base.specs.declared.words.WordsFault.TheVariants.{Syntax, Literal, Range, Shape, NoMemory}
+use Rattle.calc_base.specs.declared.words.WordsFault.TheVariants.{Syntax, Literal, Range, Shape}
+use Rattle.calc_base.specs.declared.words.WordsFault.TheVariants.{NoMemory}
 use Rattle.sym_model.specs.ExpressionOffence.{literal, range, shape}
 use Rattle.sym_model.specs.RefusalText.{refusal_line, offence_line}
 
--- the line of a refusal: its name and its place; want of memory has no line
+-- the line of a refusal: its name and its place; out of memory has no line
 abbrev pub refusal_text : WordsFault → List ℕ
 refusal_text (Syntax at) = refusal_line (codes "Syntax") at.word at.byte
 refusal_text (Literal at) = offence_line (at.word, at.byte, literal)

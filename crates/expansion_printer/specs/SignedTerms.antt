@@ -1,10 +1,11 @@
--- Terms with their signs, one after another (this project's own).
+-- Terms with their signs, one after another.
 use Rattle.std.specs.Prelude.{ℕ, ℤ, Bool, true, false, List, [], ◌∷◌, ◌++◌, codes, cond}
 use Rattle.sym_model.specs.Expansion.{Basis, Fraction, Terms}
 use Rattle.sym_model.specs.NumberText.{fraction_text}
 use Rattle.sym_model.specs.OneLine.{is_negative, is_unit, without_sign, atom_text, later_text}
 
--- the sign in front of a term: `-` of a negative numerator, `+` of another but that of the first term
+-- the sign in front of a term: `-` of a negative numerator,
+-- `+` of another but that of the first term
 abbrev pub sign_text : Bool → ℤ → List ℕ
 sign_text is_first num = cond (is_negative num) (codes "-") (cond is_first [] (codes "+"))
 
@@ -14,7 +15,8 @@ coefficient_text c = cond (is_unit c) [] (fraction_text (without_sign c) ++ code
 
 -- a term with its sign
 abbrev pub signed_text : Basis → Bool → List ℕ × Fraction → List ℕ
-signed_text basis is_first t = sign_text is_first t.1.0 ++ (coefficient_text t.1 ++ atom_text basis t.0)
+signed_text basis is_first t =
+    sign_text is_first t.1.0 ++ (coefficient_text t.1 ++ atom_text basis t.0)
 
 -- the terms with their signs
 abbrev pub signed_terms : Basis → Terms (List ℕ) → List ℕ

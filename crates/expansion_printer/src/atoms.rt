@@ -12,7 +12,8 @@ use calc_base::{Basis, Sink};
 
 /// Puts the atom of these parts.
 pub(crate) fn put_atom<K: Sink>(basis: Basis, parts: &[u16], text: &mut TextBuffer, sink: &mut K)
-    ensures { Gathers text.old (K.seen sink.old) text.new (K.seen sink.new) (atom_text (basis_of basis) parts.now) }
+    ensures { Gathers text.old (K.seen sink.old) text.new (K.seen sink.new)
+        (atom_text (basis_of basis) parts.now) }
 {
     text.put(letter_of(basis), sink);
     text.put(b"[", sink);

@@ -16,11 +16,14 @@ use calc_base::{Sink, SinkFault};
 use coeff_rings::{Digits, Int, Scalar};
 use sparse_polys::{Label, Terms};
 
-/// Prints the block of the answer: a line for each term, and the line `0` where there is none. A number is one line.
+/// Prints the block of the answer: a line for each term,
+/// and the line `0` where there is none. A number is one line.
 ///
-/// `SinkFault` exactly where a put failed. It is the last one, and what was put is then a prefix of the block.
+/// `SinkFault` exactly where a put failed. It is the last one,
+/// and what was put is then a prefix of the block.
 pub fn print<K: Sink>(answer: &Answer, sink: &mut K) -> Result<(), SinkFault>
-    ensures prints { Prints (K.seen sink.old) (K.seen sink.new) (answer_text (plain_answer answer.now)) result }
+    ensures prints { Prints (K.seen sink.old) (K.seen sink.new)
+        (answer_text (plain_answer answer.now)) result }
 
     // Every answer is canonical, with numbers of 128 bits, so that its block can be read back.
     ensures printable { IsPrintable (plain_answer answer.now) }
@@ -32,7 +35,8 @@ pub fn print<K: Sink>(answer: &Answer, sink: &mut K) -> Result<(), SinkFault>
 
 /// Puts the block of the answer.
 fn put_block<K: Sink>(answer: &Answer, text: &mut TextBuffer, sink: &mut K)
-    ensures goes { Gathers text.old (K.seen sink.old) text.new (K.seen sink.new) (answer_text (plain_answer answer.now)) }
+    ensures goes { Gathers text.old (K.seen sink.old) text.new (K.seen sink.new)
+        (answer_text (plain_answer answer.now)) }
     ensures printable { IsPrintable (plain_answer answer.now) }
 {
     match answer {
@@ -47,8 +51,8 @@ fn put_block<K: Sink>(answer: &Answer, text: &mut TextBuffer, sink: &mut K)
     }
 }
 
-/// Tells that the block of the answer can be read back: it is canonical, with numbers of 128 bits. It goes over the terms once and
-/// puts nothing.
+/// Tells that the block of the answer can be read back: it is canonical, with numbers of 128 bits.
+/// It goes over the terms once and puts nothing.
 pub fn tell_printable(answer: &Answer)
     ensures { IsPrintable (plain_answer answer.now) }
 {
@@ -84,7 +88,8 @@ fn tell_terms<L: Label, R: Scalar>(terms: &Terms<L, R>)
 
 /// Puts the line of a number.
 fn put_value<K: Sink>(value: Int, text: &mut TextBuffer, sink: &mut K)
-    ensures goes { Gathers text.old (K.seen sink.old) text.new (K.seen sink.new) (answer_text (answer number (number_terms value))) }
+    ensures goes { Gathers text.old (K.seen sink.old) text.new (K.seen sink.new)
+        (answer_text (answer number (number_terms value))) }
     ensures printable { IsPrintable (answer number (number_terms value)) }
 {
     let mut digits = Digits::new();
@@ -95,7 +100,8 @@ fn put_value<K: Sink>(value: Int, text: &mut TextBuffer, sink: &mut K)
 
 /// Puts the block of the terms.
 fn put_terms<L: Named, R: Scalar, K: Sink>(terms: &Terms<L, R>, text: &mut TextBuffer, sink: &mut K)
-    ensures goes { Gathers text.old (K.seen sink.old) text.new (K.seen sink.new) (block_by L.line_rules terms.now) }
+    ensures goes { Gathers text.old (K.seen sink.old) text.new (K.seen sink.new)
+        (block_by L.line_rules terms.now) }
     ensures held { AreHeld R.value R.is_held terms.now }
     ensures canonical { IsCanonicalList L.order L.is_label terms.now }
 {
@@ -109,7 +115,8 @@ fn put_terms<L: Named, R: Scalar, K: Sink>(terms: &Terms<L, R>, text: &mut TextB
 
 /// Puts the line of a term: its coefficient and its label.
 fn put_line<L: Named, R: Scalar, K: Sink>(label: &L, c: R, text: &mut TextBuffer, sink: &mut K)
-    ensures goes { Gathers text.old (K.seen sink.old) text.new (K.seen sink.new) (line_by L.line_rules (label.now, R.value c)) }
+    ensures goes { Gathers text.old (K.seen sink.old) text.new (K.seen sink.new)
+        (line_by L.line_rules (label.now, R.value c)) }
     ensures held { R.is_held c }
 {
     let mut digits = Digits::new();

@@ -1,5 +1,6 @@
 //! The signs and the absolute values of coefficients.
-ghost use Rattle.std.specs.Prelude.{◌≡◌, [], ◌++◌, ◌==◌, cond, codes, decimal, if◌then◌else◌, FitsSigned};
+ghost use Rattle.std.specs.Prelude.{◌≡◌, [], ◌++◌, ◌==◌, cond, codes, decimal, if◌then◌else◌};
+ghost use Rattle.std.specs.Prelude.{FitsSigned};
 ghost use Rattle.std.specs.Int.{w128};
 ghost use Rattle.expansion_printer.specs.Gathering.{Gathers};
 ghost use Rattle.expansion_printer.specs.SignedTerms.{sign_text, coefficient_text};
@@ -30,9 +31,11 @@ impl Ratio for Frac {
     }
 }
 
-/// Puts the sign in front of a term: `-` of a negative numerator, `+` of another but that of the first term.
+/// Puts the sign in front of a term: `-` of a negative numerator,
+/// `+` of another but that of the first term.
 pub(crate) fn put_sign<K: Sink>(is_first: bool, num: i128, text: &mut TextBuffer, sink: &mut K)
-    ensures { Gathers text.old (K.seen sink.old) text.new (K.seen sink.new) (sign_text is_first num) }
+    ensures { Gathers text.old (K.seen sink.old) text.new (K.seen sink.new)
+        (sign_text is_first num) }
 {
     if num < 0 {
         return text.put(b"-", sink);
@@ -45,7 +48,8 @@ pub(crate) fn put_sign<K: Sink>(is_first: bool, num: i128, text: &mut TextBuffer
 
 /// Puts the absolute value of a coefficient and `*`, and nothing where that value is 1.
 pub(crate) fn put_coefficient<K: Sink>(num: i128, den: u128, text: &mut TextBuffer, sink: &mut K)
-    ensures { Gathers text.old (K.seen sink.old) text.new (K.seen sink.new) (coefficient_text (num, den)) }
+    ensures { Gathers text.old (K.seen sink.old) text.new (K.seen sink.new)
+        (coefficient_text (num, den)) }
 {
     let size = num.unsigned_abs();
     if size == 1 && den == 1 {

@@ -1,8 +1,10 @@
-//! Answers of commands, and the one place where they are printed: the block of an answer or its one-line form, the line of a
-//! refusal, and the line of an answer that is too large; the lines of words, tableaux and shapes, and single labels.
+//! Answers of commands, and the one place where they are printed: the block of an answer or its
+//! one-line form, the line of a refusal, and the line of an answer that is too large; the lines of
+//! words, tableaux and shapes, and single labels.
 //!
-//! A printer gathers its text in a buffer of fixed size, which goes to the sink when it is full and at the end. Where a put fails none
-//! follows, and what was put is a prefix of the text. No memory is taken.
+//! A printer gathers its text in a buffer of fixed size, which goes to the sink when it is full and
+//! at the end. Where a put fails none follows,
+//! and what was put is a prefix of the text. No memory is taken.
 //!
 //! What is proved:
 //!

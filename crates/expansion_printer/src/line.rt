@@ -20,11 +20,12 @@ use calc_base::{Basis, Sink, SinkFault};
 use partitions::Partition;
 use sparse_polys::Terms;
 
-/// Prints an expansion, or a product, on one line with the atoms of the basis, as `-1/3*p[3]+1/3*p[1,1,1]`: the terms in their
-/// order, and `0` where there is none. An answer of another kind, whose labels are no partitions, has no such line: its block
-/// is printed.
+/// Prints an expansion, or a product, on one line with the atoms of the basis, as
+/// `-1/3*p[3]+1/3*p[1,1,1]`: the terms in their order, and `0` where there is none. An answer of
+/// another kind, whose labels are no partitions, has no such line: its block is printed.
 ///
-/// `SinkFault` exactly where a put failed. It is the last one, and what was put is then a prefix of the line.
+/// `SinkFault` exactly where a put failed. It is the last one,
+/// and what was put is then a prefix of the line.
 pub fn print_one_line<K: Sink>(answer: &Answer, basis: Basis, sink: &mut K) -> Result<(), SinkFault>
     ensures prints { Prints (K.seen sink.old) (K.seen sink.new)
         (answer_text_in (as_line (basis_of basis)) (plain_answer answer.now)) result }
@@ -45,7 +46,8 @@ fn print_terms<R: Ratio, K: Sink>(
     terms: &Terms<Partition, R>,
     sink: &mut K,
 ) -> Result<(), SinkFault>
-    ensures prints { Prints (K.seen sink.old) (K.seen sink.new) (one_line (basis_of basis) terms.now) result }
+    ensures prints { Prints (K.seen sink.old) (K.seen sink.new)
+        (one_line (basis_of basis) terms.now) result }
     ensures held { AreHeld R.value R.is_held terms.now }
     ensures canonical { IsCanonicalList printed_order is_label terms.now }
 {
@@ -61,7 +63,8 @@ fn put_line<R: Ratio, K: Sink>(
     text: &mut TextBuffer,
     sink: &mut K,
 )
-    ensures goes { Gathers text.old (K.seen sink.old) text.new (K.seen sink.new) (one_line (basis_of basis) terms.now) }
+    ensures goes { Gathers text.old (K.seen sink.old) text.new (K.seen sink.new)
+        (one_line (basis_of basis) terms.now) }
     ensures held { AreHeld R.value R.is_held terms.now }
     ensures canonical { IsCanonicalList printed_order is_label terms.now }
 {

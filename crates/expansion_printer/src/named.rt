@@ -1,7 +1,8 @@
 //! The labels of lines.
 ghost use Rattle.std.specs.Prelude.{List, ℕ};
 ghost use Rattle.expansion_printer.specs.Gathering.{Gathers};
-ghost use Rattle.sym_model.specs.Kind.{LabelRules, label_rules, expansion, pairs, powers, permutations, polynomial, shifts};
+ghost use Rattle.sym_model.specs.Kind.{LabelRules, label_rules, expansion, pairs, powers};
+ghost use Rattle.sym_model.specs.Kind.{permutations, polynomial, shifts};
 
 use crate::numbers::{put_label, put_number};
 use crate::text_buffer::TextBuffer;
@@ -10,14 +11,15 @@ use partitions::Partition;
 use perm_codes::Perm;
 use sparse_polys::{Label, Monomial, Pair, Power, Shifted};
 
-/// Labels that stand on a line behind its coefficient.
+/// Labels that stand on a line after its coefficient.
 pub(crate) trait Named: Label {
     // What a block has to know of them.
     ghost line_rules: { LabelRules Self };
 
     /// Puts the text of the label, with the blanks in front of it.
     fn put_name<K: Sink>(&self, text: &mut TextBuffer, sink: &mut K)
-        ensures { Gathers text.old (K.seen sink.old) text.new (K.seen sink.new) (line_rules.text self.now) };
+        ensures { Gathers text.old (K.seen sink.old) text.new (K.seen sink.new)
+            (line_rules.text self.now) };
 }
 
 impl Named for Partition {

@@ -34,7 +34,8 @@ impl Numeral for u16 {
 
 /// Puts a label: the numbers in parentheses.
 pub(crate) fn put_label<N: Numeral, K: Sink>(numbers: &[N], text: &mut TextBuffer, sink: &mut K)
-    ensures { Gathers text.old (K.seen sink.old) text.new (K.seen sink.new) (label_text (map N.number numbers.now)) }
+    ensures { Gathers text.old (K.seen sink.old) text.new (K.seen sink.new)
+        (label_text (map N.number numbers.now)) }
 {
     text.put(b"(", sink);
     put_separated(b",", numbers, text, sink);
@@ -56,7 +57,8 @@ pub(crate) fn put_separated<N: Numeral, K: Sink>(
     }
 }
 
-/// Puts the number at a place, counted from 0, with the separator in front of it but at the first place.
+/// Puts the number at a place, counted from 0,
+/// with the separator in front of it but at the first place.
 pub(crate) fn put_piece<K: Sink>(
     separator: &[u8],
     at: usize,

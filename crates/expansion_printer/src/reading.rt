@@ -10,8 +10,8 @@ use skew_shapes::{Filled, Skew, filling_with_reading};
 use std::alloc::{AllocError, Global};
 use std::marker::Model;
 
-/// A skew shape with the place of each cell in the column reading. It is made once for all fillings of the shape that are
-/// printed by their readings.
+/// A skew shape with the place of each cell in the column reading. It is made once for all fillings
+/// of the shape that are printed by their readings.
 #[derive(Drop)]
 pub struct ReadingOrder {
     places: Filled,
@@ -29,7 +29,7 @@ impl Model for ReadingOrder {
 }
 
 impl ReadingOrder {
-    /// The order of the cells of a shape. It fails for want of memory alone.
+    /// The order of the cells of a shape. It fails for out of memory alone.
     pub fn new(alloc: Global, shape: Skew) -> Result<ReadingOrder, NoMemory>
         ensures { IfOk result (λ order. order ≡ shape) }
     {
@@ -53,13 +53,14 @@ impl ReadingOrder {
     /// The place of the letter of a cell.
     fn place(&self, row: u16, column: u16) -> usize
         requires { IsCell self.now.0 self.now.1 row column }
-        ensures { (w : List ℕ) → slice_index w result ≡ letter_of_cell row column (reading_cells self.now.0 self.now.1) w }
+        ensures { (w : List ℕ) → slice_index w result
+            ≡ letter_of_cell row column (reading_cells self.now.0 self.now.1) w }
     {
         usize::from(self.places.entry(row, column).unwrap_or(0))
     }
 }
 
-/// The numbers from 0 on, so many.
+/// The first `count` numbers from 0 on.
 fn numbers_below(alloc: Global, count: u16) -> Result<Vec<u16>, AllocError>
     ensures { IfOk result (λ numbers. (i : ℕ) → i < count → slice_index numbers.items i ≡ i) }
 {
@@ -70,8 +71,8 @@ fn numbers_below(alloc: Global, count: u16) -> Result<Vec<u16>, AllocError>
     Ok(numbers)
 }
 
-/// The cells of a shape with the letters of a column reading: the columns from the rightmost to the leftmost, each from top
-/// to bottom.
+/// The cells of a shape with the letters of a column reading: the columns from the rightmost to the
+/// leftmost, each from top to bottom.
 #[derive(Drop)]
 pub(crate) struct Reading<'a> {
     pub(crate) order: &'a ReadingOrder,
@@ -83,7 +84,8 @@ impl Entries for Reading<'_> {
 
     ghost inner = { λ r. r.order.now.1 };
 
-    ghost entry = { λ r row column. letter_of_cell row column (reading_cells r.order.now.0 r.order.now.1) r.letters.now };
+    ghost entry = { λ r row column. letter_of_cell row column
+        (reading_cells r.order.now.0 r.order.now.1) r.letters.now };
 
     fn outer(&self) -> &Partition {
         self.order.outer()

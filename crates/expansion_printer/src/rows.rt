@@ -44,12 +44,15 @@ pub(crate) fn put_rows<E: Entries, K: Sink>(filling: &E, text: &mut TextBuffer, 
     }
 }
 
-/// Puts the row at a place, counted from 0, with the separator in front of it but at the first place.
+/// Puts the row at a place, counted from 0, with the separator in front of it but at the first
+/// place.
 fn put_next_row<E: Entries, K: Sink>(filling: &E, at: u16, text: &mut TextBuffer, sink: &mut K)
     requires { at < 65535 }
     ensures { Gathers text.old (K.seen sink.old) text.new (K.seen sink.new)
-        (if at == 0 then row_text (row_by (E.entry filling.now) (E.outer filling.now) (E.inner filling.now) (at + 1))
-        else (codes " / " ++ row_text (row_by (E.entry filling.now) (E.outer filling.now) (E.inner filling.now) (at + 1)))) }
+        (if at == 0 then row_text
+        (row_by (E.entry filling.now) (E.outer filling.now) (E.inner filling.now) (at + 1))
+        else (codes " / " ++ row_text
+        (row_by (E.entry filling.now) (E.outer filling.now) (E.inner filling.now) (at + 1)))) }
 {
     if at == 0 {
         return put_row(filling, at, text, sink);
@@ -58,11 +61,13 @@ fn put_next_row<E: Entries, K: Sink>(filling: &E, at: u16, text: &mut TextBuffer
     put_row(filling, at, text, sink);
 }
 
-/// Puts the entries of the row at a place, counted from 0, with spaces between them, or a point where there is none.
+/// Puts the entries of the row at a place, counted from 0, with spaces between them,
+/// or a point where there is none.
 fn put_row<E: Entries, K: Sink>(filling: &E, at: u16, text: &mut TextBuffer, sink: &mut K)
     requires { at < 65535 }
     ensures { Gathers text.old (K.seen sink.old) text.new (K.seen sink.new)
-        (row_text (row_by (E.entry filling.now) (E.outer filling.now) (E.inner filling.now) (at + 1))) }
+        (row_text (row_by (E.entry filling.now) (E.outer filling.now) (E.inner filling.now)
+        (at + 1))) }
 {
     let row = at + 1;
     let left = filling.inner().part(row);
@@ -73,7 +78,8 @@ fn put_row<E: Entries, K: Sink>(filling: &E, at: u16, text: &mut TextBuffer, sin
     put_entries(filling, row, left, right, text, sink);
 }
 
-/// Puts the entries of a row in the columns right of `left` up to `right`, with spaces between them.
+/// Puts the entries of a row in the columns right of `left` up to `right`,
+/// with spaces between them.
 fn put_entries<E: Entries, K: Sink>(
     filling: &E,
     row: u16,

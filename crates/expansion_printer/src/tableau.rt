@@ -55,7 +55,8 @@ impl Entries for Filled {
 
 /// Prints the line of a tableau: its rows from top to bottom.
 ///
-/// `SinkFault` exactly where a put failed. It is the last one, and what was put is then a prefix of the line.
+/// `SinkFault` exactly where a put failed. It is the last one,
+/// and what was put is then a prefix of the line.
 pub fn print_tableau<K: Sink>(t: &Tableau, sink: &mut K) -> Result<(), SinkFault>
     ensures { Prints (K.seen sink.old) (K.seen sink.new) (tableau_line t.now.rows) result }
 {
@@ -65,7 +66,8 @@ pub fn print_tableau<K: Sink>(t: &Tableau, sink: &mut K) -> Result<(), SinkFault
 
 /// Prints the line of a filling: its rows from top to bottom.
 ///
-/// `SinkFault` exactly where a put failed. It is the last one, and what was put is then a prefix of the line.
+/// `SinkFault` exactly where a put failed. It is the last one,
+/// and what was put is then a prefix of the line.
 pub fn print_filled<K: Sink>(f: &Filled, sink: &mut K) -> Result<(), SinkFault>
     ensures { Prints (K.seen sink.old) (K.seen sink.new) (tableau_line f.now.rows) result }
 {
@@ -73,10 +75,12 @@ pub fn print_filled<K: Sink>(f: &Filled, sink: &mut K) -> Result<(), SinkFault>
     print_filling(f, sink)
 }
 
-/// Prints the line of the filling of a shape with this column reading: the columns from the rightmost to the leftmost,
-/// each from top to bottom. Cells past the last letter have the number 0.
+/// Prints the line of the filling of a shape with this column reading: the columns from the
+/// rightmost to the leftmost, each from top to bottom. Cells past the last letter have the number
+/// 0.
 ///
-/// `SinkFault` exactly where a put failed. It is the last one, and what was put is then a prefix of the line.
+/// `SinkFault` exactly where a put failed. It is the last one,
+/// and what was put is then a prefix of the line.
 pub fn print_reading<K: Sink>(
     order: &ReadingOrder,
     reading: &[u16],
@@ -95,7 +99,8 @@ pub fn print_reading<K: Sink>(
 /// Prints the line of a filling.
 fn print_filling<E: Entries, K: Sink>(filling: &E, sink: &mut K) -> Result<(), SinkFault>
     ensures { Prints (K.seen sink.old) (K.seen sink.new)
-        (tableau_line (rows_by (E.entry filling.now) (E.outer filling.now) (E.inner filling.now))) result }
+        (tableau_line (rows_by (E.entry filling.now) (E.outer filling.now) (E.inner filling.now)))
+        result }
 {
     let mut text = TextBuffer::new();
     put_rows(filling, &mut text, sink);

@@ -1,5 +1,6 @@
 //! A buffer for text on its way to a sink.
-ghost use Rattle.std.specs.Prelude.{◌≡◌, ◌+◌, ◌≤◌, ◌↔◌, [], ◌++◌, length, true, false, IsTrue, is_ok};
+ghost use Rattle.std.specs.Prelude.{◌≡◌, ◌+◌, ◌≤◌, ◌↔◌, [], ◌++◌, length, true, false, IsTrue};
+ghost use Rattle.std.specs.Prelude.{is_ok};
 ghost use Rattle.calc_base.specs.Puts.{Puts};
 ghost use Rattle.expansion_printer.specs.Gathering.{Waiting, Gathers};
 
@@ -10,8 +11,8 @@ use std::marker::Model;
 /// How many bytes a buffer has room for.
 const CAPACITY: usize = 1024;
 
-/// Bytes that wait for a sink. They are put when a further piece finds no room, and at the end, and none is put after a
-/// fault. No memory is taken.
+/// Bytes that wait for a sink. They are put when a further piece finds no room, and at the end, and
+/// none is put after a fault. No memory is taken.
 #[derive(Drop)]
 pub(crate) struct TextBuffer {
     bytes: ArrayVec<u8, CAPACITY>,
@@ -35,7 +36,7 @@ impl TextBuffer {
         }
     }
 
-    /// Puts the piece behind what was put before.
+    /// Puts the piece after what was put before.
     pub(crate) fn put<K: Sink>(&mut self, piece: &[u8], sink: &mut K)
         ensures { Gathers self.old (K.seen sink.old) self.new (K.seen sink.new) piece.now }
     {
@@ -58,7 +59,8 @@ impl TextBuffer {
 
     /// Keeps the piece where there is room for it, and tells whether there was.
     fn keep(&mut self, piece: &[u8]) -> bool
-        ensures kept { IsTrue result → self.new ≡ record { bytes = self.old.bytes ++ piece.now; well = self.old.well } }
+        ensures kept { IsTrue result → self.new
+            ≡ record { bytes = self.old.bytes ++ piece.now; well = self.old.well } }
         ensures full { result ≡ false → self.new ≡ self.old }
         ensures room { IsTrue result ↔ (length self.old.bytes + length piece.now ≤ 1024) }
     {

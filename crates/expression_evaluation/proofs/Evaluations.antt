@@ -12,7 +12,7 @@ use Rattle.expression_evaluation.specs.Postorder.{operands, postorder, AreValues
 two : (xs ys : List Expr) (e : Expr) → xs ++ (ys ++ e ∷ []) ≡ (xs ++ (ys ++ [])) ++ e ∷ []
 two xs ys e = sym (append_assoc xs (ys ++ []) (e ∷ []) ∙ ap (λ (zs : List Expr). xs ++ (zs ++ e ∷ [])) (append-nil ys))
 
--- a node stands behind those of its operands
+-- a node comes after those of its operands
 postorder-operands : (e : Expr) → postorder e ≡ flat_map postorder (operands e) ++ e ∷ []
 postorder-operands (Number num) = refl
 postorder-operands (Fraction num den) = refl
@@ -89,7 +89,7 @@ All-postorder P on (Product' p left q right) h =
     both P left right (Product' p left q right) (All-postorder P on left (All-head P left (right ∷ []) s)) (All-postorder P on right (All-head P right [] (All-tail P left (right ∷ []) s))) h
 
 module _ {V : Type 0} (R : Expr → V → Type 0) where
-  -- a node behind its operands
+  -- a node after its operands
   evaluates-two : (goal left right node : Expr) (nodes : List Expr) (below : List V) → operands node ≡ left ∷ right ∷ []
       → ((xs : List Expr) (at : List V) → ((v : V) → R left v → Evaluates R goal xs (at ++ v ∷ [])) → Evaluates R goal (postorder left ++ xs) at)
       → ((xs : List Expr) (at : List V) → ((v : V) → R right v → Evaluates R goal xs (at ++ v ∷ [])) → Evaluates R goal (postorder right ++ xs) at)

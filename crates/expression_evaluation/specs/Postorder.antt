@@ -1,7 +1,8 @@
--- The nodes of an expression in the order in which they are evaluated, and what such an evaluation makes of a stack of values
--- (this project's own).
+-- The nodes of an expression in the order in which they are evaluated, and what such an evaluation
+-- makes of a stack of values.
 use Rattle.std.specs.Prelude.{◌≡◌, List, [], ◌∷◌, ◌++◌}
-use Rattle.expression_reading.specs.declared.expr.Expr.{Expr, Number, Fraction, Atom, Negation', Sum', Difference', Product'}
+use Rattle.expression_reading.specs.declared.expr.Expr.{Expr, Number, Fraction, Atom, Negation'}
+use Rattle.expression_reading.specs.declared.expr.Expr.{Sum', Difference', Product'}
 
 -- the operands of a node, from the left
 abbrev pub operands : Expr → List Expr
@@ -13,15 +14,17 @@ operands (Sum' p left q right) = left ∷ right ∷ []
 operands (Difference' p left q right) = left ∷ right ∷ []
 operands (Product' p left q right) = left ∷ right ∷ []
 
--- the nodes of an expression, each behind its operands
+-- the nodes of an expression, each after its operands
 abbrev pub postorder : Expr → List Expr
 postorder (Number num) = Number num ∷ []
 postorder (Fraction num den) = Fraction num den ∷ []
 postorder (Atom basis label) = Atom basis label ∷ []
 postorder (Negation' p inner) = postorder inner ++ Negation' p inner ∷ []
 postorder (Sum' p left q right) = postorder left ++ (postorder right ++ Sum' p left q right ∷ [])
-postorder (Difference' p left q right) = postorder left ++ (postorder right ++ Difference' p left q right ∷ [])
-postorder (Product' p left q right) = postorder left ++ (postorder right ++ Product' p left q right ∷ [])
+postorder (Difference' p left q right) =
+    postorder left ++ (postorder right ++ Difference' p left q right ∷ [])
+postorder (Product' p left q right) =
+    postorder left ++ (postorder right ++ Product' p left q right ∷ [])
 
 -- each value is one of the expression at its place, and there are as many
 abbrev pub AreValues : {V : Type 0} → (Expr → V → Type 0) → List Expr → List V → Type 0
@@ -32,10 +35,13 @@ AreValues R (e ∷ exprs) (v ∷ values) = R e v × AreValues R exprs values
 
 -- the last values are those of the expressions, and these are below them
 abbrev pub EndsWith : {V : Type 0} → (Expr → V → Type 0) → List Expr → List V → List V → Type 0
-EndsWith {V} R exprs below values = (given : List V) × (values ≡ below ++ given) × AreValues R exprs given
+EndsWith {V} R exprs below values =
+    (given : List V) × (values ≡ below ++ given) × AreValues R exprs given
 
--- where each of the nodes in turn puts a value of it in the place of those of its operands, one value of the goal is left
+-- where each of the nodes in turn puts a value of it in the place of those of its operands, one
+-- value of the goal is left
 abbrev pub Evaluates : {V : Type 0} → (Expr → V → Type 0) → Expr → List Expr → List V → Type 0
 Evaluates {V} R goal [] values = EndsWith R (goal ∷ []) [] values
 Evaluates {V} R goal (node ∷ nodes) values =
-    (below : List V) × EndsWith R (operands node) below values × ((v : V) → R node v → Evaluates R goal nodes (below ++ v ∷ []))
+    (below : List V) × EndsWith R (operands node) below values
+    × ((v : V) → R node v → Evaluates R goal nodes (below ++ v ∷ []))

@@ -1,4 +1,5 @@
-//! The nodes of an expression in the order in which they are evaluated, so that a deep tree takes no stack.
+//! The nodes of an expression in the order in which they are evaluated,
+//! so that a deep tree takes no stack.
 ghost use Rattle.std.specs.Prelude.{◌≡◌, ◌<◌, ◌++◌, [], ◌∷◌, length, map, IfOk, OnOk};
 ghost use Rattle.expression_evaluation.specs.Postorder.{operands, postorder};
 
@@ -6,8 +7,8 @@ use calc_base::NoMemory;
 use expression_reading::Expr;
 use std::alloc::Global;
 
-/// The nodes of an expression, each behind its operands: the values of the operands, made in this order, are the last ones on a
-/// stack when their node is met.
+/// The nodes of an expression, each after its operands: the values of the operands, made in this
+/// order, are the last ones on a stack when their node is met.
 pub fn postorder(alloc: Global, tree: &Expr) -> Result<Vec<&Expr>, NoMemory>
     ensures { IfOk result (λ nodes. map (λ node. node.now) nodes.items ≡ postorder tree.now) }
 {
@@ -25,7 +26,8 @@ pub fn postorder(alloc: Global, tree: &Expr) -> Result<Vec<&Expr>, NoMemory>
 
 /// Puts the operands of a node at the end.
 fn push_operands<'a>(waiting: &mut Vec<&'a Expr>, node: &'a Expr) -> Result<(), NoMemory>
-    ensures { OnOk result (map (λ e. e.now) waiting.new.items ≡ map (λ e. e.now) waiting.old.items ++ operands node.now) }
+    ensures { OnOk result (map (λ e. e.now) waiting.new.items
+        ≡ map (λ e. e.now) waiting.old.items ++ operands node.now) }
 {
     match node {
         Expr::Number { .. } | Expr::Fraction { .. } | Expr::Atom { .. } => {}

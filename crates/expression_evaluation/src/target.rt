@@ -1,6 +1,7 @@
 //! What an expression is evaluated in.
 ghost use Rattle.std.specs.Prelude.{◌≡◌, ℕ, ◌<◌, ◌≤◌, ◌^◌, ◌≤ℤ◌, pos, nat_abs};
-ghost use Rattle.sym_model.specs.Expression.{Tree, number, fraction, atom, negation, sum, difference, product};
+ghost use Rattle.sym_model.specs.Expression.{Tree, number, fraction, atom, negation, sum};
+ghost use Rattle.sym_model.specs.Expression.{difference, product};
 ghost use Rattle.sym_model.specs.Partition.{size};
 ghost use Rattle.expression_reading.specs.Trees.{basis_of};
 ghost use Rattle.expression_evaluation.specs.Values.{IsMade, IsTaken, IsNoHeavier};
@@ -9,8 +10,9 @@ use calc_base::{Basis, SumFault};
 use partitions::Partition;
 use std::alloc::Global;
 
-/// Values of expressions, and how the value of a node is made of those of its operands. Each call says of its value which expression it
-/// stands for, and is refused as `Large` only where that expression is heavy.
+/// Values of expressions, and how the value of a node is made of those of its operands. Each call
+/// says of its value which expression it stands for,
+/// and is refused as `Large` only where that expression is heavy.
 pub trait Target {
     /// What an expression comes to.
     type Value: Drop;
@@ -28,13 +30,16 @@ pub trait Target {
     fn quotient(&self, alloc: Global, num: i128, den: u128) -> Result<Self::Value, SumFault>
         requires sign { pos 0 ≤ℤ num }
         requires den { (0 < den) × (den < 2 ^ 127) }
-        ensures number { den ≡ 1 → IsMade (stands self.now) (heavy self.now) (number (nat_abs num)) result }
-        ensures fraction { IsMade (stands self.now) (heavy self.now) (fraction (nat_abs num) den) result };
+        ensures number { den ≡ 1 → IsMade (stands self.now) (heavy self.now)
+            (number (nat_abs num)) result }
+        ensures fraction { IsMade (stands self.now) (heavy self.now)
+            (fraction (nat_abs num) den) result };
 
     /// A partition in a basis.
     fn atom(&self, alloc: Global, basis: Basis, label: &Partition) -> Result<Self::Value, SumFault>
         requires { size label.now ≤ limit }
-        ensures { IsMade (stands self.now) (heavy self.now) (atom (basis_of basis) label.now) result };
+        ensures { IsMade (stands self.now) (heavy self.now)
+            (atom (basis_of basis) label.now) result };
 
     /// The negation.
     fn negated(&self, alloc: Global, inner: Self::Value) -> Result<Self::Value, SumFault>
@@ -49,8 +54,10 @@ pub trait Target {
         left: Self::Value,
         right: Self::Value,
     ) -> Result<Self::Value, SumFault>
-        requires { (e f : Tree) × IsTaken limit (sum e f) × stands self.now e left × stands self.now f right }
-        ensures { (e f : Tree) → IsTaken limit (sum e f) → stands self.now e left → stands self.now f right
+        requires { (e f : Tree) × IsTaken limit (sum e f) × stands self.now e left
+            × stands self.now f right }
+        ensures { (e f : Tree) → IsTaken limit (sum e f) → stands self.now e left
+            → stands self.now f right
             → IsMade (stands self.now) (heavy self.now) (sum e f) result };
 
     /// The product.
@@ -60,12 +67,15 @@ pub trait Target {
         left: Self::Value,
         right: Self::Value,
     ) -> Result<Self::Value, SumFault>
-        requires { (e f : Tree) × IsTaken limit (product e f) × stands self.now e left × stands self.now f right }
-        ensures { (e f : Tree) → IsTaken limit (product e f) → stands self.now e left → stands self.now f right
+        requires { (e f : Tree) × IsTaken limit (product e f) × stands self.now e left
+            × stands self.now f right }
+        ensures { (e f : Tree) → IsTaken limit (product e f) → stands self.now e left
+            → stands self.now f right
             → IsMade (stands self.now) (heavy self.now) (product e f) result };
 
     /// The sum with a negation stands for the difference.
-    ghost differs: { (t : Self) (e f : Tree) (v : Self.Value) → stands t (sum e (negation f)) v → stands t (difference e f) v };
+    ghost differs: { (t : Self) (e f : Tree) (v : Self.Value) → stands t (sum e (negation f)) v
+        → stands t (difference e f) v };
 
     /// What weighs no less than what is heavy is heavy.
     ghost grows: { (t : Self) (e f : Tree) → IsNoHeavier e f → heavy t e → heavy t f };

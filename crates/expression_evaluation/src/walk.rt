@@ -19,8 +19,10 @@ fn subtracted<T: Target>(
     left: T::Value,
     right: T::Value,
 ) -> Result<T::Value, SumFault>
-    requires { (e f : Tree) × IsTaken T.limit (difference e f) × T.stands target.now e left × T.stands target.now f right }
-    ensures { (e f : Tree) → IsTaken T.limit (difference e f) → T.stands target.now e left → T.stands target.now f right
+    requires { (e f : Tree) × IsTaken T.limit (difference e f) × T.stands target.now e left
+        × T.stands target.now f right }
+    ensures { (e f : Tree) → IsTaken T.limit (difference e f) → T.stands target.now e left
+        → T.stands target.now f right
         → IsMade (T.stands target.now) (T.heavy target.now) (difference e f) result }
 {
     let turned = target.negated(alloc, right)?;
@@ -36,9 +38,12 @@ fn value_of<T: Target>(
 ) -> Result<T::Value, SumFault>
     requires plain { IsTrue (has_no_signs node.now) }
     requires low { degree (tree_of node.now) ≤ T.limit }
-    requires operands { (below : List T.Value) × EndsWith (λ (e : Expr). T.stands target.now (tree_of e)) (operands node.now) below values.old.items }
+    requires operands { (below : List T.Value)
+        × EndsWith (λ (e : Expr). T.stands target.now (tree_of e))
+        (operands node.now) below values.old.items }
     ensures value { IsMade (T.stands target.now) (T.heavy target.now) (tree_of node.now) result }
-    ensures taken { EndsWith (λ (e : Expr). T.stands target.now (tree_of e)) (operands node.now) values.new.items values.old.items }
+    ensures taken { EndsWith (λ (e : Expr). T.stands target.now (tree_of e))
+        (operands node.now) values.new.items values.old.items }
 {
     match node {
         Expr::Number { num } => target.quotient(alloc, *num, 1),
@@ -60,7 +65,8 @@ fn value_of<T: Target>(
     }
 }
 
-/// The value of an expression. A tree may be deep: its nodes are evaluated one after another, on a stack of values.
+/// The value of an expression. A tree may be deep: its nodes are evaluated one after another,
+/// on a stack of values.
 pub fn evaluate<T: Target>(alloc: Global, target: &T, tree: &Expr) -> Result<T::Value, SumFault>
     requires plain { IsTrue (has_no_signs tree.now) }
     requires low { degree (tree_of tree.now) ≤ T.limit }

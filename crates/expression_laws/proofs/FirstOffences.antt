@@ -10,17 +10,17 @@ never_itself o (inl h) = omega arith
 never_itself o (inr h) = omega arith
 
 -- numbers for the places and the kinds
-abbrev Before : ℕ → ℕ → ℕ → ℕ → Type 0
+abbrev pub Before : ℕ → ℕ → ℕ → ℕ → Type 0
 Before a b c d = (a < c) ⊎ ((a ≡ c) × (b < d))
 
-abbrev goes_first : ℕ → ℕ → ℕ → ℕ → Bool
+abbrev pub goes_first : ℕ → ℕ → ℕ → ℕ → Bool
 goes_first a b c d = nat_lt a c || ((a == c) && nat_le b d)
 
-before_first : (a b c d e f : ℕ) → Before a b c d → goes_first c d e f ≡ true → Before a b e f
+pub before_first : (a b c d e f : ℕ) → Before a b c d → goes_first c d e f ≡ true → Before a b e f
 before_first a b c d e f (inl h) k = grind (arith, nat_tests)
 before_first a b c d e f (inr h) k = grind (arith, nat_tests)
 
-first_before : (a b c d : ℕ) → Before a b c d → goes_first a b c d ≡ true
+pub first_before : (a b c d : ℕ) → Before a b c d → goes_first a b c d ≡ true
 first_before a b c d (inl h) = grind (arith, nat_tests)
 first_before a b c d (inr h) = grind (arith, nat_tests)
 

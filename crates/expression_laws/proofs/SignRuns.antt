@@ -1,7 +1,7 @@
 -- The minus signs and fractions of an expression, read from the left: the first one found is its first offence by a sign.
-use Rattle.std.proofs.Common.{◌≡◌, ℕ, suc, ◌+◌, ◌<◌, ◌≤◌, ◌==◌, nat_le, nat_lt, Bool, true, false, ◌&&◌, ◌||◌, cond, List, [], ◌∷◌, ◌++◌, length, length-append, append_assoc, append-nil, refl, sym, ap, ◌∙◌, arith, Option, Some, None}
+use Rattle.std.proofs.Common.{◌≡◌, ℕ, suc, ◌+◌, ◌<◌, ◌≤◌, ◌==◌, nat_le, Bool, true, false, ◌&&◌, ◌||◌, cond, List, [], ◌∷◌, ◌++◌, length, length-append, append_assoc, append-nil, refl, sym, ap, ◌∙◌, arith, Option, Some, None}
 use Rattle.std.specs.Prelude.{codes}
-use Rattle.std.proofs.lemmas.Bool.{le-leb}
+use Rattle.std.proofs.lemmas.Bool.{le-leb, lt-ltb}
 use Rattle.std.proofs.lemmas.Bool.Decides.{nat_tests}
 use Rattle.sym_model.specs.Expansion.{Basis, monomials, elementaries, completes, power_sums, schurs}
 use Rattle.sym_model.specs.NumberWord.{IsDigit, AreDigits, AreNumberWords, comma_separated}
@@ -52,11 +52,8 @@ first-between low high (o ∷ os) b = by (first_of os) (first-between low high o
     by None h = b.0
     by (Some p) h = chosen p (comes_first o p) h
 
-less : (a c : ℕ) → a < c → nat_lt a c ≡ true
-less a c h = grind (arith, nat_tests)
-
 less-first : (o p : WordOffence) → o.0 < p.0 → comes_first o p ≡ true
-less-first o p h = ap (λ b. b || ((o.0 == p.0) && nat_le (rank o.1) (rank p.1))) (less o.0 p.0 h)
+less-first o p h = ap (λ b. b || ((o.0 == p.0) && nat_le (rank o.1) (rank p.1))) (lt-ltb o.0 p.0 h)
 
 one_more : (m h : ℕ) (o : WordOffence) (a b : Option WordOffence) → o.0 < m → IsBetween m h b → earlier (Some o) (or_else a b) ≡ or_else (earlier (Some o) a) b
 one_more m h o None None l k = refl
@@ -213,7 +210,7 @@ quiet-run (x ∷ xs) at s rest h =
     by false false true h e r = cc
     by false false false h e r = r (at + 1)
 
--- the first sign of a phrase, and else the first one behind it
+-- the first sign of a phrase, and else the first one after it
 abbrev signed : ℕ → Phrase → List ℕ → Option WordOffence
 signed b e rest = or_else (first_of (sign_offences b e)) (first_sign (b + length (spelling e)) (b + length (spelling e)) rest)
 

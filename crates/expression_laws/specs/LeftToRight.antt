@@ -1,8 +1,11 @@
--- An expression read byte by byte from the left: what is kept of the bytes so far, and how the next one changes it.
--- A reader is proved by this; what an expression is, the grammar of Phrase says (this project's own).
-use Rattle.std.specs.Prelude.{ℕ, ◌==◌, nat_le, Bool, true, false, ◌&&◌, cond, List, [], ◌∷◌, ◌++◌, Option, Some, None, option_map}
+-- An expression read byte by byte from the left: what is kept of the bytes so far,
+-- and how the next one changes it.
+-- A reader is proved by this; what an expression is, the grammar of Phrase says.
+use Rattle.std.specs.Prelude.{ℕ, ◌==◌, nat_le, Bool, true, false, ◌&&◌, cond, List, [], ◌∷◌, ◌++◌}
+use Rattle.std.specs.Prelude.{Option, Some, None, option_map}
 use Rattle.sym_model.specs.Expansion.{Basis, monomials, elementaries, completes, power_sums, schurs}
-use Rattle.sym_model.specs.Phrase.{Operator, plus, minus, times, Phrase, numeral, ratio, label, brackets, minus_first, operation}
+use Rattle.sym_model.specs.Phrase.{Operator, plus, minus, times, Phrase, numeral, ratio, label}
+use Rattle.sym_model.specs.Phrase.{brackets, minus_first, operation}
 
 -- what a byte is to the grammar
 pub data Symbol : Type 0 where
@@ -102,7 +105,8 @@ abbrev pub join : {A N : Type 0} → Makes A N → BeforeTerm A → BeforeFactor
 join m t f x = join_term m t (join_factor m f x)
 
 -- a byte after a whole factor
-abbrev pub after_factor : {A N : Type 0} → Makes A N → A → BeforeTerm A → BeforeFactor A → Opened A → Symbol → State A N
+abbrev pub after_factor : {A N : Type 0} → Makes A N → A → BeforeTerm A → BeforeFactor A → Opened A
+    → Symbol → State A N
 after_factor m x t f o star = at awaited t (multiplying (join_factor m f x)) o
 after_factor m x t f o plus_sign = at awaited (adding (join m t f x)) no_factor o
 after_factor m x t f o minus_sign = at awaited (subtracting (join m t f x)) no_factor o
@@ -110,7 +114,8 @@ after_factor m x t f (inside o t' f') closes = at (closed (m.brackets_of (join m
 after_factor m x t f o _ = dead
 
 -- a byte where a factor is awaited
-abbrev pub before_factor : {A N : Type 0} → Makes A N → BeforeTerm A → BeforeFactor A → Opened A → Symbol → State A N
+abbrev pub before_factor : {A N : Type 0} → Makes A N → BeforeTerm A → BeforeFactor A → Opened A
+    → Symbol → State A N
 before_factor m t f o (digit byte) = at (in_number (m.begin byte)) t f o
 before_factor m t f o (letter_of basis) = at (after_letter basis) t f o
 before_factor m t f o opens = at awaited no_term no_factor (inside o t f)
@@ -118,7 +123,8 @@ before_factor m no_term no_factor o minus_sign = at awaited negating no_factor o
 before_factor m t f o _ = dead
 
 -- a byte in an atom's list where a number may begin
-abbrev pub in_list_step : {A N : Type 0} → Makes A N → Basis → List N → BeforeTerm A → BeforeFactor A → Opened A → Symbol → State A N
+abbrev pub in_list_step : {A N : Type 0} → Makes A N → Basis → List N → BeforeTerm A
+    → BeforeFactor A → Opened A → Symbol → State A N
 in_list_step m basis words t f o (digit byte) = at (in_entry basis words (m.begin byte)) t f o
 in_list_step m basis [] t f o closes_list = at (closed (m.label_of basis [])) t f o
 in_list_step m basis words t f o _ = dead
@@ -137,9 +143,11 @@ step m (at (in_denominator n k) t f o) s = after_factor m (m.ratio_of n k) t f o
 step m (at (after_letter basis) t f o) opens_list = at (in_list basis []) t f o
 step m (at (after_letter basis) t f o) s = dead
 step m (at (in_list basis words) t f o) s = in_list_step m basis words t f o s
-step m (at (in_entry basis words n) t f o) (digit byte) = at (in_entry basis words (m.extend n byte)) t f o
+step m (at (in_entry basis words n) t f o) (digit byte) =
+    at (in_entry basis words (m.extend n byte)) t f o
 step m (at (in_entry basis words n) t f o) comma = at (in_list basis (words ++ n ∷ [])) t f o
-step m (at (in_entry basis words n) t f o) closes_list = at (closed (m.label_of basis (words ++ n ∷ []))) t f o
+step m (at (in_entry basis words n) t f o) closes_list =
+    at (closed (m.label_of basis (words ++ n ∷ []))) t f o
 step m (at (in_entry basis words n) t f o) s = dead
 step m (at (closed x) t f o) s = after_factor m x t f o s
 

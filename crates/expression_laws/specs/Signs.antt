@@ -1,10 +1,11 @@
--- The first minus or fraction of an expression, found byte by byte from the left (this project's own).
+-- The first minus or fraction of an expression, found byte by byte from the left.
 use Rattle.std.specs.Prelude.{ℕ, ◌+◌, ◌==◌, cond, List, [], ◌∷◌, Option, Some, None}
 use Rattle.sym_model.specs.ExpressionOffence.{WordOffence, shape}
 use Rattle.sym_model.specs.Form.{is_digit}
 
--- the first minus (the byte 45) or, at its first byte, the first fraction (it has the byte 47) in bytes the first of which is at
--- the byte `at`, where the digits that end before it begin at the byte `start`
+-- the first minus (the byte 45) or, at its first byte, the first fraction (it has the byte 47) in
+-- bytes the first of which is at the byte `at`,
+-- where the digits that end before it begin at the byte `start`
 abbrev pub first_sign : ℕ → ℕ → List ℕ → Option WordOffence
 first_sign at start [] = None
 first_sign at start (byte ∷ bytes) =

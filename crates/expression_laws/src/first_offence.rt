@@ -4,11 +4,13 @@ ghost use Rattle.std.specs.Prelude.{◌≡◌, ◌↔◌, List, []};
 ghost use Rattle.sym_model.specs.Sum.{Among};
 ghost use Rattle.sym_model.specs.ExpressionOffence.{WordOffence, ComesBefore, first_of};
 
-/// The first offence is one of the offences, and none of them comes before it; there is none exactly where there is no
-/// offence.
+/// The first offence is one of the offences, and none of them comes before it; there is none
+/// exactly where there is no offence.
 pub fn first_offence_law()
-    ensures is_one { (offences : List WordOffence) (first : WordOffence) → first_of offences ≡ Some first → Among first offences }
-    ensures none_before { (offences : List WordOffence) (first other : WordOffence) → first_of offences ≡ Some first
+    ensures is_one { (offences : List WordOffence) (first : WordOffence)
+        → first_of offences ≡ Some first → Among first offences }
+    ensures none_before { (offences : List WordOffence) (first other : WordOffence)
+        → first_of offences ≡ Some first
         → Among other offences → ¬ ComesBefore other first }
     ensures none { (offences : List WordOffence) → (first_of offences ≡ None) ↔ (offences ≡ []) }
 {}

@@ -4,7 +4,8 @@ use Rattle.sym_model.specs.Partition.{Falls, size, rows, without_last_zeros, in_
 use Rattle.sym_model.proofs.Parts.{length-without_last_zeros, size-in_front}
 use Rattle.expression_laws.specs.LeftToRight.{Opened, outermost, inside, BeforeTerm, no_term, BeforeFactor, no_factor, State, at, awaited, closed, opens, closes, join, Piece, found, after_factor, before_factor}
 use Rattle.expression_reading.specs.declared.builder.Frame.{Frame}
-use Rattle.expression_reading.specs.Building.{Built, builds, terms_in, factors_in, opened_from, opened_in, AreAtMost, AreEntries}
+use Rattle.expression_reading.specs.Building.{Built, builds, terms_in, factors_in, opened_from, opened_in, AreEntries}
+use Rattle.sym_model.specs.Bounded.{AreAtMost}
 
 -- one parenthesis more
 pub opened-snoc : (o : Opened Built) (fs : List Frame) (f : Frame) → opened_from o (fs ++ f ∷ []) ≡ inside (opened_from o fs) (terms_in f.terms) (factors_in f.factors)

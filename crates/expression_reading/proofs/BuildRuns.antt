@@ -4,7 +4,7 @@ use Rattle.std.specs.Prelude.{option_to_list}
 use Rattle.std.proofs.lemmas.List.{map-append, take-append-drop}
 use Rattle.std.proofs.lemmas.Bool.Decides.{nat_tests}
 use Rattle.sym_model.specs.Expansion.{Basis}
-use Rattle.sym_model.specs.Partition.{Falls}
+use Rattle.sym_model.specs.Partition.{Falls, FallsFrom}
 use Rattle.sym_model.specs.Expression.{number, fraction}
 use Rattle.sym_model.specs.PrintedBlock.{decimal_value}
 use Rattle.sym_model.specs.Phrase.{Phrase, numeral, ratio, tree}
@@ -15,10 +15,11 @@ use Rattle.expression_laws.proofs.PhrasePrefixes.{commas, read-dead, symbol-code
 use Rattle.expression_laws.proofs.PhraseMarks.{depth_of, term_begin, factor_begin, piece_begin, opened_marks, term_marks, factor_marks, piece_marks, state_marks, new_mark, last_value, marks-step, marks-found, MarksAre, entry_marks-next}
 use Rattle.expression_reading.specs.Offences.{first_kind}
 use Rattle.expression_reading.specs.ScanSteps.{capped, IsSoundDigit}
-use Rattle.expression_reading.specs.Building.{Built, builds, AreAtMost, AreEntries, IsFine, AreMild, IsBuildable}
+use Rattle.expression_reading.specs.Building.{Built, builds, AreEntries, IsFine, AreMild, IsBuildable}
 use Rattle.expression_reading.proofs.ScanFacts.{IsByte, value-next, value-first}
 use Rattle.expression_reading.proofs.ScanRuns.{read-more, sound-digit, byte-symbol, at-end}
 use Rattle.expression_reading.proofs.FirstOffences.{small as not_wide}
+use Rattle.sym_model.specs.Bounded.{AreAtMost}
 
 -- the trees of what has been read
 abbrev pub tree_in : Phrase → Built
@@ -127,16 +128,11 @@ mild-piece p t f o h =
     mild-right (factor_marks (depth_of o) (factor_begin t o) f) _
     (mild-right (term_marks (depth_of o) (term_begin o) t) _ (mild-right (opened_marks o) _ h))
 
--- the numbers of an atom's list whose marks are mild
-abbrev FallsFrom : Option ℕ → List ℕ → Type 0
-FallsFrom None ns = Falls ns
-FallsFrom (Some b) ns = Falls (b ∷ ns)
-
-falls-next : (before : Option ℕ) (n : ℕ) (ns : List ℕ) → rises before n ≡ false → Falls (n ∷ ns) → FallsFrom before (n ∷ ns)
+pub falls-next : (before : Option ℕ) (n : ℕ) (ns : List ℕ) → rises before n ≡ false → Falls (n ∷ ns) → FallsFrom before (n ∷ ns)
 falls-next None n ns h f = f
 falls-next (Some b) n ns h f = let le : n ≤ b = grind (arith, nat_tests) in (le, f)
 
-falls-none : (before : Option ℕ) → FallsFrom before []
+pub falls-none : (before : Option ℕ) → FallsFrom before []
 falls-none None = tt
 falls-none (Some b) = tt
 

@@ -1,8 +1,7 @@
 -- The first of the offences at marks in a row, and numbers that are kept only up to 2^127.
-use Rattle.std.proofs.Common.{◌≡◌, ℕ, ◌+◌, ◌*◌, ◌^◌, ◌<◌, ◌≤◌, ◌==◌, nat_le, nat_lt, Bool, true, false, ◌&&◌, ◌||◌, cond, List, [], ◌∷◌, ◌++◌, refl, sym, ap, ◌∙◌, append_assoc, arith, Option, Some, None, option_map}
+use Rattle.std.proofs.Common.{◌≡◌, ℕ, ◌+◌, ◌*◌, ◌^◌, ◌<◌, ◌≤◌, ◌==◌, nat_le, nat_lt, Bool, true, false, ◌&&◌, ◌||◌, cond, List, [], ◌∷◌, ◌++◌, refl, sym, ap, ◌∙◌, append_assoc, arith, Option, Some, None, option_map, flat_map}
 use Rattle.std.proofs.Math.Bool.{or_assoc}
 use Rattle.std.proofs.lemmas.Bool.Decides.{nat_tests}
-use Rattle.sym_model.specs.Sum.{each}
 use Rattle.sym_model.specs.ExpressionOffence.{OffenceKind, literal, range, shape, Mark, value, denominator, entry, opening, is_wide, rises, is_offence, WordOffence, offences_at, rank, comes_first, earlier, first_of}
 use Rattle.sym_model.proofs.Numbers.{nat_le-trans, not_le-trans}
 use Rattle.expression_reading.specs.Offences.{first_kind}
@@ -64,13 +63,13 @@ first_of-append [] ps = refl
 first_of-append (o ∷ os) ps =
     ap (earlier (Some o)) (first_of-append os ps) ∙ sym (earlier-assoc (Some o) (first_of os) (first_of ps))
 
-each-append : (ms ns : List (ℕ × Mark)) → each offences_at (ms ++ ns) ≡ each offences_at ms ++ each offences_at ns
+each-append : (ms ns : List (ℕ × Mark)) → flat_map offences_at (ms ++ ns) ≡ flat_map offences_at ms ++ flat_map offences_at ns
 each-append [] ns = refl
 each-append (m ∷ ms) ns =
-    ap (λ os. offences_at m ++ os) (each-append ms ns) ∙ sym (append_assoc (offences_at m) (each offences_at ms) (each offences_at ns))
+    ap (λ os. offences_at m ++ os) (each-append ms ns) ∙ sym (append_assoc (offences_at m) (flat_map offences_at ms) (flat_map offences_at ns))
 
-pub first-append : (ms ns : List (ℕ × Mark)) → first_of (each offences_at (ms ++ ns)) ≡ earlier (first_of (each offences_at ms)) (first_of (each offences_at ns))
-first-append ms ns = ap first_of (each-append ms ns) ∙ first_of-append (each offences_at ms) (each offences_at ns)
+pub first-append : (ms ns : List (ℕ × Mark)) → first_of (flat_map offences_at (ms ++ ns)) ≡ earlier (first_of (flat_map offences_at ms)) (first_of (flat_map offences_at ns))
+first-append ms ns = ap first_of (each-append ms ns) ∙ first_of-append (flat_map offences_at ms) (flat_map offences_at ns)
 
 same_byte : (b : ℕ) (k l : OffenceKind) → rank k ≤ rank l → comes_first (b, k) (b, l) ≡ true
 same_byte b k l h = grind (arith, nat_tests)
@@ -89,7 +88,7 @@ first_at_mark b true true true =
     ap (λ x. earlier (Some (b, literal)) (cond x (Some (b, range)) (Some (b, shape)))) (same_byte b range shape (omega arith))
     ∙ ap (λ x. cond x (Some (b, literal)) (Some (b, range))) (same_byte b literal range (omega arith))
 
-pub first-one : (m : ℕ × Mark) → first_of (each offences_at (m ∷ [])) ≡ first_at m
+pub first-one : (m : ℕ × Mark) → first_of (flat_map offences_at (m ∷ [])) ≡ first_at m
 first-one m = first_at_mark m.0 (is_offence m.1 literal) (is_offence m.1 range) (is_offence m.1 shape)
 
 -- a mark whose numbers are kept up to 2^127

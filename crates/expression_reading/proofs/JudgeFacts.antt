@@ -1,10 +1,9 @@
 -- What the offences of an expression's word come to.
-use Rattle.std.proofs.Common.{◌≡◌, ℕ, ◌+◌, ◌<◌, ◌≤◌, nat_lt, max, Bool, true, false, ◌||◌, cond, List, [], ◌∷◌, ◌++◌, length, length-append, map, refl, sym, ap, ◌∙◌, subst, arith, Option, Some, None, option_map, ◌⊎◌, inl, inr, ⊎_elim}
+use Rattle.std.proofs.Common.{◌≡◌, ℕ, ◌+◌, ◌<◌, ◌≤◌, nat_lt, max, Bool, true, false, ◌||◌, cond, List, [], ◌∷◌, ◌++◌, length, length-append, map, refl, sym, ap, ◌∙◌, subst, arith, Option, Some, None, option_map, ◌⊎◌, inl, inr, ⊎_elim, flat_map}
 use Rattle.std.proofs.lemmas.Bool.Decides.{nat_tests}
-use Rattle.std.proofs.lemmas.Bool.{cases_lt, or_cases}
+use Rattle.std.proofs.lemmas.Bool.{cases_lt, or_cases, lt-ltb}
 use Rattle.std.specs.Prelude.{codes, Result, Ok, Err, IfOk}
 use Rattle.std.specs.Bool.{then_some}
-use Rattle.sym_model.specs.Sum.{each}
 use Rattle.sym_model.specs.Expansion.{Basis}
 use Rattle.sym_model.specs.Partition.{size, without_last_zeros}
 use Rattle.sym_model.specs.Expression.{Tree, degree, nesting}
@@ -57,12 +56,12 @@ or_right : (a b : Bool) → (a || b) ≡ false → b ≡ false
 or_right true b h = cc
 or_right false b h = h
 
-pub mild-from : (ms : List (ℕ × Mark)) → first_of (each offences_at ms) ≡ None → any_high ms ≡ false → AreMild ms
+pub mild-from : (ms : List (ℕ × Mark)) → first_of (flat_map offences_at ms) ≡ None → any_high ms ≡ false → AreMild ms
 mild-from [] h k = tt
 mild-from (m ∷ ms) h k =
     let both = sym (first-append (m ∷ []) ms) ∙ h in (
       (kind_none m.0 (first_kind m.1) (sym (first-one m) ∙ none_left _ _ both), or_left (is_high m.1) (any_high ms) k),
-      mild-from ms (none_right (first_of (each offences_at (m ∷ []))) _ both) (or_right (is_high m.1) (any_high ms) k),
+      mild-from ms (none_right (first_of (flat_map offences_at (m ∷ []))) _ both) (or_right (is_high m.1) (any_high ms) k),
     )
 
 above : (n : ℕ) → nat_lt 20 n ≡ true → 20 < n
@@ -194,13 +193,13 @@ some_at : (b : ℕ) (k : Option OffenceKind) (o : WordOffence) → option_map {U
 some_at b None o h = cc
 some_at b (Some k) o h = let same : ◌≡◌ {A = WordOffence} (b, k) o = cc h in sym (ap (λ (x : WordOffence). x.0) same)
 
-first-below : (n : ℕ) (ms : List (ℕ × Mark)) (o : WordOffence) → AreBelow n ms → first_of (each offences_at ms) ≡ Some o → o.0 < n
+first-below : (n : ℕ) (ms : List (ℕ × Mark)) (o : WordOffence) → AreBelow n ms → first_of (flat_map offences_at ms) ≡ Some o → o.0 < n
 first-below n [] o h k = cc
 first-below n (m ∷ ms) o h k =
     ⊎_elim
     (λ here. omega (arith, h.0, some_at m.0 (first_kind m.1) o (sym (first-one m) ∙ here)))
     (λ later. first-below n ms o h.1 later)
-    (first_is (first_of (each offences_at (m ∷ []))) (first_of (each offences_at ms)) o (sym (first-append (m ∷ []) ms) ∙ k))
+    (first_is (first_of (flat_map offences_at (m ∷ []))) (first_of (flat_map offences_at ms)) o (sym (first-append (m ∷ []) ms) ∙ k))
 
 -- the offence of too many bytes
 abbrev pub long_offence : ℕ → Option WordOffence
@@ -213,7 +212,7 @@ first_of_whole false true x y = refl
 first_of_whole false false x y = refl
 
 abbrev pub first_before_degree : Phrase → Option WordOffence
-first_before_degree e = earlier (first_of (each offences_at (marks 0 0 e))) (long_offence (length (spelling e)))
+first_before_degree e = earlier (first_of (flat_map offences_at (marks 0 0 e))) (long_offence (length (spelling e)))
 
 -- the offence of too high a degree
 abbrev high_offence : ℕ → Phrase → Option WordOffence
@@ -221,10 +220,10 @@ high_offence limit e = cond (nat_lt limit (degree (tree e))) (Some (length (spel
 
 all_offences : (limit : ℕ) (e : Phrase) → first_of (offences_within limit e) ≡ earlier (first_before_degree e) (high_offence limit e)
 all_offences limit e =
-    first_of-append (each offences_at (marks 0 0 e)) (offences_of_whole_within limit e)
-    ∙ ap (earlier (first_of (each offences_at (marks 0 0 e))))
+    first_of-append (flat_map offences_at (marks 0 0 e)) (offences_of_whole_within limit e)
+    ∙ ap (earlier (first_of (flat_map offences_at (marks 0 0 e))))
     (first_of_whole (nat_lt 4096 (length (spelling e))) (nat_lt limit (degree (tree e))) (4096, range) (length (spelling e), range))
-    ∙ sym (earlier-assoc (first_of (each offences_at (marks 0 0 e))) (long_offence (length (spelling e))) _)
+    ∙ sym (earlier-assoc (first_of (flat_map offences_at (marks 0 0 e))) (long_offence (length (spelling e))) _)
 
 long_is : (n : ℕ) (o : WordOffence) (b : Bool) → nat_lt 4096 n ≡ b → cond b (Some (4096, range)) None ≡ Some o → o.0 < n
 long_is n o true h k =
@@ -247,20 +246,17 @@ below-end e o a h =
     ⊎_elim
     (λ mark. first-below n (marks 0 0 e) o (below-more (0 + n) n (marks 0 0 e) (omega arith) (marks-below expression 0 0 e a)) mark)
     (λ long. long_is n o (nat_lt 4096 n) refl long)
-    (first_is (first_of (each offences_at (marks 0 0 e))) (long_offence n) o h)
+    (first_is (first_of (flat_map offences_at (marks 0 0 e))) (long_offence n) o h)
 
 pub judge-some : (limit : ℕ) (e : Phrase) (o : WordOffence) → Is expression e → first_before_degree e ≡ Some o → first_of (offences_within limit e) ≡ Some o
 judge-some limit e o a h =
     all_offences limit e ∙ ap (λ f. earlier f (high_offence limit e)) h
     ∙ first_stays o (length (spelling e)) (nat_lt limit (degree (tree e))) (below-end e o a h)
 
-high_test : (l d : ℕ) → l < d → nat_lt l d ≡ true
-high_test l d h = grind (arith, nat_tests)
-
 pub judge-high : (limit : ℕ) (e : Phrase) → first_before_degree e ≡ None → limit < degree (tree e) → first_of (offences_within limit e) ≡ Some (length (spelling e), range)
 judge-high limit e h k =
     all_offences limit e ∙ ap (λ f. earlier f (high_offence limit e)) h
-    ∙ ap (λ b. cond b (Some (length (spelling e), range)) None) (high_test limit (degree (tree e)) k)
+    ∙ ap (λ b. cond b (Some (length (spelling e), range)) None) (lt-ltb limit (degree (tree e)) k)
 
 pub judge-none : (limit : ℕ) (e : Phrase) → first_before_degree e ≡ None → degree (tree e) ≤ limit → first_of (offences_within limit e) ≡ None
 judge-none limit e h k =
@@ -276,7 +272,7 @@ none-low limit e h = by (nat_lt limit (degree (tree e))) refl (none_right (first
     by true k n = cc
     by false k n = grind (arith, nat_tests)
 
-pub no_mark-offence : (e : Phrase) → first_before_degree e ≡ None → first_of (each offences_at (marks 0 0 e)) ≡ None
+pub no_mark-offence : (e : Phrase) → first_before_degree e ≡ None → first_of (flat_map offences_at (marks 0 0 e)) ≡ None
 no_mark-offence e h = none_left _ _ h
 
 long_none : (n : ℕ) (b : Bool) → nat_lt 4096 n ≡ b → ◌≡◌ {A = Option WordOffence} (cond b (Some (4096, range)) None) None → n ≤ 4096
@@ -284,7 +280,7 @@ long_none n true h k = cc
 long_none n false h k = grind (arith, nat_tests)
 
 pub short : (e : Phrase) → first_before_degree e ≡ None → length (spelling e) ≤ 4096
-short e h = long_none (length (spelling e)) (nat_lt 4096 (length (spelling e))) refl (none_right (first_of (each offences_at (marks 0 0 e))) _ h)
+short e h = long_none (length (spelling e)) (nat_lt 4096 (length (spelling e))) refl (none_right (first_of (flat_map offences_at (marks 0 0 e))) _ h)
 
 -- the first offence that the reader keeps, before the degree
 long_kept : (b : Bool) → option_map offence_in (then_some b (record { byte = 4096; kind = Range })) ≡ cond b (Some (4096, range)) None
@@ -292,13 +288,13 @@ long_kept true = refl
 long_kept false = refl
 
 pub kept-first : (w : List ℕ) (e : Phrase) (s : Scan) (l r : Option ReaderOffence) → SpellsPhrase w e
-    → option_map offence_in s.first ≡ first_of (each offences_at (marks 0 0 e))
+    → option_map offence_in s.first ≡ first_of (flat_map offences_at (marks 0 0 e))
     → l ≡ then_some (nat_lt 4096 (length w)) (record { byte = 4096; kind = Range })
     → option_map offence_in r ≡ earlier (option_map offence_in s.first) (option_map offence_in l)
     → option_map offence_in r ≡ first_before_degree e
 kept-first w e s l r h f k m =
     m ∙ ap (λ x. earlier x (option_map offence_in l)) f
-    ∙ ap (earlier (first_of (each offences_at (marks 0 0 e))))
+    ∙ ap (earlier (first_of (flat_map offences_at (marks 0 0 e))))
     (ap (option_map offence_in) k ∙ long_kept (nat_lt 4096 (length w)) ∙ ap (λ v. long_offence (length v)) h.spelled)
 
 pub fault-judged : (limit : ℕ) (w : List ℕ) (e : Phrase) (o : WordOffence) (f : ExpressionFault) → SpellsPhrase w e → first_of (offences_within limit e) ≡ Some o → IsFaultOf o f → IsReadBy (offences_within limit) w (Err f)

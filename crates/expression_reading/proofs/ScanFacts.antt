@@ -1,10 +1,9 @@
 -- What the reader keeps of a word is what the phrase that has been read in part says.
-use Rattle.std.proofs.Common.{◌≡◌, ℕ, ◌+◌, ◌-◌, ◌*◌, ◌<◌, ◌==◌, true, ◌||◌, cond, List, [], ◌∷◌, ◌++◌, length, length-append, refl, sym, ap, ◌∙◌, subst, add-one, arith, Option, Some, None, option_map}
+use Rattle.std.proofs.Common.{◌≡◌, ℕ, ◌+◌, ◌-◌, ◌*◌, ◌<◌, ◌==◌, true, ◌||◌, cond, List, [], ◌∷◌, ◌++◌, length, length-append, refl, sym, ap, ◌∙◌, subst, add-one, arith, Option, Some, None, option_map, flat_map}
 use Rattle.std.specs.Prelude.{option_to_list}
 use Rattle.std.proofs.lemmas.List.{append-nil}
 use Rattle.std.proofs.Math.Dec.{eqb-suc-zero}
 use Rattle.std.proofs.Math.Bool.{or-false}
-use Rattle.sym_model.specs.Sum.{each}
 use Rattle.sym_model.specs.Expansion.{Basis, monomials, elementaries, completes, power_sums, schurs}
 use Rattle.sym_model.specs.PrintedBlock.{decimal_value, value_from}
 use Rattle.sym_model.specs.Phrase.{Phrase, numeral, ratio, letter}
@@ -235,13 +234,13 @@ same-mark _ p t f o h = piece-mark p t f o
 
 -- what is found at marks
 abbrev pub Finds : Scan → List (ℕ × PlainMark) → Type 0
-Finds s ms = (option_map offence_in s.first ≡ first_of (each offences_at ms)) × (s.is_high ≡ any_high ms)
+Finds s ms = (option_map offence_in s.first ≡ first_of (flat_map offences_at ms)) × (s.is_high ≡ any_high ms)
 
 some-parts : (k : ℕ × Mark) (m : ℕ × PlainMark) → SameMark (Some k) (Some m) → (k.0 ≡ m.0) × (mark_in k.1 ≡ capped_mark m.1)
 some-parts k m e =
     let same : plain k ≡ cap m = cc e in (ap (λ (x : ℕ × PlainMark). x.0) same, ap (λ (x : ℕ × PlainMark). x.1) same)
 
-first-same : (k : ℕ × Mark) (m : ℕ × PlainMark) → SameMark (Some k) (Some m) → first_at (k.0, mark_in k.1) ≡ first_of (each offences_at (m ∷ []))
+first-same : (k : ℕ × Mark) (m : ℕ × PlainMark) → SameMark (Some k) (Some m) → first_at (k.0, mark_in k.1) ≡ first_of (flat_map offences_at (m ∷ []))
 first-same k m e =
     let parts = some-parts k m e in
     ap (λ n. first_at (n, mark_in k.1)) parts.0 ∙ ap (λ x. first_at (m.0, x)) parts.1
@@ -256,7 +255,7 @@ finds-next s u (Some x) None ms e h k = cc
 finds-next s u (Some x) (Some m) ms e h k =
     let parts = some-parts x m e in (
       k.0 ∙ ap (λ o. earlier o (first_at (x.0, mark_in x.1))) h.0
-          ∙ ap (earlier (first_of (each offences_at ms))) (first-same x m e) ∙ sym (first-append ms (m ∷ [])),
+          ∙ ap (earlier (first_of (flat_map offences_at ms))) (first-same x m e) ∙ sym (first-append ms (m ∷ [])),
       k.1 ∙ ap (λ b. b || is_high (mark_in x.1)) h.1
           ∙ ap (λ y. any_high ms || is_high y) parts.1 ∙ ap (λ b. any_high ms || b) (high-capped m.1 ∙ sym (or-false (is_high m.1)))
           ∙ sym (any_high-append ms (m ∷ [])),

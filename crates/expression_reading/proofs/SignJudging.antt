@@ -1,4 +1,4 @@
--- What comes of a word with a minus or a fraction, and of one without.
+-- The outcome of a word with a minus or a fraction, and of one without.
 use Rattle.std.proofs.Common.{◌≡◌, ℕ, suc, ◌<◌, ◌≤◌, ◌==◌, nat_le, nat_lt, Bool, true, false, ◌&&◌, ◌||◌, cond, List, ◌∷◌, length, drop, get_or, drop-cons, refl, sym, ap, ◌∙◌, arith, Option, Some, None, option_map, Result, Ok, Err, ⊎_elim}
 use Rattle.std.proofs.lemmas.Bool.Decides.{nat_tests}
 use Rattle.std.proofs.Math.ListN.{drop_of_length-le}

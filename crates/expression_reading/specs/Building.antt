@@ -1,15 +1,25 @@
--- What the reader builds of an expression: its tree, and whether no number in it has a sign (this project's own).
-use Rattle.std.specs.Prelude.{◌≡◌, ℕ, ◌+◌, ◌-◌, ◌*◌, ◌^◌, ◌<◌, ◌≤◌, nat_lt, Bool, true, false, ◌&&◌, List, [], ◌∷◌, ◌++◌, length, Option, Some, None}
+-- What the reader builds of an expression: its tree, and whether no number in it has a sign.
+use Rattle.std.specs.Prelude.{◌≡◌, ℕ, ◌+◌, ◌-◌, ◌*◌, ◌^◌, ◌<◌, ◌≤◌, nat_lt, Bool, true, false, ◌&&◌}
+use Rattle.std.specs.Prelude.{List, [], ◌∷◌, ◌++◌, length, Option, Some, None}
 use Rattle.sym_model.specs.Partition.{Falls, without_last_zeros}
 use Rattle.sym_model.specs.Expression.{Tree, number, fraction, atom, negation}
-use Rattle.expression_laws.specs.LeftToRight.{Symbol, digit, BeforeTerm, no_term, negating, adding, subtracting, BeforeFactor, no_factor, multiplying, Opened, outermost, inside, Piece, awaited, in_number, after_slash, in_denominator, after_letter, in_list, in_entry, closed, State, at, dead, Makes}
+use Rattle.expression_laws.specs.LeftToRight.{Symbol, digit, BeforeTerm, no_term, negating, adding}
+use Rattle.expression_laws.specs.LeftToRight.{subtracting, BeforeFactor, no_factor, multiplying}
+use Rattle.expression_laws.specs.LeftToRight.{Opened, outermost, inside, Piece, awaited, in_number}
+use Rattle.expression_laws.specs.LeftToRight.{after_slash, in_denominator, after_letter, in_list}
+use Rattle.expression_laws.specs.LeftToRight.{in_entry, closed, State, at, dead, Makes}
 use Rattle.expression_reading.specs.declared.expr.Expr.{Expr}
 use Rattle.expression_reading.specs.declared.builder.LeadingTerms.{LeadingTerms}
-use Rattle.expression_reading.specs.declared.builder.LeadingTerms.TheVariants.{NoTerm, Negating, Adding, Subtracting}
+use Rattle.expression_reading.specs.declared.builder.LeadingTerms.TheVariants.{NoTerm, Negating}
+use Rattle.expression_reading.specs.declared.builder.LeadingTerms.TheVariants.{Adding, Subtracting}
 use Rattle.expression_reading.specs.declared.builder.LeadingFactors.{LeadingFactors}
-use Rattle.expression_reading.specs.declared.builder.LeadingFactors.TheVariants.{NoFactor, Multiplying}
+use Rattle.expression_reading.specs.declared.builder.LeadingFactors.TheVariants.{NoFactor}
+use Rattle.expression_reading.specs.declared.builder.LeadingFactors.TheVariants.{Multiplying}
 use Rattle.expression_reading.specs.declared.builder.Part.{Part}
-use Rattle.expression_reading.specs.declared.builder.Part.TheVariants.{Awaited, Number, Slash, Denominator, Letter, List as Listing, Entry, Closed}
+use Rattle.expression_reading.specs.declared.builder.Part.TheVariants.{Awaited, Number, Slash}
+use Rattle.expression_reading.specs.declared.builder.Part.TheVariants.{Denominator, Letter}
+use Rattle.expression_reading.specs.declared.builder.Part.TheVariants.{List as Listing, Entry}
+use Rattle.expression_reading.specs.declared.builder.Part.TheVariants.{Closed}
 use Rattle.expression_reading.specs.declared.builder.Frame.{Frame}
 use Rattle.expression_reading.specs.declared.builder.Builder.{Builder}
 use Rattle.expression_reading.specs.Trees.{basis_of, tree_of, has_no_signs}
@@ -17,6 +27,7 @@ use Rattle.expression_reading.specs.ScanSteps.{capped, is_high}
 use Rattle.expression_reading.specs.Offences.{first_kind}
 use Rattle.sym_model.specs.Phrase.{Phrase, SpellsPhrase, join_trees}
 use Rattle.sym_model.specs.ExpressionOffence.{Mark, marks}
+use Rattle.sym_model.specs.Bounded.{AreAtMost}
 
 -- a tree, and whether it has no sign
 abbrev pub Built : Type 0
@@ -51,11 +62,6 @@ abbrev pub factors_in : LeadingFactors → BeforeFactor Built
 factors_in NoFactor = no_factor
 factors_in (Multiplying e) = multiplying (built_of e.value)
 
--- each number is at most the bound
-abbrev pub AreAtMost : ℕ → List ℕ → Type 0
-AreAtMost bound [] = Unit {0}
-AreAtMost bound (n ∷ ns) = (n ≤ bound) × AreAtMost bound ns
-
 -- the numbers of an atom's list that has no offence, within the greatest degree
 pub record AreEntries (numbers : List ℕ) : Type 0 where
   pub falls : Falls numbers
@@ -83,7 +89,9 @@ opened_in fs = opened_from outermost fs
 
 -- what has been built
 abbrev pub state_of : Builder → State Built ℕ
-state_of b = at (part_in b.part) (terms_in b.frame.terms) (factors_in b.frame.factors) (opened_in b.opened.items)
+state_of b =
+    at (part_in b.part) (terms_in b.frame.terms) (factors_in b.frame.factors)
+    (opened_in b.opened.items)
 
 abbrev pub state_in : Option Builder → State Built ℕ
 state_in None = dead
@@ -105,6 +113,7 @@ abbrev pub AreMild : List (ℕ × Mark) → Type 0
 AreMild [] = Unit {0}
 AreMild (m ∷ ms) = IsMild m × AreMild ms
 
--- the word is an expression whose marks are no offences, and whose atoms have no number past the greatest degree
+-- the word is an expression whose marks are no offences,
+-- and whose atoms have no number past the greatest degree
 abbrev pub IsBuildable : List ℕ → Type 0
 IsBuildable word = (phrase : Phrase) × SpellsPhrase word phrase × AreMild (marks 0 0 phrase)

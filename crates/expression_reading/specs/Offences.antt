@@ -1,10 +1,13 @@
--- The plain offences and marks that those of the reader stand for (this project's own).
+-- The plain offences and marks that those of the reader stand for.
 use Rattle.std.specs.Prelude.{cond, Option, Some, None}
-use Rattle.sym_model.specs.ExpressionOffence.{OffenceKind as PlainKind, literal, range, shape, Mark as PlainMark, value, denominator, entry, opening, is_offence, WordOffence as PlainOffence}
+use Rattle.sym_model.specs.ExpressionOffence.{OffenceKind as PlainKind, literal, range, shape}
+use Rattle.sym_model.specs.ExpressionOffence.{Mark as PlainMark, value, denominator, entry, opening}
+use Rattle.sym_model.specs.ExpressionOffence.{is_offence, WordOffence as PlainOffence}
 use Rattle.expression_reading.specs.declared.offence.Kind.{Kind}
 use Rattle.expression_reading.specs.declared.offence.Kind.TheVariants.{Literal, Range, Shape}
 use Rattle.expression_reading.specs.declared.offence.Mark.{Mark}
-use Rattle.expression_reading.specs.declared.offence.Mark.TheVariants.{Value, Denominator, Entry, Opening}
+use Rattle.expression_reading.specs.declared.offence.Mark.TheVariants.{Value, Denominator, Entry}
+use Rattle.expression_reading.specs.declared.offence.Mark.TheVariants.{Opening}
 use Rattle.expression_reading.specs.declared.offence.Offence.{Offence}
 
 -- the plain kind

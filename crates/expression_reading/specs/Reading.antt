@@ -1,18 +1,22 @@
--- What a word is read as, in the place of an expression (this project's own).
+-- What a word is read as, in the place of an expression.
 use Rattle.std.specs.Prelude.{◌≡◌, ℕ, List, Some, None, Result, Ok, Err}
 use Rattle.sym_model.specs.Expansion.{Basis}
 use Rattle.sym_model.specs.Phrase.{Phrase, SpellsPhrase, tree, BeginsExpression}
-use Rattle.sym_model.specs.ExpressionOffence.{WordOffence, literal, range, shape, first_of, offences}
+use Rattle.sym_model.specs.ExpressionOffence.{WordOffence, literal, range, shape, first_of}
+use Rattle.sym_model.specs.ExpressionOffence.{offences}
 use Rattle.sym_model.specs.LongestPrefix.{IsLongestPrefix}
 use Rattle.expression_reading.specs.declared.formula.Formula.{Formula}
 use Rattle.expression_reading.specs.declared.reading.ExpressionFault.{ExpressionFault}
-use Rattle.expression_reading.specs.declared.reading.ExpressionFault.TheVariants.{Syntax, Literal, Range, Shape, NoMemory}
+use Rattle.expression_reading.specs.declared.reading.ExpressionFault.TheVariants.{Syntax, Literal}
+use Rattle.expression_reading.specs.declared.reading.ExpressionFault.TheVariants.{Range, Shape}
+use Rattle.expression_reading.specs.declared.reading.ExpressionFault.TheVariants.{NoMemory}
 use Rattle.expression_reading.specs.Trees.{tree_of}
 
 -- the word spells the expression of the formula, which has none of these offences
 abbrev pub IsExpressionWithout : (Phrase → List WordOffence) → List ℕ → Formula → Type 0
 IsExpressionWithout offends word formula =
-    (phrase : Phrase) × SpellsPhrase word phrase × (first_of (offends phrase) ≡ None) × (tree_of formula.tree ≡ tree phrase)
+    (phrase : Phrase) × SpellsPhrase word phrase × (first_of (offends phrase) ≡ None)
+    × (tree_of formula.tree ≡ tree phrase)
 
 -- the word spells an expression, and this is the first of these offences
 abbrev pub OffendsFirst : (Phrase → List WordOffence) → List ℕ → WordOffence → Type 0
@@ -21,10 +25,11 @@ OffendsFirst offends word first =
 
 -- the word spells no expression, and its longest prefix that begins one ends at the byte
 abbrev pub IsWrongByte : List ℕ → ℕ → Type 0
-IsWrongByte word byte = ((phrase : Phrase) → SpellsPhrase word phrase → ⊥) × IsLongestPrefix BeginsExpression word byte
+IsWrongByte word byte =
+    ((phrase : Phrase) → SpellsPhrase word phrase → ⊥) × IsLongestPrefix BeginsExpression word byte
 
--- the word is this expression without one of these offences, or goes wrong or first offends at this byte; want of memory says
--- nothing of it
+-- the word is this expression without one of these offences, or first fails or first offends at
+-- this byte; out of memory says nothing of it
 abbrev pub IsReadBy : (Phrase → List WordOffence) → List ℕ → Result Formula ExpressionFault → Type 0
 IsReadBy offends word (Ok formula) = IsExpressionWithout offends word formula
 IsReadBy offends word (Err (Syntax byte)) = IsWrongByte word byte
@@ -32,10 +37,6 @@ IsReadBy offends word (Err (Literal byte)) = OffendsFirst offends word (byte, li
 IsReadBy offends word (Err (Range byte)) = OffendsFirst offends word (byte, range)
 IsReadBy offends word (Err (Shape byte)) = OffendsFirst offends word (byte, shape)
 IsReadBy offends word (Err NoMemory) = Unit {0}
-
--- the same of an expression that is expanded into the target
-abbrev pub IsExpression : Basis → List ℕ → Formula → Type 0
-IsExpression target word formula = IsExpressionWithout (offences target) word formula
 
 abbrev pub IsRead : Basis → List ℕ → Result Formula ExpressionFault → Type 0
 IsRead target word result = IsReadBy (offences target) word result

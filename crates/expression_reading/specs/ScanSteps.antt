@@ -1,16 +1,24 @@
--- What one byte changes of what the reader keeps of a word (this project's own).
-use Rattle.std.specs.Prelude.{◌≡◌, ℕ, zero, suc, ◌+◌, ◌-◌, ◌*◌, ◌^◌, ◌==◌, ◌≤◌, ◌<◌, nat_lt, min, Bool, true, false, ◌||◌, ◌&&◌, cond, Option, Some, None, option_map, List, [], ◌∷◌, ◌⊎◌, Result, Ok, Err}
-use Rattle.sym_model.specs.Sum.{each}
+-- What one byte changes of what the reader keeps of a word.
+use Rattle.std.specs.Prelude.{◌≡◌, ℕ, zero, suc, ◌+◌, ◌-◌, ◌*◌, ◌^◌, ◌==◌, ◌≤◌, ◌<◌, nat_lt, min}
+use Rattle.std.specs.Prelude.{Bool, true, false, ◌||◌, ◌&&◌, cond, Option, Some, None, option_map}
+use Rattle.std.specs.Prelude.{List, [], ◌∷◌, ◌⊎◌, Result, Ok, Err, flat_map}
 use Rattle.sym_model.specs.Phrase.{Phrase, SpellsPhrase, BeginsExpression}
-use Rattle.sym_model.specs.ExpressionOffence.{marks, offences_at, first_of, Mark as PlainMark, entry, WordOffence as PlainOffence, earlier}
+use Rattle.sym_model.specs.ExpressionOffence.{marks, offences_at, first_of, Mark as PlainMark}
+use Rattle.sym_model.specs.ExpressionOffence.{entry, WordOffence as PlainOffence, earlier}
 use Rattle.sym_model.specs.LongestPrefix.{IsLongestPrefix}
-use Rattle.expression_laws.specs.LeftToRight.{Symbol, digit, plus_sign, minus_sign, star, slash, opens, closes, opens_list, closes_list, comma, letter_of}
+use Rattle.expression_laws.specs.LeftToRight.{Symbol, digit, plus_sign, minus_sign, star, slash}
+use Rattle.expression_laws.specs.LeftToRight.{opens, closes, opens_list, closes_list, comma}
+use Rattle.expression_laws.specs.LeftToRight.{letter_of}
 use Rattle.expression_reading.specs.declared.offence.Mark.{Mark}
-use Rattle.expression_reading.specs.declared.offence.Mark.TheVariants.{Value, Denominator as Zeroable, Entry as Listed, Opening}
+use Rattle.expression_reading.specs.declared.offence.Mark.TheVariants.{Value}
+use Rattle.expression_reading.specs.declared.offence.Mark.TheVariants.{Denominator as Zeroable}
+use Rattle.expression_reading.specs.declared.offence.Mark.TheVariants.{Entry as Listed, Opening}
 use Rattle.expression_reading.specs.Offences.{offence_in, mark_in, first_kind}
 use Rattle.expression_reading.specs.declared.scan.Scan.{Scan}
 use Rattle.expression_reading.specs.declared.scan.Mode.{Mode}
-use Rattle.expression_reading.specs.declared.scan.Mode.TheVariants.{Start, Operand, Number, Slash, Denominator, Letter, List as Listing, Entry, Whole}
+use Rattle.expression_reading.specs.declared.scan.Mode.TheVariants.{Start, Operand, Number, Slash}
+use Rattle.expression_reading.specs.declared.scan.Mode.TheVariants.{Denominator, Letter}
+use Rattle.expression_reading.specs.declared.scan.Mode.TheVariants.{List as Listing, Entry, Whole}
 
 -- the value of a number, or 2^127 where it is past that
 abbrev pub capped : ℕ → ℕ
@@ -46,20 +54,24 @@ abbrev pub mode_after : Mode → ℕ → Symbol → Option Mode
 mode_after Start at minus_sign = Some Operand
 mode_after Start at s = mode_before_factor at s
 mode_after Operand at s = mode_before_factor at s
-mode_after (Number start value) at (digit byte) = Some (Number start (capped (10 * value + (byte - 48))))
+mode_after (Number start value) at (digit byte) =
+    Some (Number start (capped (10 * value + (byte - 48))))
 mode_after (Number start value) at slash = Some Slash
 mode_after (Number start value) at s = mode_after_factor s
 mode_after Slash at (digit byte) = Some (Denominator at (byte - 48))
 mode_after Slash at s = None
-mode_after (Denominator start value) at (digit byte) = Some (Denominator start (capped (10 * value + (byte - 48))))
+mode_after (Denominator start value) at (digit byte) =
+    Some (Denominator start (capped (10 * value + (byte - 48))))
 mode_after (Denominator start value) at s = mode_after_factor s
 mode_after Letter at opens_list = Some (Listing (record { count = 0; last = None }))
 mode_after Letter at s = None
 mode_after (Listing before) at (digit byte) = Some (Entry before at (byte - 48))
 mode_after (Listing before) at closes_list = cond (before.count == 0) (Some Whole) None
 mode_after (Listing before) at s = None
-mode_after (Entry before start value) at (digit byte) = Some (Entry before start (capped (10 * value + (byte - 48))))
-mode_after (Entry before start value) at comma = Some (Listing (record { count = before.count + 1; last = Some value }))
+mode_after (Entry before start value) at (digit byte) =
+    Some (Entry before start (capped (10 * value + (byte - 48))))
+mode_after (Entry before start value) at comma =
+    Some (Listing (record { count = before.count + 1; last = Some value }))
 mode_after (Entry before start value) at closes_list = Some Whole
 mode_after (Entry before start value) at s = None
 mode_after Whole at s = mode_after_factor s
@@ -101,14 +113,17 @@ first_at m = option_map (λ kind. (m.0, kind)) (first_kind m.1)
 abbrev pub Sees : Scan → Option (ℕ × Mark) → Scan → Type 0
 Sees before None after = (after.first ≡ before.first) × (after.is_high ≡ before.is_high)
 Sees before (Some m) after =
-    (option_map offence_in after.first ≡ earlier (option_map offence_in before.first) (first_at (m.0, mark_in m.1)))
+    (option_map offence_in after.first
+    ≡ earlier (option_map offence_in before.first) (first_at (m.0, mark_in m.1)))
     × (after.is_high ≡ (before.is_high || is_high (mark_in m.1)))
 
 -- what a symbol at a byte makes of what was kept, or nothing where it is at fault
 abbrev pub StepsTo : Scan → ℕ → Symbol → Option Scan → Type 0
-StepsTo before at s None = (mode_after before.mode at s ≡ None) ⊎ (depth_after before.depth s ≡ None)
+StepsTo before at s None =
+    (mode_after before.mode at s ≡ None) ⊎ (depth_after before.depth s ≡ None)
 StepsTo before at s (Some after) =
-    (mode_after before.mode at s ≡ Some after.mode) × (depth_after before.depth s ≡ Some after.depth)
+    (mode_after before.mode at s ≡ Some after.mode)
+    × (depth_after before.depth s ≡ Some after.depth)
     × Sees before (mark_before before.mode before.depth at s) after
 
 -- whether a mode has a whole factor
@@ -127,11 +142,12 @@ abbrev pub any_high : List (ℕ × PlainMark) → Bool
 any_high [] = false
 any_high (m ∷ ms) = is_high m.1 || any_high ms
 
--- the offences of an expression and whether an atom has a number past every degree, or where a word goes wrong
+-- the offences of an expression and whether an atom has a number past every degree,
+-- or where a word first fails
 abbrev pub IsScanned : List ℕ → Result Scan ℕ → Type 0
 IsScanned word (Ok scan) =
     (phrase : Phrase) × SpellsPhrase word phrase
-    × (option_map offence_in scan.first ≡ first_of (each offences_at (marks 0 0 phrase)))
+    × (option_map offence_in scan.first ≡ first_of (flat_map offences_at (marks 0 0 phrase)))
     × (scan.is_high ≡ any_high (marks 0 0 phrase))
 IsScanned word (Err byte) =
     ((phrase : Phrase) → SpellsPhrase word phrase → ⊥) × IsLongestPrefix BeginsExpression word byte

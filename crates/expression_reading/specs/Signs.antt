@@ -1,7 +1,9 @@
--- What an expression that has a minus or a fraction is refused as (this project's own).
+-- What an expression that has a minus or a fraction is refused as.
 use Rattle.std.specs.Prelude.{ℕ, nat_lt, cond}
 use Rattle.expression_reading.specs.declared.reading.ExpressionFault.{ExpressionFault}
-use Rattle.expression_reading.specs.declared.reading.ExpressionFault.TheVariants.{Syntax, Literal, Range, Shape, NoMemory}
+use Rattle.expression_reading.specs.declared.reading.ExpressionFault.TheVariants.{Syntax, Literal}
+use Rattle.expression_reading.specs.declared.reading.ExpressionFault.TheVariants.{Range, Shape}
+use Rattle.expression_reading.specs.declared.reading.ExpressionFault.TheVariants.{NoMemory}
 
 -- the refusal where it is no later than a minus or a fraction at the byte, and else that
 abbrev pub refused_by_sign : ℕ → ExpressionFault → ExpressionFault

@@ -1,7 +1,12 @@
--- The plain symbol that a symbol of the reader stands for (this project's own).
-use Rattle.expression_laws.specs.LeftToRight.{Symbol as Plain, digit, plus_sign, minus_sign, star, slash, opens, closes, opens_list, closes_list, comma, letter_of, other}
+-- The plain symbol that a symbol of the reader stands for.
+use Rattle.expression_laws.specs.LeftToRight.{Symbol as Plain, digit, plus_sign, minus_sign, star}
+use Rattle.expression_laws.specs.LeftToRight.{slash, opens, closes, opens_list, closes_list, comma}
+use Rattle.expression_laws.specs.LeftToRight.{letter_of, other}
 use Rattle.expression_reading.specs.declared.symbol.Symbol.{Symbol}
-use Rattle.expression_reading.specs.declared.symbol.Symbol.TheVariants.{Digit, Plus, Minus, Star, Slash, Open, Close, OpenList, CloseList, Comma, Letter, Other}
+use Rattle.expression_reading.specs.declared.symbol.Symbol.TheVariants.{Digit, Plus, Minus, Star}
+use Rattle.expression_reading.specs.declared.symbol.Symbol.TheVariants.{Slash, Open, Close}
+use Rattle.expression_reading.specs.declared.symbol.Symbol.TheVariants.{OpenList, CloseList, Comma}
+use Rattle.expression_reading.specs.declared.symbol.Symbol.TheVariants.{Letter, Other}
 use Rattle.expression_reading.specs.Trees.{basis_of}
 
 -- the plain symbol

@@ -1,11 +1,13 @@
--- The expression that an `Expr` stands for, and what a `Formula` holds (this project's own).
+-- The expression that an `Expr` stands for, and what a `Formula` holds.
 use Rattle.std.specs.Prelude.{pos, ◌≤◌, nat_abs, Bool, true, ◌&&◌, IsTrue}
 use lib.Signed.{le_z, lt_z}
 use Rattle.calc_base.specs.declared.words.Basis.{Basis as Letter}
 use Rattle.calc_base.specs.declared.words.Basis.TheVariants.{M, E, H, P, S}
 use Rattle.sym_model.specs.Expansion.{Basis, monomials, elementaries, completes, power_sums, schurs}
-use Rattle.sym_model.specs.Expression.{Tree, number, fraction, atom, negation, sum, difference, product, degree, nesting}
-use Rattle.expression_reading.specs.declared.expr.Expr.{Expr, Number, Fraction, Atom, Negation', Sum', Difference', Product'}
+use Rattle.sym_model.specs.Expression.{Tree, number, fraction, atom, negation, sum, difference}
+use Rattle.sym_model.specs.Expression.{product, degree, nesting}
+use Rattle.expression_reading.specs.declared.expr.Expr.{Expr, Number, Fraction, Atom, Negation'}
+use Rattle.expression_reading.specs.declared.expr.Expr.{Sum', Difference', Product'}
 
 -- the plain basis that a basis of the calculator's words stands for
 abbrev pub basis_of : Letter → Basis
@@ -35,7 +37,8 @@ has_no_signs (Sum' p left q right) = has_no_signs left && has_no_signs right
 has_no_signs (Difference' p left q right) = has_no_signs left && has_no_signs right
 has_no_signs (Product' p left q right) = has_no_signs left && has_no_signs right
 
--- what a formula holds: numbers without a sign, a nesting of at most 4096 and a degree of at most 20
+-- what a formula holds: numbers without a sign,
+-- a nesting of at most 4096 and a degree of at most 20
 pub record IsFormula (e : Expr) : Type 0 where
   pub numbers : IsTrue (has_no_signs e)
   pub nested : nesting (tree_of e) ≤ 4096

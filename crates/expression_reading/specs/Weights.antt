@@ -1,4 +1,4 @@
--- When a weight is given (this project's own).
+-- When a weight is given.
 use Rattle.std.specs.Prelude.{◌≡◌, ℕ, ◌^◌, ◌<◌, ◌≤◌, ◌⊎◌, Option, MatchOption}
 use Rattle.calc_base.specs.declared.words.Weight.{Weight}
 

@@ -1,10 +1,18 @@
-//! The tree of a word that is known to be an expression, built from left to right with no recursion.
-ghost use Rattle.std.specs.Prelude.{◌≡◌, ℕ, ◌+◌, ◌*◌, ◌^◌, ◌<◌, ◌≤◌, IfOk, None, [], ◌∷◌, ◌++◌, option_map, true};
-ghost use Rattle.expression_laws.specs.LeftToRight.{join_factor, join_term, join, at, awaited, closed, in_number, in_entry, opens, closes, minus_sign, other, outermost, start, found, after_factor, before_factor, in_list_step, star, step};
+//! The tree of a word that is known to be an expression,
+//! built from left to right with no recursion.
+ghost use Rattle.std.specs.Prelude.{◌≡◌, ℕ, ◌+◌, ◌*◌, ◌^◌, ◌<◌, ◌≤◌, IfOk, None, [], ◌∷◌, ◌++◌};
+ghost use Rattle.std.specs.Prelude.{option_map, true};
+ghost use Rattle.expression_laws.specs.LeftToRight.{join_factor, join_term, join, at, awaited};
+ghost use Rattle.expression_laws.specs.LeftToRight.{closed, in_number, in_entry, opens, closes};
+ghost use Rattle.expression_laws.specs.LeftToRight.{minus_sign, other, outermost, start, found};
+ghost use Rattle.expression_laws.specs.LeftToRight.{after_factor, before_factor, in_list_step};
+ghost use Rattle.expression_laws.specs.LeftToRight.{star, step};
 ghost use Rattle.expression_reading.specs.ScanSteps.{IsSoundDigit};
 ghost use Rattle.expression_reading.specs.Symbols.{symbol_in};
 ghost use Rattle.expression_reading.specs.Trees.{basis_of};
-ghost use Rattle.expression_reading.specs.Building.{builds, built_of, terms_in, factors_in, part_in, opened_in, state_of, state_in, AreEntries, IsFine, IsBuildable};
+ghost use Rattle.expression_reading.specs.Building.{builds, built_of, terms_in, factors_in};
+ghost use Rattle.expression_reading.specs.Building.{part_in, opened_in, state_of, state_in};
+ghost use Rattle.expression_reading.specs.Building.{AreEntries, IsFine, IsBuildable};
 ghost use Rattle.sym_model.specs.Phrase.{Phrase, SpellsPhrase, tree};
 
 use crate::Expr;
@@ -32,7 +40,8 @@ pub(crate) enum LeadingFactors {
 
 /// The term that a factor ends.
 fn term_of(alloc: Global, before: LeadingFactors, factor: Expr) -> Result<Expr, NoMemory>
-    ensures { IfOk result (λ e. built_of e ≡ join_factor builds (factors_in before) (built_of factor)) }
+    ensures { IfOk result (λ e. built_of e
+        ≡ join_factor builds (factors_in before) (built_of factor)) }
 {
     match before {
         LeadingFactors::NoFactor => Ok(factor),
@@ -70,7 +79,8 @@ fn joined(
     factors: LeadingFactors,
     factor: Expr,
 ) -> Result<Expr, NoMemory>
-    ensures { IfOk result (λ e. built_of e ≡ join builds (terms_in terms) (factors_in factors) (built_of factor)) }
+    ensures { IfOk result (λ e. built_of e
+        ≡ join builds (terms_in terms) (factors_in factors) (built_of factor)) }
 {
     expression_of(alloc, terms, term_of(alloc, factors, factor)?)
 }
@@ -95,7 +105,8 @@ pub(crate) struct Frame {
     pub(crate) factors: LeadingFactors,
 }
 
-/// What has been built: the part of a factor, what stands before it, and the same for each parenthesis that is open.
+/// What has been built: the part of a factor, what stands before it, and the same for each
+/// parenthesis that is open.
 #[derive(Drop)]
 pub(crate) struct Builder {
     pub(crate) part: Part,
@@ -103,8 +114,8 @@ pub(crate) struct Builder {
     pub(crate) opened: Vec<Frame>,
 }
 
-/// Lets go of what has been built where a symbol is at fault. By a call, so that the proof of a function that refuses a symbol
-/// does not go through all that has been built.
+/// Lets go of what has been built where a symbol is at fault. By a call, so that the proof of a
+/// function that refuses a symbol does not go through all that has been built.
 fn refused(frame: Frame, opened: Vec<Frame>) -> Option<Builder>
     ensures { result ≡ None }
 {
@@ -153,7 +164,8 @@ impl Builder {
     /// Where a factor is awaited.
     fn awaiting(frame: Frame, opened: Vec<Frame>) -> Builder
         ensures { state_of result
-            ≡ at awaited (terms_in frame.terms) (factors_in frame.factors) (opened_in opened.items) }
+            ≡ at awaited (terms_in frame.terms) (factors_in frame.factors)
+            (opened_in opened.items) }
     {
         Builder {
             part: Part::Awaited,
@@ -165,7 +177,8 @@ impl Builder {
 
 /// The term that a factor ends, in a box.
 fn boxed_term(alloc: Global, before: LeadingFactors, factor: Expr) -> Result<Box<Expr>, NoMemory>
-    ensures { IfOk result (λ e. built_of e.value ≡ join_factor builds (factors_in before) (built_of factor)) }
+    ensures { IfOk result (λ e. built_of e.value
+        ≡ join_factor builds (factors_in before) (built_of factor)) }
 {
     let term = term_of(alloc, before, factor)?;
     Ok(Box::new(alloc, term)?)
@@ -173,7 +186,8 @@ fn boxed_term(alloc: Global, before: LeadingFactors, factor: Expr) -> Result<Box
 
 /// The expression that a factor ends, in a box.
 fn boxed(alloc: Global, frame: Frame, factor: Expr) -> Result<Box<Expr>, NoMemory>
-    ensures { IfOk result (λ e. built_of e.value ≡ join builds (terms_in frame.terms) (factors_in frame.factors) (built_of factor)) }
+    ensures { IfOk result (λ e. built_of e.value
+        ≡ join builds (terms_in frame.terms) (factors_in frame.factors) (built_of factor)) }
 {
     let Frame { terms, factors } = frame;
     let whole = joined(alloc, terms, factors, factor)?;
@@ -188,7 +202,8 @@ fn multiplying(
     opened: Vec<Frame>,
 ) -> Result<Option<Builder>, NoMemory>
     ensures { IfOk result (λ b. state_in b
-        ≡ after_factor builds (built_of factor) (terms_in frame.terms) (factors_in frame.factors) (opened_in opened.items) star) }
+        ≡ after_factor builds (built_of factor) (terms_in frame.terms) (factors_in frame.factors)
+        (opened_in opened.items) star) }
 {
     let Frame { terms, factors } = frame;
     match boxed_term(alloc, factors, factor) {
@@ -207,7 +222,7 @@ fn multiplying(
     }
 }
 
-/// After a parenthesis that closes behind a factor; none where no parenthesis is open.
+/// After a parenthesis that closes after a factor; none where no parenthesis is open.
 fn closing(
     alloc: Global,
     factor: Expr,
@@ -215,7 +230,8 @@ fn closing(
     mut opened: Vec<Frame>,
 ) -> Result<Option<Builder>, NoMemory>
     ensures { IfOk result (λ b. state_in b
-        ≡ after_factor builds (built_of factor) (terms_in frame.terms) (factors_in frame.factors) (opened_in opened.items) closes) }
+        ≡ after_factor builds (built_of factor) (terms_in frame.terms) (factors_in frame.factors)
+        (opened_in opened.items) closes) }
 {
     match opened.pop() {
         None => {
@@ -245,7 +261,8 @@ fn after_factor(
     symbol: Symbol,
 ) -> Result<Option<Builder>, NoMemory>
     ensures { IfOk result (λ b. state_in b
-        ≡ after_factor builds (built_of factor) (terms_in frame.terms) (factors_in frame.factors) (opened_in opened.items) (symbol_in symbol)) }
+        ≡ after_factor builds (built_of factor) (terms_in frame.terms) (factors_in frame.factors)
+        (opened_in opened.items) (symbol_in symbol)) }
 {
     match symbol {
         Symbol::Star => multiplying(alloc, factor, frame, opened),
@@ -286,7 +303,8 @@ fn after_factor(
 /// After a parenthesis that opens.
 fn opening(frame: Frame, mut opened: Vec<Frame>) -> Result<Option<Builder>, NoMemory>
     ensures { IfOk result (λ b. state_in b
-        ≡ before_factor builds (terms_in frame.terms) (factors_in frame.factors) (opened_in opened.items) opens) }
+        ≡ before_factor builds (terms_in frame.terms) (factors_in frame.factors)
+        (opened_in opened.items) opens) }
 {
     opened.push(frame)?;
     let frame = Frame {
@@ -299,7 +317,8 @@ fn opening(frame: Frame, mut opened: Vec<Frame>) -> Result<Option<Builder>, NoMe
 /// After a minus where a factor is awaited; none where something stands before it.
 fn negating(frame: Frame, opened: Vec<Frame>) -> Option<Builder>
     ensures { state_in result
-        ≡ before_factor builds (terms_in frame.terms) (factors_in frame.factors) (opened_in opened.items) minus_sign }
+        ≡ before_factor builds (terms_in frame.terms) (factors_in frame.factors)
+        (opened_in opened.items) minus_sign }
 {
     match &frame {
         Frame {
@@ -325,7 +344,8 @@ fn before_factor(
 ) -> Result<Option<Builder>, NoMemory>
     requires { IsSoundDigit (symbol_in symbol) }
     ensures { IfOk result (λ b. state_in b
-        ≡ before_factor builds (terms_in frame.terms) (factors_in frame.factors) (opened_in opened.items) (symbol_in symbol)) }
+        ≡ before_factor builds (terms_in frame.terms) (factors_in frame.factors)
+        (opened_in opened.items) (symbol_in symbol)) }
 {
     match symbol {
         Symbol::Digit(byte) => Ok(Some(Builder {
@@ -355,7 +375,8 @@ fn in_list(
 ) -> Result<Option<Builder>, NoMemory>
     requires { IsSoundDigit (symbol_in symbol) }
     ensures { IfOk result (λ b. state_in b
-        ≡ in_list_step builds (basis_of basis) numbers.items (terms_in frame.terms) (factors_in frame.factors) (opened_in opened.items) (symbol_in symbol)) }
+        ≡ in_list_step builds (basis_of basis) numbers.items (terms_in frame.terms)
+        (factors_in frame.factors) (opened_in opened.items) (symbol_in symbol)) }
 {
     match symbol {
         Symbol::Digit(byte) => Ok(Some(Builder {
@@ -391,7 +412,8 @@ fn with_number(mut numbers: Vec<u16>, value: u16) -> Result<Vec<u16>, NoMemory>
 /// The atom whose list ends with a number.
 fn ended_atom(alloc: Global, basis: Basis, numbers: Vec<u16>, value: u16) -> Result<Expr, NoMemory>
     requires { AreEntries (numbers.items ++ value ∷ []) }
-    ensures { IfOk result (λ e. built_of e ≡ builds.label_of (basis_of basis) (numbers.items ++ value ∷ [])) }
+    ensures { IfOk result (λ e. built_of e
+        ≡ builds.label_of (basis_of basis) (numbers.items ++ value ∷ [])) }
 {
     let numbers = with_number(numbers, value)?;
     atom(alloc, basis, &numbers)
@@ -409,7 +431,8 @@ fn in_entry(
 ) -> Result<Option<Builder>, NoMemory>
     requires { IsFine (in_entry (basis_of basis) numbers.items value) (symbol_in symbol) }
     ensures { IfOk result (λ b. state_in b
-        ≡ step builds (at (in_entry (basis_of basis) numbers.items value) (terms_in frame.terms) (factors_in frame.factors) (opened_in opened.items)) (symbol_in symbol)) }
+        ≡ step builds (at (in_entry (basis_of basis) numbers.items value) (terms_in frame.terms)
+        (factors_in frame.factors) (opened_in opened.items)) (symbol_in symbol)) }
 {
     match symbol {
         Symbol::Digit(byte) => Ok(Some(Builder {
@@ -449,7 +472,8 @@ impl Builder {
         Builder::awaiting(frame, Vec::new(alloc))
     }
 
-    /// After a symbol, where a number that ends before it is no offence; none where the symbol is at fault.
+    /// After a symbol, where a number that ends before it is no offence;
+    /// none where the symbol is at fault.
     fn after(self, alloc: Global, symbol: Symbol) -> Result<Option<Builder>, NoMemory>
         requires digit { IsSoundDigit (symbol_in symbol) }
         requires fine { IsFine (part_in self.part) (symbol_in symbol) }
@@ -495,7 +519,8 @@ impl Builder {
         }
     }
 
-    /// The expression that has been built, if one is there whole, where a number at its end is no offence.
+    /// The expression that has been built, if one is there whole,
+    /// where a number at its end is no offence.
     fn finish(self, alloc: Global) -> Result<Option<Expr>, NoMemory>
         requires { IsFine (part_in self.part) other }
         ensures { IfOk result (λ e. option_map built_of e ≡ found builds (state_of self)) }
@@ -542,7 +567,8 @@ fn after_number(
 ) -> Result<Option<Builder>, NoMemory>
     requires { IsFine (in_number value) (symbol_in symbol) }
     ensures { IfOk result (λ b. state_in b
-        ≡ step builds (at (in_number value) (terms_in frame.terms) (factors_in frame.factors) (opened_in opened.items)) (symbol_in symbol)) }
+        ≡ step builds (at (in_number value) (terms_in frame.terms) (factors_in frame.factors)
+        (opened_in opened.items)) (symbol_in symbol)) }
 {
     match symbol {
         Symbol::Digit(byte) => Ok(Some(Builder {
@@ -559,10 +585,12 @@ fn after_number(
     }
 }
 
-/// The tree of a word that is an expression whose numbers are no offence and within the greatest degree.
+/// The tree of a word that is an expression whose numbers are no offence and within the greatest
+/// degree.
 pub(crate) fn build(alloc: Global, word: &[u8]) -> Result<Expr, NoMemory>
     requires { IsBuildable word.now }
-    ensures { IfOk result (λ e. (phrase : Phrase) → SpellsPhrase word.now phrase → built_of e ≡ (tree phrase, true)) }
+    ensures { IfOk result (λ e. (phrase : Phrase) → SpellsPhrase word.now phrase
+        → built_of e ≡ (tree phrase, true)) }
 {
     let mut builder = Builder::start(alloc);
     for byte in word {

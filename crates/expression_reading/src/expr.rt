@@ -7,7 +7,8 @@ ghost use Rattle.expression_reading.specs.Trees.{tree_of, has_no_signs};
 use calc_base::Basis;
 use partitions::Partition;
 
-/// An expression: a number, a fraction that need not be in lowest terms, an atom, and what is made of these.
+/// An expression: a number, a fraction that need not be in lowest terms, an atom,
+/// and what is made of these.
 #[derive(Debug)]
 pub enum Expr {
     /// A whole number.
@@ -26,7 +27,8 @@ pub enum Expr {
     Product { left: Box<Expr>, right: Box<Expr> },
 }
 
-// Written out: the tree of a sum of many terms is deep on the left, so that side is let go in a loop.
+// Written out: the tree of a sum of many terms is deep on the left,
+// so that side is let go in a loop.
 impl Drop for Expr {
     #[cycle(letting_go)]
     fn drop(self) {
@@ -65,7 +67,8 @@ impl Expr {
 
     /// Whether the nesting is at most `limit` and no number has a sign.
     pub(crate) fn is_plain_within(&self, limit: u16) -> bool
-        ensures { IsTrue result ↔ ((nesting (tree_of self.now) ≤ limit) × IsTrue (has_no_signs self.now)) }
+        ensures { IsTrue result ↔ ((nesting (tree_of self.now) ≤ limit)
+            × IsTrue (has_no_signs self.now)) }
     {
         if limit == 0 {
             return false;

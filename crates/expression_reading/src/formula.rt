@@ -15,7 +15,8 @@ const MAX_NESTING: u16 = 4096;
 
 pub(crate) const MAX_DEGREE: u16 = 20;
 
-/// The greatest degree of an expression that is expanded into the target: 20 for m and s, 15 for p, h and e.
+/// The greatest degree of an expression that is expanded into the target: 20 for m and s,
+/// 15 for p, h and e.
 pub fn degree_limit(target: Basis) -> u16
     ensures { result ≡ degree_limit (basis_of target) }
 {
@@ -25,8 +26,8 @@ pub fn degree_limit(target: Basis) -> u16
     }
 }
 
-/// An expression whose nesting is at most 4,096, whose degree is at most 20, whose numbers and numerators are at least 0
-/// and whose denominators are positive.
+/// An expression whose nesting is at most 4,096, whose degree is at most 20, whose numbers and
+/// numerators are at least 0 and whose denominators are positive.
 #[derive(Debug, Drop)]
 pub struct Formula {
     tree: Expr,
@@ -34,9 +35,11 @@ pub struct Formula {
 }
 
 impl Formula {
-    /// The formula of this tree. The tree comes back exactly where it is not within the bounds. No memory is taken.
+    /// The formula of this tree. The tree comes back exactly where it is not within the bounds. No
+    /// memory is taken.
     pub fn from_tree(tree: Expr) -> Result<Formula, Expr>
-        ensures { MatchResult result (λ f. (f.tree ≡ tree) × IsFormula tree) (λ e. (e ≡ tree) × ¬ IsFormula tree) }
+        ensures { MatchResult result (λ f. (f.tree ≡ tree) × IsFormula tree)
+            (λ e. (e ≡ tree) × ¬ IsFormula tree) }
     {
         if tree.is_plain_within(MAX_NESTING) && tree.capped_degree() <= MAX_DEGREE {
             Ok(Formula { tree })
@@ -53,22 +56,25 @@ impl Formula {
         &self.tree
     }
 
-    /// The degree: 0 of numbers, the size of an atom's label, the greater one of a sum or a difference, the sum of those
-    /// of a product.
+    /// The degree: 0 of numbers, the size of an atom's label, the greater one of a sum or a
+    /// difference, the sum of those of a product.
     pub fn degree(&self) -> u16
         ensures { result ≡ degree (tree_of self.now.tree) }
     {
         self.tree.capped_degree()
     }
 
-    /// The two numbers of the weight; none exactly where one of them is 2^127 or more. No memory is taken.
+    /// The two numbers of the weight; none exactly where one of them is 2^127 or more. No memory is
+    /// taken.
     pub fn weight(&self) -> Option<Weight>
-        ensures { IsWeighed result (numerator (tree_of self.now.tree)) (denominator (tree_of self.now.tree)) }
+        ensures { IsWeighed result (numerator (tree_of self.now.tree))
+            (denominator (tree_of self.now.tree)) }
     {
         self.tree.weigh()
     }
 
-    /// Whether the weight for the target is below the limit, which is at most 2^127. No memory is taken.
+    /// Whether the weight for the target is below the limit,
+    /// which is at most 2^127. No memory is taken.
     pub fn weight_below(&self, target: Basis, limit: u128) -> bool
         requires { limit ≤ 2 ^ 127 }
         ensures { IsTrue result ↔ (weight (basis_of target) (tree_of self.now.tree) < limit) }

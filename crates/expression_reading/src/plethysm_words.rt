@@ -1,7 +1,8 @@
 //! How words are read as the two expressions of a plethysm.
 ghost use Rattle.std.specs.Prelude.{◌≡◌, ◌≤◌, IfOk, List, option_map};
 ghost use Rattle.sym_model.specs.Expression.{degree};
-ghost use Rattle.sym_model.specs.ExpressionOffence.{first_of, offences_within, inner_offences, plethysm_degree_limit, sign_offences, shape};
+ghost use Rattle.sym_model.specs.ExpressionOffence.{first_of, offences_within, inner_offences};
+ghost use Rattle.sym_model.specs.ExpressionOffence.{plethysm_degree_limit, sign_offences, shape};
 ghost use Rattle.sym_model.specs.Phrase.{Phrase, SpellsPhrase};
 ghost use Rattle.expression_reading.specs.Reading.{IsReadBy};
 ghost use Rattle.expression_reading.specs.Signs.{refused_by_sign};
@@ -14,8 +15,8 @@ use std::alloc::Global;
 /// The greatest degree of each expression of a plethysm, and of the two together.
 pub const PLETHYSM_DEGREE: u16 = 10;
 
-/// The byte of the first minus, or the first byte of the first fraction where that comes before, in a word that is an
-/// expression.
+/// The byte of the first minus, or the first byte of the first fraction where that comes before, in
+/// a word that is an expression.
 fn first_sign(word: &[u8]) -> Option<u64>
     ensures { (phrase : Phrase) → SpellsPhrase word.now phrase
         → option_map (λ byte. (byte, shape)) result ≡ first_of (sign_offences 0 phrase) }
@@ -33,7 +34,8 @@ fn first_sign(word: &[u8]) -> Option<u64>
     None
 }
 
-/// The refusal of a word with a minus or a fraction at the byte, where it is refused as this by what else it offends by.
+/// The refusal of a word with a minus or a fraction at the byte, where it is refused as this by
+/// what else it offends by.
 fn first_refusal(fault: ExpressionFault, sign: u64) -> ExpressionFault
     ensures { result ≡ refused_by_sign sign fault }
 {
@@ -56,9 +58,11 @@ pub fn read_outer(alloc: Global, word: &[u8]) -> Result<Formula, ExpressionFault
     read_within(alloc, PLETHYSM_DEGREE, word)
 }
 
-/// Reads a word as the inner expression of a plethysm, all of whose coefficients are whole and at least 0.
+/// Reads a word as the inner expression of a plethysm,
+/// all of whose coefficients are whole and at least 0.
 ///
-/// It is refused as `read_outer` says, and also as `Shape` at a minus and at the first byte of a fraction.
+/// It is refused as `read_outer` says, and also as `Shape` at a minus and at the first byte of a
+/// fraction.
 pub fn read_inner(alloc: Global, word: &[u8]) -> Result<Formula, ExpressionFault>
     ensures read { IsReadBy inner_offences word.now result }
     ensures low { IfOk result (λ f. degree (tree_of f.tree) ≤ plethysm_degree_limit) }

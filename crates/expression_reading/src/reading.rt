@@ -18,8 +18,8 @@ use calc_base::{Basis, NoMemory};
 use std::alloc::Global;
 use thiserror::Error;
 
-/// Why a word is no expression that can be expanded into a target: the byte at which it goes wrong or first offends, or
-/// memory was refused.
+/// Why a word is no expression that can be expanded into a target: the byte at which it first fails
+/// or first offends, or memory was refused.
 #[derive(Clone, Copy, Debug, PartialEq, Eq, Hash, Error)]
 pub enum ExpressionFault {
     /// The word is no expression from this byte on.
@@ -28,7 +28,7 @@ pub enum ExpressionFault {
     /// A number past 2^127 - 1 begins at this byte.
     #[error("a number too large, at byte {byte}")]
     Literal { byte: u64 },
-    /// A limit is passed at this byte.
+    /// A limit is exceeded at this byte.
     #[error("past a limit, at byte {byte}")]
     Range { byte: u64 },
     /// A list of parts that rises, or a denominator 0, stands at this byte.
@@ -62,7 +62,8 @@ fn fault_of(offence: Offence) -> ExpressionFault
     }
 }
 
-/// The expression of a word that has been scanned, whose degree is to be at most the limit, or its first offence.
+/// The expression of a word that has been scanned, whose degree is to be at most the limit,
+/// or its first offence.
 fn judged(alloc: Global, limit: u16, word: &[u8], scan: Scan) -> Result<Formula, ExpressionFault>
     requires scanned { IsScanned word.now (Ok scan) }
     requires low { limit ≤ 20 }
@@ -93,10 +94,12 @@ fn judged(alloc: Global, limit: u16, word: &[u8], scan: Scan) -> Result<Formula,
     Ok(formula)
 }
 
-/// The byte at which a word goes wrong that is no expression, which is the length of its longest prefix that begins one; none
-/// where the word is an expression, with offences or without. No memory is taken.
+/// The byte at which a word first fails that is no expression, which is the length of its longest
+/// prefix that begins one; none where the word is an expression,
+/// with offences or without. No memory is taken.
 pub fn wrong_byte(word: &[u8]) -> Option<u64>
-    ensures { MatchOption result ((phrase : Phrase) × SpellsPhrase word.now phrase) (IsWrongByte word.now) }
+    ensures { MatchOption result ((phrase : Phrase) × SpellsPhrase word.now phrase)
+        (IsWrongByte word.now) }
 {
     match scan_word(word) {
         Ok(_) => None,
@@ -120,12 +123,14 @@ pub(crate) fn read_within(
     }
 }
 
-/// Reads a word as an expression of atoms in m, e, h, p and s that is to be expanded into the target.
+/// Reads a word as an expression of atoms in m, e, h,
+/// p and s that is to be expanded into the target.
 ///
-/// A word that is no expression is refused as `Syntax`, at the length of its longest prefix that begins one. Otherwise the
-/// first offence is refused: a number past 2^127 - 1 as `Literal`; as `Range` a parenthesis that opens depth 65, the 65th
-/// number of an atom, byte 4,096 of a longer word, and at the word's end a degree past the limit of the target; as `Shape` a
-/// number of an atom that is greater than the one before it, and a denominator 0.
+/// A word that is no expression is refused as `Syntax`, at the length of its longest prefix that
+/// begins one. Otherwise the first offence is refused: a number past 2^127 - 1 as `Literal`; as
+/// `Range` a parenthesis that opens depth 65, the 65th number of an atom, byte 4,096 of a longer
+/// word, and at the word's end a degree past the limit of the target; as `Shape` a number of an
+/// atom that is greater than the one before it, and a denominator 0.
 pub fn read_expression(
     alloc: Global,
     target: Basis,

@@ -1,15 +1,20 @@
-//! One reading of a word from left to right, with no memory and no recursion: whether it is an expression, how far it
-//! begins one, and what it offends by first.
+//! One reading of a word from left to right, with no memory and no recursion: whether it is an
+//! expression, how far it begins one, and what it offends by first.
 ghost use Rattle.std.specs.Prelude.{◌≡◌, ℕ, ◌+◌, ◌-◌, ◌*◌, ◌^◌, ◌<◌, ◌≤◌, option_map};
 ghost use Rattle.expression_reading.specs.Symbols.{symbol_in};
-ghost use Rattle.expression_reading.specs.ScanSteps.{capped, IsSoundDigit, HasRoom, mode_after_factor, mode_before_factor, mode_after, depth_after, number_mark, mark_before, is_high, scan_start, Sees, StepsTo, is_whole, IsScanned};
+ghost use Rattle.expression_reading.specs.ScanSteps.{capped, IsSoundDigit, HasRoom};
+ghost use Rattle.expression_reading.specs.ScanSteps.{mode_after_factor, mode_before_factor};
+ghost use Rattle.expression_reading.specs.ScanSteps.{mode_after, depth_after, number_mark};
+ghost use Rattle.expression_reading.specs.ScanSteps.{mark_before, is_high, scan_start, Sees};
+ghost use Rattle.expression_reading.specs.ScanSteps.{StepsTo, is_whole, IsScanned};
 ghost use Rattle.expression_reading.specs.Offences.{offence_in, mark_in, first_kind};
 
 use crate::formula::MAX_DEGREE;
 use crate::offence::{Before, Mark, Offence, WIDE, earlier, kind_at};
 use crate::symbol::{Symbol, symbol_of};
 
-/// What the last byte leaves to come. A number is kept with the byte at which it begins, and with `WIDE` where it is wide.
+/// What the last byte leaves to come. A number is kept with the byte at which it begins, and with
+/// `WIDE` where it is wide.
 #[derive(Clone, Copy)]
 pub(crate) enum Mode {
     Start,
@@ -35,8 +40,8 @@ pub(crate) enum Mode {
     Whole,
 }
 
-/// What is kept of the bytes so far: the mode, how many parentheses are open, the first offence, and whether some number of
-/// an atom is past every degree.
+/// What is kept of the bytes so far: the mode, how many parentheses are open, the first offence,
+/// and whether some number of an atom is past every degree.
 #[derive(Clone, Copy)]
 pub(crate) struct Scan {
     pub(crate) mode: Mode,
@@ -205,7 +210,8 @@ fn number_mark(mode: Mode) -> Option<(u64, Mark)>
     }
 }
 
-/// The mark that a symbol at the byte `at` completes: a number that ends before it, or a parenthesis.
+/// The mark that a symbol at the byte `at` completes: a number that ends before it,
+/// or a parenthesis.
 fn mark_before(mode: Mode, depth: u64, at: u64, symbol: Symbol) -> Option<(u64, Mark)>
     requires { depth + 1 < 2 ^ 64 }
     ensures { result ≡ mark_before mode depth at (symbol_in symbol) }
@@ -219,7 +225,8 @@ fn mark_before(mode: Mode, depth: u64, at: u64, symbol: Symbol) -> Option<(u64, 
 
 /// The first offence at a mark, if there is one.
 fn offence_at(mark: (u64, Mark)) -> Option<Offence>
-    ensures { option_map offence_in result ≡ option_map (λ kind. (mark.0, kind)) (first_kind (mark_in mark.1)) }
+    ensures { option_map offence_in result
+        ≡ option_map (λ kind. (mark.0, kind)) (first_kind (mark_in mark.1)) }
 {
     kind_at(mark.1).map(|kind| Offence { byte: mark.0, kind })
 }
@@ -295,8 +302,9 @@ impl Scan {
     }
 }
 
-/// The first offence of a word that is an expression, its degree apart, and whether an atom has a number past every
-/// degree; of another word the length of its longest prefix that begins an expression.
+/// The first offence of a word that is an expression, its degree apart, and whether an atom has a
+/// number past every degree; of another word the length of its longest prefix that begins an
+/// expression.
 pub(crate) fn scan_word(word: &[u8]) -> Result<Scan, u64>
     ensures { IsScanned word.now result }
 {

@@ -1,5 +1,6 @@
 //! The weights of expressions, in numbers of 128 bits.
-ghost use Rattle.std.specs.Prelude.{◌≡◌, ◌+◌, ◌*◌, ◌/◌, ◌^◌, ◌<◌, ◌≤◌, IsTrue, SomeIff, MatchOption, option_map};
+ghost use Rattle.std.specs.Prelude.{◌≡◌, ◌+◌, ◌*◌, ◌/◌, ◌^◌, ◌<◌, ◌≤◌, IsTrue, SomeIff};
+ghost use Rattle.std.specs.Prelude.{MatchOption, option_map};
 ghost use Rattle.sym_model.specs.Canonical.{gcd};
 ghost use Rattle.sym_model.specs.Expression.{denominator, degree as degree_of};
 ghost use Rattle.sym_model.specs.Weight.{numerator, growth, weight};
@@ -24,11 +25,12 @@ fn weight_of(num: u128, den: u128) -> Option<Weight>
     }
 }
 
-/// The weight of a sum or a difference, over the least common denominator. A denominator over the greatest common
-/// divisor of both is the least common multiple over the other one.
+/// The weight of a sum or a difference, over the least common denominator. A denominator over the
+/// greatest common divisor of both is the least common multiple over the other one.
 fn sum_weight(a: Weight, b: Weight) -> Option<Weight>
     requires { 0 < a.den }
-    ensures { let g = gcd a.den b.den in IsWeighed result (a.num * (b.den / g) + b.num * (a.den / g)) (a.den / g * b.den) }
+    ensures { let g = gcd a.den b.den in
+        IsWeighed result (a.num * (b.den / g) + b.num * (a.den / g)) (a.den / g * b.den) }
 {
     let common = gcd(a.den, b.den);
     let from_a = b.den / common;
@@ -58,8 +60,10 @@ fn put(weight: &mut Weight, num: u128, den: u128) -> Option<()>
 #[inline(never)]
 fn add_to(weight: &mut Weight, first: &Weight) -> Option<()>
     requires { 0 < first.now.den }
-    ensures { let g = gcd first.now.den weight.old.den in IsWeighed (option_map (λ _. weight.new) result)
-        (first.now.num * (weight.old.den / g) + weight.old.num * (first.now.den / g)) (first.now.den / g * weight.old.den) }
+    ensures { let g = gcd first.now.den weight.old.den in
+        IsWeighed (option_map (λ _. weight.new) result)
+        (first.now.num * (weight.old.den / g) + weight.old.num * (first.now.den / g))
+        (first.now.den / g * weight.old.den) }
 {
     *weight = sum_weight(*first, *weight)?;
     Some(())
@@ -68,7 +72,8 @@ fn add_to(weight: &mut Weight, first: &Weight) -> Option<()>
 /// Multiplies a weight by another.
 #[inline(never)]
 fn multiply_by(weight: &mut Weight, first: &Weight) -> Option<()>
-    ensures { IsWeighed (option_map (λ _. weight.new) result) (first.now.num * weight.old.num) (first.now.den * weight.old.den) }
+    ensures { IsWeighed (option_map (λ _. weight.new) result) (first.now.num * weight.old.num)
+        (first.now.den * weight.old.den) }
 {
     *weight = product_weight(*first, *weight)?;
     Some(())
@@ -85,10 +90,12 @@ impl Expr {
         Some(weight)
     }
 
-    /// Puts the two numbers of the weight in the place of those that are there. A tree may be deep: little is kept for each level.
+    /// Puts the two numbers of the weight in the place of those that are there. A tree may be deep:
+    /// little is kept for each level.
     fn weigh_into(&self, weight: &mut Weight) -> Option<()>
         requires { IsTrue (has_no_signs self.now) }
-        ensures { IsWeighed (option_map (λ _. weight.new) result) (numerator (tree_of self.now)) (denominator (tree_of self.now)) }
+        ensures { IsWeighed (option_map (λ _. weight.new) result) (numerator (tree_of self.now))
+            (denominator (tree_of self.now)) }
     {
         match self {
             Expr::Number { num } => put(weight, (*num as u128).max(1), 1),
@@ -111,7 +118,8 @@ impl Expr {
     }
 }
 
-/// How much a conversion into the target can raise the coefficients at a degree; none where that is 2^128 or more.
+/// How much a conversion into the target can raise the coefficients at a degree;
+/// none where that is 2^128 or more.
 fn growth(target: Basis, d: u16) -> Option<u128>
     requires { d ≤ 20 }
     ensures { SomeIff result (growth (basis_of target) d < 2 ^ 128) (growth (basis_of target) d) }

@@ -8,3 +8,6 @@ pub mod NewtonSteps
 pub mod PowerSteps
 pub mod MergedLists
 pub mod KeptLists
+pub mod MultiplicityPlaces
+pub mod ExchangedLists
+pub mod ClosedPowers

@@ -2,9 +2,8 @@
 --     merged-right, merged-left      the greatest part of both goes first
 --     merged-end                     where one of them has ended
 --     written                        and the rest of both is written
-use Rattle.std.proofs.Common.{◌≡◌, ◌⊎◌, ℕ, zero, suc, ◌+◌, ◌<◌, ◌≤◌, List, [], ◌∷◌, ◌++◌, length, get_or, take, drop, refl, sym, ap, ◌∙◌, subst, inl, inr, arith, ◌-◌, ap₂, Ok, Err, if◌then◌else◌, append-nil, append_assoc}
+use Rattle.std.proofs.Common.{◌≡◌, ◌⊎◌, ℕ, zero, suc, ◌+◌, ◌<◌, ◌≤◌, List, [], ◌∷◌, ◌++◌, length, get_or, take, drop, refl, sym, ap, ◌∙◌, subst, inl, inr, arith, ◌-◌, ap₂, append-nil, append_assoc}
 use Rattle.std.proofs.Math.ListN.{drop_of_length-le}
-use Rattle.std.specs.Prelude.{Result, OnOk, is_ok}
 use Rattle.std.proofs.lemmas.List.{take_all, length-drop}
 use Rattle.std.proofs.lemmas.Bool.{cases_lt}
 use Rattle.sym_model.specs.Partition.{Falls, ArePositive, IsPartition, insert_part}
@@ -123,10 +122,9 @@ module _ (all more parts : List ℕ) (i j : ℕ) (p : IsPartition more) (q : IsP
       ∙ ap (λ l. done ++ l) (sym (ap (merged (drop i more)) y ∙ merged-nothing (drop i more) (positive-drop i more p.positive) (falls-drop i more p.falls))) ∙ so_far
 
 -- what is written at the end
-pub written : {T E : Type 0} (r : Result T E) (new start mid more parts all : List ℕ) (i j : ℕ) → mid ≡ start ++ take (length more - i) (drop i more)
-    → new ≡ (if is_ok r then mid ++ take (length parts - j) (drop j parts) else mid) → (start ++ drop i more) ++ drop j parts ≡ all → OnOk r (new ≡ all)
-written (Ok u) new start mid more parts all i j e f g = f ∙ ap₂ (λ (a b : List ℕ). a ++ b) (e ∙ ap (λ l. start ++ l) (whole more i)) (whole parts j) ∙ g
+pub written : (new start mid more parts all : List ℕ) (i j : ℕ) → mid ≡ start ++ take (length more - i) (drop i more)
+    → new ≡ mid ++ take (length parts - j) (drop j parts) → (start ++ drop i more) ++ drop j parts ≡ all → new ≡ all
+written new start mid more parts all i j e f g = f ∙ ap₂ (λ (a b : List ℕ). a ++ b) (e ∙ ap (λ l. start ++ l) (whole more i)) (whole parts j) ∙ g
   where
     whole : (xs : List ℕ) (k : ℕ) → take (length xs - k) (drop k xs) ≡ drop k xs
     whole xs k = take_all (length xs - k) (drop k xs) (omega (arith, length-drop k xs))
-written (Err x) new start mid more parts all i j e f g = tt

@@ -1,18 +1,15 @@
 -- The loop of Newton's identities.
-use Rattle.std.proofs.Common.{◌≡◌, ℕ, suc, ◌+◌, ◌-◌, ◌*◌, ◌^◌, ◌<◌, ◌≤◌, List, [], ◌∷◌, ◌++◌, refl, sym, ap, ap₂, ◌∙◌, subst, arith, ℤ, pos, ◌*ℤ◌, lit<}
+use Rattle.std.proofs.Common.{◌≡◌, ℕ, suc, ◌+◌, ◌-◌, ◌*◌, ◌^◌, ◌<◌, ◌≤◌, [], ◌∷◌, ◌++◌, refl, sym, ap, ap₂, ◌∙◌, subst, arith, ℤ, pos, ◌*ℤ◌, lit<, flat_map}
 use Rattle.std.specs.Prelude.{nat_abs, ◌≢◌}
 use Rattle.std.proofs.lemmas.Int.{unsigned_abs-mul}
 use Rattle.std.proofs.lemmas.Nat.{mul-le, pow-add}
-use Rattle.sym_model.specs.Sum.{each}
 use Rattle.sym_model.specs.Polynomial.{Poly, Same, scale}
 use Rattle.sym_model.specs.Partition.{after}
 use Rattle.sym_model.specs.Bases.{power_sum_of}
-use Rattle.sym_model.specs.Expansion.{Terms, Fraction}
 use Rattle.sym_model.specs.Weight.{factorial}
-use Rattle.sym_model.specs.WholeTerms.{numerators, absolute_total}
-use Rattle.sym_model.proofs.Sums.{Among-map}
+use Rattle.sym_model.specs.WholeTerms.{WholeTerms, absolute_total}
 use Rattle.sparse_polys.specs.MonomialProducts.{greatest_size}
-use Rattle.whole_lists.specs.Tables.{IsTable}
+use Rattle.whole_lists.specs.Tables.{IsWholeTable}
 use Rattle.whole_lists.proofs.Bounds.{greatest-within}
 use Rattle.whole_lists.specs.LabelSizes.{AreWithin}
 use Rattle.monomial_laws.proofs.Growths.{factorial-mono}
@@ -36,51 +33,51 @@ newton-family Complete h = newton-complete
 newton-family PowerSum h = absurd (h refl)
 
 -- the first list
-pub stands-first : (target family : Family) → family ≢ PowerSum → (k : ℕ) → k ≡ 0 → (terms : Terms (List ℕ)) → IsTable terms → Same (numerators terms) (([], pos 1) ∷ [])
-    → Stands (polynomial_of target) (factorial k) (factorial k * 2 ^ k) k (λ n. polynomial_of family k n) (numerators terms)
+pub stands-first : (target family : Family) → family ≢ PowerSum → (k : ℕ) → k ≡ 0 → (terms : WholeTerms) → IsWholeTable terms → Same terms (([], pos 1) ∷ [])
+    → Stands (polynomial_of target) (factorial k) (factorial k * 2 ^ k) k (λ n. polynomial_of family k n) terms
 stands-first target family newton k e terms is h =
-    subst (λ j. Stands (polynomial_of target) (factorial j) (factorial j * 2 ^ j) j (λ n. polynomial_of family j n) (numerators terms)) (sym e)
+    subst (λ j. Stands (polynomial_of target) (factorial j) (factorial j * 2 ^ j) j (λ n. polynomial_of family j n) terms) (sym e)
     (table-stands terms (([], pos 1) ∷ []) is h (polynomial_of target) 1 1 0 (λ n. polynomial_of family 0 n)
     (newton-first (polynomial_of target) (In-family target) (polynomial_of family) (λ i. sign family (i - 1)) (newton-family family newton)))
 
 -- so large are the labels
-pub stands-within : (P : ℕ → ℕ → Poly) (q A d : ℕ) (f : ℕ → Poly) (terms : Terms (List ℕ)) → Stands P q A d f (numerators terms) → AreWithin d terms
-stands-within P q A d f terms h t m = (label-among (IsLow d) (numerators terms) h.labels (t.0, t.1.0) (Among-map (λ (u : List ℕ × Fraction). (u.0, u.1.0)) t terms m)).low
+pub stands-within : (P : ℕ → ℕ → Poly) (q A d : ℕ) (f : ℕ → Poly) (terms : WholeTerms) → Stands P q A d f terms → AreWithin d terms
+stands-within P q A d f terms h t m = (label-among (IsLow d) terms h.labels t m).low
 
-pub stands-greatest : (P : ℕ → ℕ → Poly) (q A d : ℕ) (f : ℕ → Poly) (terms : Terms (List ℕ)) → Stands P q A d f (numerators terms) → greatest_size terms ≤ d
+pub stands-greatest : (P : ℕ → ℕ → Poly) (q A d : ℕ) (f : ℕ → Poly) (terms : WholeTerms) → Stands P q A d f terms → greatest_size terms ≤ d
 stands-greatest P q A d f terms h = greatest-within d terms (stands-within P q A d f terms h)
 
-module _ (target source : Family) (newton : source ≢ PowerSum) (k done factor : ℕ) (W V : Terms (List ℕ)) (lo : done < k) (e : factor * factorial (k - 1 - done) ≡ factorial (k - 1))
-    (w : Stands (polynomial_of target) 1 (2 ^ (done + 1)) (done + 1) (λ n. power_sum_of (done + 1) n) (numerators W))
-    (v : Stands (polynomial_of target) (factorial (k - 1 - done)) (factorial (k - 1 - done) * 2 ^ (k - 1 - done)) (k - 1 - done) (λ n. polynomial_of source (k - 1 - done) n) (numerators V)) where
+module _ (target source : Family) (newton : source ≢ PowerSum) (k done factor : ℕ) (W V : WholeTerms) (lo : done < k) (e : factor * factorial (k - 1 - done) ≡ factorial (k - 1))
+    (w : Stands (polynomial_of target) 1 (2 ^ (done + 1)) (done + 1) (λ n. power_sum_of (done + 1) n) W)
+    (v : Stands (polynomial_of target) (factorial (k - 1 - done)) (factorial (k - 1 - done) * 2 ^ (k - 1 - done)) (k - 1 - done) (λ n. polynomial_of source (k - 1 - done) n) V) where
   -- one term
-  term : (z : ℤ) → z ≡ pos factor *ℤ sign source done → Stands (polynomial_of target) (factorial (k - 1)) (factorial (k - 1) * 2 ^ k) k (λ n. newton_term (polynomial_of source) (λ i. sign source (i - 1)) k n (suc done)) (joined (scale z (numerators W)) (numerators V))
+  term : (z : ℤ) → z ≡ pos factor *ℤ sign source done → Stands (polynomial_of target) (factorial (k - 1)) (factorial (k - 1) * 2 ^ k) k (λ n. newton_term (polynomial_of source) (λ i. sign source (i - 1)) k n (suc done)) (joined (scale z W) V)
   term z zi =
       let a : done + 1 ≡ suc done = omega arith in
       let b : k - 1 - done ≡ k - suc done = omega arith in
       let c : suc done - 1 ≡ done = omega arith in
-      let x = subst (λ i. Stands (polynomial_of target) 1 (2 ^ i) i (λ n. power_sum_of i n) (numerators W)) a w in
-      let y = subst (λ j. Stands (polynomial_of target) (factorial j) (factorial j * 2 ^ j) j (λ n. polynomial_of source j n) (numerators V)) b v in
-      let s = newton-step (polynomial_of target) (In-family target) (polynomial_of source) (λ i. sign source (i - 1)) (newton-family source newton) k (suc done) factor (numerators W) (numerators V) (omega arith) (omega arith)
+      let x = subst (λ i. Stands (polynomial_of target) 1 (2 ^ i) i (λ n. power_sum_of i n) W) a w in
+      let y = subst (λ j. Stands (polynomial_of target) (factorial j) (factorial j * 2 ^ j) j (λ n. polynomial_of source j n) V) b v in
+      let s = newton-step (polynomial_of target) (In-family target) (polynomial_of source) (λ i. sign source (i - 1)) (newton-family source newton) k (suc done) factor W V (omega arith) (omega arith)
       (ap (λ j. factor * factorial j) (sym b) ∙ e) x y in
-      subst (λ u. Stands (polynomial_of target) (factorial (k - 1)) (factorial (k - 1) * 2 ^ k) k (λ n. newton_term (polynomial_of source) (λ i. sign source (i - 1)) k n (suc done)) (joined (scale u (numerators W)) (numerators V)))
+      subst (λ u. Stands (polynomial_of target) (factorial (k - 1)) (factorial (k - 1) * 2 ^ k) k (λ n. newton_term (polynomial_of source) (λ i. sign source (i - 1)) k n (suc done)) (joined (scale u W) V))
       (ap (λ i. pos factor *ℤ sign source i) c ∙ sym zi) s
 
-  pub newton-preserved : (S N : Terms (List ℕ)) (z : ℤ) → z ≡ pos factor *ℤ sign source done → IsTable N
-      → Stands (polynomial_of target) (factorial (k - 1)) (done * (factorial (k - 1) * 2 ^ k)) k (λ n. each (newton_term (polynomial_of source) (λ i. sign source (i - 1)) k n) (after 0 done)) (numerators S)
-      → Same (numerators N) (numerators S ++ joined (scale z (numerators W)) (numerators V))
-      → Stands (polynomial_of target) (factorial (k - 1)) ((done + 1) * (factorial (k - 1) * 2 ^ k)) k (λ n. each (newton_term (polynomial_of source) (λ i. sign source (i - 1)) k n) (after 0 (done + 1))) (numerators N)
+  pub newton-preserved : (S N : WholeTerms) (z : ℤ) → z ≡ pos factor *ℤ sign source done → IsWholeTable N
+      → Stands (polynomial_of target) (factorial (k - 1)) (done * (factorial (k - 1) * 2 ^ k)) k (λ n. flat_map (newton_term (polynomial_of source) (λ i. sign source (i - 1)) k n) (after 0 done)) S
+      → Same N (S ++ joined (scale z W) V)
+      → Stands (polynomial_of target) (factorial (k - 1)) ((done + 1) * (factorial (k - 1) * 2 ^ k)) k (λ n. flat_map (newton_term (polynomial_of source) (λ i. sign source (i - 1)) k n) (after 0 (done + 1))) N
   newton-preserved S N z zi is s h =
       let a : suc done ≡ done + 1 = omega arith in
-      subst (λ j. Stands (polynomial_of target) (factorial (k - 1)) (j * (factorial (k - 1) * 2 ^ k)) k (λ n. each (newton_term (polynomial_of source) (λ i. sign source (i - 1)) k n) (after 0 j)) (numerators N)) a
-      (table-stands N (numerators S ++ joined (scale z (numerators W)) (numerators V)) is h (polynomial_of target) (factorial (k - 1)) (suc done * (factorial (k - 1) * 2 ^ k)) k
-      (λ n. each (newton_term (polynomial_of source) (λ i. sign source (i - 1)) k n) (after 0 (suc done)))
-      (newton-next (polynomial_of target) (In-family target) (polynomial_of source) (λ i. sign source (i - 1)) (newton-family source newton) k done (factorial (k - 1) * 2 ^ k) (numerators S) (joined (scale z (numerators W)) (numerators V)) s (term z zi)))
+      subst (λ j. Stands (polynomial_of target) (factorial (k - 1)) (j * (factorial (k - 1) * 2 ^ k)) k (λ n. flat_map (newton_term (polynomial_of source) (λ i. sign source (i - 1)) k n) (after 0 j)) N) a
+      (table-stands N (S ++ joined (scale z W) V) is h (polynomial_of target) (factorial (k - 1)) (suc done * (factorial (k - 1) * 2 ^ k)) k
+      (λ n. flat_map (newton_term (polynomial_of source) (λ i. sign source (i - 1)) k n) (after 0 (suc done)))
+      (newton-next (polynomial_of target) (In-family target) (polynomial_of source) (λ i. sign source (i - 1)) (newton-family source newton) k done (factorial (k - 1) * 2 ^ k) S (joined (scale z W) V) s (term z zi)))
 
   -- nothing is refused
-  pub newton-small : (S : Terms (List ℕ)) (z : ℤ) → k ≤ 20 → z ≡ pos factor *ℤ sign source done
-      → absolute_total (numerators S) ≤ done * (factorial (k - 1) * 2 ^ k)
-      → ((m : ℕ) → absolute_total (numerators V) ≤ m → 1 ≤ m → 2 ^ 127 ≤ absolute_total (numerators S) + nat_abs z * absolute_total (numerators W) * m) → ⊥
+  pub newton-small : (S : WholeTerms) (z : ℤ) → k ≤ 20 → z ≡ pos factor *ℤ sign source done
+      → absolute_total S ≤ done * (factorial (k - 1) * 2 ^ k)
+      → ((m : ℕ) → absolute_total V ≤ m → 1 ≤ m → 2 ^ 127 ≤ absolute_total S + nat_abs z * absolute_total W * m) → ⊥
   newton-small S z low zi s large =
       let j = k - 1 - done in
       let f = factorial-positive (k - 1 - done) in
@@ -98,7 +95,7 @@ module _ (target source : Family) (newton : source ≢ PowerSum) (k done factor 
       let r : done + 1 + (k - 1 - done) ≡ k = omega arith in
       let t : factor * 2 ^ (done + 1) * (factorial (k - 1 - done) * 2 ^ (k - 1 - done)) ≡ factorial (k - 1) * 2 ^ k =
       grouped factor (2 ^ (done + 1)) (factorial (k - 1 - done)) (2 ^ (k - 1 - done)) ∙ ap₂ ◌*◌ e (sym q ∙ ap (λ x. 2 ^ x) r) in
-      let g = ap (λ x. x * absolute_total (numerators W) * (factorial (k - 1 - done) * 2 ^ (k - 1 - done))) b in
+      let g = ap (λ x. x * absolute_total W * (factorial (k - 1 - done) * 2 ^ (k - 1 - done))) b in
       let h : (done + 1) * (factorial (k - 1) * 2 ^ k) ≤ 20 * (factorial 20 * 2 ^ 20) =
       mul-le (done + 1) (factorial (k - 1) * 2 ^ k) 20 (factorial 20 * 2 ^ 20) (omega arith) (mul-le (factorial (k - 1)) (2 ^ k) (factorial 20) (2 ^ 20) (factorial-mono (k - 1) 20 (omega arith)) (powers-low k low)) in
       let top : 20 * (factorial 20 * 2 ^ 20) < 2 ^ 127 = lit< tt in

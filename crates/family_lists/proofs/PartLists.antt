@@ -4,10 +4,9 @@ use Rattle.std.specs.Prelude.{nat_abs}
 use Rattle.sym_model.specs.Polynomial.{Poly, Same, In, one, pair, scale, times}
 use Rattle.sym_model.specs.Partition.{IsPartition, columns, size}
 use Rattle.sym_model.specs.Bases.{product_over}
-use Rattle.sym_model.specs.Expansion.{Terms}
 use Rattle.sym_model.specs.Weight.{factorial}
-use Rattle.sym_model.specs.WholeTerms.{numerators, absolute_total}
-use Rattle.whole_lists.specs.Tables.{IsTable}
+use Rattle.sym_model.specs.WholeTerms.{WholeTerms, absolute_total}
+use Rattle.whole_lists.specs.Tables.{IsWholeTable}
 use Rattle.basis_change_laws.specs.JoinedLists.{joined, Stands}
 use Rattle.sym_model.proofs.PolynomialLaws.{times-one}
 use Rattle.basis_change_laws.proofs.JoinedLists.{stands-product, stands-same, stands-weaken}
@@ -16,7 +15,7 @@ use Rattle.family_lists.proofs.TableLists.{table-stands}
 use native.Mathlib.Nat.{mul-le-mul_left, mul-le-mul_right}
 use lib.IntN.{+ℤ_idr}
 
-pub parts-none : (P F : ℕ → ℕ → Poly) (terms : Terms (List ℕ)) → IsTable terms → Same (numerators terms) (([], pos 1) ∷ []) → Stands P 1 1 0 (product_over F []) (numerators terms)
+pub parts-none : (P F : ℕ → ℕ → Poly) (terms : WholeTerms) → IsWholeTable terms → Same terms (([], pos 1) ∷ []) → Stands P 1 1 0 (product_over F []) terms
 parts-none P F terms is h =
     table-stands terms (([], pos 1) ∷ []) is h P 1 1 0 (product_over F [])
     (record {
@@ -30,25 +29,25 @@ pub columns-tail : (k : ℕ) (rest : List ℕ) → IsPartition (k ∷ rest) → 
 columns-tail k [] p = omega arith
 columns-tail k (b ∷ rest) p = p.falls.0
 
-pub parts-next : (P F : ℕ → ℕ → Poly) → ((n k : ℕ) → In n (P k n)) → (k c o : ℕ) (rest : List ℕ) (W V terms : Terms (List ℕ)) → c * (o * factorial (size rest)) ≡ factorial (k + size rest)
-    → Stands P o (o * 2 ^ k) k (λ n. F k n) (numerators W) → Stands P (factorial (size rest)) (grown (size rest)) (size rest) (product_over F rest) (numerators V)
-    → IsTable terms → Same (numerators terms) (joined (scale (pos c) (numerators W)) (numerators V))
-    → Stands P (factorial (k + size rest)) (grown (k + size rest)) (k + size rest) (product_over F (k ∷ rest)) (numerators terms)
+pub parts-next : (P F : ℕ → ℕ → Poly) → ((n k : ℕ) → In n (P k n)) → (k c o : ℕ) (rest : List ℕ) (W V terms : WholeTerms) → c * (o * factorial (size rest)) ≡ factorial (k + size rest)
+    → Stands P o (o * 2 ^ k) k (λ n. F k n) W → Stands P (factorial (size rest)) (grown (size rest)) (size rest) (product_over F rest) V
+    → IsWholeTable terms → Same terms (joined (scale (pos c) W) V)
+    → Stands P (factorial (k + size rest)) (grown (k + size rest)) (k + size rest) (product_over F (k ∷ rest)) terms
 parts-next P F places k c o rest W V terms e w v is h =
-    table-stands terms (joined (scale (pos c) (numerators W)) (numerators V)) is h P (factorial (k + size rest)) (grown (k + size rest)) (k + size rest) (product_over F (k ∷ rest))
+    table-stands terms (joined (scale (pos c) W) V) is h P (factorial (k + size rest)) (grown (k + size rest)) (k + size rest) (product_over F (k ∷ rest))
     (stands-product P places o (o * 2 ^ k) k (factorial (size rest)) (grown (size rest)) (size rest) (factorial (k + size rest)) (grown (k + size rest)) c
-    (λ n. F k n) (product_over F rest) (numerators W) (numerators V) w v e (grown-joined k (size rest) c o e))
+    (λ n. F k n) (product_over F rest) W V w v e (grown-joined k (size rest) c o e))
 
-pub parts-large : (P F : ℕ → ℕ → Poly) (k c o : ℕ) (rest : List ℕ) (W V : Terms (List ℕ)) (z : ℤ) → z ≡ pos c → c * (o * factorial (size rest)) ≡ factorial (k + size rest)
-    → Stands P o (o * 2 ^ k) k (λ n. F k n) (numerators W) → Stands P (factorial (size rest)) (grown (size rest)) (size rest) (product_over F rest) (numerators V)
-    → ((m : ℕ) → absolute_total (numerators V) ≤ m → 1 ≤ m → 2 ^ 127 ≤ 0 + nat_abs z * absolute_total (numerators W) * m) → 2 ^ 127 ≤ grown (k + size rest)
+pub parts-large : (P F : ℕ → ℕ → Poly) (k c o : ℕ) (rest : List ℕ) (W V : WholeTerms) (z : ℤ) → z ≡ pos c → c * (o * factorial (size rest)) ≡ factorial (k + size rest)
+    → Stands P o (o * 2 ^ k) k (λ n. F k n) W → Stands P (factorial (size rest)) (grown (size rest)) (size rest) (product_over F rest) V
+    → ((m : ℕ) → absolute_total V ≤ m → 1 ≤ m → 2 ^ 127 ≤ 0 + nat_abs z * absolute_total W * m) → 2 ^ 127 ≤ grown (k + size rest)
 parts-large P F k c o rest W V z zi e w v large =
     let l = large (grown (size rest)) v.few (grown-positive (size rest)) in
     let b = grown-joined k (size rest) c o e in
     let u = ap nat_abs zi in
     let t = mul-le-mul_left c w.few in
     let r = mul-le-mul_right (grown (size rest)) t in
-    let n : nat_abs z * absolute_total (numerators W) * grown (size rest) ≡ c * absolute_total (numerators W) * grown (size rest) = ap (λ p. p * absolute_total (numerators W) * grown (size rest)) u in
+    let n : nat_abs z * absolute_total W * grown (size rest) ≡ c * absolute_total W * grown (size rest) = ap (λ p. p * absolute_total W * grown (size rest)) u in
     let g = grouped c (o * 2 ^ k) (grown (size rest)) in
     omega arith
   where
@@ -56,8 +55,8 @@ parts-large P F k c o rest W V z zi e w v large =
     grouped x y z = omega arith
 
 -- a partition in the target
-pub stands-itself : (P : ℕ → ℕ → Poly) (parts : List ℕ) (q A : ℕ) (terms : Terms (List ℕ)) → IsPartition parts → q ≤ A → IsTable terms → Same (numerators terms) ((parts, pos q) ∷ [])
-    → Stands P q A (size parts) (product_over P parts) (numerators terms)
+pub stands-itself : (P : ℕ → ℕ → Poly) (parts : List ℕ) (q A : ℕ) (terms : WholeTerms) → IsPartition parts → q ≤ A → IsWholeTable terms → Same terms ((parts, pos q) ∷ [])
+    → Stands P q A (size parts) (product_over P parts) terms
 stands-itself P parts q A terms p few is h =
     table-stands terms ((parts, pos q) ∷ []) is h P q A (size parts) (product_over P parts)
     (record {
@@ -67,7 +66,7 @@ stands-itself P parts q A terms p few is h =
     })
 
 -- the polynomial of one number
-pub stands-number : (P : ℕ → ℕ → Poly) → ((n k : ℕ) → In n (P k n)) → (k : ℕ) (terms : Terms (List ℕ)) → 0 < k → IsTable terms → Same (numerators terms) ((k ∷ [], pos 1) ∷ []) → Stands P 1 1 k (λ n. P k n) (numerators terms)
+pub stands-number : (P : ℕ → ℕ → Poly) → ((n k : ℕ) → In n (P k n)) → (k : ℕ) (terms : WholeTerms) → 0 < k → IsWholeTable terms → Same terms ((k ∷ [], pos 1) ∷ []) → Stands P 1 1 k (λ n. P k n) terms
 stands-number P places k terms h is s =
-    stands-same P 1 1 k (λ n. times (P k n) (one n)) (λ n. P k n) (numerators terms) (λ n. times-one n (P k n) (places n k))
-    (stands-weaken P 1 1 1 (k + 0) k (λ n. times (P k n) (one n)) (numerators terms) (stands-itself P (k ∷ []) 1 1 terms (record { falls = tt; positive = (h, tt) }) (omega arith) is s) (omega arith) (omega arith))
+    stands-same P 1 1 k (λ n. times (P k n) (one n)) (λ n. P k n) terms (λ n. times-one n (P k n) (places n k))
+    (stands-weaken P 1 1 1 (k + 0) k (λ n. times (P k n) (one n)) terms (stands-itself P (k ∷ []) 1 1 terms (record { falls = tt; positive = (h, tt) }) (omega arith) is s) (omega arith) (omega arith))

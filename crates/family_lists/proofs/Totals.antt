@@ -5,21 +5,20 @@
 use Rattle.std.proofs.Common.{◌≡◌, ◌⊎◌, ℕ, ◌+◌, ◌/◌, ◌^◌, ◌≤◌, Bool, true, false, cond, List, [], ◌∷◌, map, ap, ap₂, subst, refl, inl, inr, arith, ℤ, pos, ◌+ℤ◌}
 use Rattle.std.specs.Prelude.{nat_abs, FitsSigned}
 use Rattle.std.specs.Int.{w128}
-use Rattle.std.proofs.lemmas.Int.{ints, unsigned_abs-mul}
-use Rattle.coeff_rings.specs.Fractions.{whole}
 use Rattle.coeff_rings.specs.Checked.{checked_i128}
+use Rattle.coeff_rings.proofs.Sizes.{refused_size}
+use Rattle.linear_combinations.specs.Entries.{coefficient as look_up, IsRefused}
+use Rattle.whole_lists.specs.Tables.{equal}
+use Rattle.whole_lists.proofs.WholeLists.{Finds}
+use Rattle.std.proofs.lemmas.Int.{ints, unsigned_abs-mul}
 use Rattle.sym_model.specs.Sum.{Among, Once}
 use Rattle.sym_model.specs.Partition.{size}
 use Rattle.sym_model.specs.Polynomial.{same, coefficient}
-use Rattle.sym_model.specs.Expansion.{Fraction, Terms}
+use Rattle.sym_model.specs.Expansion.{Terms}
 use Rattle.sym_model.specs.ListWeight.{absolute_sum}
 use Rattle.sym_model.specs.WholeTerms.{WholeTerms, absolute_total}
 use Rattle.sym_model.proofs.Exponents.{same_from, same_apart, same_or_not}
-use Rattle.sparse_polys.specs.Refusal.{IsRefused}
 use Rattle.monomial_laws.specs.ExpressionTerms.{over}
-use Rattle.whole_lists.specs.Tables.{found}
-use Rattle.whole_lists.proofs.TableSums.{IsRefused-size}
-use Rattle.whole_lists.proofs.WholeLists.{Finds}
 
 labels_none : (label : List ℕ) (k : ℕ) (ls : List (List ℕ)) → (Among label ls → ⊥) → size (map (λ (l : List ℕ). cond (same label l) k 0) ls) ≡ 0
 labels_none label k [] h = refl
@@ -79,5 +78,6 @@ coefficient-few (t ∷ W) ν = let r = coefficient-few W ν in let s = one (same
     one false c = omega (arith, ints)
 
 -- a sum that is refused
-pub refused-sum : (old : Terms (List ℕ)) (W : WholeTerms) (ν : List ℕ) (c : ℤ) → Finds old W → IsRefused (FitsSigned w128) whole (λ (x y : ℤ). checked_i128 (x +ℤ y)) (found old ν) (whole c) → 2 ^ 127 ≤ nat_abs (coefficient W ν +ℤ c)
-refused-sum old W ν c h r = IsRefused-size ◌+ℤ◌ (coefficient W ν) c (subst (λ (x : Fraction). IsRefused (FitsSigned w128) whole (λ (x y : ℤ). checked_i128 (x +ℤ y)) x (whole c)) (h ν) r)
+pub refused-sum : (old W : WholeTerms) (ν : List ℕ) (c : ℤ) → Finds old W → IsRefused (FitsSigned w128) (λ (x y : ℤ). checked_i128 (x +ℤ y)) (look_up equal (pos 0) old ν) c
+    → 2 ^ 127 ≤ nat_abs (coefficient W ν +ℤ c)
+refused-sum old W ν c h r = subst (λ z. 2 ^ 127 ≤ nat_abs (z +ℤ c)) (h ν) (refused_size (look_up equal (pos 0) old ν +ℤ c) r.refused)

@@ -1,3 +1,4 @@
 pub mod FactorLists
 pub mod Signs
 pub mod KeptLists
+pub mod PowerSigns

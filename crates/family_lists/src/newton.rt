@@ -1,20 +1,23 @@
-//! The lists of p_k, and of e_k and h_k times k!, in e, in h and in p, by Newton's identities.
-ghost use Rattle.std.specs.Prelude.{◌≡◌, ◌≢◌, ◌+◌, ◌-◌, ◌*◌, ◌<◌, ◌≤◌, ◌^◌, ◌*ℤ◌, pos, neg_ℤ, length, vec_len, IfOk, IsErrOf};
-ghost use Rattle.sym_model.specs.Bases.{power_sum_of};
+//! The lists of p_k, and of e_k and h_k times k!, in e, in h and in p: p_k, e_k in h and h_k in e
+//! by closed coefficients, the others by Newton's identities.
+ghost use Rattle.std.specs.Prelude.{◌≡◌, ◌≢◌, ◌+◌, ◌-◌, ◌*◌, ◌<◌, ◌≤◌, ◌^◌, ◌*ℤ◌, pos, length};
+ghost use Rattle.std.specs.Prelude.{vec_len, IfOk, IsErrOf};
+ghost use Rattle.sym_model.specs.Bases.{elementary_of, complete_of, power_sum_of};
 ghost use Rattle.sym_model.specs.Weight.{factorial};
-ghost use Rattle.sym_model.specs.WholeTerms.{numerators};
 ghost use Rattle.basis_change_laws.specs.JoinedLists.{Stands};
 ghost use Rattle.whole_lists.specs.Families.{polynomial_of};
 ghost use Rattle.family_lists.specs.Signs.{sign};
 ghost use Rattle.family_lists.specs.FactorLists.{ArePowers, AreNewton, AreFactors};
 
+use crate::exchanged::exchanged_lists;
+use crate::powers::closed_power_sum;
 use crate::products::add_products;
 use crate::signs::is_negative;
 use calc_base::SumFault;
 use coeff_rings::{Int, Scalar};
-use sparse_polys::Lin;
+use linear_combinations::Lin;
 use std::alloc::Global;
-use whole_lists::{Family, Whole, is_whole, single};
+use whole_lists::{Family, Whole, single};
 
 /// The number with the sign of p_(k+1)·e_j, or of p_(k+1)·h_j, in Newton's identities.
 fn signed(family: Family, k: u16, number: u64) -> Int
@@ -27,56 +30,11 @@ fn signed(family: Family, k: u16, number: u64) -> Int
     }
 }
 
-/// The product of two of these signs, turned.
-fn turned_signs(family: Family, k: u16, i: u16) -> Int
-    ensures { result ≡ neg_ℤ (sign family k) *ℤ sign family i }
-{
-    if is_negative(family, k) == is_negative(family, i) {
-        Int::new(-1)
-    } else {
-        Int::one()
-    }
-}
-
-/// p_k in e or in h, from those before it, by Newton's identity solved for it.
-fn next_power_sum(
-    alloc: Global,
-    target: Family,
-    before: &[Whole],
-    k: u16,
-) -> Result<Whole, SumFault>
-    requires newton { target ≢ Family.PowerSum }
-    requires before { ArePowers (polynomial_of target) (length before.now) before.now }
-    requires next { k ≡ length before.now }
-    requires low { (0 < k) × (k ≤ 20) }
-    ensures value { IfOk result (λ list.
-        Stands (polynomial_of target) 1 (2 ^ k - 1) k (λ n. power_sum_of k n) (numerators list)) }
-    ensures small { ¬ IsErrOf result SumFault.Large }
-{
-    let mut sum = single(alloc, &[k], signed(target, k - 1, u64::from(k)).get())?;
-    is_whole(&sum);
-    for done in 0..k - 1 {
-        let i = done + 1;
-        let one = single(alloc, &[k - i], 1)?;
-        is_whole(&one);
-        add_products(
-            alloc,
-            &mut sum,
-            &before[usize::from(i)],
-            turned_signs(target, k - 1, done),
-            &one,
-        )?;
-    }
-    Ok(sum)
-}
-
-/// p_k, from those before it; nothing for k = 0.
-fn power_sum(alloc: Global, target: Family, before: &[Whole], k: u16) -> Result<Whole, SumFault>
-    requires before { ArePowers (polynomial_of target) (length before.now) before.now }
-    requires next { k ≡ length before.now }
-    requires low { k ≤ 20 }
+/// p_k; nothing for k = 0.
+fn power_sum(alloc: Global, target: Family, k: u16) -> Result<Whole, SumFault>
+    requires { k ≤ 20 }
     ensures value { IfOk result (λ list. 0 < k
-        → Stands (polynomial_of target) 1 (2 ^ k - 1) k (λ n. power_sum_of k n) (numerators list)) }
+        → Stands (polynomial_of target) 1 (2 ^ k - 1) k (λ n. power_sum_of k n) list) }
     ensures small { ¬ IsErrOf result SumFault.Large }
 {
     if k == 0 {
@@ -84,8 +42,8 @@ fn power_sum(alloc: Global, target: Family, before: &[Whole], k: u16) -> Result<
     }
     match target {
         Family::PowerSum => power_sum_itself(alloc, k),
-        Family::Elementary => next_power_sum(alloc, Family::Elementary, before, k),
-        Family::Complete => next_power_sum(alloc, Family::Complete, before, k),
+        Family::Elementary => closed_power_sum(alloc, Family::Elementary, k),
+        Family::Complete => closed_power_sum(alloc, Family::Complete, k),
     }
 }
 
@@ -93,15 +51,15 @@ fn power_sum(alloc: Global, target: Family, before: &[Whole], k: u16) -> Result<
 fn power_sum_itself(alloc: Global, k: u16) -> Result<Whole, SumFault>
     requires { (0 < k) × (k ≤ 20) }
     ensures value { IfOk result (λ list.
-        Stands power_sum_of 1 (2 ^ k - 1) k (λ n. power_sum_of k n) (numerators list)) }
+        Stands power_sum_of 1 (2 ^ k - 1) k (λ n. power_sum_of k n) list) }
     ensures small { ¬ IsErrOf result SumFault.Large }
 {
     let list = single(alloc, &[k], 1)?;
-    is_whole(&list);
     Ok(list)
 }
 
-/// p_1, .., p_d in the target, each at its place, for d of at most 20. It is never refused as `Large`.
+/// p_1, .., p_d in the target, each at its place,
+/// for d of at most 20. It is never refused as `Large`.
 pub fn power_sums(alloc: Global, target: Family, d: u16) -> Result<Vec<Whole>, SumFault>
     requires { d ≤ 20 }
     ensures length { IfOk result (λ lists. vec_len lists ≡ d + 1) }
@@ -110,7 +68,7 @@ pub fn power_sums(alloc: Global, target: Family, d: u16) -> Result<Vec<Whole>, S
 {
     let mut lists = Vec::new(alloc);
     for k in 0..d + 1 {
-        let next = power_sum(alloc, target, lists.as_slice(), k)?;
+        let next = power_sum(alloc, target, k)?;
         lists.push(next)?;
     }
     Ok(lists)
@@ -127,15 +85,16 @@ fn next_list(
 ) -> Result<Whole, SumFault>
     requires newton { family ≢ Family.PowerSum }
     requires powers { ArePowers (polynomial_of target) (length powers.now) powers.now }
-    requires before { AreNewton (polynomial_of target) (polynomial_of family) (length before.now) before.now }
+    requires before { AreNewton (polynomial_of target) (polynomial_of family)
+        (length before.now) before.now }
     requires next { k ≡ length before.now }
     requires few { k < length powers.now }
     requires low { (0 < k) × (k ≤ 20) }
-    ensures value { IfOk result (λ list. Stands (polynomial_of target) (factorial k) (factorial k * 2 ^ k) k
-        (λ n. polynomial_of family k n) (numerators list)) }
+    ensures value { IfOk result (λ list.
+        Stands (polynomial_of target) (factorial k) (factorial k * 2 ^ k) k
+        (λ n. polynomial_of family k n) list) }
     ensures small { ¬ IsErrOf result SumFault.Large }
 {
-    let _ = target;
     let mut sum = Lin::new(alloc);
     let mut factor = 1;
     for done in 0..k {
@@ -163,17 +122,18 @@ fn newton_list(
 ) -> Result<Whole, SumFault>
     requires newton { family ≢ Family.PowerSum }
     requires powers { ArePowers (polynomial_of target) (length powers.now) powers.now }
-    requires before { AreNewton (polynomial_of target) (polynomial_of family) (length before.now) before.now }
+    requires before { AreNewton (polynomial_of target) (polynomial_of family)
+        (length before.now) before.now }
     requires next { k ≡ length before.now }
     requires few { k < length powers.now }
     requires low { k ≤ 20 }
-    ensures value { IfOk result (λ list. Stands (polynomial_of target) (factorial k) (factorial k * 2 ^ k) k
-        (λ n. polynomial_of family k n) (numerators list)) }
+    ensures value { IfOk result (λ list.
+        Stands (polynomial_of target) (factorial k) (factorial k * 2 ^ k) k
+        (λ n. polynomial_of family k n) list) }
     ensures small { ¬ IsErrOf result SumFault.Large }
 {
     if k == 0 {
         let one = single(alloc, &[], 1)?;
-        is_whole(&one);
         return Ok(one);
     }
     next_list(alloc, target, family, powers, before, k)
@@ -192,7 +152,8 @@ fn newton_lists(
     requires few { d < length powers.now }
     requires low { d ≤ 20 }
     ensures length { IfOk result (λ lists. vec_len lists ≡ d + 1) }
-    ensures ok { IfOk result (λ lists. AreNewton (polynomial_of target) (polynomial_of family) (d + 1) lists.items) }
+    ensures ok { IfOk result (λ lists.
+        AreNewton (polynomial_of target) (polynomial_of family) (d + 1) lists.items) }
     ensures small { ¬ IsErrOf result SumFault.Large }
 {
     let mut lists = Vec::new(alloc);
@@ -203,7 +164,56 @@ fn newton_lists(
     Ok(lists)
 }
 
-/// The polynomials of one part of a family, up to d, each at its place as a list in the target: p_k, and e_k and h_k times k!.
+/// e_0, 1!·e_1, .., d!·e_d in the target, or those of h, by way of the power sums.
+fn lists_by_newton(
+    alloc: Global,
+    target: Family,
+    family: Family,
+    d: u16,
+) -> Result<Vec<Whole>, SumFault>
+    requires newton { family ≢ Family.PowerSum }
+    requires low { d ≤ 20 }
+    ensures length { IfOk result (λ lists. vec_len lists ≡ d + 1) }
+    ensures ok { IfOk result (λ lists.
+        AreNewton (polynomial_of target) (polynomial_of family) (d + 1) lists.items) }
+    ensures small { ¬ IsErrOf result SumFault.Large }
+{
+    let powers = power_sums(alloc, target, d)?;
+    newton_lists(alloc, target, family, powers.as_slice(), d)
+}
+
+/// e_0, 1!·e_1, .., d!·e_d in the target.
+fn elementary_lists(alloc: Global, target: Family, d: u16) -> Result<Vec<Whole>, SumFault>
+    requires { d ≤ 20 }
+    ensures length { IfOk result (λ lists. vec_len lists ≡ d + 1) }
+    ensures ok { IfOk result (λ lists.
+        AreNewton (polynomial_of target) elementary_of (d + 1) lists.items) }
+    ensures small { ¬ IsErrOf result SumFault.Large }
+{
+    match target {
+        Family::Complete => exchanged_lists(alloc, d),
+        Family::Elementary => { lists_by_newton(alloc, Family::Elementary, Family::Elementary, d) }
+        Family::PowerSum => lists_by_newton(alloc, Family::PowerSum, Family::Elementary, d),
+    }
+}
+
+/// h_0, 1!·h_1, .., d!·h_d in the target.
+fn complete_lists(alloc: Global, target: Family, d: u16) -> Result<Vec<Whole>, SumFault>
+    requires { d ≤ 20 }
+    ensures length { IfOk result (λ lists. vec_len lists ≡ d + 1) }
+    ensures ok { IfOk result (λ lists.
+        AreNewton (polynomial_of target) complete_of (d + 1) lists.items) }
+    ensures small { ¬ IsErrOf result SumFault.Large }
+{
+    match target {
+        Family::Elementary => exchanged_lists(alloc, d),
+        Family::Complete => lists_by_newton(alloc, Family::Complete, Family::Complete, d),
+        Family::PowerSum => lists_by_newton(alloc, Family::PowerSum, Family::Complete, d),
+    }
+}
+
+/// The polynomials of one part of a family, up to d, each at its place as a list in the target:
+/// p_k, and e_k and h_k times k!.
 pub fn factor_lists(
     alloc: Global,
     target: Family,
@@ -212,15 +222,13 @@ pub fn factor_lists(
 ) -> Result<Vec<Whole>, SumFault>
     requires { d ≤ 20 }
     ensures length { IfOk result (λ lists. vec_len lists ≡ d + 1) }
-    ensures ok { IfOk result (λ lists. AreFactors (polynomial_of target) family (d + 1) lists.items) }
+    ensures ok { IfOk result (λ lists.
+        AreFactors (polynomial_of target) family (d + 1) lists.items) }
     ensures small { ¬ IsErrOf result SumFault.Large }
 {
-    let powers = power_sums(alloc, target, d)?;
     match family {
-        Family::PowerSum => Ok(powers),
-        Family::Elementary => {
-            newton_lists(alloc, target, Family::Elementary, powers.as_slice(), d)
-        }
-        Family::Complete => newton_lists(alloc, target, Family::Complete, powers.as_slice(), d),
+        Family::PowerSum => power_sums(alloc, target, d),
+        Family::Elementary => elementary_lists(alloc, target, d),
+        Family::Complete => complete_lists(alloc, target, d),
     }
 }

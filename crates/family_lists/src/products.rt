@@ -1,17 +1,20 @@
 //! Products of lists whose labels are multiplied by joining their parts.
-ghost use Rattle.std.specs.Prelude.{◌≡◌, ℕ, ◌+◌, ◌*◌, ◌≤◌, ◌^◌, ◌*ℤ◌, ◌++◌, nat_abs, MatchOption, OnOk, IsErrOf};
+ghost use Rattle.std.specs.Prelude.{◌≡◌, ℕ, ◌+◌, ◌*◌, ◌≤◌, ◌^◌, ◌*ℤ◌, ◌++◌, ◌∷◌, [], nat_abs, MatchOption};
+ghost use Rattle.std.specs.Prelude.{IfOk, OnOk, IsErrOf};
 ghost use Rattle.sym_model.specs.Partition.{IsPartition, size};
 ghost use Rattle.sym_model.specs.Polynomial.{Same, scale};
-ghost use Rattle.sym_model.specs.WholeTerms.{numerators, absolute_total};
+ghost use Rattle.sym_model.specs.WholeTerms.{absolute_total};
 ghost use Rattle.sparse_polys.specs.MonomialProducts.{greatest_size};
-ghost use Rattle.basis_change_laws.specs.JoinedLists.{merged, row, joined};
-ghost use Rattle.whole_lists.specs.Tables.{IsTable};
+ghost use Rattle.basis_change_laws.specs.JoinedLists.{merged, joined, row};
+ghost use Rattle.linear_combinations.specs.Gains.{Gains, Overflows};
+ghost use Rattle.whole_lists.specs.Tables.{equal, IsWholeTable};
 
-use calc_base::SumFault;
+use calc_base::{NoMemory, SumFault};
 use coeff_rings::{Int, Ring};
+use linear_combinations::Rule;
 use partitions::Partition;
-use std::alloc::{AllocError, Global};
-use whole_lists::{Whole, is_whole};
+use std::alloc::Global;
+use whole_lists::Whole;
 
 /// The product; none where it is too large.
 pub fn product_of(x: Int, y: Int) -> Option<Int>
@@ -22,7 +25,7 @@ pub fn product_of(x: Int, y: Int) -> Option<Int>
 
 /// Puts the parts of both partitions into the buffer in falling order, in place of what it holds.
 #[inline(always)]
-pub fn put_merged(buffer: &mut Vec<u16>, more: &[u16], parts: &[u16]) -> Result<(), AllocError>
+pub fn put_merged(buffer: &mut Vec<u16>, more: &[u16], parts: &[u16]) -> Result<(), NoMemory>
     requires more { IsPartition more.now }
     requires parts { IsPartition parts.now }
     ensures { OnOk result (buffer.new.items ≡ merged more.now parts.now) }
@@ -40,40 +43,88 @@ pub fn put_merged(buffer: &mut Vec<u16>, more: &[u16], parts: &[u16]) -> Result<
         i += 1;
     }
     buffer.extend_from_slice(&more[i..])?;
-    buffer.extend_from_slice(&parts[j..])
+    buffer.extend_from_slice(&parts[j..])?;
+    Ok(())
 }
 
-/// Adds z times the product of a label with a list. It is refused as `Large` only where the absolute values of what is there and of
-/// what is added come to 2^127 or more.
+/// Adds z times the product of a label with a list. The parts of both labels are joined in one
+/// vector, which is used again.
 fn add_row(
     alloc: Global,
     sum: &mut Whole,
-    left: &[u16],
+    left: &Partition,
     z: Int,
     right: &Whole,
 ) -> Result<(), SumFault>
-    requires left { IsPartition left.now }
-    requires low { size left.now + greatest_size right.now ≤ 512 }
-    ensures value { OnOk result (Same (numerators sum.new) (numerators sum.old ++ row left.now z (numerators right.now))) }
-    ensures table { OnOk result (IsTable sum.new) }
-    ensures large { IsErrOf result SumFault.Large
-        → 2 ^ 127 ≤ absolute_total (numerators sum.old) + nat_abs z * absolute_total (numerators right.now) }
+    requires { size left.now + greatest_size right.now ≤ 512 }
+    ensures gains { OnOk result (Gains sum.old (row left.now z right.now) sum.new) }
+    ensures large { IsErrOf result SumFault.Large → Overflows equal sum.old (row left.now z right.now) }
 {
-    is_whole(sum);
-    is_whole(right);
     let mut parts = Vec::new(alloc);
     for (label, c) in right.iter() {
-        let Some(product) = product_of(z, *c) else {
-            return Err(SumFault::Large);
-        };
-        put_merged(&mut parts, left, label.parts())?;
-        sum.add_term(Partition::from_valid_parts(alloc, &parts)?, product)?;
+        add_joined(alloc, sum, &mut parts, left, label, z, *c)?;
     }
     Ok(())
 }
 
-/// Adds c times the product of two lists. It is refused as `Large` only where the absolute values of what is there and of what is
-/// added come to 2^127 or more, those of the right list being at least 1.
+/// Adds a coefficient times another at the label that has the parts of both.
+#[inline(always)]
+fn add_joined(
+    alloc: Global,
+    sum: &mut Whole,
+    parts: &mut Vec<u16>,
+    left: &Partition,
+    label: &Partition,
+    z: Int,
+    c: Int,
+) -> Result<(), SumFault>
+    requires { size left.now + size label.now ≤ 512 }
+    ensures gains { OnOk result (Gains sum.old ((merged left.now label.now, z *ℤ c) ∷ []) sum.new) }
+    ensures large { IsErrOf result SumFault.Large
+        → Overflows equal sum.old ((merged left.now label.now, z *ℤ c) ∷ []) }
+{
+    let Some(product) = product_of(z, c) else {
+        return Err(SumFault::Large);
+    };
+    put_merged(parts, left.parts(), label.parts())?;
+    sum.add_owned(
+        Partition::from_valid_parts(alloc, parts.as_slice())?,
+        product,
+    )
+}
+
+/// What a label becomes in a product with a list and a number.
+#[derive(Drop)]
+struct TimesList<'a> {
+    alloc: Global,
+    list: &'a Whole,
+    c: Int,
+}
+
+impl Rule<Partition, Partition> for TimesList<'_> {
+    ghost use Rattle.std.specs.Prelude.{◌+◌, ◌≤◌};
+    ghost use Rattle.sym_model.specs.Partition.{size};
+    ghost use Rattle.sparse_polys.specs.MonomialProducts.{greatest_size};
+    ghost use Rattle.basis_change_laws.specs.JoinedLists.{row};
+
+    ghost takes = { λ rule label. size label + greatest_size rule.list.now ≤ 512 };
+
+    ghost image = { λ rule label. row label rule.c rule.list.now };
+
+    fn add_image(&self, label: &Partition, x: Int, sum: &mut Whole) -> Result<(), SumFault> {
+        if self.list.len() == 0 {
+            return Ok(());
+        }
+        let Some(c) = product_of(x, self.c) else {
+            return Err(SumFault::Large);
+        };
+        add_row(self.alloc, sum, label, c, self.list)
+    }
+}
+
+/// Adds c times the product of two lists. It is refused as `Large` only where the absolute values
+/// of what is there and of what is added come to 2^127 or more,
+/// those of the right list being at least 1.
 pub fn add_products(
     alloc: Global,
     sum: &mut Whole,
@@ -82,19 +133,15 @@ pub fn add_products(
     right: &Whole,
 ) -> Result<(), SumFault>
     requires { greatest_size left.now + greatest_size right.now ≤ 512 }
-    ensures value { OnOk result (Same (numerators sum.new)
-        (numerators sum.old ++ joined (scale c (numerators left.now)) (numerators right.now))) }
-    ensures table { OnOk result (IsTable sum.new) }
-    ensures large { IsErrOf result SumFault.Large → (m : ℕ) → absolute_total (numerators right.now) ≤ m → 1 ≤ m
-        → 2 ^ 127 ≤ absolute_total (numerators sum.old) + nat_abs c * absolute_total (numerators left.now) * m }
+    ensures value { OnOk result (Same sum.new (sum.old ++ joined (scale c left.now) right.now)) }
+    ensures table { OnOk result (IsWholeTable sum.new) }
+    ensures large { IsErrOf result SumFault.Large → (m : ℕ) → absolute_total right.now ≤ m → 1 ≤ m
+        → 2 ^ 127 ≤ absolute_total sum.old + nat_abs c * absolute_total left.now * m }
 {
-    is_whole(left);
-    is_whole(sum);
-    for (label, x) in left.iter() {
-        let Some(z) = product_of(c, *x) else {
-            return Err(SumFault::Large);
-        };
-        add_row(alloc, sum, label.parts(), z, right)?;
-    }
-    Ok(())
+    let rule = TimesList {
+        alloc,
+        list: right,
+        c,
+    };
+    sum.add_by(&rule, left)
 }

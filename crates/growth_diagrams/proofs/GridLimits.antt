@@ -8,10 +8,11 @@ use Rattle.sym_model.specs.Permutation.{IsOneLine}
 use Rattle.sym_model.specs.Tableau.{are_letters, shape_of}
 use Rattle.sym_model.proofs.SortedParts.{rows_within_size}
 use Rattle.insertion_laws.proofs.SlidLetters.{letters-taken}
-use Rattle.insertion_laws.proofs.WordsAndPairs.{inserted_tableau, as_many_cells, letters_among}
+use Rattle.insertion_laws.proofs.WordsAndPairs.{inserted_tableau, as_many_cells}
 use Rattle.partitions.specs.Limits.{IsWithinLimits}
 use Rattle.sym_model.specs.Growth.{at_most, growth_shape}
 use Rattle.growth_laws.proofs.GrowthPairs.{growth-shape, perm_from}
+use Rattle.sym_model.proofs.Sums.{letters_among}
 
 few_at_most : (j : ℕ) (w : List ℕ) → length (at_most j w) ≤ length w
 few_at_most j [] = omega arith

@@ -46,7 +46,7 @@ line_all w i k l = take_all k (grid_line w i) (omega (arith, length-line w i))
 pub lines_all : (w : List ℕ) (k : ℕ) → length w < k → take k (grid_lines w) ≡ grid_lines w
 lines_all w k l = take_all k (grid_lines w) (omega (arith, length-lines w))
 
--- the shape behind the first k + 1 of a line, by the rule at its corner
+-- the shape after the first k + 1 of a line, by the rule at its corner
 pub corner_next :
     (w : List ℕ) (number k a : ℕ) (lower left right : List ℕ) → 1 ≤ number → number ≤ length w → k < length w → a ≡ letter w number
     → lower ≡ growth_shape w (number - 1) k → left ≡ growth_shape w (number - 1) (k + 1) → right ≡ growth_shape w number k

@@ -11,12 +11,13 @@ use Rattle.sym_model.specs.Tableau.{shape_of}
 use Rattle.sym_model.proofs.Contents.{times_in-append}
 use Rattle.insertion_laws.specs.Rows.{AreRows, RowsBelow}
 use Rattle.insertion_laws.proofs.TableauRows.{rows_from, standard_from}
-use Rattle.insertion_laws.proofs.WordsAndPairs.{pair_of, from_letters, letters_among, as_many_cells, one_shape, recorded_tableau}
+use Rattle.insertion_laws.proofs.WordsAndPairs.{pair_of, from_letters, as_many_cells, one_shape, recorded_tableau}
 use Rattle.insertion_laws.proofs.InsertedWords.{first-tableau, inserted_word}
 use Rattle.sym_model.specs.Growth.{grown, growth_shape, tableau_of_chain, with_end}
 use Rattle.growth_laws.proofs.LocalRules.{below_run, tableau_of}
 use Rattle.growth_laws.proofs.GrowthPairs.{at_most_all, first_of_grid, perm_from, second_of_grid}
 use Rattle.perm_codes.specs.Limits.{IsWithinLimits}
+use Rattle.sym_model.proofs.Sums.{letters_among}
 
 times-with_end : (j i k : ℕ) (rows : List (List ℕ)) → times_in j (letters_of (with_end i k rows)) ≡ times_in j (letters_of rows) + cond (k == j) 1 0
 times-with_end j i k [] = omega arith

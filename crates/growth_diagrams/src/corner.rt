@@ -8,7 +8,8 @@ use calc_base::NoMemory;
 use partitions::Partition;
 use std::alloc::Global;
 
-/// The shape at a corner, from those at the other three corners of its square. Want of memory is its only error.
+/// The shape at a corner, from those at the other three corners of its square. Out of memory is its
+/// only error.
 pub(crate) fn shape_at_corner(
     alloc: Global,
     marked: bool,
@@ -38,7 +39,8 @@ fn are_same(left: &Partition, right: &Partition) -> bool
     left.parts() == right.parts()
 }
 
-/// The first row, counted from 0, in which the first shape is longer; its number of rows where there is none.
+/// The first row, counted from 0, in which the first shape is longer;
+/// its number of rows where there is none.
 pub(crate) fn first_longer(left: &Partition, lower: &Partition) -> u16
     ensures row { result ≡ grown left.now lower.now }
     ensures few { result ≤ 512 }

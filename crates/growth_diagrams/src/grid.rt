@@ -52,8 +52,8 @@ impl Grid {
         self.lines[usize::from(i)].as_slice()
     }
 
-    /// The growth shape at (i, j), which is the shape of the insertion tableau of those of the first i letters that are at
-    /// most j (Fomin; Stanley, Enumerative Combinatorics 2, 7.13).
+    /// The growth shape at (i, j), which is the shape of the insertion tableau of those of the
+    /// first i letters that are at most j (Fomin; Stanley, Enumerative Combinatorics 2, 7.13).
     pub fn shape_at(&self, i: u16, j: u16) -> &Partition
         requires i { i ≤ length self.now }
         requires j { j ≤ length self.now }
@@ -63,16 +63,18 @@ impl Grid {
         &self.line(i)[usize::from(j)]
     }
 
-    /// The insertion tableau and the recording tableau of the permutation, read from the edges of its grid: the chains of
-    /// shapes in the last line and in the last column. Those of the inverse permutation are the same two, exchanged. Out
-    /// of memory is the only error.
+    /// The insertion tableau and the recording tableau of the permutation, read from the edges of
+    /// its grid: the chains of shapes in the last line and in the last column. Those of the inverse
+    /// permutation are the same two, exchanged. Out of memory is the only error.
     #[tactic(auto, using(insertion_laws::proofs::WordsAndPairs::one_shape))]
     pub fn pair_of(&self) -> Result<(Standard, Standard), NoMemory>
         ensures pair { IfOk result (λ pair. (pair.0.rows, pair.1.rows) ≡ insertion_pair self.now) }
         ensures last_line { IfOk result (λ pair.
-            pair.0.rows ≡ tableau_of_chain (λ j. growth_shape self.now (length self.now) j) (length self.now)) }
+            pair.0.rows ≡ tableau_of_chain (λ j. growth_shape self.now (length self.now) j)
+            (length self.now)) }
         ensures last_column { IfOk result (λ pair.
-            pair.1.rows ≡ tableau_of_chain (λ i. growth_shape self.now i (length self.now)) (length self.now)) }
+            pair.1.rows ≡ tableau_of_chain (λ i. growth_shape self.now i (length self.now))
+            (length self.now)) }
         ensures inverse { (v : List ℕ) → IsOneLine v → AreInverse v self.now
             → IfOk result (λ pair. (pair.1.rows, pair.0.rows) ≡ insertion_pair v) }
         ensures one_shape { IfOk result (λ pair. HaveOneShape pair.0 pair.1) }

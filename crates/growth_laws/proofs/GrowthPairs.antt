@@ -8,13 +8,13 @@ use Rattle.sym_model.specs.Permutation.{AreInverse, IsOneLine, letter}
 use Rattle.sym_model.specs.Schur.{times_in}
 use Rattle.sym_model.specs.Sum.{Among, Once}
 use Rattle.sym_model.specs.Tableau.{shape_of}
-use Rattle.insertion_laws.specs.Rows.{AreBelow}
 use Rattle.insertion_laws.proofs.Removals.{end-step}
 use Rattle.insertion_laws.proofs.WordsAndPairs.{one_more, one_shape, inserted-more}
 use Rattle.sym_model.specs.Growth.{at_corner, at_most, grown, growth_shape, tableau_of_chain, with_end}
 use Rattle.insertion_laws.proofs.InsertedWords.{inserted_word, first-tableau}
 use Rattle.growth_laws.proofs.Cells.{grown-cell, shape-last, corner-mirrored}
 use Rattle.growth_laws.proofs.LocalRules.{AreDifferent, AreGrown, alone, ended, extends, grown-shape, shape_at, shapes_grown, tableau_of}
+use Rattle.sym_model.specs.Bounded.{AreBelow}
 
 -- ---- the grid of the inverse
 

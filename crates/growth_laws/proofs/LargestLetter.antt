@@ -4,10 +4,11 @@ use Rattle.std.proofs.lemmas.Bool.{cases_lt}
 use Rattle.std.proofs.lemmas.List.{length-append}
 use Rattle.sym_model.specs.Insertion.{row_with, bumped, inserted}
 use Rattle.sym_model.specs.Tableau.{shape_of}
-use Rattle.insertion_laws.specs.Rows.{AreBelow, RowsBelow}
+use Rattle.insertion_laws.specs.Rows.{RowsBelow}
 use Rattle.insertion_laws.proofs.InsertedRows.{with-less, with-more, bumped-less, bumped-more, some_same, with-end, length-with, inserted-none}
 use Rattle.insertion_laws.proofs.Removals.{grown-here, grown-below}
 use Rattle.sym_model.specs.Growth.{grown, with_end}
+use Rattle.sym_model.specs.Bounded.{AreBelow}
 
 -- ---- letters smaller than m
 
@@ -33,13 +34,13 @@ below_inserted m a (row ∷ rows) l h = (below_with m a row l h.0, by (bumped a 
     by None e rec = subst (RowsBelow m) (sym (inserted-none rows)) h.1
     by (Some b) e rec = rec b (bumped_below m a b row h.0 e)
 
--- ---- a row with a largest letter behind it
+-- ---- a row with a largest letter after it
 
 none_bumped : (m : ℕ) (row : List ℕ) → AreBelow m row → bumped m row ≡ None
 none_bumped m [] h = refl
 none_bumped m (x ∷ row) h = bumped-more m x row (omega (arith, h.0)) ∙ none_bumped m row h.1
 
--- a comes to the end of the row, and takes the place of m behind it
+-- a comes to the end of the row, and takes the place of m after it
 end_taken : (m a : ℕ) (row : List ℕ) → a < m → bumped a row ≡ None
     → (bumped a (row ++ m ∷ []) ≡ Some m) × (row_with a (row ++ m ∷ []) ≡ row_with a row)
 end_taken m a [] l e = (bumped-less a m [] l, with-less a m [] l)

@@ -1,8 +1,7 @@
-//! Laws of growth: growth shapes are the shapes of insertion tableaux, and both tableaux of a permutation are read from
-//! them.
+//! Laws of growth: growth shapes are the shapes of insertion tableaux, and both tableaux of a
+//! permutation are read from them.
 //!
-//! A law function takes nothing, answers nothing and does no work when it runs: its contract is
-//! the law.
+//! A law function has an empty body: its contract is the law.
 //!
 //! What is proved:
 //!

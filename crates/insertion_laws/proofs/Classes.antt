@@ -72,7 +72,7 @@ behind a {v} {w} h =
 pub before : (b : List ℕ) {v w : List ℕ} → AreKnuthEquivalent v w → AreKnuthEquivalent (v ++ b) (w ++ b)
 before b h = between [] b h
 
--- ---- the two exchanges, with any letters behind
+-- ---- the two exchanges, with any letters after them
 
 pub first_related : (x y z : ℕ) → x < y → y ≤ z → AreKnuthRelated (y ∷ z ∷ x ∷ []) (y ∷ x ∷ z ∷ [])
 first_related x y z l m = inl (inl (record { x = x; y = y; z = z; below = l; within = m; before = refl; after = refl }))

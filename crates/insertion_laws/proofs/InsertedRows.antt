@@ -4,7 +4,9 @@ use Rattle.std.proofs.lemmas.Bool.{cases_lt, lt-ltb, le-ltb}
 use Rattle.std.proofs.lemmas.List.{length-append}
 use Rattle.sym_model.specs.Insertion.{row_with, bumped, inserted}
 use Rattle.sym_model.specs.Tableau.{shape_of}
-use Rattle.insertion_laws.specs.Rows.{RisesFrom, StandsOn, first_row, IsRowOver, AreRows, HasOneMore}
+use Rattle.insertion_laws.specs.Rows.{StandsOn, IsRowOver, AreRows, HasOneMore}
+use Rattle.tableau_laws.specs.Rows.{RisesFrom}
+use Rattle.tableau_laws.specs.Grid.{first_line}
 
 -- ---- a letter put into a row
 
@@ -123,7 +125,7 @@ pub inserted-none : (rows : List (List ℕ)) → inserted rows None ≡ rows
 inserted-none [] = refl
 inserted-none (row ∷ rows) = refl
 
-pub first-inserted : (a : ℕ) (rows : List (List ℕ)) → first_row (inserted rows (Some a)) ≡ row_with a (first_row rows)
+pub first-inserted : (a : ℕ) (rows : List (List ℕ)) → first_line (inserted rows (Some a)) ≡ row_with a (first_line rows)
 first-inserted a [] = refl
 first-inserted a (row ∷ rows) = refl
 
@@ -131,18 +133,18 @@ pub keeps_rows : (m a : ℕ) (rows : List (List ℕ)) → m ≤ a → AreRows m 
 keeps_rows m a [] l h = (record { filled = omega arith; rises = (l, tt); stands = tt }, tt)
 keeps_rows m a (row ∷ rows) l h = by (bumped a row) refl (λ b n. keeps_rows m b rows n h.1)
   where
-    over : (rest : List (List ℕ)) → StandsOn (first_row rest) (row_with a row) → IsRowOver m (row_with a row) rest
+    over : (rest : List (List ℕ)) → StandsOn (first_line rest) (row_with a row) → IsRowOver m (row_with a row) rest
     over rest s = record { filled = filled-with a row; rises = rises_with m a row l h.0.rises; stands = s }
 
     by : (o : Option ℕ) → bumped a row ≡ o → ((b : ℕ) → m ≤ b → AreRows m (inserted rows (Some b)))
         → AreRows m (row_with a row ∷ inserted rows o)
     by None e rec =
         subst (λ (rest : List (List ℕ)). AreRows m (row_with a row ∷ rest)) (sym (inserted-none rows))
-        (over rows (stands_with a (first_row rows) row h.0.stands), h.1)
+        (over rows (stands_with a (first_line rows) row h.0.stands), h.1)
     by (Some b) e rec =
         let less = bumped_greater a b row e in (
           over (inserted rows (Some b))
-              (subst (λ first. StandsOn first (row_with a row)) (sym (first-inserted b rows)) (stands_bumped a b (first_row rows) row e h.0.stands)),
+              (subst (λ first. StandsOn first (row_with a row)) (sym (first-inserted b rows)) (stands_bumped a b (first_line rows) row e h.0.stands)),
           rec b (omega arith),
         )
 

@@ -6,12 +6,15 @@ use Rattle.sym_model.specs.Insertion.{with_step}
 use Rattle.sym_model.specs.Schur.{letters_of, times_in}
 use Rattle.sym_model.specs.Tableau.{shape_of}
 use Rattle.sym_model.proofs.Contents.{times_in-append}
-use Rattle.insertion_laws.specs.Rows.{RisesFrom, StandsOn, first_row, IsRowOver, AreRows, AreBelow, RowsBelow, HasCorner}
+use Rattle.insertion_laws.specs.Rows.{StandsOn, IsRowOver, AreRows, RowsBelow, HasCorner}
 use Rattle.insertion_laws.specs.Removal.{without_last, last_of, row_over, removed, row_ending, without_step}
 use Rattle.insertion_laws.proofs.InsertedRows.{stands-length}
 use Rattle.insertion_laws.proofs.RecordedSteps.{step-here, step-below}
 use Rattle.insertion_laws.proofs.RowsBack.{length-back, ends, length-without_last, front_stands, stands_last}
 use Rattle.insertion_laws.proofs.Removals.{removed_here, no_rows, corner-next, last_below, ending-here, ending-below, without-here, without-below}
+use Rattle.sym_model.specs.Bounded.{AreBelow}
+use Rattle.tableau_laws.specs.Rows.{RisesFrom}
+use Rattle.tableau_laws.specs.Grid.{first_line}
 
 -- ---- numbers below a number
 
@@ -103,7 +106,7 @@ corner_found m k (row ∷ q) h b t = elim (cases_eq (last_of row) k) [
 
 again_here :
     (m k : ℕ) (row' row front : List ℕ) (p q : List (List ℕ)) → front ++ k ∷ [] ≡ row → AreRows m (row ∷ q) → length row' ≡ length row
-    → length (first_row q) < length row → with_step k (row' ∷ p) (row_over front q) ≡ row ∷ q
+    → length (first_line q) < length row → with_step k (row' ∷ p) (row_over front q) ≡ row ∷ q
 again_here m k row' row [] p q e h s l =
     let long : length row ≡ 1 = ap length (sym e) in
     let none = no_rows m q h.1 (omega arith) in
@@ -131,23 +134,23 @@ step_again m k (row' ∷ p) (row ∷ q) h b t s =
     ]
 
 first_over :
-    (m k : ℕ) (row r front : List ℕ) (q : List (List ℕ)) → front ++ k ∷ [] ≡ r → AreRows m (r ∷ q) → length (first_row q) < length r
-    → StandsOn r row → StandsOn (first_row (row_over front q)) row
+    (m k : ℕ) (row r front : List ℕ) (q : List (List ℕ)) → front ++ k ∷ [] ≡ r → AreRows m (r ∷ q) → length (first_line q) < length r
+    → StandsOn r row → StandsOn (first_line (row_over front q)) row
 first_over m k row r [] q e h l s =
     let long : length r ≡ 1 = ap length (sym e) in
-    subst (λ (x : List (List ℕ)). StandsOn (first_row x) row) (sym (no_rows m q h.1 (omega arith))) tt
+    subst (λ (x : List (List ℕ)). StandsOn (first_line x) row) (sym (no_rows m q h.1 (omega arith))) tt
 first_over m k row r (a ∷ f) q e h l s = front_stands (a ∷ f) (k ∷ []) row (subst (λ x. StandsOn x row) (sym e) s)
 
 first_without :
-    (m k : ℕ) (row : List ℕ) (q : List (List ℕ)) → AreRows m q → RowsBelow (k + 1) q → StandsOn (first_row q) row
-    → StandsOn (first_row (without_step k q)) row
+    (m k : ℕ) (row : List ℕ) (q : List (List ℕ)) → AreRows m q → RowsBelow (k + 1) q → StandsOn (first_line q) row
+    → StandsOn (first_line (without_step k q)) row
 first_without m k row [] h b s = tt
 first_without m k row (r ∷ q) h b s = elim (cases_eq (last_of r) k) [
   | inl e ↦
-      subst (λ (x : List (List ℕ)). StandsOn (first_row x) row) (sym (without-here k r q e))
+      subst (λ (x : List (List ℕ)). StandsOn (first_line x) row) (sym (without-here k r q e))
       (first_over m k row r (without_last r) q (ap (λ n. without_last r ++ n ∷ []) (sym e) ∙ ends r h.0.filled) h
       (corner-next (length r) q h.0.filled (corner_here m k r q h b.1 e)) s)
-  | inr n ↦ subst (λ (x : List (List ℕ)). StandsOn (first_row x) row) (sym (without-below k r q n)) s
+  | inr n ↦ subst (λ (x : List (List ℕ)). StandsOn (first_line x) row) (sym (without-below k r q n)) s
 ]
 
 pub keeps_without : (m k : ℕ) (q : List (List ℕ)) → AreRows m q → RowsBelow (k + 1) q → AreRows m (without_step k q)

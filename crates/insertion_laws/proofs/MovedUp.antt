@@ -2,10 +2,11 @@
 -- (Fulton, 2.1).
 use Rattle.std.proofs.Common.{ℕ, ◌<◌, List, [], ◌∷◌, ◌++◌, ap, sym, arith, append_assoc}
 use Rattle.sym_model.specs.Knuth.{AreKnuthEquivalent}
-use Rattle.insertion_laws.specs.Rows.{RisesFrom, StandsOn}
+use Rattle.insertion_laws.specs.Rows.{StandsOn}
 use Rattle.insertion_laws.proofs.InsertedRows.{rises_lower}
 use Rattle.insertion_laws.proofs.Classes.{◌⨾◌, one_word, same_word, behind, turned, second}
 use Rattle.insertion_laws.proofs.ReadingWords.{through}
+use Rattle.tableau_laws.specs.Rows.{RisesFrom}
 
 -- the words have equally many letters, each of the upper one smaller than that below it
 abbrev pub IsOver : List ℕ → List ℕ → Type 0
@@ -14,7 +15,7 @@ IsOver [] (b ∷ lower) = ⊥
 IsOver (a ∷ upper) [] = ⊥
 IsOver (a ∷ upper) (b ∷ lower) = (a < b) × IsOver upper lower
 
--- b goes behind a row that stands below the letters right of it
+-- b goes after a row that stands below the letters right of it
 goes_behind : (b c : ℕ) (lower right : List ℕ) → RisesFrom b right → RisesFrom c lower → StandsOn lower right
     → AreKnuthEquivalent (b ∷ (lower ++ right)) (lower ++ b ∷ right)
 goes_behind b c [] right h k s = one_word (b ∷ right)

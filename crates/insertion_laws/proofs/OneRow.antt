@@ -4,10 +4,10 @@ use Rattle.std.proofs.Common.{◌≡◌, ◌⊎◌, ℕ, ◌<◌, ◌≤◌, Lis
 use Rattle.std.proofs.lemmas.Bool.{cases_lt}
 use Rattle.sym_model.specs.Insertion.{row_with, bumped}
 use Rattle.sym_model.specs.Knuth.{AreKnuthRelated}
-use Rattle.insertion_laws.specs.Rows.{RisesFrom}
 use Rattle.insertion_laws.proofs.InsertedRows.{with-less, with-more, bumped-less, bumped-more, some_same, bumped_greater, rises_with}
 use Rattle.insertion_laws.proofs.Classes.{first_related, second_related}
 use Rattle.insertion_laws.proofs.RowRuns.{listed, row_after, letters_out, IsRun, run_none, run_less, run_more, run_past}
+use Rattle.tableau_laws.specs.Rows.{RisesFrom}
 
 -- ---- the letters that leave a row
 

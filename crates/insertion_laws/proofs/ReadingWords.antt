@@ -9,12 +9,14 @@ use Rattle.sym_model.specs.Tableau.{IsStraightTableau, are_letters}
 use Rattle.insertion_laws.proofs.WordsAndPairs.{inserted_tableau}
 use Rattle.insertion_laws.proofs.TableauRows.{rows_from}
 use Rattle.sym_model.specs.Schur.{letters_of}
-use Rattle.insertion_laws.specs.Rows.{RisesFrom, StandsOn, AreRows, AreFrom}
+use Rattle.insertion_laws.specs.Rows.{StandsOn, AreRows}
 use Rattle.insertion_laws.proofs.InsertedRows.{with-less, with-more, bumped-less, bumped-more, some_same, bumped_greater, with-end, inserted-none, keeps_rows}
 use Rattle.insertion_laws.proofs.InsertedWords.{inserted_word, word-append, first-tableau}
 use Rattle.insertion_laws.proofs.Classes.{◌⨾◌, one_word, same_word, behind, before, turned, first, second}
 use Rattle.insertion_laws.proofs.RowRuns.{word-rows, IsRun, run_none, run_less, run_past}
 use Rattle.insertion_laws.proofs.Triples.{class_same}
+use Rattle.sym_model.specs.Bounded.{AreAtLeast}
+use Rattle.tableau_laws.specs.Rows.{RisesFrom}
 
 -- ---- a row
 
@@ -84,7 +86,7 @@ word_class (a ∷ w) rows h =
 
 -- ---- the reading word of a tableau
 
-from_rising : (c d : ℕ) (row : List ℕ) → c ≤ d → RisesFrom d row → AreFrom c row
+from_rising : (c d : ℕ) (row : List ℕ) → c ≤ d → RisesFrom d row → AreAtLeast c row
 from_rising c d [] l h = tt
 from_rising c d (a ∷ row) l h = (omega (arith, h.0), from_rising c a row (omega (arith, h.0)) h.1)
 

@@ -7,8 +7,12 @@ use Rattle.sym_model.specs.Schur.{letters_of, times_in}
 use Rattle.sym_model.specs.Insertion.{with_step}
 use Rattle.sym_model.specs.Tableau.{shape_of}
 use Rattle.sym_model.proofs.Contents.{times_in-append}
-use Rattle.insertion_laws.specs.Rows.{RisesFrom, StandsOn, first_row, AreRows, AreBelow, RowsBelow, HasOneMore}
+use Rattle.insertion_laws.specs.Rows.{StandsOn, AreRows, RowsBelow, HasOneMore}
 use Rattle.insertion_laws.proofs.InsertedRows.{stands_longer, stands-length}
+use Rattle.sym_model.specs.Bounded.{AreBelow}
+use Rattle.tableau_laws.specs.Rows.{RisesFrom}
+use Rattle.tableau_laws.specs.Grid.{first_line}
+use Rattle.sym_model.proofs.Numbers.{below_more}
 
 -- ---- where the step goes
 
@@ -74,10 +78,6 @@ times-step j k (row ∷ p) (steps ∷ q) h = by h (λ m. times-step j k p q m)
 
 -- ---- letters smaller than a number
 
-pub below_more : (k l : ℕ) (w : List ℕ) → k ≤ l → AreBelow k w → AreBelow l w
-below_more k l [] le h = tt
-below_more k l (a ∷ w) le h = (omega (arith, h.0), below_more k l w le h.1)
-
 pub rows_below_more : (k l : ℕ) (q : List (List ℕ)) → k ≤ l → RowsBelow k q → RowsBelow l q
 rows_below_more k l [] le h = tt
 rows_below_more k l (row ∷ q) le h = (below_more k l row le h.0, rows_below_more k l q le h.1)
@@ -118,17 +118,17 @@ next_shorter m row row' p h = stands-length row' row h.0.stands
 
 stands-step :
     (m k : ℕ) (row steps : List ℕ) (p q : List (List ℕ)) → length row ≡ length steps → AreRows m (row ∷ p) → AreBelow k steps
-    → 0 < length steps → StandsOn (first_row q) steps → HasOneMore (shape_of p) (shape_of q)
-    → StandsOn (first_row (with_step k p q)) steps
+    → 0 < length steps → StandsOn (first_line q) steps → HasOneMore (shape_of p) (shape_of q)
+    → StandsOn (first_line (with_step k p q)) steps
 stands-step m k row steps [] q e r b f s h = absurd h
 stands-step m k row [] (row' ∷ p) [] e r b f s h = absurd (omega arith)
 stands-step m k row (x ∷ steps) (row' ∷ p) [] e r b f s h = (b.0, tt)
 stands-step m k row steps (row' ∷ p) (steps' ∷ q) e r b f s h = elim (cases_lt (length steps') (length row')) [
   | inl n ↦
       let short : length row' ≤ length row = next_shorter m row row' p r in
-      subst (λ (x : List (List ℕ)). StandsOn (first_row x) steps) (sym (step-here k row' steps' p q n))
+      subst (λ (x : List (List ℕ)). StandsOn (first_line x) steps) (sym (step-here k row' steps' p q n))
       (stands_end k steps' steps (omega arith) b s)
-  | inr n ↦ subst (λ (x : List (List ℕ)). StandsOn (first_row x) steps) (sym (step-below k row' steps' p q n)) s
+  | inr n ↦ subst (λ (x : List (List ℕ)). StandsOn (first_line x) steps) (sym (step-below k row' steps' p q n)) s
 ]
 
 pub keeps_steps :
@@ -146,7 +146,7 @@ keeps_steps m k (row ∷ p) (steps ∷ q) l r h b o = by o (λ n. keeps_steps m 
           record {
             filled = omega (arith, length-append steps (k ∷ []));
             rises = rises_end 1 k steps l b.0 h.0.rises;
-            stands = stands_longer (first_row q) steps (k ∷ []) h.0.stands;
+            stands = stands_longer (first_line q) steps (k ∷ []) h.0.stands;
           },
           h.1,
         )

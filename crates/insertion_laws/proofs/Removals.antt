@@ -5,11 +5,14 @@ use Rattle.std.proofs.lemmas.List.{length-append}
 use Rattle.sym_model.specs.Insertion.{row_with, bumped, inserted, with_step}
 use Rattle.sym_model.specs.Tableau.{shape_of}
 use Rattle.sym_model.specs.Growth.{grown, with_end}
-use Rattle.insertion_laws.specs.Rows.{RisesFrom, StandsOn, first_row, AreRows, AreBelow, RowsBelow, HasOneMore, HasCorner}
+use Rattle.insertion_laws.specs.Rows.{StandsOn, AreRows, RowsBelow, HasOneMore, HasCorner}
 use Rattle.insertion_laws.specs.Removal.{row_back, letter_back, without_last, last_of, row_over, removed, row_ending, without_step}
 use Rattle.insertion_laws.proofs.InsertedRows.{inserted-none, first-inserted, with-end, length-with}
 use Rattle.insertion_laws.proofs.RecordedSteps.{step-here, step-below}
 use Rattle.insertion_laws.proofs.RowsBack.{length-back, letter_least, rises_back, put_again, bumped_again, row_again, letter_again, begins-above, stands_back, ends, last-end, without_last-end, over-filled, rises_front, rises_to_end, none_bumped, stands_front}
+use Rattle.sym_model.specs.Bounded.{AreBelow}
+use Rattle.tableau_laws.specs.Rows.{RisesFrom}
+use Rattle.tableau_laws.specs.Grid.{first_line}
 
 -- rows and a letter whose insertion gives the tableau t
 pub record IsRemoval (m : ℕ) (t rows : List (List ℕ)) (a : ℕ) : Type 0 where
@@ -17,22 +20,22 @@ pub record IsRemoval (m : ℕ) (t rows : List (List ℕ)) (a : ℕ) : Type 0 whe
   pub rows_are : AreRows m rows
   pub gives : inserted rows (Some a) ≡ t
 
-first_rises : (m : ℕ) (rows : List (List ℕ)) → AreRows m rows → RisesFrom m (first_row rows)
+first_rises : (m : ℕ) (rows : List (List ℕ)) → AreRows m rows → RisesFrom m (first_line rows)
 first_rises m [] h = tt
 first_rises m (row ∷ rows) h = h.0.rises
 
 -- a first row without letters is none
-pub no_rows : (m : ℕ) (rows : List (List ℕ)) → AreRows m rows → length (first_row rows) < 1 → rows ≡ []
+pub no_rows : (m : ℕ) (rows : List (List ℕ)) → AreRows m rows → length (first_line rows) < 1 → rows ≡ []
 no_rows m [] h l = refl
 no_rows m (row ∷ rows) h l = let f = h.0.filled in absurd (omega arith)
 
-pub corner-next : (a : ℕ) (rows : List (List ℕ)) → 0 < a → HasCorner 0 (a ∷ shape_of rows) → length (first_row rows) < a
+pub corner-next : (a : ℕ) (rows : List (List ℕ)) → 0 < a → HasCorner 0 (a ∷ shape_of rows) → length (first_line rows) < a
 corner-next a [] f h = f
 corner-next a (row ∷ rows) f h = h
 
 pub removed_here :
     (m x : ℕ) (row front : List ℕ) (rest : List (List ℕ)) → front ++ x ∷ [] ≡ row → AreRows m (row ∷ rest)
-    → length (first_row rest) < length row → IsRemoval m (row ∷ rest) (row_over front rest) x
+    → length (first_line rest) < length row → IsRemoval m (row ∷ rest) (row_over front rest) x
 removed_here m x row [] rest e h l =
     let long : length row ≡ 1 = ap length (sym e) in
     let none = no_rows m rest h.1 (omega arith) in
@@ -54,7 +57,7 @@ removed_here m x row (a ∷ f) rest e h l =
         record {
           filled = omega arith;
           rises = rises_front m front (x ∷ []) r;
-          stands = stands_front (first_row rest) front (x ∷ []) (omega arith) (subst (StandsOn (first_row rest)) (sym e) h.0.stands);
+          stands = stands_front (first_line rest) front (x ∷ []) (omega arith) (subst (StandsOn (first_line rest)) (sym e) h.0.stands);
         },
         h.1,
       );
@@ -67,17 +70,17 @@ removed_below :
 removed_below m b [] rest rows h o = let f = h.0.filled in absurd (omega arith)
 removed_below m b (x ∷ r) rest rows h o =
     let row = x ∷ r in
-    let s : StandsOn (row_with b (first_row rows)) row =
+    let s : StandsOn (row_with b (first_line rows)) row =
     subst (λ l. StandsOn l row) (first-inserted b rows)
-    (subst (λ (t : List (List ℕ)). StandsOn (first_row t) row) (sym o.gives) h.0.stands) in
-    let begins = begins-above b (first_row rows) row s in
+    (subst (λ (t : List (List ℕ)). StandsOn (first_line t) row) (sym o.gives) h.0.stands) in
+    let begins = begins-above b (first_line rows) row s in
     record {
       least = letter_least b m x r h.0.rises;
       rows_are = (
         record {
           filled = omega (arith, length-back b row);
           rises = rises_back b m x r begins h.0.rises;
-          stands = stands_back b m (first_row rows) row (first_rises m rows o.rows_are) begins s;
+          stands = stands_back b m (first_line rows) row (first_rises m rows o.rows_are) begins s;
         },
         o.rows_are,
       );

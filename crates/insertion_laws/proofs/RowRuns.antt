@@ -1,9 +1,9 @@
 -- The letters of a word put into a row one by one: the row that comes, and the letters whose places they take.
 use Rattle.std.proofs.Common.{◌≡◌, ℕ, ◌<◌, ◌≤◌, List, [], ◌∷◌, ◌++◌, Option, Some, None, ◌∙◌, ap, ap₂, refl}
 use Rattle.sym_model.specs.Insertion.{row_with, bumped, inserted}
-use Rattle.insertion_laws.specs.Rows.{AreFrom}
 use Rattle.insertion_laws.proofs.InsertedRows.{with-less, with-more, bumped-less, bumped-more, inserted-none}
 use Rattle.insertion_laws.proofs.InsertedWords.{inserted_word}
+use Rattle.sym_model.specs.Bounded.{AreAtLeast}
 
 -- the letter that leaves, as a word
 abbrev pub listed : Option ℕ → List ℕ
@@ -45,7 +45,7 @@ run_more a b {row} {w} l h =
           ∙ ap (λ v. listed (bumped a row) ++ v) h.out_is;
     }
 
-pub run_past : (b : ℕ) (row w : List ℕ) → AreFrom b w → IsRun (b ∷ row) w (b ∷ row_after row w) (letters_out row w)
+pub run_past : (b : ℕ) (row w : List ℕ) → AreAtLeast b w → IsRun (b ∷ row) w (b ∷ row_after row w) (letters_out row w)
 run_past b row [] f = run_none (b ∷ row)
 run_past b row (a ∷ w) f = run_more a b f.0 (run_past b (row_with a row) w f.1)
 

@@ -3,9 +3,10 @@ use Rattle.std.proofs.Common.{◌≡◌, ℕ, suc, ◌+◌, ◌<◌, ◌≤◌, 
 use Rattle.std.proofs.lemmas.Bool.{cases_lt, lt-ltb, le-ltb}
 use Rattle.std.proofs.lemmas.List.{length-append}
 use Rattle.sym_model.specs.Insertion.{row_with, bumped}
-use Rattle.insertion_laws.specs.Rows.{RisesFrom, StandsOn}
+use Rattle.insertion_laws.specs.Rows.{StandsOn}
 use Rattle.insertion_laws.specs.Removal.{row_back, letter_back, without_last, last_of, row_over}
 use Rattle.insertion_laws.proofs.InsertedRows.{with-less, with-more, bumped-less, bumped-more, bumped_greater, with-end, some_same}
+use Rattle.tableau_laws.specs.Rows.{RisesFrom}
 
 -- ---- the last smaller letter
 

@@ -9,7 +9,7 @@ use Rattle.sym_model.specs.Schur.{semistandard, letters_of}
 use Rattle.sym_model.specs.Slide.{HasInnerCorner, IsReached, SlidesTo, lowered_at, moves_up, outer_parts, slid_rows, slide}
 use Rattle.sym_model.specs.Tableau.{IsTableau, IsStraightTableau, SkewFilling}
 use Rattle.sym_model.proofs.Tableaux.{row_lengths-none}
-use Rattle.insertion_laws.specs.Rows.{RisesFrom, StandsOn}
+use Rattle.insertion_laws.specs.Rows.{StandsOn}
 use Rattle.insertion_laws.proofs.RisingRows.{Rises, rises-next, rises_right, HasShape, order-tells}
 use Rattle.insertion_laws.proofs.SlideSteps.{place_below, slid-moves_left, slid-moves_up, slid-stops}
 use Rattle.insertion_laws.proofs.SlidOrder.{HasHole, IsAtMost, hole_below, hole_right, least_moves, nothing, letter, shown}
@@ -18,6 +18,7 @@ use Rattle.insertion_laws.proofs.SlideKeeps.{corner-lowered, corner_row, slide-k
 use Rattle.insertion_laws.proofs.Classes.{◌⨾◌, one_word, same_word, behind, before}
 use Rattle.insertion_laws.proofs.ReadingWords.{reading-more, only_tableau_from}
 use Rattle.insertion_laws.proofs.MovedUp.{IsOver, moves_between}
+use Rattle.tableau_laws.specs.Rows.{RisesFrom}
 
 -- ---- from places to lists
 

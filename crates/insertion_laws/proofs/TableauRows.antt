@@ -1,5 +1,5 @@
 -- Straight tableaux and standard ones, row by row.
-use Rattle.std.proofs.Common.{◌≡◌, ◌≢◌, ℕ, zero, suc, ◌+◌, ◌<◌, ◌≤◌, ◌==◌, ◌&&◌, Bool, true, false, cond, List, [], ◌∷◌, ◌++◌, map, length, replicate, ◌∙◌, ap, ap₂, sym, refl, inl, inr, arith, nat_lt, nat_le}
+use Rattle.std.proofs.Common.{◌≡◌, ◌≢◌, ℕ, zero, suc, ◌+◌, ◌<◌, ◌≤◌, ◌==◌, ◌&&◌, true, cond, List, [], ◌∷◌, ◌++◌, map, length, replicate, ◌∙◌, ap, ap₂, sym, refl, inl, inr, arith, nat_lt, nat_le}
 use Rattle.std.proofs.lemmas.Bool.{cases_lt, cases_eq, lt-ltb, le-ltb, le-leb, leb-true, ltb-true, eq-eqb, ne_eqb, and_from, and_parts}
 use Rattle.sym_model.specs.Partition.{Falls, ArePositive, after}
 use Rattle.sym_model.specs.PlaceOrders.{smaller}
@@ -7,9 +7,12 @@ use Rattle.sym_model.specs.Schur.{row_rises, columns_rise, semistandard, letters
 use Rattle.sym_model.specs.StandardTableau.{IsStandard}
 use Rattle.sym_model.specs.Tableau.{IsStraightTableau, are_letters, shape_of}
 use Rattle.sym_model.proofs.Tableaux.{length-letters_of, row_lengths-none}
-use Rattle.insertion_laws.specs.Rows.{RisesFrom, StandsOn, AreRows, AreBelow, RowsBelow}
+use Rattle.insertion_laws.specs.Rows.{StandsOn, AreRows, RowsBelow}
 use Rattle.insertion_laws.specs.Pairs.{IsPairAt}
 use Rattle.insertion_laws.proofs.InsertedRows.{stands-length}
+use Rattle.sym_model.specs.Bounded.{AreBelow}
+use Rattle.tableau_laws.specs.Rows.{RisesFrom}
+use Rattle.sym_model.proofs.Lists.{smaller-within}
 
 -- ---- from rows to a tableau
 
@@ -157,19 +160,11 @@ all_smaller (suc n) w h o =
       o (suc n) (omega arith) (omega arith),
     )
 
-few_smaller : (k : ℕ) (w : List ℕ) → smaller k w ≤ length w
-few_smaller k [] = omega arith
-few_smaller k (a ∷ w) = by (nat_lt a k) (few_smaller k w)
-  where
-    by : (t : Bool) → smaller k w ≤ length w → cond t 1 0 + smaller k w ≤ suc (length w)
-    by true h = omega arith
-    by false h = omega arith
-
 below_from : (k : ℕ) (w : List ℕ) → smaller k w ≡ length w → AreBelow k w
 below_from k [] h = tt
 below_from k (a ∷ w) h = elim (cases_lt a k) [
   | inl l ↦ (l, below_from k w (omega (arith, ap {B = ℕ} (λ t. cond t 1 0) (lt-ltb a k l))))
-  | inr l ↦ absurd (omega (arith, ap {B = ℕ} (λ t. cond t 1 0) (le-ltb a k l), few_smaller k w))
+  | inr l ↦ absurd (omega (arith, ap {B = ℕ} (λ t. cond t 1 0) (le-ltb a k l), smaller-within k w))
 ]
 
 below_split : (k : ℕ) (v w : List ℕ) → AreBelow k (v ++ w) → AreBelow k v × AreBelow k w

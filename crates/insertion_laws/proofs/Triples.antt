@@ -2,12 +2,13 @@
 use Rattle.std.proofs.Common.{◌≡◌, ◌⊎◌, ℕ, ◌<◌, ◌≤◌, List, [], ◌∷◌, ◌++◌, Some, ◌∙◌, ap, ap₂, sym, subst, inl, inr, arith}
 use Rattle.sym_model.specs.Insertion.{inserted, insertion_pair}
 use Rattle.sym_model.specs.Knuth.{IsFirstExchange, IsSecondExchange, AreKnuthRelated, IsKnuthStep, IsKnuthChain, AreKnuthEquivalent}
-use Rattle.insertion_laws.specs.Rows.{RisesFrom, AreRows}
+use Rattle.insertion_laws.specs.Rows.{AreRows}
 use Rattle.insertion_laws.proofs.InsertedRows.{keeps_rows}
 use Rattle.insertion_laws.proofs.InsertedWords.{inserted_word, word-append, first-tableau}
 use Rattle.insertion_laws.proofs.RowRuns.{row_after, letters_out, word-rows}
 use Rattle.insertion_laws.proofs.OneRow.{AreAlike, first_none, second_none, first_alike, second_alike}
 use Rattle.insertion_laws.proofs.Classes.{related_back}
+use Rattle.tableau_laws.specs.Rows.{RisesFrom}
 
 -- ---- three letters
 

@@ -1,16 +1,15 @@
 -- Words and pairs of tableaux of one shape, one of them standard, belong to each other by row insertion.
 use Rattle.std.proofs.Common.{◌≡◌, ◌≢◌, ℕ, zero, suc, ◌+◌, ◌<◌, ◌≤◌, ◌==◌, true, cond, List, [], ◌∷◌, ◌++◌, length, Some, ◌∙◌, ap, ap₂, sym, refl, subst, inl, inr, arith, nat_le, append-nil, append_assoc}
-use Rattle.std.proofs.lemmas.Bool.{cases_eq, eq-eqb, ne_eqb, le-leb, leb-true, and_from, and_parts}
+use Rattle.std.proofs.lemmas.Bool.{cases_eq, eq-eqb, ne_eqb, leb-true, and_parts}
 use Rattle.std.proofs.lemmas.List.{length-append}
 use Rattle.sym_model.specs.Insertion.{inserted, with_step, inserted_from, insertion_pair}
 use Rattle.sym_model.specs.Partition.{size}
 use Rattle.sym_model.specs.Schur.{letters_of, times_in}
 use Rattle.sym_model.specs.StandardTableau.{IsStandard}
-use Rattle.sym_model.specs.Sum.{Among}
 use Rattle.sym_model.specs.Tableau.{IsStraightTableau, are_letters, shape_of}
 use Rattle.sym_model.specs.Growth.{grown}
 use Rattle.sym_model.proofs.Tableaux.{length-letters_of}
-use Rattle.insertion_laws.specs.Rows.{AreRows, AreFrom, RowsBelow, HasOneMore, HasCorner}
+use Rattle.insertion_laws.specs.Rows.{AreRows, RowsBelow, HasOneMore, HasCorner}
 use Rattle.insertion_laws.specs.Removal.{removed, row_ending, without_step, steps_back, word_back}
 use Rattle.insertion_laws.specs.Pairs.{IsPairAt}
 use Rattle.insertion_laws.proofs.InsertedRows.{keeps_rows, adds_cell}
@@ -18,6 +17,7 @@ use Rattle.insertion_laws.proofs.RecordedSteps.{shape-step, times-step, below-st
 use Rattle.insertion_laws.proofs.Removals.{IsRemoval, removal_at, off_again, step_found}
 use Rattle.insertion_laws.proofs.LastSteps.{times-rows_below, rows_below_fewer, without_below, corner_found, step_again, keeps_without, shape_less, shape-removed, shape-without}
 use Rattle.insertion_laws.proofs.TableauRows.{tableau_from, pair_from, standard_from}
+use Rattle.sym_model.specs.Bounded.{AreAtLeast}
 
 -- ---- one letter more
 
@@ -53,7 +53,7 @@ pair_step m n a p q l h =
     }
 
 pub pair_run :
-    (m n : ℕ) (w : List ℕ) (p q : List (List ℕ)) → AreFrom m w → IsPairAt m n p q
+    (m n : ℕ) (w : List ℕ) (p q : List (List ℕ)) → AreAtLeast m w → IsPairAt m n p q
     → IsPairAt m (n + length w) (inserted_from (n + 1) w p q).0 (inserted_from (n + 1) w p q).1
 pair_run m n [] p q f h = let e : n ≡ n + 0 = omega arith in subst (λ i. IsPairAt m i p q) e h
 pair_run m n (a ∷ w) p q f h =
@@ -73,20 +73,16 @@ no_pair m =
       cells = refl;
     }
 
-pub pair_of : (m : ℕ) (w : List ℕ) → AreFrom m w → IsPairAt m (length w) (insertion_pair w).0 (insertion_pair w).1
+pub pair_of : (m : ℕ) (w : List ℕ) → AreAtLeast m w → IsPairAt m (length w) (insertion_pair w).0 (insertion_pair w).1
 pair_of m w f =
     let e : 0 + length w ≡ length w = omega arith in
     subst (λ i. IsPairAt m i (insertion_pair w).0 (insertion_pair w).1) e (pair_run m 0 w [] [] f (no_pair m))
 
-from_zero : (w : List ℕ) → AreFrom 0 w
+from_zero : (w : List ℕ) → AreAtLeast 0 w
 from_zero [] = tt
 from_zero (a ∷ w) = (omega arith, from_zero w)
 
-pub letters_among : (w : List ℕ) → ((a : ℕ) → Among a w → 1 ≤ a) → are_letters w ≡ true
-letters_among [] h = refl
-letters_among (a ∷ w) h = and_from (nat_le 1 a) (are_letters w) (le-leb 1 a (h a (inl refl))) (letters_among w (λ b m. h b (inr m)))
-
-pub from_letters : (w : List ℕ) → are_letters w ≡ true → AreFrom 1 w
+pub from_letters : (w : List ℕ) → are_letters w ≡ true → AreAtLeast 1 w
 from_letters [] h = tt
 from_letters (a ∷ w) h = let p = and_parts (nat_le 1 a) (are_letters w) h in (leb-true 1 a p.0, from_letters w p.1)
 
@@ -110,7 +106,7 @@ step_back m n a p q h =
     ∙ ap₂ (λ (x : List (List ℕ) × ℕ) (y : List (List ℕ)). steps_back n x.0 y ++ x.1 ∷ []) off found.1
 
 run_back :
-    (m n : ℕ) (w : List ℕ) (p q : List (List ℕ)) → AreFrom m w → IsPairAt m n p q
+    (m n : ℕ) (w : List ℕ) (p q : List (List ℕ)) → AreAtLeast m w → IsPairAt m n p q
     → steps_back (n + length w) (inserted_from (n + 1) w p q).0 (inserted_from (n + 1) w p q).1 ≡ steps_back n p q ++ w
 run_back m n [] p q f h =
     let e : n + 0 ≡ n = omega arith in

@@ -26,8 +26,8 @@ abbrev pub row_over : List ℕ → List (List ℕ) → List (List ℕ)
 row_over [] rows = rows
 row_over (a ∷ row) rows = (a ∷ row) ∷ rows
 
--- the tableau after the last letter of row i, counted from 0, leaves it and goes up row by row, each time in place of the
--- last smaller letter; and the letter that leaves the first row
+-- the tableau after the last letter of row i, counted from 0, leaves it and goes up row by row,
+-- each time in place of the last smaller letter; and the letter that leaves the first row
 abbrev pub removed : ℕ → List (List ℕ) → List (List ℕ) × ℕ
 removed i [] = ([], 0)
 removed zero (row ∷ rows) = (row_over (without_last row) rows, last_of row)
@@ -43,7 +43,8 @@ row_ending k (row ∷ rows) = cond (last_of row == k) 0 (suc (row_ending k rows)
 -- the rows without the k at the end of one of them
 abbrev pub without_step : ℕ → List (List ℕ) → List (List ℕ)
 without_step k [] = []
-without_step k (row ∷ rows) = cond (last_of row == k) (row_over (without_last row) rows) (row ∷ without_step k rows)
+without_step k (row ∷ rows) =
+    cond (last_of row == k) (row_over (without_last row) rows) (row ∷ without_step k rows)
 
 -- the word of the last k steps back from p and q
 abbrev pub steps_back : ℕ → List (List ℕ) → List (List ℕ) → List ℕ

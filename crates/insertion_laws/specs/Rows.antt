@@ -1,10 +1,8 @@
--- Tableaux row by row, with letters from a bound on (this project's own).
-use Rattle.std.specs.Prelude.{ℕ, zero, suc, ◌+◌, ◌<◌, ◌≤◌, ◌≡◌, List, [], ◌∷◌, length, ◌⊎◌}
-
--- no letter is smaller than the one before it, nor the first one than c
-abbrev pub RisesFrom : ℕ → List ℕ → Type 0
-RisesFrom c [] = Unit {0}
-RisesFrom c (a ∷ row) = (c ≤ a) × RisesFrom a row
+-- Tableaux row by row, with letters from a bound on.
+use Rattle.std.specs.Prelude.{ℕ, zero, suc, ◌+◌, ◌<◌, ◌≡◌, List, [], ◌∷◌, length, ◌⊎◌}
+use Rattle.sym_model.specs.Bounded.{AreBelow}
+use Rattle.tableau_laws.specs.Rows.{RisesFrom}
+use Rattle.tableau_laws.specs.Grid.{first_line}
 
 -- each letter of the lower row has a smaller letter above it
 abbrev pub StandsOn : List ℕ → List ℕ → Type 0
@@ -12,31 +10,16 @@ StandsOn [] upper = Unit {0}
 StandsOn (b ∷ lower) [] = ⊥
 StandsOn (b ∷ lower) (a ∷ upper) = (a < b) × StandsOn lower upper
 
--- the first row; no letters where there is none
-abbrev pub first_row : List (List ℕ) → List ℕ
-first_row [] = []
-first_row (row ∷ rows) = row
-
 -- a row of a tableau with letters from m on, and the rows below it
 pub record IsRowOver (m : ℕ) (row : List ℕ) (below : List (List ℕ)) : Type 0 where
   pub filled : 0 < length row
   pub rises : RisesFrom m row
-  pub stands : StandsOn (first_row below) row
+  pub stands : StandsOn (first_line below) row
 
 -- the rows are those of a straight tableau with letters from m on
 abbrev pub AreRows : ℕ → List (List ℕ) → Type 0
 AreRows m [] = Unit {0}
 AreRows m (row ∷ rows) = IsRowOver m row rows × AreRows m rows
-
--- no letter is smaller than m
-abbrev pub AreFrom : ℕ → List ℕ → Type 0
-AreFrom m [] = Unit {0}
-AreFrom m (a ∷ w) = (m ≤ a) × AreFrom m w
-
--- each letter is smaller than k
-abbrev pub AreBelow : ℕ → List ℕ → Type 0
-AreBelow k [] = Unit {0}
-AreBelow k (a ∷ w) = (a < k) × AreBelow k w
 
 -- so it is in each row
 abbrev pub RowsBelow : ℕ → List (List ℕ) → Type 0
@@ -47,7 +30,8 @@ RowsBelow k (row ∷ rows) = AreBelow k row × RowsBelow k rows
 abbrev pub HasOneMore : List ℕ → List ℕ → Type 0
 HasOneMore [] small = ⊥
 HasOneMore (a ∷ large) [] = (a ≡ 1) × (large ≡ [])
-HasOneMore (a ∷ large) (b ∷ small) = ((a ≡ b + 1) × (large ≡ small)) ⊎ ((a ≡ b) × HasOneMore large small)
+HasOneMore (a ∷ large) (b ∷ small) =
+    ((a ≡ b + 1) × (large ≡ small)) ⊎ ((a ≡ b) × HasOneMore large small)
 
 -- the shape has a corner in that row, counted from 0: the next row is shorter
 abbrev pub HasCorner : ℕ → List ℕ → Type 0

@@ -1,28 +1,23 @@
-//! Laws of row insertion and of slides: the tableaux of a word, the one word of a pair of tableaux, and that a slide keeps
-//! semistandard tableaux.
+//! Laws of row insertion and of slides: the tableaux of a word, the one word of a pair of tableaux,
+//! and that a slide keeps the Knuth class of a tableau.
 //!
-//! A law function takes nothing, answers nothing and does no work when it runs: its contract is
-//! the law.
+//! A law function has an empty body: its contract is the law.
 //!
 //! What is proved:
 //!
 //! `insertion_law`: the insertion tableau of a word with positive letters is a straight tableau,
 //! the recording tableau is standard, both have one shape, with a cell for each letter. `pair_law`:
 //! insertion takes a word to each pair of a straight and a standard tableau of one shape, and only
-//! one, which is found by undoing the steps. `slide_law`: the slide of a semistandard tableau from
-//! an inner corner is one too, of a skew shape whose inner partition is one cell smaller.
-//! `class_law`: insertion stays in the Knuth class of its word, words of one class have one
-//! insertion tableau, and it is the only straight tableau of the class. `slide_class_law`: a slide
-//! keeps the class, so the straight tableau that slides reach is the only one of the class,
-//! whichever corners are chosen.
+//! one, which is found by undoing the steps. `class_law`: insertion stays in the Knuth class of its
+//! word, words of one class have one insertion tableau, and it is the only straight tableau of the
+//! class. `slide_class_law`: a slide keeps the class, so the straight tableau that slides reach is
+//! the only one of the class, whichever corners are chosen.
 #![tactic(auto)]
 
 mod knuth_words;
 mod slides;
-mod sliding;
 mod words;
 
 pub use knuth_words::class_law;
 pub use slides::slide_class_law;
-pub use sliding::slide_law;
 pub use words::{insertion_law, pair_law};

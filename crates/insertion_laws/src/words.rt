@@ -1,5 +1,5 @@
-//! Words with positive letters and pairs of tableaux of one straight shape, the second of them standard, belong to each
-//! other (Robinson, Schensted and Knuth; Fulton, 4.1).
+//! Words with positive letters and pairs of tableaux of one straight shape, the second of them
+//! standard, belong to each other (Robinson, Schensted and Knuth; Fulton, 4.1).
 ghost use Rattle.std.specs.Prelude.{◌≡◌, ℕ, List, length, true};
 ghost use Rattle.sym_model.specs.Insertion.{insertion_pair};
 ghost use Rattle.sym_model.specs.Partition.{size};
@@ -7,19 +7,22 @@ ghost use Rattle.sym_model.specs.StandardTableau.{IsStandard};
 ghost use Rattle.sym_model.specs.Tableau.{IsStraightTableau, are_letters, shape_of};
 ghost use Rattle.insertion_laws.specs.Removal.{word_back};
 
-/// The insertion tableau of a word with positive letters is a straight tableau, the recording tableau of each word is
-/// standard, and both have one shape, with as many cells as the word has letters.
+/// The insertion tableau of a word with positive letters is a straight tableau, the recording
+/// tableau of each word is standard, and both have one shape,
+/// with as many cells as the word has letters.
 pub fn insertion_law()
     ensures tableau { (w : List ℕ) → are_letters w ≡ true → IsStraightTableau (insertion_pair w).0 }
     ensures recording { (w : List ℕ) → IsStandard (insertion_pair w).1 }
-    ensures one_shape { (w : List ℕ) → shape_of (insertion_pair w).0 ≡ shape_of (insertion_pair w).1 }
+    ensures one_shape { (w : List ℕ)
+        → shape_of (insertion_pair w).0 ≡ shape_of (insertion_pair w).1 }
     ensures cells { (w : List ℕ) → size (shape_of (insertion_pair w).0) ≡ length w }
 {}
 
-/// From a straight tableau p and a standard tableau q of one shape a word comes back that insertion takes to them, and from
-/// the pair of each word this word: so there is one word for each pair.
+/// From a straight tableau p and a standard tableau q of one shape a word comes back that insertion
+/// takes to them, and from the pair of each word this word: so there is one word for each pair.
 pub fn pair_law()
-    ensures inserted { (p q : List (List ℕ)) → IsStraightTableau p → IsStandard q → shape_of p ≡ shape_of q
+    ensures inserted { (p q : List (List ℕ)) → IsStraightTableau p → IsStandard q
+        → shape_of p ≡ shape_of q
         → insertion_pair (word_back p q) ≡ (p, q) }
     ensures back { (w : List ℕ) → word_back (insertion_pair w).0 (insertion_pair w).1 ≡ w }
 {}

@@ -18,12 +18,13 @@ enum Neighbour {
     Nobody,
 }
 
-/// The letter that moves into the empty cell in this row and this column: the smaller one of its right and its lower
-/// neighbour, on a tie the lower one.
+/// The letter that moves into the empty cell in this row and this column: the smaller one of its
+/// right and its lower neighbour, on a tie the lower one.
 fn next_letter(filled: &Filled, row: u16, column: u16) -> Neighbour
     requires row { row ≤ 512 }
     requires column { column ≤ 4096 }
-    ensures { result ≡ next_of (entry_at filled.now row (column + 1)) (entry_at filled.now (row + 1) column) }
+    ensures { result ≡ next_of (entry_at filled.now row (column + 1))
+        (entry_at filled.now (row + 1) column) }
 {
     let Some(below) = filled.entry(row + 1, column) else {
         return match filled.entry(row, column + 1) {
@@ -37,8 +38,8 @@ fn next_letter(filled: &Filled, row: u16, column: u16) -> Neighbour
     }
 }
 
-/// Moves letters into the empty cell in this row and this column, and into those that they leave, until the empty cell
-/// has no neighbour. The row in which it then stands, as the last cell.
+/// Moves letters into the empty cell in this row and this column, and into those that they leave,
+/// until the empty cell has no neighbour. The row in which it then stands, as the last cell.
 pub(crate) fn move_letters(filled: &mut Filled, row: u16, column: u16) -> u16
     requires filling { IsFilling filled.old }
     requires cell { IsCell filled.old.outer filled.old.inner row column }
@@ -48,7 +49,8 @@ pub(crate) fn move_letters(filled: &mut Filled, row: u16, column: u16) -> u16
     ensures corner { HasInnerCorner result filled.old.outer }
     ensures cell { part filled.old.inner result < part filled.old.outer result }
     ensures rows { slid_from filled.old row column
-        ≡ slice_set filled.new.rows (result - 1) (take (length (row_of filled.new.rows result) - 1) (row_of filled.new.rows result)) }
+        ≡ slice_set filled.new.rows (result - 1)
+        (take (length (row_of filled.new.rows result) - 1) (row_of filled.new.rows result)) }
 {
     let mut row = row;
     let mut column = column;

@@ -1,4 +1,5 @@
-//! Slides of skew tableaux, and rectification (Schützenberger's jeu de taquin), in the tableau itself.
+//! Slides of skew tableaux, and rectification (Schützenberger's jeu de taquin),
+//! in the tableau itself.
 //!
 //! What is proved:
 //!

@@ -9,7 +9,6 @@ use crate::printing::{expansion, sum};
 use anyhow::Result;
 use basis_expand::to_schur;
 use calc_base::SumFault;
-use change_from_monomials::is_table;
 use coeff_rings::{Frac, Int};
 use expand_in_monomials::to_monomial;
 use expression_reading::{Basis, Expr, Formula, Weight};
@@ -63,7 +62,6 @@ fn composed(alloc: Global, formula: &Formula) -> Result<Lin<Partition, Frac>, Su
 {
     let list = to_monomial(alloc, formula)?;
     let bound = Weight { num: 1, den: 1 };
-    is_table(&list);
     plethysm(alloc, &list, bound, &list, bound, Basis::S)
 }
 

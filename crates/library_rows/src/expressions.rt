@@ -63,7 +63,8 @@ fn row(rt: &(impl Print + Alloc<A = Global>), what: &str, word: &str) -> Result<
     }
 }
 
-/// Prints the degree of a formula, the two numbers of its weight, and whether a conversion into m stays below 2^127.
+/// Prints the degree of a formula, the two numbers of its weight,
+/// and whether a conversion into m stays below 2^127.
 fn weighed(rt: &impl Print, what: &str, formula: &Formula) -> Result<()> {
     start(rt, what)?;
     term(rt, &"degree", &[formula.degree()])?;

@@ -1,4 +1,5 @@
-//! Rows of labels of every kind: a copy is equal to its label, and finds it among the keys of a hash table.
+//! Rows of labels of every kind: a copy is equal to its label,
+//! and finds it among the keys of a hash table.
 use anyhow::Result;
 use indexmap::IndexMap;
 use partitions::Partition;
@@ -39,7 +40,8 @@ fn power(alloc: Global) -> Result<Power> {
     Ok(Power { power: 1, shape })
 }
 
-/// Prints whether a copy of a label is equal to it, and then whether it finds the label among the keys of a table.
+/// Prints whether a copy of a label is equal to it,
+/// and then whether it finds the label among the keys of a table.
 fn copied<L: Label>(rt: &(impl Print + Alloc<A = Global>), what: &str, label: L) -> Result<()> {
     let copy = label.copy()?;
     truth(rt, what, copy == label)?;

@@ -102,7 +102,8 @@ fn count(
     said(rt, what, &number_of(rt.alloc(), &shape, case.2)?)
 }
 
-/// How many tableaux of a shape have a content of at most 512 numbers, where they are no more than 10,000.
+/// How many tableaux of a shape have a content of at most 512 numbers,
+/// where they are no more than 10,000.
 fn number_of(alloc: Global, shape: &Skew, content: &[u16]) -> Result<u16> {
     if content.len() > 512 {
         return Ok(0);

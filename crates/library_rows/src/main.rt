@@ -1,5 +1,7 @@
-//! Calls of the library with their answers, a line a row, for what no contract says: that memory is found, and the call answers.
-//! What it prints is compared with `stdout`, whose lines were written from the definitions and from outside values.
+//! Calls of the library with their answers, a line a row, for what no contract says: that memory is
+//! found, and the call answers.
+//! What it prints is compared with `stdout`, whose lines were written from the definitions and from
+//! outside values.
 //!
 //! What is proved:
 //!

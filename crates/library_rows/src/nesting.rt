@@ -6,7 +6,8 @@ use expression_reading::{Expr, Formula};
 use row_texts::said;
 use std::alloc::{AllocError, Global};
 
-/// Prints the rows of the crate `expand_in_monomials`: whether one, negated so often, is an expression that is expanded.
+/// Prints the rows of the crate `expand_in_monomials`: whether one, negated so often, is an
+/// expression that is expanded.
 pub fn print(rt: &(impl Print + Alloc<A = Global>)) -> Result<()> {
     let alloc = rt.alloc();
     let answer = expanded(alloc, negated_one(alloc, 4096)?);

@@ -68,7 +68,8 @@ fn powers(rt: &impl Print, what: &str, list: &Terms<Power, Int>) -> Result<()> {
     end(rt)
 }
 
-/// Prints a sum of terms y^e·S_w, each by the letters of its permutation and the exponents of its y.
+/// Prints a sum of terms y^e·S_w, each by the letters of its permutation and the exponents of its
+/// y.
 pub fn shifts(rt: &impl Print, what: &str, list: &Terms<Shifted, Int>) -> Result<()> {
     start(rt, what)?;
     for (shifted, c) in list.iter() {

@@ -10,7 +10,7 @@ use perm_codes::Perm;
 use sparse_polys::{Lin, Monomial, Poly, times, times_var};
 use std::alloc::Global;
 
-/// Prints the rows of the products of `monomial_polys` and `monk_product`.
+/// Prints the rows of the products of `sparse_polys` and `monk_product`.
 pub fn print(rt: &(impl Print + Alloc<A = Global>)) -> Result<()> {
     let alloc = rt.alloc();
     polynomial(rt, "(x_1 + x_2) x_1", product(alloc)?)?;
@@ -30,7 +30,8 @@ fn first_variable(alloc: Global) -> Result<Poly<Int>>
 
 /// x_1 + x_2.
 fn two_variables(alloc: Global) -> Result<Poly<Int>>
-    ensures { IfOk result (λ f. (t : List ℕ × Fraction) → Among t f → (t.0 ≡ 0 ∷ 1 ∷ []) ⊎ (t.0 ≡ 1 ∷ [])) }
+    ensures { IfOk result (λ f. (t : List ℕ × Fraction) → Among t f
+        → (t.0 ≡ 0 ∷ 1 ∷ []) ⊎ (t.0 ≡ 1 ∷ [])) }
 {
     let mut sum = first_variable(alloc)?;
     sum.add_term(Monomial::one(alloc).times_var(2)?, Int::new(1))?;

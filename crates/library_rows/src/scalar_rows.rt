@@ -76,7 +76,8 @@ fn sums_of_fractions(rt: &impl Print) -> Result<()> {
             ("5/1 plus -7/1", computed((5, 1), '+', (-7, 1))),
             ("the least i128 plus 0", computed((MIN, 1), '+', (0, 1))),
             ("0 less the least i128", computed((0, 1), '-', (MIN, 1))),
-            // Each of these is a fraction that fits, and one of the four numbers on the way to it does not.
+            // Each of these is a fraction that fits, and one of the four numbers on the way to it
+            // does not.
             (
                 "the greatest over 2 less the greatest over 3",
                 computed((MAX, 2), '-', (MAX, 3)),

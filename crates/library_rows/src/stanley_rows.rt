@@ -4,6 +4,7 @@ ghost use Rattle.std.specs.Prelude.{◌≤◌};
 use crate::printing::shapes;
 use anyhow::Result;
 use perm_codes::Perm;
+use sparse_polys::Terms;
 use stanley_expand::stanley;
 use std::alloc::Global;
 
@@ -27,6 +28,6 @@ fn expanded(rt: &(impl Print + Alloc<A = Global>), what: &str, w: &Perm, rows: u
     if w.len() > 16 {
         return Ok(());
     }
-    let list = stanley(rt.alloc(), w, rows)?;
+    let list = Terms::from_list(stanley(rt.alloc(), w, rows)?);
     shapes(rt, what, &list)
 }

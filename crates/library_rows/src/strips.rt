@@ -5,8 +5,9 @@ ghost use Rattle.strip_rules.specs.Room.{HasRoom};
 use crate::printing::sum;
 use anyhow::Result;
 use coeff_rings::Int;
+use linear_combinations::Lin;
 use partitions::Partition;
-use sparse_polys::Lin;
+use sparse_polys::Lin as Fractions;
 use std::alloc::Global;
 use strip_rules::{add_column, add_hook, add_row};
 
@@ -15,9 +16,13 @@ type Expansion = Lin<Partition, Int>;
 
 /// Prints the rows of the crate `strip_rules`.
 pub fn print(rt: &(impl Print + Alloc<A = Global>)) -> Result<()> {
-    sum(rt, "h_2 s_(1)", with_row(rt.alloc())?)?;
-    sum(rt, "e_2 s_(1)", with_column(rt.alloc())?)?;
-    sum(rt, "p_2 s_(1)", with_hook(rt.alloc())?)
+    row(rt, "h_2 s_(1)", with_row(rt.alloc())?)?;
+    row(rt, "e_2 s_(1)", with_column(rt.alloc())?)?;
+    row(rt, "p_2 s_(1)", with_hook(rt.alloc())?)
+}
+
+fn row(rt: &impl Print, what: &str, list: Expansion) -> Result<()> {
+    sum(rt, what, Fractions::from_table(list))
 }
 
 fn with_row(alloc: Global) -> Result<Expansion> {
@@ -37,6 +42,6 @@ fn one_cell(alloc: Global) -> Result<Expansion>
     ensures { IfOk result (HasRoom 2) }
 {
     let mut list = Lin::new(alloc);
-    list.add_term(Partition::from_parts(alloc, &[1])?, Int::new(1))?;
+    list.add_at_label(&Partition::from_parts(alloc, &[1])?, Int::new(1))?;
     Ok(list)
 }

@@ -193,10 +193,6 @@ module _ {L : Type 0} where
 
   -- ---- lists that are gained, piece by piece
 
-  each_append : (c : ℤ) (xs ys : List L) → each_with c (xs ++ ys) ≡ each_with c xs ++ each_with c ys
-  each_append c [] ys = refl
-  each_append c (x ∷ xs) ys = ap (λ l. (x, c) ∷ l) (each_append c xs ys)
-
   pub each_take : (c : ℤ) (xs : List L) (i : ℕ) (x : L) → i < length xs → x ≡ get_or xs i x → each_with c (take (i + 1) xs) ≡ each_with c (take i xs) ++ (x, c) ∷ []
   each_take c [] i x h e = absurd (omega arith)
   each_take c (y ∷ xs) zero x h e = ap (λ z. (z, c) ∷ []) (sym e)

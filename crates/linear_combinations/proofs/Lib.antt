@@ -3,6 +3,7 @@ pub mod LabelTests
 pub mod Tables
 pub mod Steps
 pub mod Sorted
+pub mod Ordered
 pub mod Following
 pub mod Multiples
 pub mod Totals

@@ -159,8 +159,3 @@ module _ {L R : Type 0} (eq : L → L → Bool) (is_label : L → Bool) (is_held
   fits-Relates (x ∷ xs) (y ∷ ys) h t (inl here) r =
       answered x.1 c y.1 h.1.0 (subst (λ (u : L × R). IsRefused is_held checked u.1 c) here r)
   fits-Relates (x ∷ xs) (y ∷ ys) h t (inr m) r = fits-Relates xs ys h.2 t m r
-
--- the next pair stands among the terms
-pub among-next : {A : Type 0} (done : List A) (x : A) (rest : List A) → Among x (done ++ x ∷ rest)
-among-next [] x rest = inl refl
-among-next (y ∷ done) x rest = inr (among-next done x rest)

@@ -1,5 +1,5 @@
 -- Sums over the terms of a combination: they follow from its coefficients, whatever the order of the terms.
-use Rattle.std.proofs.Common.{◌≡◌, ◌≤◌, Bool, true, false, not, cond, ◌&&◌, List, [], ◌∷◌, length, ℤ, pos, ◌+ℤ◌, refl, sym, ap, ◌∙◌, subst, inl, inr, arith}
+use Rattle.std.proofs.Common.{◌≡◌, ◌≤◌, Bool, true, false, not, cond, ◌&&◌, List, [], ◌∷◌, length, ℤ, pos, ◌+ℤ◌, refl, sym, ap, ◌∙◌, subst, inl, inr, arith, filter}
 use Rattle.std.specs.Prelude.{Option, Some, None}
 use Rattle.std.specs.Option.{unwrap_or}
 use Rattle.std.specs.Cmp.{IsEquivalence}
@@ -11,7 +11,7 @@ use Rattle.std.proofs.lemmas.Map.{lookup-none}
 use Rattle.std.proofs.lemmas.Map.Keys.{IsDistinct-tail}
 use Rattle.std.proofs.lemmas.Map.Entries.{none_past_head}
 use Rattle.coeff_rings.specs.Fractions.{whole}
-use Rattle.sym_model.specs.Sum.{total, select, Among, Once}
+use Rattle.sym_model.specs.Sum.{total, Among, Once}
 use Rattle.sym_model.specs.Expansion.{Fraction}
 use Rattle.sym_model.specs.Canonical.{is_reduced}
 use Rattle.sym_model.proofs.Sums.{total_split, total_same_members, length_within, Once-select, Among-select, Among_from_select}
@@ -80,23 +80,23 @@ module _ {L R : Type 0} {eq : L → L → Bool} (laws : IsEquivalence eq) (same 
       pub length_same : HasSameCoefficients eq zero first second → length first ≤ length second
       length_same equal = length_within second first (once first is.distinct) (λ t m. carried first second is t m (equal t.0))
 
-  select_none : (k : L) (terms : List (L × R)) → lookup (eq k) terms ≡ None → select (λ (t : L × R). eq k t.0) terms ≡ []
+  select_none : (k : L) (terms : List (L × R)) → lookup (eq k) terms ≡ None → filter (λ (t : L × R). eq k t.0) terms ≡ []
   select_none k [] none = refl
   select_none k (t ∷ terms) none = by (eq k t.0) none (select_none k terms)
     where
-      by : (b : Bool) → cond b (Some t.1) (lookup (eq k) terms) ≡ None → (lookup (eq k) terms ≡ None → select (λ (t : L × R). eq k t.0) terms ≡ []) → cond b (t ∷ select (λ (t : L × R). eq k t.0) terms) (select (λ (t : L × R). eq k t.0) terms) ≡ []
+      by : (b : Bool) → cond b (Some t.1) (lookup (eq k) terms) ≡ None → (lookup (eq k) terms ≡ None → filter (λ (t : L × R). eq k t.0) terms ≡ []) → cond b (t ∷ filter (λ (t : L × R). eq k t.0) terms) (filter (λ (t : L × R). eq k t.0) terms) ≡ []
       by true none rest = cc
       by false none rest = rest none
 
   module _ (zero : R) (f : L → R → ℤ) (empty : (l : L) → f l zero ≡ pos 0) (k : L) where
     -- the sum over the one term at a label
-    total-at : (terms : List (L × R)) → IsDistinct eq (keys_of terms) → total (λ (t : L × R). f t.0 t.1) (select (λ (t : L × R). eq k t.0) terms) ≡ f k (coefficient eq zero terms k)
+    total-at : (terms : List (L × R)) → IsDistinct eq (keys_of terms) → total (λ (t : L × R). f t.0 t.1) (filter (λ (t : L × R). eq k t.0) terms) ≡ f k (coefficient eq zero terms k)
     total-at [] distinct = sym (empty k)
     total-at (t ∷ terms) distinct = by (eq k t.0) refl (total-at terms (IsDistinct-tail eq t.0 (keys_of terms) distinct))
       where
-        by : (b : Bool) → eq k t.0 ≡ b → total (λ (u : L × R). f u.0 u.1) (select (λ (u : L × R). eq k u.0) terms) ≡ f k (coefficient eq zero terms k) → total (λ (u : L × R). f u.0 u.1) (cond b (t ∷ select (λ (u : L × R). eq k u.0) terms) (select (λ (u : L × R). eq k u.0) terms)) ≡ f k (unwrap_or (cond b (Some t.1) (lookup (eq k) terms)) zero)
+        by : (b : Bool) → eq k t.0 ≡ b → total (λ (u : L × R). f u.0 u.1) (filter (λ (u : L × R). eq k u.0) terms) ≡ f k (coefficient eq zero terms k) → total (λ (u : L × R). f u.0 u.1) (cond b (t ∷ filter (λ (u : L × R). eq k u.0) terms) (filter (λ (u : L × R). eq k u.0) terms)) ≡ f k (unwrap_or (cond b (Some t.1) (lookup (eq k) terms)) zero)
         by true p h =
-            let none : select (λ (u : L × R). eq k u.0) terms ≡ [] = select_none k terms (lookup-none (eq k) terms (none_past_head laws k t terms distinct p)) in
+            let none : filter (λ (u : L × R). eq k u.0) terms ≡ [] = select_none k terms (lookup-none (eq k) terms (none_past_head laws k t terms distinct p)) in
             ap (λ ts. f t.0 t.1 +ℤ total (λ (u : L × R). f u.0 u.1) ts) none
             ∙ (let alone : f t.0 t.1 +ℤ pos 0 ≡ f t.0 t.1 = omega (arith, ints) in alone)
             ∙ ap (λ x. f x t.1) (sym (same k t.0 p))
@@ -111,14 +111,14 @@ module _ {L R : Type 0} {eq : L → L → Bool} (laws : IsEquivalence eq) (same 
         let other : L × R → Bool = λ t. not (eq k t.0) in
         let equal : (q : L) → eq k q ≡ false → coefficient eq zero new q ≡ coefficient eq zero old q = λ q p. more q ∙ ap (λ b. cond b (sum (coefficient eq zero old k) c) (coefficient eq zero old q)) p in
         let apart : (t : L × R) → other t ≡ true → eq k t.0 ≡ false = λ t h. not-true (eq k t.0) h in
-        let others : total summand (select other old) ≡ total summand (select other new) =
-        total_same_members summand (select other old) (select other new) (Once-select other old (once old is.distinct)) (Once-select other new (once new also.distinct))
+        let others : total summand (filter other old) ≡ total summand (filter other new) =
+        total_same_members summand (filter other old) (filter other new) (Once-select other old (once old is.distinct)) (Once-select other new (once new also.distinct))
         (λ t m. let p = Among_from_select other t old m in Among-select other t new (carried zero value zero_value old new is t p.0 (equal t.0 (apart t p.1))) p.1)
         (λ t m. let p = Among_from_select other t new m in Among-select other t old (carried zero value zero_value new old also t p.0 (sym (equal t.0 (apart t p.1)))) p.1) in
         let before = total_split summand here old in
         let after = total_split summand here new in
-        let at_old : total summand (select here old) ≡ f k (coefficient eq zero old k) = total-at old is.distinct in
-        let at_new : total summand (select here new) ≡ f k (coefficient eq zero new k) = total-at new also.distinct in
+        let at_old : total summand (filter here old) ≡ f k (coefficient eq zero old k) = total-at old is.distinct in
+        let at_new : total summand (filter here new) ≡ f k (coefficient eq zero new k) = total-at new also.distinct in
         sums (total summand old) (total summand new) _ _ _ _ (f k (coefficient eq zero old k)) (f k (coefficient eq zero new k)) before after others at_old at_new
       where
         not-true : (b : Bool) → not b ≡ true → b ≡ false

@@ -1,6 +1,7 @@
--- Finite linear combinations of labels, as lists of labels with their coefficients: which coefficient a label has, and when a list is
--- one of them.
-use Rattle.std.specs.Prelude.{◌≡◌, Bool, true, ◌&&◌, Option, Some, None, List, [], ◌∷◌, if◌then◌else◌, IsTrue}
+-- Finite linear combinations of labels, as lists of labels with their coefficients: which
+-- coefficient a label has, and when a list is one of them.
+use Rattle.std.specs.Prelude.{◌≡◌, Bool, true, ◌&&◌, Option, Some, None, List, [], ◌∷◌}
+use Rattle.std.specs.Prelude.{if◌then◌else◌, IsTrue}
 use Rattle.std.specs.List.{IsDistinct}
 use Rattle.std.specs.Map.{lookup, keys_of}
 use Rattle.std.specs.Option.{unwrap_or}
@@ -14,25 +15,30 @@ use Rattle.sym_model.specs.Sum.{Among}
 abbrev pub coefficient : {L R : Type 0} → (L → L → Bool) → R → List (L × R) → L → R
 coefficient eq zero entries label = unwrap_or (lookup (eq label) entries) zero
 
--- whether the coefficient stands for a fraction in lowest terms that is not 0, and the label is one of its type
+-- whether the coefficient stands for a fraction in lowest terms that is not 0,
+-- and the label is one of its type
 abbrev pub is_term : {L R : Type 0} → (R → Fraction) → (L → Bool) → L × R → Bool
 is_term value is_label t = is_reduced (value t.1) && is_label t.0
 
 abbrev pub are_terms : {L R : Type 0} → (R → Fraction) → (L → Bool) → List (L × R) → Bool
 are_terms value is_label [] = true
-are_terms value is_label (t ∷ entries) = is_term value is_label t && are_terms value is_label entries
+are_terms value is_label (t ∷ entries) =
+    is_term value is_label t && are_terms value is_label entries
 
 -- a finite linear combination: each label stands once, with a coefficient that is not 0
-pub record IsCombination {L R : Type 0} (eq : L → L → Bool) (is_label : L → Bool) (value : R → Fraction) (entries : List (L × R)) : Type 0 where
+pub record IsCombination {L R : Type 0} (eq : L → L → Bool) (is_label : L → Bool)
+    (value : R → Fraction) (entries : List (L × R)) : Type 0 where
   pub distinct : IsDistinct eq (keys_of entries)
   pub proper : IsTrue (are_terms value is_label entries)
 
 -- each coefficient is one that a scalar may have
-pub record AreHeld {L R : Type 0} (eq : L → L → Bool) (zero : R) (is_held : R → Type 0) (entries : List (L × R)) : Type 0 where
+pub record AreHeld {L R : Type 0} (eq : L → L → Bool) (zero : R) (is_held : R → Type 0)
+    (entries : List (L × R)) : Type 0 where
   pub at_label : (label : L) → is_held (coefficient eq zero entries label)
 
 -- a table: a finite linear combination, with coefficients that a scalar may have
-pub record IsTable {L R : Type 0} (eq : L → L → Bool) (is_label : L → Bool) (zero : R) (value : R → Fraction) (is_held : R → Type 0) (entries : List (L × R)) : Type 0 where
+pub record IsTable {L R : Type 0} (eq : L → L → Bool) (is_label : L → Bool) (zero : R)
+    (value : R → Fraction) (is_held : R → Type 0) (entries : List (L × R)) : Type 0 where
   pub combination : IsCombination eq is_label value entries
   pub held : AreHeld eq zero is_held entries
 
@@ -42,46 +48,63 @@ is_ordered order [] = true
 is_ordered order (t ∷ []) = true
 is_ordered order (t ∷ u ∷ entries) = is_lt (order t.0 u.0) && is_ordered order (u ∷ entries)
 
--- whether a list is canonical: each label once, in the printed order, with a coefficient that is not 0
-abbrev pub is_canonical_list : {L R : Type 0} → (L → L → Ordering) → (L → Bool) → (R → Fraction) → List (L × R) → Bool
-is_canonical_list order is_label value entries = is_ordered order entries && are_terms value is_label entries
+-- whether a list is canonical: each label once, in the printed order,
+-- with a coefficient that is not 0
+abbrev pub is_canonical_list : {L R : Type 0} → (L → L → Ordering) → (L → Bool) → (R → Fraction)
+    → List (L × R) → Bool
+is_canonical_list order is_label value entries =
+    is_ordered order entries && are_terms value is_label entries
 
-abbrev pub IsCanonicalList : {L R : Type 0} → (L → L → Ordering) → (L → Bool) → (R → Fraction) → List (L × R) → Type 0
-IsCanonicalList order is_label value entries = IsTrue (is_canonical_list order is_label value entries)
+abbrev pub IsCanonicalList : {L R : Type 0} → (L → L → Ordering) → (L → Bool) → (R → Fraction)
+    → List (L × R) → Type 0
+IsCanonicalList order is_label value entries =
+    IsTrue (is_canonical_list order is_label value entries)
 
 -- the new list has c more at the label, and at every other label what the old one has
-abbrev pub HasMoreAt : {L R : Type 0} → (L → L → Bool) → R → (R → R → R) → List (L × R) → L → R → List (L × R) → Type 0
+abbrev pub HasMoreAt : {L R : Type 0} → (L → L → Bool) → R → (R → R → R) → List (L × R) → L → R
+    → List (L × R) → Type 0
 HasMoreAt {L} eq zero sum old label c new = (other : L) → coefficient eq zero new other
-    ≡ (if eq label other then sum (coefficient eq zero old label) c else coefficient eq zero old other)
+    ≡ (if eq label other then sum
+    (coefficient eq zero old label) c else coefficient eq zero old other)
 
 -- the list has at every label the sum of what the two others have
-abbrev pub IsSumOf : {L R : Type 0} → (L → L → Bool) → R → (R → R → R) → List (L × R) → List (L × R) → List (L × R) → Type 0
+abbrev pub IsSumOf : {L R : Type 0} → (L → L → Bool) → R → (R → R → R) → List (L × R) → List (L × R)
+    → List (L × R) → Type 0
 IsSumOf {L} eq zero sum first second both =
-    (label : L) → coefficient eq zero both label ≡ sum (coefficient eq zero first label) (coefficient eq zero second label)
+    (label : L) → coefficient eq zero both label
+    ≡ sum (coefficient eq zero first label) (coefficient eq zero second label)
 
 -- the list has at every label what the other has, times c
-abbrev pub IsMultipleOf : {L R : Type 0} → (L → L → Bool) → R → (R → R → R) → List (L × R) → R → List (L × R) → Type 0
+abbrev pub IsMultipleOf : {L R : Type 0} → (L → L → Bool) → R → (R → R → R) → List (L × R) → R
+    → List (L × R) → Type 0
 IsMultipleOf {L} eq zero product entries c multiple =
     (label : L) → coefficient eq zero multiple label ≡ product (coefficient eq zero entries label) c
 
 -- the two lists have the same coefficient at every label
-abbrev pub HasSameCoefficients : {L R : Type 0} → (L → L → Bool) → R → List (L × R) → List (L × R) → Type 0
-HasSameCoefficients {L} eq zero first second = (label : L) → coefficient eq zero second label ≡ coefficient eq zero first label
+abbrev pub HasSameCoefficients : {L R : Type 0} → (L → L → Bool) → R → List (L × R) → List (L × R)
+    → Type 0
+HasSameCoefficients {L} eq zero first second =
+    (label : L) → coefficient eq zero second label ≡ coefficient eq zero first label
 
 -- the operation has no answer at the two scalars
-pub record IsRefused {R : Type 0} (is_held : R → Type 0) (checked : R → R → Option R) (a b : R) : Type 0 where
+pub record IsRefused {R : Type 0} (is_held : R → Type 0) (checked : R → R → Option R)
+    (a b : R) : Type 0 where
   pub left_held : is_held a
   pub right_held : is_held b
   pub refused : checked a b ≡ None
 
 -- at some label the ring refuses the sum of the two coefficients
-abbrev pub RefusesSomeSum : {L R : Type 0} → (L → L → Bool) → R → (R → Type 0) → (R → R → Option R) → List (L × R) → List (L × R) → Type 0
+abbrev pub RefusesSomeSum : {L R : Type 0} → (L → L → Bool) → R → (R → Type 0) → (R → R → Option R)
+    → List (L × R) → List (L × R) → Type 0
 RefusesSomeSum {L} eq zero is_held checked first second =
-    (label : L) × IsRefused is_held checked (coefficient eq zero first label) (coefficient eq zero second label)
+    (label : L) × IsRefused is_held checked (coefficient eq zero first label)
+    (coefficient eq zero second label)
 
 -- the ring refuses the product of some coefficient and c
-abbrev pub RefusesSomeProduct : {L R : Type 0} → (R → Type 0) → (R → R → Option R) → List (L × R) → R → Type 0
-RefusesSomeProduct {L} {R} is_held checked entries c = (t : L × R) × Among t entries × IsRefused is_held checked t.1 c
+abbrev pub RefusesSomeProduct : {L R : Type 0} → (R → Type 0) → (R → R → Option R) → List (L × R)
+    → R → Type 0
+RefusesSomeProduct {L} {R} is_held checked entries c =
+    (t : L × R) × Among t entries × IsRefused is_held checked t.1 c
 
 -- whether a label stands strictly later than the previous one, if there is one
 abbrev pub is_later : {L : Type 0} → (L → L → Ordering) → Option L → L → Bool
@@ -89,11 +112,14 @@ is_later order None label = true
 is_later order (Some previous) label = is_lt (order previous label)
 
 -- whether a term may stand behind the previous label
-abbrev pub is_next : {L R : Type 0} → (L → L → Ordering) → (L → Bool) → (R → Fraction) → Option L → L × R → Bool
+abbrev pub is_next : {L R : Type 0} → (L → L → Ordering) → (L → Bool) → (R → Fraction) → Option L
+    → L × R → Bool
 is_next order is_label value previous t = is_later order previous t.0 && is_term value is_label t
 
--- whether each of these terms may stand behind the one before it, and the first behind the previous label
-abbrev pub each_follows : {L R : Type 0} → (L → L → Ordering) → (L → Bool) → (R → Fraction) → Option L → List (L × R) → Bool
+-- whether each of these terms may stand behind the one before it,
+-- and the first behind the previous label
+abbrev pub each_follows : {L R : Type 0} → (L → L → Ordering) → (L → Bool) → (R → Fraction)
+    → Option L → List (L × R) → Bool
 each_follows order is_label value previous [] = true
 each_follows order is_label value previous (t ∷ entries) =
     is_next order is_label value previous t && each_follows order is_label value (Some t.0) entries

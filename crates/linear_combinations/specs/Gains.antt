@@ -1,7 +1,10 @@
--- What is added to a table of whole numbers: a list of labels with numbers, in which a label may stand again and again.
-use Rattle.std.specs.Prelude.{◌≡◌, ℕ, ◌+◌, ◌^◌, ◌≤◌, ℤ, pos, ◌+ℤ◌, ◌*ℤ◌, nat_abs, Bool, cond, List, [], ◌∷◌, ◌++◌, map}
+-- What is added to a table of whole numbers: a list of labels with numbers,
+-- in which a label may stand again and again.
+use Rattle.std.specs.Prelude.{◌≡◌, ℕ, ◌+◌, ◌^◌, ◌≤◌, ℤ, pos, ◌+ℤ◌, ◌*ℤ◌, nat_abs, Bool, cond, List}
+use Rattle.std.specs.Prelude.{[], ◌∷◌, ◌++◌, map}
 use Rattle.sym_model.specs.Sum.{total, Among}
-pub use Rattle.sym_model.specs.WholeTerms.{WholeTermsOf}
+-- `mass`: the sum of the absolute values of all coefficients
+pub use Rattle.sym_model.specs.WholeTerms.{WholeTermsOf, absolute_total as mass}
 
 -- the sum over the terms of coefficient times the value of a test function at the label
 abbrev pub over : {L : Type 0} → (L → ℤ) → WholeTermsOf L → ℤ
@@ -10,11 +13,6 @@ over {L} φ terms = total (λ (t : L × ℤ). t.1 *ℤ φ t.0) terms
 -- the test function that is 1 at a label and 0 elsewhere
 abbrev pub only : {L : Type 0} → (L → L → Bool) → L → L → ℤ
 only eq x label = cond (eq x label) (pos 1) (pos 0)
-
--- the sum of the absolute values of all coefficients
-abbrev pub mass : {L : Type 0} → WholeTermsOf L → ℕ
-mass [] = 0
-mass (t ∷ terms) = nat_abs t.1 + mass terms
 
 -- the sum of the absolute values of the coefficients that stand at a label
 abbrev pub mass_at : {L : Type 0} → (L → L → Bool) → L → WholeTermsOf L → ℕ
@@ -43,6 +41,8 @@ HaveLabels {L} P terms = (t : L × ℤ) → Among t terms → P t.0
 pub record Gains {L : Type 0} (old gained new : WholeTermsOf L) : Type 0 where
   pub sums : (φ : L → ℤ) → over φ new ≡ over φ old +ℤ over φ gained
 
--- OVERFLOW: at some label the old coefficient and what is gained there, all taken as positive, come to 2^127 or more
+-- OVERFLOW: at some label the old coefficient and what is gained there, all taken as positive,
+-- come to 2^127 or more
 abbrev pub Overflows : {L : Type 0} → (L → L → Bool) → WholeTermsOf L → WholeTermsOf L → Type 0
-Overflows {L} eq old gained = (x : L) × (2 ^ 127 ≤ nat_abs (over (only eq x) old) + mass_at eq x gained)
+Overflows {L} eq old gained =
+    (x : L) × (2 ^ 127 ≤ nat_abs (over (only eq x) old) + mass_at eq x gained)

@@ -1,4 +1,5 @@
--- What the labels' impls cite: equal labels are the same, and only those tie in the printed order, which is total.
+-- What the labels' impls cite: equal labels are the same,
+-- and only those tie in the printed order, which is total.
 use Rattle.std.proofs.Common.{◌≡◌, ℕ, true, List}
 use Rattle.std.specs.Prelude.{nat_eq, IsTrue}
 use Rattle.std.specs.Cmp.{IsTotalOrder}
@@ -15,13 +16,16 @@ use Rattle.printing_laws.proofs.LabelOrders.{label_order-total, label_order-ties
 pub same_partition : (a b : List ℕ) → pointwise nat_eq a b ≡ true → a ≡ b
 same_partition a b h = (bytes_eq-Decides a b).0 h
 
-pub partition_order_equal : (a b : List ℕ) → IsTrue (is_label a) → IsTrue (is_label b) → printed_order a b ≡ Equal → a ≡ b
+pub partition_order_equal : (a b : List ℕ) → IsTrue (is_label a) → IsTrue (is_label b)
+    → printed_order a b ≡ Equal → a ≡ b
 partition_order_equal a b h k e =
-    printed_order-equal a b (is_label-tells a h).partition.positive (is_label-tells b k).partition.positive e
+    printed_order-equal a b (is_label-tells a h).partition.positive
+    (is_label-tells b k).partition.positive e
 
 pub permutation_order_is_total : IsTotalOrder permutation_order
 permutation_order_is_total = label_order-total permutations
 
 pub permutation_order_equal :
-    (a b : List ℕ) → IsTrue (is_permutation_label a) → IsTrue (is_permutation_label b) → permutation_order a b ≡ Equal → a ≡ b
+    (a b : List ℕ) → IsTrue (is_permutation_label a) → IsTrue (is_permutation_label b)
+    → permutation_order a b ≡ Equal → a ≡ b
 permutation_order_equal a b h k e = label_order-ties permutations a b h k e

@@ -12,7 +12,8 @@ use partitions::Partition;
 use std::cmp::Ordering;
 use std::hash::Hash;
 
-/// Labels of terms. Equal labels are the same label, and labels have one order, in which they are printed.
+/// Labels of terms. Equal labels are the same label, and labels have one order,
+/// in which they are printed.
 pub trait Label: Eq + Hash + Drop {
     // Whether a label lies in the limits of its type, as every label does that a program meets.
     ghost is_label: { Self → Bool };
@@ -38,7 +39,8 @@ pub trait Label: Eq + Hash + Drop {
 
     ghost order_total: { IsTotalOrder order };
 
-    ghost order_equal: { (a b : Self) → IsTrue (is_label a) → IsTrue (is_label b) → order a b ≡ Equal → a ≡ b };
+    ghost order_equal: { (a b : Self) → IsTrue (is_label a) → IsTrue (is_label b)
+        → order a b ≡ Equal → a ≡ b };
 }
 
 impl Label for Partition {

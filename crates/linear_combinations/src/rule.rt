@@ -15,9 +15,11 @@ pub trait Rule<K: Label, L: Label> {
     // What a label stands for.
     ghost image: { Self → K → List (L × ℤ) };
 
-    /// Adds `c` times what the label stands for. It is refused as `Large` only where that overflows.
+    /// Adds `c` times what the label stands for. It is refused as `Large` only where that
+    /// overflows.
     fn add_image(&self, label: &K, c: Int, sum: &mut Lin<L, Int>) -> Result<(), SumFault>
         requires { takes self.now label.now }
         ensures gains { OnOk result (Gains sum.old (scaled c (image self.now label.now)) sum.new) }
-        ensures large { IsErrOf result SumFault.Large → Overflows L.eq sum.old (scaled c (image self.now label.now)) };
+        ensures large { IsErrOf result SumFault.Large
+            → Overflows L.eq sum.old (scaled c (image self.now label.now)) };
 }

@@ -3,7 +3,8 @@ ghost use Rattle.std.specs.Prelude.{◌≡◌, ◌↔◌, [], length, slice_get,
 ghost use Rattle.std.specs.Option.{option_map, option_copied, SomeIff};
 ghost use Rattle.std.specs.Slice.Iter.{iter_rest};
 ghost use Rattle.std.specs.Vec.Iter.{into_iter_items};
-ghost use Rattle.linear_combinations.specs.Entries.{is_canonical_list, IsCanonicalList, is_later, is_next};
+ghost use Rattle.linear_combinations.specs.Entries.{is_canonical_list, IsCanonicalList, is_later};
+ghost use Rattle.linear_combinations.specs.Entries.{is_next};
 
 use crate::label::{Label, lies_in_limits};
 use coeff_rings::Scalar;
@@ -11,8 +12,8 @@ use std::cmp::Ordering;
 use std::marker::Model;
 use std::{slice, vec};
 
-/// The terms of a finite map, strictly in the order in which labels are printed. A contract sees the list of labels
-/// with the values of their coefficients.
+/// The terms of a finite map, strictly in the order in which labels are printed. A contract sees
+/// the list of labels with the values of their coefficients.
 #[derive(Drop)]
 pub struct Terms<L: Label, R: Scalar> {
     pairs: Vec<(L, R)>,
@@ -30,10 +31,11 @@ impl<L: Label, R: Scalar> Model for Terms<L, R> {
 }
 
 impl<L: Label, R: Scalar> Terms<L, R> {
-    /// The list of these pairs, or `None` exactly where they do not stand strictly in the printed order, or a
-    /// coefficient is 0.
+    /// The list of these pairs, or `None` exactly where they do not stand strictly in the printed
+    /// order, or a coefficient is 0.
     pub fn from_pairs(pairs: Vec<(L, R)>) -> Option<Terms<L, R>>
-        ensures { SomeIff result (IsCanonicalList L.order L.is_label R.value pairs.items) pairs.items }
+        ensures { SomeIff result (IsCanonicalList L.order L.is_label R.value pairs.items)
+            pairs.items }
     {
         if are_canonical(&pairs) {
             Some(Terms::from_sorted(pairs))
@@ -109,9 +111,11 @@ fn are_canonical<L: Label, R: Scalar>(pairs: &[(L, R)]) -> bool
     true
 }
 
-/// Whether a term may stand behind the previous label: its coefficient is not 0, and it stands strictly later in print.
+/// Whether a term may stand behind the previous label: its coefficient is not 0, and it stands
+/// strictly later in print.
 fn may_follow<L: Label, R: Scalar>(previous: Option<&L>, label: &L, c: R) -> bool
-    ensures { result ≡ is_next L.order L.is_label R.value (option_copied previous.entry) (label.now, c) }
+    ensures { result ≡ is_next L.order L.is_label R.value (option_copied previous.entry)
+        (label.now, c) }
 {
     lies_in_limits(label);
     stands_later(previous, label) && !c.is_zero()

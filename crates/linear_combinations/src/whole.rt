@@ -1,4 +1,5 @@
-//! Adders to tables of whole numbers: each says by one relation what is gained, and by one where it overflows.
+//! Adders to tables of whole numbers: each says by one relation what is gained,
+//! and by one where it overflows.
 ghost use Rattle.std.specs.Prelude.{◌≡◌, ℤ, pos, neg_ℤ, [], ◌∷◌, FitsSigned, OnOk, IsErrOf};
 ghost use Rattle.std.specs.Int.{w128};
 ghost use Rattle.coeff_rings.specs.Fractions.{whole};
@@ -14,10 +15,21 @@ use calc_base::SumFault;
 use coeff_rings::{Int, Ring};
 
 impl<L: Label> Lin<L, Int> {
-    /// Adds a number at a label.
+    /// Adds a number at a label that is given away.
+    pub fn add_owned(&mut self, label: L, c: Int) -> Result<(), SumFault>
+        ensures gains { OnOk result (Gains self.old ((label, c) ∷ []) self.new) }
+        ensures large { IsErrOf result SumFault.Large → Overflows L.eq self.old ((label, c) ∷ []) }
+        ensures table { OnOk result (IsCombination L.eq L.is_label whole self.new) }
+        ensures held { OnOk result (AreHeld L.eq (pos 0) (FitsSigned w128) self.new) }
+    {
+        self.add_term(label, c)
+    }
+
+    /// Adds a number at a label, which is copied only if it is new.
     pub fn add_at_label(&mut self, label: &L, c: Int) -> Result<(), SumFault>
         ensures gains { OnOk result (Gains self.old ((label.now, c) ∷ []) self.new) }
-        ensures large { IsErrOf result SumFault.Large → Overflows L.eq self.old ((label.now, c) ∷ []) }
+        ensures large { IsErrOf result SumFault.Large
+            → Overflows L.eq self.old ((label.now, c) ∷ []) }
         ensures table { OnOk result (IsCombination L.eq L.is_label whole self.new) }
         ensures held { OnOk result (AreHeld L.eq (pos 0) (FitsSigned w128) self.new) }
     {
@@ -27,7 +39,8 @@ impl<L: Label> Lin<L, Int> {
     /// Adds a number at each of some labels.
     pub fn add_each(&mut self, labels: &[L], c: Int) -> Result<(), SumFault>
         ensures gains { OnOk result (Gains self.old (each_with c labels.now) self.new) }
-        ensures large { IsErrOf result SumFault.Large → Overflows L.eq self.old (each_with c labels.now) }
+        ensures large { IsErrOf result SumFault.Large
+            → Overflows L.eq self.old (each_with c labels.now) }
         ensures table { OnOk result (IsCombination L.eq L.is_label whole self.new) }
         ensures held { OnOk result (AreHeld L.eq (pos 0) (FitsSigned w128) self.new) }
     {
@@ -41,7 +54,8 @@ impl<L: Label> Lin<L, Int> {
     /// Subtracts a number at each of some labels.
     pub fn subtract_each(&mut self, labels: &[L], c: Int) -> Result<(), SumFault>
         ensures gains { OnOk result (Gains self.old (each_with (neg_ℤ c) labels.now) self.new) }
-        ensures large { IsErrOf result SumFault.Large → Overflows L.eq self.old (each_with (neg_ℤ c) labels.now) }
+        ensures large { IsErrOf result SumFault.Large
+            → Overflows L.eq self.old (each_with (neg_ℤ c) labels.now) }
         ensures table { OnOk result (IsCombination L.eq L.is_label whole self.new) }
         ensures held { OnOk result (AreHeld L.eq (pos 0) (FitsSigned w128) self.new) }
     {
@@ -56,7 +70,8 @@ impl<L: Label> Lin<L, Int> {
     /// Adds `c` times another table.
     pub fn add_multiple(&mut self, other: &Lin<L, Int>, c: Int) -> Result<(), SumFault>
         ensures gains { OnOk result (Gains self.old (scaled c other.now) self.new) }
-        ensures large { IsErrOf result SumFault.Large → Overflows L.eq self.old (scaled c other.now) }
+        ensures large { IsErrOf result SumFault.Large
+            → Overflows L.eq self.old (scaled c other.now) }
         ensures table { OnOk result (IsCombination L.eq L.is_label whole self.new) }
         ensures held { OnOk result (AreHeld L.eq (pos 0) (FitsSigned w128) self.new) }
         ensures other { IsCombination L.eq L.is_label whole other.now }
@@ -87,7 +102,8 @@ impl<L: Label> Lin<L, Int> {
     /// Adds `c` times the terms of a list.
     pub fn add_list(&mut self, list: &Terms<L, Int>, c: Int) -> Result<(), SumFault>
         ensures gains { OnOk result (Gains self.old (scaled c list.now) self.new) }
-        ensures large { IsErrOf result SumFault.Large → Overflows L.eq self.old (scaled c list.now) }
+        ensures large { IsErrOf result SumFault.Large
+            → Overflows L.eq self.old (scaled c list.now) }
         ensures table { OnOk result (IsCombination L.eq L.is_label whole self.new) }
         ensures held { OnOk result (AreHeld L.eq (pos 0) (FitsSigned w128) self.new) }
         ensures list { IsCanonicalList L.order L.is_label whole list.now }
@@ -107,8 +123,10 @@ impl<L: Label> Lin<L, Int> {
         list: &Lin<K, Int>,
     ) -> Result<(), SumFault>
         requires { (t : K × ℤ) → Among t list.now → T.takes rule.now t.0 }
-        ensures gains { OnOk result (Gains self.old (replaced (T.image rule.now) list.now) self.new) }
-        ensures large { IsErrOf result SumFault.Large → Overflows L.eq self.old (replaced (T.image rule.now) list.now) }
+        ensures gains { OnOk result (Gains self.old
+            (replaced (T.image rule.now) list.now) self.new) }
+        ensures large { IsErrOf result SumFault.Large
+            → Overflows L.eq self.old (replaced (T.image rule.now) list.now) }
         ensures table { OnOk result (IsCombination L.eq L.is_label whole self.new) }
         ensures held { OnOk result (AreHeld L.eq (pos 0) (FitsSigned w128) self.new) }
         ensures list { IsCombination K.eq K.is_label whole list.now }

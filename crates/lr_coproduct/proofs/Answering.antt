@@ -1,13 +1,13 @@
 -- What a coproduct answers.
-use Rattle.std.proofs.Common.{◌≡◌, ℕ, ◌+◌, List, [], ◌∷◌, ◌++◌, map, refl, sym, ap, ◌∙◌, arith, ℤ, pos, ◌+ℤ◌, ◌*ℤ◌}
+use Rattle.std.proofs.Common.{◌≡◌, ℕ, ◌+◌, List, [], ◌∷◌, ◌++◌, map, refl, sym, ap, ◌∙◌, arith, ℤ, pos, ◌+ℤ◌, ◌*ℤ◌, flat_map}
 use Rattle.std.specs.Prelude.{None, false}
 use Rattle.std.proofs.lemmas.Int.{ints}
-use Rattle.sym_model.specs.Sum.{total, each, Among}
+use Rattle.sym_model.specs.Sum.{total, Among}
 use Rattle.sym_model.specs.Partition.{IsPartition, columns, without_last_zeros}
 use Rattle.sym_model.specs.Polynomial.{Poly, Same, pair, plus, scale, coefficient as coefficient_of}
 use Rattle.sym_model.specs.Schur.{schur, skew_schur}
-use Rattle.sym_model.specs.Expansion.{Terms, Represents, beside, pair_polynomial, denominators}
-use Rattle.sym_model.specs.WholeTerms.{AreWhole, combined, numerators}
+use Rattle.sym_model.specs.Expansion.{Represents, beside, pair_polynomial, denominators}
+use Rattle.sym_model.specs.WholeTerms.{WholeTermsOf, WholeTerms, as_fractions, combined}
 use Rattle.sym_model.specs.Kind.{pairs}
 use Rattle.sym_model.specs.Answer.{answer}
 use Rattle.sym_model.specs.Command.{skew, coprod}
@@ -16,7 +16,8 @@ use Rattle.sym_model.specs.LargeAnswer.{HasPastCoefficient}
 use Rattle.sym_model.proofs.Polynomials.{pair_beside, coefficient_plus, coefficient_scale, pair_ext, pair_total, pair_factor, pair_determined, same_from_pair}
 use Rattle.sym_model.proofs.Ring.{one-product}
 use Rattle.sym_model.proofs.Sums.{total_ext, total_same_members}
-use Rattle.sym_model.proofs.WholeTerms.{pair_of_combined, denominators_of_whole, value_by-whole, represents-whole}
+use Rattle.sym_model.proofs.WholeTerms.{pair_of_combined, denominators-as_fractions, value_by-as_fractions}
+use Rattle.linear_combinations.proofs.Masses.{represents_sums}
 use Rattle.schur_laws.specs.InnerShapes.{shapes_inside}
 use Rattle.schur_laws.proofs.Coproducts.{coproduct}
 use Rattle.lr_coproduct.specs.PairTerms.{pair_sum, second_sum}
@@ -26,30 +27,29 @@ use Rattle.lr_coproduct.proofs.SortedShapes.{once_listed}
 
 -- ---- one partition inside
 
--- a list of whole terms that is a polynomial, as a sum
-pub sum_of_terms : (P : List ℕ → Poly) (list : Terms (List ℕ)) (f : Poly) → AreWhole list → Represents P list f 1 → Same (combined P (numerators list)) f
-sum_of_terms P list f w r α =
-    let one : denominators list ≡ 1 = denominators_of_whole list w in
+-- a list that is a polynomial, as a sum
+pub sum_of_terms : (P : List ℕ → Poly) (list : WholeTerms) (f : Poly) → Represents P (as_fractions list) f 1 → Same (combined P list) f
+sum_of_terms P list f r α =
+    let one : denominators (as_fractions list) ≡ 1 = denominators-as_fractions list in
     let e = r.equal α in
-    sym (one-product (coefficient_of (combined P (numerators list)) α))
-    ∙ sym (coefficient_scale (pos 1) (combined P (numerators list)) α)
-    ∙ sym (ap (λ (g : Poly). coefficient_of (scale (pos 1) g) α) (value_by-whole P list w))
+    sym (one-product (coefficient_of (combined P list) α))
+    ∙ sym (coefficient_scale (pos 1) (combined P list) α)
+    ∙ sym (ap (λ (g : Poly). coefficient_of (scale (pos 1) g) α) (value_by-as_fractions P list))
     ∙ e
     ∙ ap (λ d. coefficient_of (scale (pos d) f) α) one
     ∙ coefficient_scale (pos 1) f α ∙ one-product (coefficient_of f α)
 
-pub second_is : (n k : ℕ) (first : List ℕ) (f : Poly) (list : Terms (List ℕ)) → AreWhole list → Represents (λ (label : List ℕ). schur label k) list f 1 → Same (second_sum n k first list) (beside (schur first n) f)
-second_is n k first f list w r =
+pub second_is : (n k : ℕ) (first : List ℕ) (f : Poly) (list : WholeTerms) → Represents (λ (label : List ℕ). schur label k) (as_fractions list) f 1 → Same (second_sum n k first list) (beside (schur first n) f)
+second_is n k first f list r =
     let g = schur first n in
-    let ws = numerators list in
     same_from_pair (second_sum n k first list) (beside g f) (λ φ.
-    pair_of_combined (λ (second : List ℕ). pair_polynomial n k (first, second)) ws φ
+    pair_of_combined (λ (second : List ℕ). pair_polynomial n k (first, second)) list φ
     ∙ total_ext (λ (t : List ℕ × ℤ). t.1 *ℤ pair (beside g (schur t.0 k)) φ) (λ (t : List ℕ × ℤ). pair g (λ α. t.1 *ℤ pair (schur t.0 k) (λ β. φ (α ++ β))))
-    (λ t. ap (λ z. t.1 *ℤ z) (pair_beside g (schur t.0 k) φ) ∙ sym (pair_factor t.1 g (λ α. pair (schur t.0 k) (λ β. φ (α ++ β))))) ws
-    ∙ sym (pair_total g (λ (t : List ℕ × ℤ) (α : List ℕ). t.1 *ℤ pair (schur t.0 k) (λ β. φ (α ++ β))) ws)
-    ∙ pair_ext g (λ α. total (λ (t : List ℕ × ℤ). t.1 *ℤ pair (schur t.0 k) (λ β. φ (α ++ β))) ws) (λ α. pair f (λ β. φ (α ++ β)))
-    (λ α. sym (pair_of_combined (λ (label : List ℕ). schur label k) ws (λ β. φ (α ++ β)))
-    ∙ pair_determined (combined (λ (label : List ℕ). schur label k) ws) f (λ β. φ (α ++ β)) (sum_of_terms (λ (label : List ℕ). schur label k) list f w r))
+    (λ t. ap (λ z. t.1 *ℤ z) (pair_beside g (schur t.0 k) φ) ∙ sym (pair_factor t.1 g (λ α. pair (schur t.0 k) (λ β. φ (α ++ β))))) list
+    ∙ sym (pair_total g (λ (t : List ℕ × ℤ) (α : List ℕ). t.1 *ℤ pair (schur t.0 k) (λ β. φ (α ++ β))) list)
+    ∙ pair_ext g (λ α. total (λ (t : List ℕ × ℤ). t.1 *ℤ pair (schur t.0 k) (λ β. φ (α ++ β))) list) (λ α. pair f (λ β. φ (α ++ β)))
+    (λ α. sym (pair_of_combined (λ (label : List ℕ). schur label k) list (λ β. φ (α ++ β)))
+    ∙ pair_determined (combined (λ (label : List ℕ). schur label k) list) f (λ β. φ (α ++ β)) (sum_of_terms (λ (label : List ℕ). schur label k) list f r))
     ∙ sym (pair_beside g f φ))
 
 pub plus_same : (new old f g : Poly) → Same f g → Same new (plus old f) → Same new (plus old g)
@@ -62,36 +62,36 @@ plus_same new old f g e h α =
 
 -- ---- all of them
 
-each_next : (f : List ℕ → Poly) (xs : List (List ℕ)) (x : List ℕ) (α : List ℕ) → coefficient_of (each f (xs ++ (x ∷ []))) α ≡ coefficient_of (each f xs) α +ℤ coefficient_of (f x) α
+each_next : (f : List ℕ → Poly) (xs : List (List ℕ)) (x : List ℕ) (α : List ℕ) → coefficient_of (flat_map f (xs ++ (x ∷ []))) α ≡ coefficient_of (flat_map f xs) α +ℤ coefficient_of (f x) α
 each_next f [] x α = let p = coefficient_plus (f x) [] α in omega (arith, ints)
 each_next f (y ∷ xs) x α =
-    let p = coefficient_plus (f y) (each f (xs ++ (x ∷ []))) α in
-    let q = coefficient_plus (f y) (each f xs) α in
+    let p = coefficient_plus (f y) (flat_map f (xs ++ (x ∷ []))) α in
+    let q = coefficient_plus (f y) (flat_map f xs) α in
     let r = each_next f xs x α in
     omega (arith, ints)
 
-pub sum_next : (f : List ℕ → Poly) (xs next : List (List ℕ)) (x : List ℕ) (old new : Poly) → next ≡ xs ++ (x ∷ []) → Same old (each f xs) → Same new (plus old (f x)) → Same new (each f next)
+pub sum_next : (f : List ℕ → Poly) (xs next : List (List ℕ)) (x : List ℕ) (old new : Poly) → next ≡ xs ++ (x ∷ []) → Same old (flat_map f xs) → Same new (plus old (f x)) → Same new (flat_map f next)
 sum_next f xs next x old new e h k α =
     let p = k α in
     let q = coefficient_plus old (f x) α in
     let r = h α in
     let s = each_next f xs x α in
-    let t : coefficient_of (each f next) α ≡ coefficient_of (each f (xs ++ (x ∷ []))) α = ap (λ l. coefficient_of (each f l) α) e in
+    let t : coefficient_of (flat_map f next) α ≡ coefficient_of (flat_map f (xs ++ (x ∷ []))) α = ap (λ l. coefficient_of (flat_map f l) α) e in
     omega (arith, ints)
 
-each-map : (f : List ℕ → Poly) (g : List ℕ → List ℕ) (xs : List (List ℕ)) → each f (map g xs) ≡ each (λ x. f (g x)) xs
+each-map : (f : List ℕ → Poly) (g : List ℕ → List ℕ) (xs : List (List ℕ)) → flat_map f (map g xs) ≡ flat_map (λ x. f (g x)) xs
 each-map f g [] = refl
 each-map f g (x ∷ xs) = ap (λ l. f (g x) ++ l) (each-map f g xs)
 
 -- the sum over the partitions inside, in any order
-coefficient_of_each : (f : List ℕ → Poly) (xs : List (List ℕ)) (α : List ℕ) → coefficient_of (each f xs) α ≡ total (λ x. coefficient_of (f x) α) xs
+coefficient_of_each : (f : List ℕ → Poly) (xs : List (List ℕ)) (α : List ℕ) → coefficient_of (flat_map f xs) α ≡ total (λ x. coefficient_of (f x) α) xs
 coefficient_of_each f [] α = refl
 coefficient_of_each f (x ∷ xs) α =
-    let p = coefficient_plus (f x) (each f xs) α in
+    let p = coefficient_plus (f x) (flat_map f xs) α in
     let r = coefficient_of_each f xs α in
     omega (arith, ints)
 
-each_listed : (f : List ℕ → Poly) (shape : List ℕ) (inners : List (List ℕ)) → ListsShapesInside shape inners → Same (each f inners) (each f (partitions_inside shape))
+each_listed : (f : List ℕ → Poly) (shape : List ℕ) (inners : List (List ℕ)) → ListsShapesInside shape inners → Same (flat_map f inners) (flat_map f (partitions_inside shape))
 each_listed f shape inners l α =
     coefficient_of_each f inners α
     ∙ total_same_members (λ x. coefficient_of (f x) α) inners (partitions_inside shape) (once_listed shape inners l) (once_partitions_inside shape)
@@ -99,15 +99,16 @@ each_listed f shape inners l α =
     (λ x m. let r = part_among shape x m in l.all x r.partition r.inside)
     ∙ sym (coefficient_of_each f (partitions_inside shape) α)
 
-pub coproduct_meets : (shape : List ℕ) (inners : List (List ℕ)) (terms : Terms (List ℕ × List ℕ)) → IsPartition shape → ListsShapesInside shape inners → AreWhole terms
-    → ((n k : ℕ) → Same (pair_sum n k terms) (each (λ inner. beside (schur inner n) (skew_schur shape inner k)) inners))
-    → Meets (coprod shape) (answer pairs terms)
-coproduct_meets shape inners terms p l w sums n k =
-    represents-whole (pair_polynomial n k) terms (schur shape (n + k)) w (λ α.
+pub coproduct_meets : (shape : List ℕ) (inners : List (List ℕ)) (terms : WholeTermsOf (List ℕ × List ℕ)) → IsPartition shape → ListsShapesInside shape inners
+    → ((n k : ℕ) → Same (pair_sum n k terms) (flat_map (λ inner. beside (schur inner n) (skew_schur shape inner k)) inners))
+    → Meets (coprod shape) (answer pairs (as_fractions terms))
+coproduct_meets shape inners terms p l sums n k =
+    represents_sums (pair_polynomial n k) terms (schur shape (n + k)) (λ φ.
+    sym (pair_of_combined (pair_polynomial n k) terms φ) ∙ pair_determined (pair_sum n k terms) (schur shape (n + k)) φ (λ α.
     sums n k α
     ∙ each_listed (λ inner. beside (schur inner n) (skew_schur shape inner k)) shape inners l α
     ∙ ap (λ (f : Poly). coefficient_of f α) (each-map (λ inner. beside (schur inner n) (skew_schur shape inner k)) without_last_zeros (shapes_inside shape (columns shape)))
-    ∙ sym (coproduct n k shape p α))
+    ∙ sym (coproduct n k shape p α)))
 
 -- ---- coefficients past the limit
 

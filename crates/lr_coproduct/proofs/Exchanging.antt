@@ -2,55 +2,56 @@
 use Rattle.std.proofs.Common.{◌≡◌, ℕ, ◌+◌, ◌*◌, ◌<◌, ◌≤◌, ◌⊎◌, Bool, true, false, cond, ◌&&◌, List, [], ◌∷◌, ◌++◌, length, take, get_or, refl, sym, ap, ◌∙◌, subst, inl, inr, arith, ℤ, pos, ◌+ℤ◌, ◌^◌}
 use Rattle.std.specs.Prelude.{None}
 use Rattle.std.specs.declared.cmp.Ordering.TheVariants.{Less}
-use Rattle.std.proofs.lemmas.Bool.{and_parts, and_from, cases_lt, cases_Bool, leb-true}
+use Rattle.std.proofs.lemmas.Bool.{and_from, cases_lt, cases_Bool, leb-true}
 use Rattle.std.proofs.lemmas.Int.{ints}
 use Rattle.std.proofs.lemmas.List.{get_or_default}
 use Rattle.coeff_rings.specs.Fractions.{whole}
 use Rattle.coeff_rings.specs.Proved.Fractions.{InLowestTerms-whole}
 use Rattle.sym_model.specs.Sum.{Among}
 use Rattle.sym_model.specs.Partition.{IsPartition, Holds, rows, size}
-use Rattle.sym_model.specs.Polynomial.{Term, same, coefficient}
+use Rattle.sym_model.specs.Polynomial.{same, coefficient}
 use Rattle.sym_model.specs.Schur.{contains, schur, skew_schur}
 use Rattle.sym_model.specs.GoodTableau.{skew_count}
 use Rattle.sym_model.specs.PrintedOrder.{printed_order}
-use Rattle.sym_model.specs.Canonical.{is_ordered, is_reduced}
+use Rattle.sym_model.specs.Canonical.{is_reduced}
 use Rattle.sym_model.specs.LabelLimits.{is_label}
-use Rattle.sym_model.specs.Expansion.{Fraction, Terms}
-use Rattle.sym_model.specs.WholeTerms.{AreWhole, numerators}
+use Rattle.sym_model.specs.Expansion.{Fraction}
+use Rattle.sym_model.specs.WholeTerms.{WholeTerms, as_fractions}
 use Rattle.sym_model.specs.Kind.{product}
 use Rattle.sym_model.specs.Answer.{answer}
 use Rattle.sym_model.specs.Command.{skew}
 use Rattle.sym_model.specs.Target.{Meets}
 use Rattle.sym_model.specs.LargeAnswer.{HasPastCoefficient, is_past}
-use Rattle.sym_model.proofs.CanonicalLists.{is_ordered-from, each_term-append}
-use Rattle.sym_model.proofs.Exponents.{same_apart, same_from, same_or_not}
-use Rattle.sym_model.proofs.Sums.{Among_from_append, Among_from_map, Among-append_left, Among-append_right}
+use Rattle.sym_model.proofs.Orders.{printed_order-total}
+use Rattle.sym_model.proofs.Exponents.{same_apart, same_from, among_or_not}
+use Rattle.sym_model.proofs.Sums.{Among_from_append, Among-append_left, Among-append_right}
 use Rattle.sym_model.proofs.Integers.{zero_or_not}
-use Rattle.sparse_polys.specs.Combination.{are_terms, IsCanonicalList}
-use Rattle.sparse_polys.proofs.Coefficients.{is_reduced-lowest}
+use Rattle.linear_combinations.specs.Entries.{IsCanonicalList}
+use Rattle.linear_combinations.proofs.LowestTerms.{is_reduced-lowest}
+use Rattle.linear_combinations.proofs.Ordered.{canonical-append}
 use Rattle.strip_laws.proofs.Containment.{contains-tells, contains-from}
-use Rattle.alternant_laws.proofs.CountedTerms.{skew_coefficients, skew_meets, no_label}
+use Rattle.alternant_laws.proofs.CountedTerms.{skew_coefficients}
 use Rattle.schur_laws.proofs.Duality.{rows_inside}
+use Rattle.lr_product.proofs.GoodCounts.{no_label, skew_answers}
 use Rattle.lr_coproduct.specs.InnerShapeList.{IsInPrintedOrder, ListsShapesInside, IsCountAbove}
 use Rattle.lr_coproduct.specs.SkewLists.{IsSkewList, HaveSkewLists}
 use Rattle.lr_coproduct.proofs.Prefixes.{IsAt, at_among, at_last, at_same, at_taken, among_first, index_in, index_of, take_next, either_at}
 use Rattle.lr_coproduct.proofs.Sizes.{behind_small}
-use Rattle.lr_coproduct.proofs.OrderedPairs.{ordered_append}
 use Rattle.lr_coproduct.proofs.SortedShapes.{earlier_before}
 use Rattle.lr_coproduct.proofs.Answering.{sum_of_terms}
-use Rattle.lr_coproduct.proofs.Lookups.{label_in, ordered_in, not_before}
+use Rattle.lr_coproduct.proofs.Lookups.{label_in, table_in, not_before}
 use Rattle.lr_coproduct.proofs.ExchangedCounts.{skew_exchanged, skew_outside, skew_other_size, listed_coefficient}
 
 -- ---- one term more
 
 -- of the partitions first the list has those as labels whose count isn't 0, with that count
-pub record ListsExchanged (shape inner : List ℕ) (firsts : List (List ℕ)) (terms : Terms (List ℕ)) : Type 0 where
-  pub canonical : IsCanonicalList printed_order is_label terms
-  pub labels : (t : List ℕ × Fraction) → Among t terms → Among t.0 firsts
-  pub counts : (parts : List ℕ) → Among parts firsts → coefficient (numerators terms) parts ≡ pos (skew_count shape inner parts)
+pub record ListsExchanged (shape inner : List ℕ) (firsts : List (List ℕ)) (terms : WholeTerms) : Type 0 where
+  pub canonical : IsCanonicalList printed_order is_label whole terms
+  pub labels : (t : List ℕ × ℤ) → Among t terms → Among t.0 firsts
+  pub counts : (parts : List ℕ) → Among parts firsts → coefficient terms parts ≡ pos (skew_count shape inner parts)
 
-coefficient_next : (terms : Terms (List ℕ)) (label : List ℕ) (c : ℤ) (ν : List ℕ)
-    → coefficient (numerators (terms ++ (label, whole c) ∷ [])) ν ≡ coefficient (numerators terms) ν +ℤ cond (same label ν) c (pos 0)
+coefficient_next : (terms : WholeTerms) (label : List ℕ) (c : ℤ) (ν : List ℕ)
+    → coefficient (terms ++ (label, c) ∷ []) ν ≡ coefficient terms ν +ℤ cond (same label ν) c (pos 0)
 coefficient_next [] label c ν = let z = cond (same label ν) c (pos 0) in omega (arith, ints)
 coefficient_next (t ∷ terms) label c ν =
     let r = coefficient_next terms label c ν in
@@ -60,64 +61,61 @@ apart_from : (inners : List (List ℕ)) (at : ℕ) (second earlier : List ℕ) �
 apart_from inners at second earlier ordered here m e = not_before earlier second (earlier_before inners at second earlier ordered here m) e
 
 -- a partition that counts nothing
-pub next_skipped : (shape inner : List ℕ) (inners : List (List ℕ)) (at : ℕ) (second : List ℕ) (terms : Terms (List ℕ)) → IsInPrintedOrder inners → IsAt inners at second
+pub next_skipped : (shape inner : List ℕ) (inners : List (List ℕ)) (at : ℕ) (second : List ℕ) (terms : WholeTerms) → IsInPrintedOrder inners → IsAt inners at second
     → skew_count shape inner second ≡ 0 → ListsExchanged shape inner (take at inners) terms → ListsExchanged shape inner (take (at + 1) inners) terms
 next_skipped shape inner inners at second terms ordered here none l = record {
   canonical = l.canonical;
   labels = λ t m. subst (λ (xs : List (List ℕ)). Among t.0 xs) (sym (take_next inners at second here)) (Among-append_left t.0 (take at inners) (second ∷ []) (l.labels t m));
-  counts = λ parts m. either_at (λ (ν : List ℕ). coefficient (numerators terms) ν ≡ pos (skew_count shape inner ν)) inners at second parts here m
+  counts = λ parts m. either_at (λ (ν : List ℕ). coefficient terms ν ≡ pos (skew_count shape inner ν)) inners at second parts here m
       (no_label terms second (λ t k. apart_from inners at second t.0 ordered here (l.labels t k)) ∙ sym (ap pos none)) (l.counts parts);
 }
 
 -- a partition that counts
-next_canonical : (shape inner : List ℕ) (inners : List (List ℕ)) (at : ℕ) (second : List ℕ) (c : ℤ) (terms : Terms (List ℕ)) → IsInPrintedOrder inners → IsAt inners at second
-    → is_label second ≡ true → (c ≡ pos 0 → ⊥) → ListsExchanged shape inner (take at inners) terms → IsCanonicalList printed_order is_label (terms ++ (second, whole c) ∷ [])
+next_canonical : (shape inner : List ℕ) (inners : List (List ℕ)) (at : ℕ) (second : List ℕ) (c : ℤ) (terms : WholeTerms) → IsInPrintedOrder inners → IsAt inners at second
+    → is_label second ≡ true → (c ≡ pos 0 → ⊥) → ListsExchanged shape inner (take at inners) terms → IsCanonicalList printed_order is_label whole (terms ++ (second, c) ∷ [])
 next_canonical shape inner inners at second c terms ordered here label other l =
-    let old = and_parts (is_ordered printed_order terms) (are_terms is_label terms) l.canonical in
     let reduced = is_reduced-lowest (whole c) (InLowestTerms-whole c) (λ q. other (ap (λ (r : Fraction). r.0) q)) in
-    let last : are_terms is_label ((second, whole c) ∷ []) ≡ true = and_from (is_reduced (whole c) && is_label second) true (and_from (is_reduced (whole c)) (is_label second) reduced label) refl in
-    and_from (is_ordered printed_order (terms ++ (second, whole c) ∷ [])) (are_terms is_label (terms ++ (second, whole c) ∷ []))
-    (is_ordered-from printed_order (terms ++ (second, whole c) ∷ []) (ordered_append printed_order terms ((second, whole c) ∷ []) (ordered_in terms l.canonical) (tt, tt) before))
-    (each_term-append (λ (t : List ℕ × Fraction). is_reduced t.1 && is_label t.0) terms ((second, whole c) ∷ []) old.1 last)
+    let last : IsCanonicalList printed_order is_label whole ((second, c) ∷ []) = and_from (is_reduced (whole c) && is_label second) true (and_from (is_reduced (whole c)) (is_label second) reduced label) refl in
+    canonical-append printed_order is_label whole printed_order-total.trans terms ((second, c) ∷ []) l.canonical last before
   where
-    before : (x y : List ℕ × Fraction) → Among x terms → Among y ((second, whole c) ∷ []) → printed_order x.0 y.0 ≡ Less
-    before x y m (inl q) = ap (λ (t : List ℕ × Fraction). printed_order x.0 t.0) q ∙ earlier_before inners at second x.0 ordered here (l.labels x m)
+    before : (x y : List ℕ × ℤ) → Among x terms → Among y ((second, c) ∷ []) → printed_order x.0 y.0 ≡ Less
+    before x y m (inl q) = ap (λ (t : List ℕ × ℤ). printed_order x.0 t.0) q ∙ earlier_before inners at second x.0 ordered here (l.labels x m)
     before x y m (inr k) = absurd k
 
-next_label : (firsts : List (List ℕ)) (second : List ℕ) (c : ℤ) (terms : Terms (List ℕ)) → ((t : List ℕ × Fraction) → Among t terms → Among t.0 firsts)
-    → (t : List ℕ × Fraction) → Among t terms ⊎ Among t ((second, whole c) ∷ []) → Among t.0 (firsts ++ (second ∷ []))
+next_label : (firsts : List (List ℕ)) (second : List ℕ) (c : ℤ) (terms : WholeTerms) → ((t : List ℕ × ℤ) → Among t terms → Among t.0 firsts)
+    → (t : List ℕ × ℤ) → Among t terms ⊎ Among t ((second, c) ∷ []) → Among t.0 (firsts ++ (second ∷ []))
 next_label firsts second c terms labels t (inl k) = Among-append_left t.0 firsts (second ∷ []) (labels t k)
-next_label firsts second c terms labels t (inr (inl q)) = Among-append_right t.0 firsts (second ∷ []) (inl (ap (λ (u : List ℕ × Fraction). u.0) q))
+next_label firsts second c terms labels t (inr (inl q)) = Among-append_right t.0 firsts (second ∷ []) (inl (ap (λ (u : List ℕ × ℤ). u.0) q))
 next_label firsts second c terms labels t (inr (inr k)) = absurd k
 
-count_here : (terms : Terms (List ℕ)) (second : List ℕ) (c : ℤ) → coefficient (numerators terms) second ≡ pos 0 → coefficient (numerators (terms ++ (second, whole c) ∷ [])) second ≡ c
+count_here : (terms : WholeTerms) (second : List ℕ) (c : ℤ) → coefficient terms second ≡ pos 0 → coefficient (terms ++ (second, c) ∷ []) second ≡ c
 count_here terms second c none =
     let a = coefficient_next terms second c second in
     let d : cond (same second second) c (pos 0) ≡ c = ap (λ (b : Bool). cond b c (pos 0)) (same_from second second refl) in
     omega (arith, ints)
 
-count_earlier : (terms : Terms (List ℕ)) (second : List ℕ) (c : ℤ) (parts : List ℕ) → (second ≡ parts → ⊥) → coefficient (numerators (terms ++ (second, whole c) ∷ [])) parts ≡ coefficient (numerators terms) parts
+count_earlier : (terms : WholeTerms) (second : List ℕ) (c : ℤ) (parts : List ℕ) → (second ≡ parts → ⊥) → coefficient (terms ++ (second, c) ∷ []) parts ≡ coefficient terms parts
 count_earlier terms second c parts apart =
     let a = coefficient_next terms second c parts in
     let d : cond (same second parts) c (pos 0) ≡ pos 0 = ap (λ (b : Bool). cond b c (pos 0)) (same_apart second parts apart) in
     omega (arith, ints)
 
-next_exchanged : (shape inner : List ℕ) (inners : List (List ℕ)) (at : ℕ) (second : List ℕ) (c : ℤ) (terms new : Terms (List ℕ)) → IsInPrintedOrder inners → IsAt inners at second
-    → is_label second ≡ true → c ≡ pos (skew_count shape inner second) → (c ≡ pos 0 → ⊥) → new ≡ terms ++ (second, whole c) ∷ []
+next_exchanged : (shape inner : List ℕ) (inners : List (List ℕ)) (at : ℕ) (second : List ℕ) (c : ℤ) (terms new : WholeTerms) → IsInPrintedOrder inners → IsAt inners at second
+    → is_label second ≡ true → c ≡ pos (skew_count shape inner second) → (c ≡ pos 0 → ⊥) → new ≡ terms ++ (second, c) ∷ []
     → ListsExchanged shape inner (take at inners) terms → ListsExchanged shape inner (take (at + 1) inners) new
 next_exchanged shape inner inners at second c terms new ordered here label is other e l =
     subst (ListsExchanged shape inner (take (at + 1) inners)) (sym e) (record {
       canonical = next_canonical shape inner inners at second c terms ordered here label other l;
       labels = λ t m. subst (λ (xs : List (List ℕ)). Among t.0 xs) (sym (take_next inners at second here))
-          (next_label (take at inners) second c terms l.labels t (Among_from_append t terms ((second, whole c) ∷ []) m));
-      counts = λ parts m. either_at (λ (ν : List ℕ). coefficient (numerators (terms ++ (second, whole c) ∷ [])) ν ≡ pos (skew_count shape inner ν)) inners at second parts here m
+          (next_label (take at inners) second c terms l.labels t (Among_from_append t terms ((second, c) ∷ []) m));
+      counts = λ parts m. either_at (λ (ν : List ℕ). coefficient (terms ++ (second, c) ∷ []) ν ≡ pos (skew_count shape inner ν)) inners at second parts here m
           (count_here terms second c (no_label terms second (λ t k. apart_from inners at second t.0 ordered here (l.labels t k))) ∙ is)
           (λ k. count_earlier terms second c parts (λ q. apart_from inners at second parts ordered here k (sym q)) ∙ l.counts parts k);
     })
 
 -- a partition that may count
-pub next_either : (shape inner : List ℕ) (inners : List (List ℕ)) (at : ℕ) (second : List ℕ) (c : ℤ) (terms new : Terms (List ℕ)) → IsInPrintedOrder inners → IsAt inners at second
-    → is_label second ≡ true → c ≡ pos (skew_count shape inner second) → (c ≡ pos 0 → new ≡ terms) → ((c ≡ pos 0 → ⊥) → new ≡ terms ++ (second, whole c) ∷ [])
+pub next_either : (shape inner : List ℕ) (inners : List (List ℕ)) (at : ℕ) (second : List ℕ) (c : ℤ) (terms new : WholeTerms) → IsInPrintedOrder inners → IsAt inners at second
+    → is_label second ≡ true → c ≡ pos (skew_count shape inner second) → (c ≡ pos 0 → new ≡ terms) → ((c ≡ pos 0 → ⊥) → new ≡ terms ++ (second, c) ∷ [])
     → ListsExchanged shape inner (take at inners) terms → ListsExchanged shape inner (take (at + 1) inners) new
 next_either shape inner inners at second c terms new ordered here label is none one l = by (zero_or_not c)
   where
@@ -151,55 +149,41 @@ zero_unless_taken shape inner inners at ν o listed there later p few not_taken 
         let r = index_in inners ν (listed.all ν p (contains-tells shape ν e)) in
         skew_other_size shape inner ν o i p holds few (λ s. other r.0 r.1 s (cases_lt r.0 at))
 
-among_or_not : (x : List ℕ) (xs : List (List ℕ)) → Among x xs ⊎ (Among x xs → ⊥)
-among_or_not x [] = inr (λ m. m)
-among_or_not x (y ∷ xs) = by (same_or_not x y) (among_or_not x xs)
-  where
-    by : (x ≡ y) ⊎ (x ≡ y → ⊥) → Among x xs ⊎ (Among x xs → ⊥) → Among x (y ∷ xs) ⊎ (Among x (y ∷ xs) → ⊥)
-    by (inl e) r = inl (inl e)
-    by (inr n) (inl m) = inl (inr m)
-    by (inr n) (inr k) = inr (λ m. elim m [ inl e ↦ n e | inr q ↦ k q ])
-
-pub exchanged_meets : (shape inner : List ℕ) (inners : List (List ℕ)) (at : ℕ) (terms : Terms (List ℕ)) → IsPartition shape → ListsShapesInside shape inners → Among inner inners
+pub exchanged_meets : (shape inner : List ℕ) (inners : List (List ℕ)) (at : ℕ) (terms : WholeTerms) → IsPartition shape → ListsShapesInside shape inners → Among inner inners
     → ((i : ℕ) (x : List ℕ) → IsAt inners i x → at ≤ i → size inner + size x ≡ size shape → ⊥)
-    → AreWhole terms → ListsExchanged shape inner (take at inners) terms → Meets (skew None false shape inner) (answer product terms)
-exchanged_meets shape inner inners at terms o listed there later w l =
-    skew_meets None shape inner terms o (listed.partitions inner there) (contains-from shape inner (listed.inside inner there)) (record {
-      whole = w;
+    → ListsExchanged shape inner (take at inners) terms → Meets (skew None false shape inner) (answer product (as_fractions terms))
+exchanged_meets shape inner inners at terms o listed there later l =
+    skew_answers None (rows shape) shape inner terms refl o (listed.partitions inner there) (contains-from shape inner (listed.inside inner there)) (record {
+      table = table_in terms l.canonical;
       labels = λ t k. label t (among_first t.0 inners at (l.labels t k));
       counts = λ parts p few. count parts p few (among_or_not parts (take at inners));
     })
   where
-    label : (t : List ℕ × Fraction) → Among t.0 inners → IsPartition t.0 × (rows t.0 ≤ rows shape)
+    label : (t : List ℕ × ℤ) → Among t.0 inners → IsPartition t.0 × (rows t.0 ≤ rows shape)
     label t k = let p = listed.partitions t.0 k in (p, rows_inside shape t.0 p (contains-from shape t.0 (listed.inside t.0 k)))
 
-    count : (parts : List ℕ) → IsPartition parts → rows parts ≤ rows shape → Among parts (take at inners) ⊎ (Among parts (take at inners) → ⊥) → coefficient (numerators terms) parts ≡ pos (skew_count shape inner parts)
+    count : (parts : List ℕ) → IsPartition parts → rows parts ≤ rows shape → Among parts (take at inners) ⊎ (Among parts (take at inners) → ⊥) → coefficient terms parts ≡ pos (skew_count shape inner parts)
     count parts p few (inl k) = l.counts parts k
     count parts p few (inr n) =
         no_label terms parts (λ t k e. n (subst (λ (ν : List ℕ). Among ν (take at inners)) e (l.labels t k)))
         ∙ sym (ap pos (zero_unless_taken shape inner inners at parts o listed there later p few n))
 
 -- the coefficients of a list are counts
-pub listed_count : (shape second inner : List ℕ) (list : Terms (List ℕ)) → IsPartition shape → IsPartition inner → IsPartition second → Holds shape second
-    → AreWhole list → IsCanonicalList printed_order is_label list → Meets (skew None false shape second) (answer product list)
-    → coefficient (numerators list) inner ≡ pos (skew_count shape second inner)
-listed_count shape second inner list o i s k w canonical meets =
+pub listed_count : (shape second inner : List ℕ) (list : WholeTerms) → IsPartition shape → IsPartition inner → IsPartition second → Holds shape second
+    → IsCanonicalList printed_order is_label whole list → Meets (skew None false shape second) (answer product (as_fractions list))
+    → coefficient list inner ≡ pos (skew_count shape second inner)
+listed_count shape second inner list o i s k canonical meets =
     let n = rows inner in
-    listed_coefficient n (numerators list) (skew_schur shape second n) inner labels (sum_of_terms (λ (label : List ℕ). schur label n) list (skew_schur shape second n) w (meets n)) i (omega arith)
+    listed_coefficient n list (skew_schur shape second n) inner (label_in list canonical) (sum_of_terms (λ (label : List ℕ). schur label n) list (skew_schur shape second n) (meets n)) i (omega arith)
     ∙ skew_coefficients n shape second inner o s (contains-from shape second k) i (omega arith)
-  where
-    labels : (t : Term) → Among t (numerators list) → IsPartition t.0
-    labels t m =
-        let u = Among_from_map (λ (v : List ℕ × Fraction). (v.0, v.1.0)) t list m in
-        subst IsPartition (sym (ap (λ (v : Term). v.0) u.2)) (label_in list canonical u.0 u.1)
 
 -- the coefficient in the list of the other partition
-pub exchanged_term : (shape inner second : List ℕ) (list : Terms (List ℕ)) (c : ℤ) → IsPartition shape → IsPartition inner → IsPartition second → Holds shape inner → Holds shape second
-    → AreWhole list → IsCanonicalList printed_order is_label list → Meets (skew None false shape second) (answer product list) → c ≡ coefficient (numerators list) inner
+pub exchanged_term : (shape inner second : List ℕ) (list : WholeTerms) (c : ℤ) → IsPartition shape → IsPartition inner → IsPartition second → Holds shape inner → Holds shape second
+    → IsCanonicalList printed_order is_label whole list → Meets (skew None false shape second) (answer product (as_fractions list)) → c ≡ coefficient list inner
     → c ≡ pos (skew_count shape inner second)
-exchanged_term shape inner second list c o i s h k w canonical meets e =
+exchanged_term shape inner second list c o i s h k canonical meets e =
     e
-    ∙ listed_count shape second inner list o i s k w canonical meets
+    ∙ listed_count shape second inner list o i s k canonical meets
     ∙ ap pos (skew_exchanged shape second inner o s i (contains-from shape second k) (contains-from shape inner h))
 
 -- ---- coefficients past the limit
@@ -241,18 +225,18 @@ exchanged_fits shape inner inners m o listed at small fit (c, d, past) = by (amo
 
 -- ---- the lists kept
 
-pub lists_next : (shape : List ℕ) (inners : List (List ℕ)) (lists new : List (Terms (List ℕ))) (inner : List ℕ) (list : Terms (List ℕ)) → IsAt inners (length lists) inner
+pub lists_next : (shape : List ℕ) (inners : List (List ℕ)) (lists new : List WholeTerms) (inner : List ℕ) (list : WholeTerms) → IsAt inners (length lists) inner
     → IsSkewList shape inner list → new ≡ lists ++ list ∷ [] → HaveSkewLists shape inners lists → HaveSkewLists shape inners new
 lists_next shape inners lists new inner list here is e have =
     subst (HaveSkewLists shape inners) (sym e) (record { at_index = λ i x l a b. by i x l a (at_last lists list i l b) })
   where
-    by : (i : ℕ) (x : List ℕ) (l : Terms (List ℕ)) → IsAt inners i x → IsAt lists i l ⊎ ((i ≡ length lists) × (l ≡ list)) → IsSkewList shape x l
+    by : (i : ℕ) (x : List ℕ) (l : WholeTerms) → IsAt inners i x → IsAt lists i l ⊎ ((i ≡ length lists) × (l ≡ list)) → IsSkewList shape x l
     by i x l a (inl k) = have.at_index i x l a k
     by i x l a (inr k) =
         let same_inner : x ≡ inner = at_same inners (length lists) x inner (subst (λ (j : ℕ). IsAt inners j x) k.0 a) here in
         subst (λ (y : List ℕ). IsSkewList shape y l) (sym same_inner) (subst (IsSkewList shape inner) (sym k.1) is)
 
-pub listed_fits : (shape : List ℕ) (inners : List (List ℕ)) (lists : List (Terms (List ℕ))) → HaveSkewLists shape inners lists
+pub listed_fits : (shape : List ℕ) (inners : List (List ℕ)) (lists : List WholeTerms) → HaveSkewLists shape inners lists
     → (second : List ℕ) → Among second (take (length lists) inners) → HasPastCoefficient (skew None false shape second) → ⊥
 listed_fits shape inners lists have second m =
     let r = index_of inners (length lists) second m in
@@ -279,14 +263,14 @@ front_exchanged shape inner inners m cells count o listed here above l = record 
         let great = above.before r.0 parts r.2 r.1 in
         skew_other_size shape inner parts o (listed.partitions inner a) s (contains-from shape inner (listed.inside inner a)) (rows_inside shape parts s (contains-from shape parts (listed.inside parts b))) (λ e. absurd (omega arith))
 
-pub next_term : (shape inner : List ℕ) (inners : List (List ℕ)) (lists : List (Terms (List ℕ))) (at : ℕ) (second : List ℕ) (list : Terms (List ℕ)) (c : ℤ) (terms new : Terms (List ℕ))
+pub next_term : (shape inner : List ℕ) (inners : List (List ℕ)) (lists : List WholeTerms) (at : ℕ) (second : List ℕ) (list : WholeTerms) (c : ℤ) (terms new : WholeTerms)
     → IsPartition shape → ListsShapesInside shape inners → IsAt inners (length lists) inner → HaveSkewLists shape inners lists → IsAt inners at second → IsAt lists at list
-    → AreWhole list → IsCanonicalList printed_order is_label list → c ≡ coefficient (numerators list) inner → is_label second ≡ true
-    → (c ≡ pos 0 → new ≡ terms) → ((c ≡ pos 0 → ⊥) → new ≡ terms ++ (second, whole c) ∷ [])
+    → IsCanonicalList printed_order is_label whole list → c ≡ coefficient list inner
+    → (c ≡ pos 0 → new ≡ terms) → ((c ≡ pos 0 → ⊥) → new ≡ terms ++ (second, c) ∷ [])
     → ListsExchanged shape inner (take at inners) terms → ListsExchanged shape inner (take (at + 1) inners) new
-next_term shape inner inners lists at second list c terms new o listed here have there has w canonical is label none one l =
+next_term shape inner inners lists at second list c terms new o listed here have there has canonical is none one l =
     let a = at_among inners (length lists) inner here in
     let b = at_among inners at second there in
-    next_either shape inner inners at second c terms new listed.ordered there label
-    (exchanged_term shape inner second list c o (listed.partitions inner a) (listed.partitions second b) (listed.inside inner a) (listed.inside second b) w canonical (have.at_index at second list there has).meets is)
+    next_either shape inner inners at second c terms new listed.ordered there (listed.labels second b)
+    (exchanged_term shape inner second list c o (listed.partitions inner a) (listed.partitions second b) (listed.inside inner a) (listed.inside second b) canonical (have.at_index at second list there has).meets is)
     none one l

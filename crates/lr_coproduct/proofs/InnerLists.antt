@@ -1,16 +1,18 @@
 -- The partitions inside a partition: which they are, and that each stands once.
-use Rattle.std.proofs.Common.{◌≡◌, ℕ, zero, suc, ◌+◌, ◌-◌, ◌≤◌, List, [], ◌∷◌, ◌++◌, append_assoc, append-nil, map, length, get_or, min, refl, sym, ap, ap₂, ◌∙◌, subst, inl, inr, arith}
+use Rattle.std.proofs.Common.{◌≡◌, ℕ, zero, suc, ◌+◌, ◌-◌, ◌≤◌, List, [], ◌∷◌, ◌++◌, append_assoc, append-nil, map, length, get_or, min, refl, sym, ap, ◌∙◌, subst, inl, inr, arith, true, flat_map}
 use Rattle.std.proofs.lemmas.List.{map-append}
-use Rattle.sym_model.specs.Sum.{Among, Once, each}
+use Rattle.sym_model.specs.Sum.{Among, Once}
 use Rattle.sym_model.specs.Partition.{IsPartition, ArePositive, Falls, Holds, part, columns, size, after, without_last_zeros}
+use Rattle.sym_model.specs.LabelLimits.{is_label}
 use Rattle.sym_model.specs.Polynomial.{resize}
+use Rattle.sym_model.proofs.Orders.{is_label-from}
 use Rattle.sym_model.proofs.AfterLists.{after_among, among_after, once_after}
 use Rattle.sym_model.proofs.SortedParts.{Falls_tail, IsPartition-without_last_zeros, size-without_last_zeros}
 use Rattle.sym_model.proofs.Sums.{Among-each, Among-map, Among_from_map, Once-map, Once-each}
-use Rattle.sym_model.proofs.Parts.{length-without_last_zeros}
-use Rattle.sym_model.proofs.Lists.{map-map}
+use Rattle.sym_model.proofs.Parts.{length-without_last_zeros, size-append, falls_front}
+use Rattle.sym_model.proofs.Lists.{each-append, map-among, map-map}
 use Rattle.partitions.specs.Limits.{IsWithinLimits}
-use Rattle.strip_laws.proofs.Containment.{contains-tells}
+use Rattle.strip_laws.proofs.Containment.{contains-tells, Holds-get_or}
 use Rattle.alternant_laws.proofs.FallingAlternants.{resize-without_last_zeros, without_last_zeros-resize}
 use Rattle.schur_laws.specs.InnerShapes.{up_to, shapes_inside}
 use Rattle.schur_laws.proofs.InnerShapeLists.{inside-tells, same-without_last_zeros, partition_inside}
@@ -64,9 +66,25 @@ rows_within outer [] p e = omega arith
 rows_within [] (b ∷ parts) p e = let h = e 0 in let q = p.0 in absurd (omega arith)
 rows_within (a ∷ outer) (b ∷ parts) p e = let r = rows_within outer parts p.1 (λ j. e (suc j)) in omega arith
 
+size_within : (outer parts : List ℕ) → ((j : ℕ) → get_or parts j 0 ≤ get_or outer j 0) → size parts ≤ size outer
+size_within outer [] e = omega arith
+size_within [] (b ∷ parts) e = let h = e 0 in let r = size_within [] parts (λ j. none j (e (suc j))) in omega arith
+  where
+    none : (j : ℕ) → get_or parts j 0 ≤ 0 → get_or parts j 0 ≤ get_or {A = ℕ} [] j 0
+    none zero h = h
+    none (suc j) h = h
+size_within (a ∷ outer) (b ∷ parts) e = let h = e 0 in let r = size_within outer parts (λ j. e (suc j)) in omega arith
+
+-- a partition inside one that is a label is a label
+pub label_inside : (shape parts : List ℕ) → IsWithinLimits shape → IsPartition parts → Holds shape parts → is_label parts ≡ true
+label_inside shape parts l p h =
+    let few = rows_within shape parts p.positive (Holds-get_or shape parts h) in
+    let small = size_within shape parts (Holds-get_or shape parts h) in
+    is_label-from parts (record { partition = p; rows = omega (arith, l.few); size = omega (arith, l.small) })
+
 pub among_part : (shape parts : List ℕ) → IsPartition parts → Holds shape parts → Among parts (partitions_inside shape)
 among_part shape parts p h =
-    let at : (j : ℕ) → get_or parts j 0 ≤ get_or shape j 0 = λ j. let e : j + 1 - 1 ≡ j = omega arith in subst (λ i. get_or parts i 0 ≤ get_or shape i 0) e (h (j + 1)) in
+    let at = Holds-get_or shape parts h in
     let few = rows_within shape parts p.positive at in
     subst (λ l. Among l (partitions_inside shape)) (without_last_zeros-resize (length shape) parts p.positive few)
     (Among-map without_last_zeros (resize (length shape) parts) (shapes_inside shape (columns shape)) (padded_among shape (columns shape) parts p.falls (at 0) few at))
@@ -105,14 +123,8 @@ falls_next [] b most h f = (omega arith, tt)
 falls_next (x ∷ []) b most h f = let g = f.0 in (omega arith, (omega arith, tt))
 falls_next (x ∷ y ∷ front) b most h f = (f.0, falls_next (y ∷ front) b most h f.1)
 
-pub falls_front : (front : List ℕ) (most : ℕ) → Falls (front ++ most ∷ []) → Falls front
-falls_front [] most f = tt
-falls_front (x ∷ []) most f = tt
-falls_front (x ∷ y ∷ front) most f = (f.0, falls_front (y ∷ front) most f.1)
-
 pub size_append : (front : List ℕ) (b : ℕ) → size (front ++ b ∷ []) ≡ size front + b
-size_append [] b = omega arith
-size_append (x ∷ front) b = let r = size_append front b in omega arith
+size_append front b = let r = size-append front (b ∷ []) in omega arith
 
 pub limits_front : (front : List ℕ) (most : ℕ) → Falls (front ++ most ∷ []) → length front ≤ 512 → size front ≤ 4096 → IsWithinLimits (without_last_zeros front)
 limits_front front most f h k = record {
@@ -123,15 +135,7 @@ limits_front front most f h k = record {
 
 -- the lists that begin with front and go on with these numbers from low on
 abbrev pub listed_from : List ℕ → List ℕ → List ℕ → List (List ℕ)
-listed_from front below numbers = map (λ i. without_last_zeros (front ++ i)) (each (λ b. map (λ i. b ∷ i) (shapes_inside below b)) numbers)
-
-map-ext : {A B : Type 0} (f g : A → B) → ((x : A) → f x ≡ g x) → (xs : List A) → map f xs ≡ map g xs
-map-ext f g e [] = refl
-map-ext f g e (x ∷ xs) = ap₂ ◌∷◌ (e x) (map-ext f g e xs)
-
-each-append : (f : ℕ → List (List ℕ)) (xs ys : List ℕ) → each f (xs ++ ys) ≡ each f xs ++ each f ys
-each-append f [] ys = refl
-each-append f (x ∷ xs) ys = ap (λ l. f x ++ l) (each-append f xs ys) ∙ sym (append_assoc (f x) (each f xs) (each f ys))
+listed_from front below numbers = map (λ i. without_last_zeros (front ++ i)) (flat_map (λ b. map (λ i. b ∷ i) (shapes_inside below b)) numbers)
 
 -- the numbers below one
 abbrev pub below_it : ℕ → List ℕ
@@ -152,10 +156,10 @@ pub listed_next : (front below : List ℕ) (part : ℕ) (next : List ℕ) → ne
 listed_next front below part next e =
     let g : ℕ → List (List ℕ) = λ b. map (λ i. b ∷ i) (shapes_inside below b) in
     let f : List ℕ → List ℕ = λ i. without_last_zeros (front ++ i) in
-    ap (λ l. map f (each g l)) (below_next part)
+    ap (λ l. map f (flat_map g l)) (below_next part)
     ∙ ap (map f) (each-append g (below_it part) (part ∷ []))
-    ∙ map-append f (each g (below_it part)) (g part ++ [])
+    ∙ map-append f (flat_map g (below_it part)) (g part ++ [])
     ∙ ap (λ l. listed_from front below (below_it part) ++ map f l) (append-nil (g part))
     ∙ ap (λ l. listed_from front below (below_it part) ++ l) (map-map f (λ i. part ∷ i) (shapes_inside below part)
-    ∙ map-ext (λ i. without_last_zeros (front ++ (part ∷ i))) (λ i. without_last_zeros (next ++ i))
-    (λ i. ap without_last_zeros (sym (append_assoc front (part ∷ []) i) ∙ ap (λ l. l ++ i) (sym e))) (shapes_inside below part))
+    ∙ map-among (λ i. without_last_zeros (front ++ (part ∷ i))) (λ i. without_last_zeros (next ++ i)) (shapes_inside below part)
+    (λ i m. ap without_last_zeros (sym (append_assoc front (part ∷ []) i) ∙ ap (λ l. l ++ i) (sym e))))

@@ -1,6 +1,7 @@
 -- Look-ups in a canonical list of terms.
-use Rattle.std.proofs.Common.{◌≡◌, ℕ, zero, suc, ◌<◌, ◌≤◌, ◌⊎◌, Bool, cond, ◌&&◌, List, [], ◌∷◌, length, get_or, refl, sym, ap, ap₂, ◌∙◌, subst, inl, inr, arith, ℤ, pos, ◌+ℤ◌}
-use Rattle.std.specs.Prelude.{Err}
+use Rattle.std.proofs.Common.{◌≡◌, ℕ, zero, suc, ◌<◌, ◌≤◌, ◌⊎◌, List, [], ◌∷◌, length, get_or, refl, sym, ap, ◌∙◌, subst, inl, inr, arith, ℤ, pos}
+use Rattle.std.specs.Prelude.{Err, nat_eq}
+use Rattle.std.specs.Cmp.Lexicographic.{pointwise}
 use Rattle.std.specs.List.Sorted.{IsNonDecreasingBy, IsBinarySearchResult}
 use Rattle.std.specs.Ordering.{ordering_index}
 use Rattle.std.specs.declared.cmp.Ordering.{Ordering}
@@ -11,27 +12,30 @@ use Rattle.coeff_rings.specs.Fractions.{whole}
 use Rattle.sym_model.specs.Sum.{Among}
 use Rattle.sym_model.specs.Partition.{IsPartition}
 use Rattle.sym_model.specs.Polynomial.{coefficient}
-use Rattle.sym_model.specs.Canonical.{is_ordered, is_reduced}
 use Rattle.sym_model.specs.LabelLimits.{is_label}
 use Rattle.sym_model.specs.PrintedOrder.{printed_order}
-use Rattle.sym_model.specs.Expansion.{Fraction, Terms}
-use Rattle.sym_model.specs.WholeTerms.{numerators}
-use Rattle.sym_model.proofs.CanonicalLists.{IsOrdered, is_ordered-tells, stands_before-among, each_term-among}
-use Rattle.sym_model.proofs.Exponents.{same_apart, same_from}
+use Rattle.sym_model.specs.WholeTerms.{WholeTerms}
 use Rattle.sym_model.proofs.Orders.{printed_order-total, printed_order-equal, is_label-tells}
-use Rattle.sym_model.proofs.Sums.{Among-map, Among_from_map}
-use Rattle.sparse_polys.specs.Combination.{terms_of, are_terms, IsCanonicalList}
-use lib.IntN.{+ℤ_idl, +ℤ_idr}
-use Rattle.alternant_laws.proofs.CountedTerms.{no_label}
+use Rattle.linear_combinations.specs.Entries.{is_ordered, IsCanonicalList, IsCombination}
+use Rattle.linear_combinations.specs.Labels.{same_partition}
+use Rattle.linear_combinations.proofs.Found.{coefficient_of_term}
+use Rattle.linear_combinations.proofs.Ordered.{IsOrdered, stands_before-among, canonical-ordered, distinct-ordered}
+use Rattle.linear_combinations.proofs.Totals.{term-among}
+use Rattle.lr_product.proofs.GoodCounts.{no_label}
+
+pub ordered_in : (terms : WholeTerms) → IsCanonicalList printed_order is_label whole terms → IsOrdered printed_order terms
+ordered_in terms c = canonical-ordered printed_order is_label whole printed_order-total.trans terms c
+
+-- a canonical list has each label once
+pub table_in : (terms : WholeTerms) → IsCanonicalList printed_order is_label whole terms → IsCombination (pointwise nat_eq) is_label whole terms
+table_in terms c = record {
+  distinct = distinct-ordered printed_order printed_order-total same_partition terms (ordered_in terms c);
+  proper = (and_parts (is_ordered printed_order terms) _ c).1;
+}
 
 -- the labels are partitions
-pub label_in : (terms : Terms (List ℕ)) → IsCanonicalList printed_order is_label terms → (t : List ℕ × Fraction) → Among t terms → IsPartition t.0
-label_in terms c t m =
-    (is_label-tells t.0 (and_parts (is_reduced t.1) (is_label t.0)
-    (each_term-among (λ (u : List ℕ × Fraction). is_reduced u.1 && is_label u.0) terms (and_parts (is_ordered printed_order terms) (are_terms is_label terms) c).1 t m)).1).partition
-
-pub ordered_in : (terms : Terms (List ℕ)) → IsCanonicalList printed_order is_label terms → IsOrdered printed_order terms
-ordered_in terms c = is_ordered-tells printed_order printed_order-total.trans terms (and_parts (is_ordered printed_order terms) (are_terms is_label terms) c).0
+pub label_in : (terms : WholeTerms) → IsCanonicalList printed_order is_label whole terms → (t : List ℕ × ℤ) → Among t terms → IsPartition t.0
+label_in terms c t m = (is_label-tells t.0 (and_parts _ (is_label t.0) (term-among is_label whole terms (table_in terms c).proper t m)).1).partition
 
 -- a label is not before itself
 pub not_before : (x y : List ℕ) → printed_order x y ≡ Less → x ≡ y → ⊥
@@ -39,17 +43,6 @@ not_before x y h e =
     let itself = tied_itself printed_order-total y in
     let less : printed_order y y ≡ Less = subst (λ (z : List ℕ). printed_order z y ≡ Less) e h in
     cc
-
--- a term has its coefficient at its label
-coefficient_of_term : (terms : Terms (List ℕ)) → IsOrdered printed_order terms → (t : List ℕ × Fraction) → Among t terms → coefficient (numerators terms) t.0 ≡ t.1.0
-coefficient_of_term [] h t m = absurd m
-coefficient_of_term (u ∷ terms) h t (inl e) =
-    ap₂ ◌+ℤ◌ (ap (λ (b : Bool). cond b u.1.0 (pos 0)) (same_from u.0 t.0 (ap (λ (v : List ℕ × Fraction). v.0) (sym e))))
-    (no_label terms t.0 (λ v k d. not_before u.0 v.0 (stands_before-among printed_order u.0 terms v h.0 k) (ap (λ (w : List ℕ × Fraction). w.0) (sym e) ∙ sym d)))
-    ∙ +ℤ_idr u.1.0 ∙ ap (λ (v : List ℕ × Fraction). v.1.0) (sym e)
-coefficient_of_term (u ∷ terms) h t (inr m) =
-    ap (λ (b : Bool). cond b u.1.0 (pos 0) +ℤ coefficient (numerators terms) t.0) (same_apart u.0 t.0 (not_before u.0 t.0 (stands_before-among printed_order u.0 terms t h.0 m)))
-    ∙ +ℤ_idl (coefficient (numerators terms) t.0) ∙ coefficient_of_term terms h.1 t m
 
 -- ---- a binary search
 
@@ -63,7 +56,7 @@ member_index [] x m = absurd m
 member_index (y ∷ xs) x (inl e) = (0, omega arith, λ d. sym e)
 member_index (y ∷ xs) x (inr m) = let r = member_index xs x m in let l = r.1 in (suc r.0, omega arith, r.2)
 
--- how a term stands to a label
+-- the order of a term and a label
 abbrev pub to_label : List ℕ → List ℕ × ℤ → Ordering
 to_label label term = printed_order term.0 label
 
@@ -87,33 +80,30 @@ rising x y label h = by (printed_order y label) refl
         before (cc) 1
     by Greater e = most (printed_order x label)
 
--- the terms of a canonical list do not fall behind a label
-pub terms_rise : (xs : List (List ℕ × ℤ)) (label : List ℕ) → IsOrdered printed_order (terms_of whole xs) → IsNonDecreasingBy (λ (y : List ℕ × ℤ). ordering_index (to_label label y)) xs
+-- along a canonical list the order of the terms and a label does not decrease
+pub terms_rise : (xs : List (List ℕ × ℤ)) (label : List ℕ) → IsOrdered printed_order xs → IsNonDecreasingBy (λ (y : List ℕ × ℤ). ordering_index (to_label label y)) xs
 terms_rise [] label h i j d l k = absurd (omega arith)
 terms_rise (x ∷ xs) label h zero zero d l k = omega arith
 terms_rise (x ∷ xs) label h zero (suc j) d l k =
-    let m = Among-map (λ (p : List ℕ × ℤ). (p.0, whole p.1)) (get_or xs j d) xs (member_at xs j d (omega arith)) in
-    rising x.0 (get_or xs j d).0 label (stands_before-among printed_order x.0 (terms_of whole xs) ((get_or xs j d).0, whole (get_or xs j d).1) h.0 m)
+    rising x.0 (get_or xs j d).0 label (stands_before-among printed_order x.0 xs (get_or xs j d) h.0 (member_at xs j d (omega arith)))
 terms_rise (x ∷ xs) label h (suc i) zero d l k = absurd (omega arith)
 terms_rise (x ∷ xs) label h (suc i) (suc j) d l k = terms_rise xs label h.1 i j d (omega arith) (omega arith)
 
-pub found : (xs : List (List ℕ × ℤ)) (label : List ℕ) (i : ℕ) (x : List ℕ × ℤ) → IsCanonicalList printed_order is_label (terms_of whole xs) → IsPartition label
-    → i < length xs → x ≡ get_or xs i x → printed_order x.0 label ≡ Equal → coefficient (numerators (terms_of whole xs)) label ≡ x.1
+pub found : (xs : List (List ℕ × ℤ)) (label : List ℕ) (i : ℕ) (x : List ℕ × ℤ) → IsCanonicalList printed_order is_label whole xs → IsPartition label
+    → i < length xs → x ≡ get_or xs i x → printed_order x.0 label ≡ Equal → coefficient xs label ≡ x.1
 found xs label i x c p l is e =
     let there : Among x xs = subst (λ (y : List ℕ × ℤ). Among y xs) (sym is) (member_at xs i x l) in
-    let m = Among-map (λ (q : List ℕ × ℤ). (q.0, whole q.1)) x xs there in
-    let t : List ℕ × Fraction = (x.0, whole x.1) in
-    let q = label_in (terms_of whole xs) c t m in
-    subst (λ (ν : List ℕ). coefficient (numerators (terms_of whole xs)) ν ≡ x.1) (printed_order-equal x.0 label q.positive p.positive e)
-    (coefficient_of_term (terms_of whole xs) (ordered_in (terms_of whole xs) c) t m)
+    let q = label_in xs c x there in
+    subst (λ (ν : List ℕ). coefficient xs ν ≡ x.1) (printed_order-equal x.0 label q.positive p.positive e)
+    (coefficient_of_term xs (table_in xs c).distinct x there)
 
-pub not_found : (xs : List (List ℕ × ℤ)) (label : List ℕ) (i : ℕ) → IsCanonicalList printed_order is_label (terms_of whole xs) → IsBinarySearchResult (to_label label) xs (Err i)
-    → coefficient (numerators (terms_of whole xs)) label ≡ pos 0
+pub not_found : (xs : List (List ℕ × ℤ)) (label : List ℕ) (i : ℕ) → IsCanonicalList printed_order is_label whole xs → IsBinarySearchResult (to_label label) xs (Err i)
+    → coefficient xs label ≡ pos 0
 not_found xs label i c r =
-    no_label (terms_of whole xs) label (λ t m e. let s = Among_from_map (λ (q : List ℕ × ℤ). (q.0, whole q.1)) t xs m in nowhere s.0 s.1 (sym (ap (λ (u : List ℕ × Fraction). u.0) s.2) ∙ e))
+    no_label xs label nowhere
   where
     parted : ((k : ℕ) (d : List ℕ × ℤ) → 0 ≤ k → k < i → to_label label (get_or xs k d) ≡ Less) × ((k : ℕ) (d : List ℕ × ℤ) → i ≤ k → k < length xs → to_label label (get_or xs k d) ≡ Greater)
-    parted = r (terms_rise xs label (ordered_in (terms_of whole xs) c))
+    parted = r (terms_rise xs label (ordered_in xs c))
 
     at_place : (k : ℕ) (x : List ℕ × ℤ) → k < length xs → get_or xs k x ≡ x → x.0 ≡ label → (k < i) ⊎ (i ≤ k) → ⊥
     at_place k x l g e (inl h) =

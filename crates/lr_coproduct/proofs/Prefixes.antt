@@ -1,14 +1,8 @@
 -- The elements of a list at indexes, and its first elements.
 use Rattle.std.proofs.Common.{◌≡◌, ℕ, zero, suc, ◌+◌, ◌<◌, ◌≤◌, ◌⊎◌, List, [], ◌∷◌, ◌++◌, length, take, refl, sym, ap, ◌∙◌, subst, inl, inr, arith}
-use Rattle.std.specs.Prelude.{Some, slice_get}
 use Rattle.std.proofs.lemmas.List.{get_or_default}
 use Rattle.sym_model.specs.Sum.{Among}
 pub use Rattle.lr_coproduct.specs.InnerShapeList.{IsAt}
-
-pub at_from_get : {A : Type 0} (xs : List A) (i : ℕ) (x : A) → slice_get xs i ≡ Some x → IsAt xs i x
-at_from_get [] i x h = cc
-at_from_get (y ∷ xs) zero x h = record { within = omega arith; is = cc }
-at_from_get (y ∷ xs) (suc i) x h = let r = at_from_get xs i x h in let l = r.within in record { within = omega arith; is = r.is }
 
 pub at_among : {A : Type 0} (xs : List A) (i : ℕ) (x : A) → IsAt xs i x → Among x xs
 at_among [] i x r = let l = r.within in absurd (omega arith)

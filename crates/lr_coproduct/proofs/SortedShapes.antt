@@ -15,8 +15,9 @@ use Rattle.sym_model.specs.Polynomial.{same}
 use Rattle.sym_model.specs.PrintedOrder.{printed_order}
 use Rattle.sym_model.proofs.Exponents.{same_apart, same_sym, same_from}
 use Rattle.sym_model.proofs.Orders.{printed_order-equal, printed_order-total}
+use Rattle.partitions.specs.Limits.{IsWithinLimits}
 use Rattle.lr_coproduct.specs.InnerShapeList.{IsInPrintedOrder, ListsShapesInside}
-use Rattle.lr_coproduct.proofs.InnerLists.{IsPart, partitions_inside, part_among, among_part, once_partitions_inside}
+use Rattle.lr_coproduct.proofs.InnerLists.{IsPart, partitions_inside, label_inside, part_among, among_part, once_partitions_inside}
 use Rattle.lr_coproduct.proofs.Prefixes.{IsAt, at_among}
 
 -- ---- members
@@ -65,12 +66,13 @@ in_order (x ∷ xs) p h =
         let s = h 0 (suc r.0) y (omega arith) (omega arith) in
         not_after x y (p x (inl refl)) (p y (inr m)) (ap (same x) (sym r.2) ∙ s.0) (ap (λ z. is_lt (printed_order z x)) (sym r.2) ∙ s.1)
 
-pub sorted_shapes : (shape : List ℕ) (old new : List (List ℕ)) → old ≡ partitions_inside shape → IsPermutation old new → IsSorted printed_order new → ListsShapesInside shape new
-sorted_shapes shape old new e moved up = record {
+pub sorted_shapes : (shape : List ℕ) (old new : List (List ℕ)) → old ≡ partitions_inside shape → IsPermutation old new → IsSorted printed_order new → IsWithinLimits shape → ListsShapesInside shape new
+sorted_shapes shape old new e moved up limits = record {
   ordered = in_order new (λ x m. (part x m).partition) (λ i j d l k. (
     apart_from_distinct same new i j d once l k,
     sorted_far (λ a b. is_lt (printed_order a b)) (ranks_by printed_order-total (λ (a : List ℕ). a)) new up i j d (omega arith) k,
   ));
+  labels = λ x m. label_inside shape x limits (part x m).partition (part x m).inside;
   partitions = λ x m. (part x m).partition;
   inside = λ x m. (part x m).inside;
   all = λ x p h. moved_among old new moved x (subst (λ l. Among x l) (sym e) (among_part shape x p h));

@@ -1,18 +1,21 @@
--- The partitions inside a partition in the printed order (this project's own).
-use Rattle.std.specs.Prelude.{◌≡◌, ℕ, ◌<◌, ◌≤◌, List, [], ◌∷◌, length, get_or}
+-- The partitions inside a partition in the printed order.
+use Rattle.std.specs.Prelude.{◌≡◌, IsTrue, ℕ, ◌<◌, ◌≤◌, List, [], ◌∷◌, length, get_or}
 use Rattle.std.specs.declared.cmp.Ordering.TheVariants.{Less}
 use Rattle.sym_model.specs.Sum.{Among}
+use Rattle.sym_model.specs.LabelLimits.{is_label}
 use Rattle.sym_model.specs.Partition.{IsPartition, Holds, size}
 use Rattle.sym_model.specs.PrintedOrder.{printed_order}
 
 -- each partition stands in print strictly before all later ones
 abbrev pub IsInPrintedOrder : List (List ℕ) → Type 0
 IsInPrintedOrder [] = Unit {0}
-IsInPrintedOrder (x ∷ xs) = ((y : List ℕ) → Among y xs → printed_order x y ≡ Less) × IsInPrintedOrder xs
+IsInPrintedOrder (x ∷ xs) =
+    ((y : List ℕ) → Among y xs → printed_order x y ≡ Less) × IsInPrintedOrder xs
 
 -- the list has the partitions inside a shape, each once, in the printed order
 pub record ListsShapesInside (shape : List ℕ) (inners : List (List ℕ)) : Type 0 where
   pub ordered : IsInPrintedOrder inners
+  pub labels : (inner : List ℕ) → Among inner inners → IsTrue (is_label inner)
   pub partitions : (inner : List ℕ) → Among inner inners → IsPartition inner
   pub inside : (inner : List ℕ) → Among inner inners → Holds shape inner
   pub all : (inner : List ℕ) → IsPartition inner → Holds shape inner → Among inner inners

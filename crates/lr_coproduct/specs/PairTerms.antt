@@ -1,4 +1,4 @@
--- Terms labelled by pairs of partitions (this project's own).
+-- Terms labelled by pairs of partitions.
 use Rattle.std.specs.Prelude.{◌≡◌, ℕ, ℤ, pos, List, map}
 use Rattle.std.specs.declared.cmp.Ordering.TheVariants.{Less}
 use Rattle.sym_model.specs.Polynomial.{Poly}
@@ -6,32 +6,35 @@ use Rattle.sym_model.specs.Partition.{IsPartition, Holds}
 use Rattle.sym_model.specs.GoodTableau.{skew_count}
 use Rattle.sym_model.specs.Sum.{Among}
 use Rattle.sym_model.specs.PrintedOrder.{printed_order}
-use Rattle.sym_model.specs.Expansion.{Fraction, Terms, pair_polynomial}
-use Rattle.sym_model.specs.WholeTerms.{combined, coefficient_by, numerators, same_pair}
+use Rattle.sym_model.specs.Expansion.{pair_polynomial}
+use Rattle.sym_model.specs.WholeTerms.{WholeTermsOf, WholeTerms, combined, coefficient_by}
+use Rattle.sym_model.specs.WholeTerms.{same_pair}
 
 -- the polynomial of terms in n variables and k variables after them
-abbrev pub pair_sum : ℕ → ℕ → Terms (List ℕ × List ℕ) → Poly
-pair_sum n k terms = combined (pair_polynomial n k) (numerators terms)
+abbrev pub pair_sum : ℕ → ℕ → WholeTermsOf (List ℕ × List ℕ) → Poly
+pair_sum n k terms = combined (pair_polynomial n k) terms
 
 -- the polynomial of terms labelled by second partitions, where the first is given
-abbrev pub second_sum : ℕ → ℕ → List ℕ → Terms (List ℕ) → Poly
-second_sum n k first terms = combined (λ (second : List ℕ). pair_polynomial n k (first, second)) (numerators terms)
+abbrev pub second_sum : ℕ → ℕ → List ℕ → WholeTerms → Poly
+second_sum n k first terms =
+    combined (λ (second : List ℕ). pair_polynomial n k (first, second)) terms
 
 -- the coefficient of a pair: the sum of the coefficients of its terms
-abbrev pub pair_coefficient : Terms (List ℕ × List ℕ) → List ℕ → List ℕ → ℤ
-pair_coefficient terms first second = coefficient_by same_pair (numerators terms) (first, second)
+abbrev pub pair_coefficient : WholeTermsOf (List ℕ × List ℕ) → List ℕ → List ℕ → ℤ
+pair_coefficient terms first second = coefficient_by same_pair terms (first, second)
 
--- the coefficient of each pair of partitions, the first inside the shape, is the number of the lattice tableaux of the shape by
--- the first partition that have the second one as content
-abbrev pub HavePairCounts : List ℕ → Terms (List ℕ × List ℕ) → Type 0
+-- the coefficient of each pair of partitions, the first inside the shape, is the number of the
+-- lattice tableaux of the shape by the first partition that have the second one as content
+abbrev pub HavePairCounts : List ℕ → WholeTermsOf (List ℕ × List ℕ) → Type 0
 HavePairCounts shape terms =
     (first second : List ℕ) → IsPartition first → Holds shape first → IsPartition second
     → pair_coefficient terms first second ≡ pos (skew_count shape first second)
 
--- the terms of a list of second partitions with the first in front of each label
-abbrev pub with_first : List ℕ → Terms (List ℕ) → Terms (List ℕ × List ℕ)
-with_first first terms = map (λ (t : List ℕ × Fraction). ((first, t.0), t.1)) terms
+-- the terms of a list of second partitions, with the first before each label
+abbrev pub with_first : List ℕ → WholeTerms → WholeTermsOf (List ℕ × List ℕ)
+with_first first terms = map (λ (t : List ℕ × ℤ). ((first, t.0), t.1)) terms
 
--- the first partition of each label stands in print strictly before a partition
-abbrev pub AreBefore : Terms (List ℕ × List ℕ) → List ℕ → Type 0
-AreBefore terms first = (t : (List ℕ × List ℕ) × Fraction) → Among t terms → printed_order t.0.0 first ≡ Less
+-- the first partition of each label is printed strictly before a partition
+abbrev pub AreBefore : WholeTermsOf (List ℕ × List ℕ) → List ℕ → Type 0
+AreBefore terms first =
+    (t : (List ℕ × List ℕ) × ℤ) → Among t terms → printed_order t.0.0 first ≡ Less

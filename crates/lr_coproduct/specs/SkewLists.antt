@@ -1,6 +1,6 @@
--- Skew Schur polynomials of one shape by partitions inside it, as lists of terms (this project's own).
+-- Skew Schur polynomials of one shape by partitions inside it, as lists of terms.
 use Rattle.std.specs.Prelude.{ℕ, false, List, None}
-use Rattle.sym_model.specs.Expansion.{Terms}
+use Rattle.sym_model.specs.WholeTerms.{WholeTerms, as_fractions}
 use Rattle.sym_model.specs.Kind.{product}
 use Rattle.sym_model.specs.Answer.{answer}
 use Rattle.sym_model.specs.Command.{skew}
@@ -8,11 +8,14 @@ use Rattle.sym_model.specs.Target.{Meets}
 use Rattle.sym_model.specs.LargeAnswer.{HasPastCoefficient}
 use Rattle.lr_coproduct.specs.InnerShapeList.{IsAt}
 
--- the list is the skew Schur polynomial of a shape by a partition, which has no coefficient past the limit
-pub record IsSkewList (shape inner : List ℕ) (list : Terms (List ℕ)) : Type 0 where
-  pub meets : Meets (skew None false shape inner) (answer product list)
+-- the list is the skew Schur polynomial of a shape by a partition,
+-- which has no coefficient over the limit
+pub record IsSkewList (shape inner : List ℕ) (list : WholeTerms) : Type 0 where
+  pub meets : Meets (skew None false shape inner) (answer product (as_fractions list))
   pub fits : HasPastCoefficient (skew None false shape inner) → ⊥
 
 -- each list is that of the partition at its index
-pub record HaveSkewLists (shape : List ℕ) (inners : List (List ℕ)) (lists : List (Terms (List ℕ))) : Type 0 where
-  pub at_index : (i : ℕ) (inner : List ℕ) (list : Terms (List ℕ)) → IsAt inners i inner → IsAt lists i list → IsSkewList shape inner list
+pub record HaveSkewLists (shape : List ℕ) (inners : List (List ℕ))
+    (lists : List (WholeTerms)) : Type 0 where
+  pub at_index : (i : ℕ) (inner : List ℕ) (list : WholeTerms) → IsAt inners i inner
+      → IsAt lists i list → IsSkewList shape inner list

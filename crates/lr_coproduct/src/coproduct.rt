@@ -1,5 +1,6 @@
 //! The coproduct of a Schur polynomial.
-ghost use Rattle.std.specs.Prelude.{◌≡◌, ℕ, ◌+◌, pos, List, ◌⊎◌, true, false, None, length, IfOk, OnOk, IsErrOf};
+ghost use Rattle.std.specs.Prelude.{◌≡◌, ℕ, ◌+◌, ℤ, pos, List, ◌⊎◌, false, None, length, IfOk};
+ghost use Rattle.std.specs.Prelude.{OnOk, IsErrOf};
 ghost use Rattle.coeff_rings.specs.Fractions.{whole};
 ghost use Rattle.sym_model.specs.Sum.{Among};
 ghost use Rattle.sym_model.specs.GoodTableau.{skew_count};
@@ -8,39 +9,45 @@ ghost use Rattle.sym_model.specs.Partition.{IsPartition};
 ghost use Rattle.sym_model.specs.Polynomial.{Same, plus};
 ghost use Rattle.sym_model.specs.PrintedOrder.{pair_order};
 ghost use Rattle.sym_model.specs.Schur.{schur, skew_schur};
-ghost use Rattle.sym_model.specs.Expansion.{Fraction, beside};
+ghost use Rattle.sym_model.specs.Expansion.{beside};
+ghost use Rattle.sym_model.specs.WholeTerms.{as_fractions};
 ghost use Rattle.sym_model.specs.Kind as kinds;
 ghost use Rattle.sym_model.specs.Answer.{answer};
 ghost use Rattle.sym_model.specs.Command as commands;
 ghost use Rattle.sym_model.specs.Target.{Meets};
 ghost use Rattle.sym_model.specs.LargeAnswer.{HasPastCoefficient};
-ghost use Rattle.sparse_polys.specs.Combination.{terms_of, IsCanonicalList};
+ghost use Rattle.linear_combinations.specs.Entries.{IsCanonicalList};
 ghost use Rattle.lr_coproduct.specs.InnerShapeList.{ListsShapesInside, IsAt};
 ghost use Rattle.lr_coproduct.specs.SkewLists.{HaveSkewLists};
-ghost use Rattle.lr_coproduct.specs.PairTerms.{pair_sum, pair_coefficient, HavePairCounts, AreBefore};
+ghost use Rattle.lr_coproduct.specs.PairTerms.{pair_sum, pair_coefficient, HavePairCounts};
+ghost use Rattle.lr_coproduct.specs.PairTerms.{AreBefore};
 
 use crate::exchange::exchanged;
 use crate::inner_shapes::inner_shapes;
-use crate::pairs::{add_list, lies_in_limits};
+use crate::pairs::add_list;
 use calc_base::SumFault;
 use coeff_rings::Int;
+use linear_combinations::Terms;
 use lr_product::skew;
 use partitions::Partition;
-use sparse_polys::{Pair, Terms};
+use sparse_polys::Pair;
 use std::alloc::Global;
 
-/// The Schur polynomial of `shape` in two sets of variables, as pairs of Schur polynomials of the first and of the second. The
-/// coefficient of a pair is the number of lattice tableaux of the shape by the first partition with the second as content.
+/// The Schur polynomial of `shape` in two sets of variables, as pairs of Schur polynomials of the
+/// first and of the second. The coefficient of a pair is the number of lattice tableaux of the
+/// shape by the first partition with the second as content.
 ///
-/// It is refused as `Large` exactly where a coefficient is past 2^127 - 1.
+/// It is refused as `Large` exactly where a coefficient is greater than 2^127 - 1.
 pub fn coprod(alloc: Global, shape: &Partition) -> Result<Terms<Pair, Int>, SumFault>
-    ensures meets { IfOk result (λ terms. Meets (commands.coprod shape.now) (answer kinds.pairs terms)) }
+    ensures meets { IfOk result
+        (λ terms. Meets (commands.coprod shape.now) (answer kinds.pairs (as_fractions terms))) }
     ensures counts { IfOk result (HavePairCounts shape.now) }
     ensures large { IsErrOf result SumFault.Large → HasPastCoefficient (commands.coprod shape.now) }
     ensures fits { OnOk result (HasPastCoefficient (commands.coprod shape.now) → ⊥) }
 {
     let inners = inner_shapes(alloc, shape)?;
-    // The partitions inside and the terms for each of them come in the printed order, and so do the pairs.
+    // The partitions inside and the terms for each of them come in the printed order,
+    // and so do the pairs.
     let mut pairs: Vec<(Pair, Int)> = Vec::new(alloc);
     let mut lists: Vec<Terms<Partition, Int>> = Vec::new(alloc);
     for at in 0..inners.len() {
@@ -50,8 +57,8 @@ pub fn coprod(alloc: Global, shape: &Partition) -> Result<Terms<Pair, Int>, SumF
     Ok(Terms::from_pairs(pairs).unwrap())
 }
 
-/// Adds the pairs with one partition inside the shape in front, at the end of pairs whose first partitions stand before it, and
-/// the list of its terms behind those of the partitions before it.
+/// Adds the pairs whose first partition is `inner` at the end of those whose first partitions come
+/// before it, and the list of its terms after those of the partitions before it.
 fn add_inner(
     alloc: Global,
     pairs: &mut Vec<(Pair, Int)>,
@@ -63,31 +70,36 @@ fn add_inner(
     requires listed { ListsShapesInside shape.now inners.now }
     requires here { IsAt inners.now (length lists.old.items) inner.now }
     requires lists { HaveSkewLists shape.now inners.now lists.old.items }
-    ensures adds { OnOk result ((n k : ℕ) → Same (pair_sum n k (terms_of whole pairs.new.items))
-        (plus (pair_sum n k (terms_of whole pairs.old.items)) (beside (schur inner.now n) (skew_schur shape.now inner.now k)))) }
-    ensures goes_on { OnOk result (AreBefore (terms_of whole pairs.old.items) inner.now
-        → IsCanonicalList pair_order is_pair_label (terms_of whole pairs.old.items)
-        → IsCanonicalList pair_order is_pair_label (terms_of whole pairs.new.items)) }
-    ensures firsts { OnOk result ((t : (List ℕ × List ℕ) × Fraction) → Among t (terms_of whole pairs.new.items)
-        → Among t (terms_of whole pairs.old.items) ⊎ (t.0.0 ≡ inner.now)) }
-    ensures counts { OnOk result (IsPartition shape.now → AreBefore (terms_of whole pairs.old.items) inner.now
+    ensures adds { OnOk result ((n k : ℕ) → Same (pair_sum n k pairs.new.items)
+        (plus (pair_sum n k pairs.old.items)
+        (beside (schur inner.now n) (skew_schur shape.now inner.now k)))) }
+    ensures goes_on { OnOk result (AreBefore pairs.old.items inner.now
+        → IsCanonicalList pair_order is_pair_label whole pairs.old.items
+        → IsCanonicalList pair_order is_pair_label whole pairs.new.items) }
+    ensures firsts { OnOk result ((t : (List ℕ × List ℕ) × ℤ) → Among t pairs.new.items
+        → Among t pairs.old.items ⊎ (t.0.0 ≡ inner.now)) }
+    ensures counts { OnOk result (IsPartition shape.now → AreBefore pairs.old.items inner.now
         → (second : List ℕ) → IsPartition second
-        → pair_coefficient (terms_of whole pairs.new.items) inner.now second ≡ pos (skew_count shape.now inner.now second)) }
+        → pair_coefficient pairs.new.items inner.now second
+        ≡ pos (skew_count shape.now inner.now second)) }
     ensures others { OnOk result ((first second : List ℕ) → (inner.now ≡ first → ⊥)
-        → pair_coefficient (terms_of whole pairs.new.items) first second ≡ pair_coefficient (terms_of whole pairs.old.items) first second) }
+        → pair_coefficient pairs.new.items first second
+        ≡ pair_coefficient pairs.old.items first second) }
     ensures count { OnOk result (length lists.new.items ≡ length lists.old.items + 1) }
     ensures lists { OnOk result (HaveSkewLists shape.now inners.now lists.new.items) }
-    ensures fits { OnOk result (HasPastCoefficient (commands.skew None false shape.now inner.now) → ⊥) }
-    ensures large { IsErrOf result SumFault.Large → HasPastCoefficient (commands.skew None false shape.now inner.now) }
+    ensures fits { OnOk result (HasPastCoefficient (commands.skew None false shape.now inner.now)
+        → ⊥) }
+    ensures large { IsErrOf result SumFault.Large
+        → HasPastCoefficient (commands.skew None false shape.now inner.now) }
 {
-    lies_in_limits(inner);
     let list = list_of(alloc, shape, inners, lists, inner)?;
     add_list(pairs, lists, inner, list)?;
     Ok(())
 }
 
-/// The skew Schur polynomial of the shape by a partition in Schur polynomials: counted where the partition has at least half of
-/// the cells, as that skew shape is a small one, and else taken from the lists of the partitions before it.
+/// The skew Schur polynomial of the shape by a partition in Schur polynomials: counted where the
+/// partition has at least half of the cells, as that skew shape is a small one, and else taken from
+/// the lists of the partitions before it.
 fn list_of(
     alloc: Global,
     shape: &Partition,
@@ -98,13 +110,15 @@ fn list_of(
     requires listed { ListsShapesInside shape.now inners.now }
     requires here { IsAt inners.now (length lists.now) inner.now }
     requires lists { HaveSkewLists shape.now inners.now lists.now }
-    ensures meets { IfOk result (λ terms. Meets (commands.skew None false shape.now inner.now) (answer kinds.product terms)) }
-    ensures large { IsErrOf result SumFault.Large → HasPastCoefficient (commands.skew None false shape.now inner.now) }
-    ensures fits { OnOk result (HasPastCoefficient (commands.skew None false shape.now inner.now) → ⊥) }
+    ensures meets { IfOk result (λ terms. Meets (commands.skew None false shape.now inner.now)
+        (answer kinds.product (as_fractions terms))) }
+    ensures large { IsErrOf result SumFault.Large
+        → HasPastCoefficient (commands.skew None false shape.now inner.now) }
+    ensures fits { OnOk result (HasPastCoefficient (commands.skew None false shape.now inner.now)
+        → ⊥) }
 {
     if shape.size() <= 2 * inner.size() {
-        let list = skew(alloc, shape, inner, None)?;
-        return Ok(Terms::from_list(list));
+        return skew(alloc, shape, inner, None);
     }
     Ok(exchanged(alloc, shape, inners, lists, inner)?)
 }

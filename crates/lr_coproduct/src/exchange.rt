@@ -1,30 +1,32 @@
-//! The terms of a skew shape from those of others: the inner partition and a label may change places.
-ghost use Rattle.std.specs.Prelude.{◌≡◌, ℕ, ◌*◌, ◌<◌, ℤ, pos, List, ◌∷◌, [], ◌++◌, true, false, None, length, IfOk, OnOk};
+//! The terms of a skew shape from those of others:
+//! the inner partition and a label may change places.
+ghost use Rattle.std.specs.Prelude.{◌≡◌, ℕ, ◌*◌, ◌<◌, ℤ, pos, List, ◌∷◌, [], ◌++◌, false, None};
+ghost use Rattle.std.specs.Prelude.{length, IfOk, OnOk};
 ghost use Rattle.coeff_rings.specs.Fractions.{whole};
 ghost use Rattle.sym_model.specs.LabelLimits.{is_label};
-ghost use Rattle.sym_model.specs.Partition.{size};
+ghost use Rattle.sym_model.specs.Partition.{IsPartition, size};
 ghost use Rattle.sym_model.specs.Polynomial.{coefficient};
 ghost use Rattle.sym_model.specs.PrintedOrder.{printed_order};
-ghost use Rattle.sym_model.specs.WholeTerms.{AreWhole, numerators};
+ghost use Rattle.sym_model.specs.WholeTerms.{as_fractions};
 ghost use Rattle.sym_model.specs.Kind as kinds;
 ghost use Rattle.sym_model.specs.Answer.{answer};
 ghost use Rattle.sym_model.specs.Command as commands;
 ghost use Rattle.sym_model.specs.Target.{Meets};
 ghost use Rattle.sym_model.specs.LargeAnswer.{HasPastCoefficient};
-ghost use Rattle.sparse_polys.specs.Combination.{terms_of, IsCanonicalList};
+ghost use Rattle.linear_combinations.specs.Entries.{IsCanonicalList};
 ghost use Rattle.lr_coproduct.specs.InnerShapeList.{ListsShapesInside, IsAt};
 ghost use Rattle.lr_coproduct.specs.SkewLists.{HaveSkewLists};
 
 use crate::inner_shapes::count_above;
-use crate::pairs::{are_whole, lies_in_limits};
 use calc_base::NoMemory;
 use coeff_rings::Int;
+use linear_combinations::Terms;
 use partitions::Partition;
-use sparse_polys::Terms;
 use std::alloc::Global;
 
-/// The skew Schur polynomial of a shape by a partition of less than half its size, from those by the partitions that stand
-/// before it: where one of these has the label `inner` with a coefficient, it is a label here with the same one.
+/// The skew Schur polynomial of a shape by a partition of less than half its size, from those by
+/// the partitions that stand before it: where one of these has the label `inner` with a
+/// coefficient, it is a label here with the same one.
 pub(crate) fn exchanged(
     alloc: Global,
     shape: &Partition,
@@ -36,8 +38,10 @@ pub(crate) fn exchanged(
     requires here { IsAt inners.now (length lists.now) inner.now }
     requires lists { HaveSkewLists shape.now inners.now lists.now }
     requires small { 2 * size inner.now < size shape.now }
-    ensures meets { IfOk result (λ terms. Meets (commands.skew None false shape.now inner.now) (answer kinds.product terms)) }
-    ensures fits { OnOk result (HasPastCoefficient (commands.skew None false shape.now inner.now) → ⊥) }
+    ensures meets { IfOk result (λ terms. Meets (commands.skew None false shape.now inner.now)
+        (answer kinds.product (as_fractions terms))) }
+    ensures fits { OnOk result (HasPastCoefficient (commands.skew None false shape.now inner.now)
+        → ⊥) }
 {
     // The sizes of the two partitions add up to that of the shape.
     let rest = shape.size() - inner.size();
@@ -54,11 +58,10 @@ pub(crate) fn exchanged(
 
 /// Adds a term at the end, unless its coefficient is 0.
 fn add_term(terms: &mut Vec<(Partition, Int)>, label: &Partition, c: Int) -> Result<(), NoMemory>
-    ensures none { OnOk result (c ≡ pos 0 → terms_of whole terms.new.items ≡ terms_of whole terms.old.items) }
-    ensures one { OnOk result ((c ≡ pos 0 → ⊥) → terms_of whole terms.new.items ≡ terms_of whole terms.old.items ++ (label.now, whole c) ∷ []) }
-    ensures label { is_label label.now ≡ true }
+    ensures none { OnOk result (c ≡ pos 0 → terms.new.items ≡ terms.old.items) }
+    ensures one { OnOk result ((c ≡ pos 0 → ⊥)
+        → terms.new.items ≡ terms.old.items ++ (label.now, c) ∷ []) }
 {
-    lies_in_limits(label);
     if c.get() == 0 {
         return Ok(());
     }
@@ -66,14 +69,12 @@ fn add_term(terms: &mut Vec<(Partition, Int)>, label: &Partition, c: Int) -> Res
     Ok(())
 }
 
-/// The coefficient of a label, 0 where the list does not have it.
+/// The coefficient of a label, 0 if the list does not have it.
 fn coefficient_in(list: &Terms<Partition, Int>, label: &Partition) -> Int
-    ensures value { result ≡ coefficient (numerators list.now) label.now }
-    ensures canonical { IsCanonicalList printed_order is_label list.now }
-    ensures whole { AreWhole list.now }
+    requires { IsPartition label.now }
+    ensures value { result ≡ coefficient list.now label.now }
+    ensures canonical { IsCanonicalList printed_order is_label whole list.now }
 {
-    are_whole(list);
-    lies_in_limits(label);
     let terms = list.iter();
     let terms = terms.as_slice();
     match terms.binary_search_by(|term| term.0.cmp_printed(label)) {

@@ -1,10 +1,12 @@
 //! The partitions inside a partition.
-ghost use Rattle.std.specs.Prelude.{◌≡◌, ◌+◌, ◌≤◌, List, [], ◌∷◌, ◌++◌, map, length, IfOk, OnOk, IsSorted};
+ghost use Rattle.std.specs.Prelude.{◌≡◌, ◌+◌, ◌≤◌, List, [], ◌∷◌, ◌++◌, map, length, IfOk, OnOk};
+ghost use Rattle.std.specs.Prelude.{IsSorted};
 ghost use Rattle.std.specs.List.Sorted.{IsPermutation};
 ghost use Rattle.sym_model.specs.Partition.{Falls, IsPartition, columns, size, without_last_zeros};
 ghost use Rattle.sym_model.specs.PrintedOrder.{printed_order};
 ghost use Rattle.schur_laws.specs.InnerShapes.{shapes_inside};
-ghost use Rattle.lr_coproduct.specs.InnerShapeList.{IsInPrintedOrder, ListsShapesInside, IsCountAbove};
+ghost use Rattle.lr_coproduct.specs.InnerShapeList.{IsInPrintedOrder, ListsShapesInside};
+ghost use Rattle.lr_coproduct.specs.InnerShapeList.{IsCountAbove};
 
 use calc_base::NoMemory;
 use partitions::Partition;
@@ -37,7 +39,8 @@ pub(crate) fn count_above(inners: &[Partition], cells: u16) -> usize
     inners.partition_point(|inner| cells < inner.size())
 }
 
-/// Adds the partitions that begin with these numbers, go on with one that is at most `most`, and stay inside these rows.
+/// Adds the partitions that begin with these numbers, go on with one that is at most `most`,
+/// and stay inside these rows.
 fn add_shapes(
     alloc: Global,
     shapes: &mut Vec<Partition>,
@@ -49,7 +52,8 @@ fn add_shapes(
     requires few { length front.now + length rows.now ≤ 512 }
     requires small { size front.now + size rows.now ≤ 4096 }
     ensures { OnOk result (shapes.new.items
-        ≡ shapes.old.items ++ map (λ inner. without_last_zeros (front.now ++ inner)) (shapes_inside rows.now most)) }
+        ≡ shapes.old.items ++ map (λ inner. without_last_zeros (front.now ++ inner))
+        (shapes_inside rows.now most)) }
 {
     let Some((row, below)) = rows.split_first() else {
         shapes.push(Partition::from_valid_numbers(alloc, front)?)?;

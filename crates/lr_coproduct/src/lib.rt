@@ -1,4 +1,5 @@
-//! Schur polynomials in two sets of variables, as counts of lattice tableaux. Only the small ones of the skew shapes are counted.
+//! Schur polynomials in two sets of variables, as counts of lattice tableaux. Only the small ones
+//! of the skew shapes are counted.
 //!
 //! What is proved:
 //!

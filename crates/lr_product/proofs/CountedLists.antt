@@ -1,12 +1,10 @@
 -- Lists of terms whose look-ups find counts.
 use Rattle.std.proofs.Common.{◌≡◌, ℕ, zero, suc, ◌+◌, ◌*◌, ◌^◌, ◌<◌, ◌≤◌, ◌⊎◌, inl, inr, Bool, true, false, cond, List, [], ◌∷◌, length, take, refl, sym, ap, ◌∙◌, subst, arith, ℤ, pos, ◌+ℤ◌}
-use Rattle.std.specs.Prelude.{None, Some, slice_get, nat_eq, FitsSigned}
+use Rattle.std.specs.Prelude.{Some, slice_get, FitsSigned}
 use Rattle.std.specs.Int.{w128}
-use Rattle.std.specs.Cmp.Lexicographic.{pointwise, nat_list_eq_equiv}
+use Rattle.std.specs.Cmp.Lexicographic.{nat_list_eq_equiv}
 use Rattle.std.proofs.lemmas.Bool.{cases_lt, and_parts}
-use Rattle.coeff_rings.specs.Checked.{checked_i128}
 use Rattle.coeff_rings.specs.Fractions.{whole}
-use Rattle.coeff_rings.proofs.Sizes.{refused_size}
 use Rattle.sym_model.specs.Sum.{Among}
 use Rattle.sym_model.specs.Partition.{IsPartition, rows, without_last_zeros}
 use Rattle.sym_model.specs.LabelLimits.{is_label}
@@ -16,7 +14,7 @@ use Rattle.sym_model.proofs.Orders.{is_label-tells}
 use Rattle.sym_model.proofs.SortedParts.{IsPartition-without_last_zeros, size-without_last_zeros}
 use Rattle.sym_model.proofs.Parts.{length-without_last_zeros}
 use Rattle.partitions.specs.Limits.{IsWithinLimits}
-use Rattle.linear_combinations.specs.Entries.{coefficient, AreHeld, HasMoreAt, HasSameCoefficients, IsCombination, IsRefused}
+use Rattle.linear_combinations.specs.Entries.{coefficient, AreHeld, HasMoreAt, HasSameCoefficients, IsCombination}
 use Rattle.linear_combinations.specs.Labels.{same_partition}
 use Rattle.linear_combinations.proofs.Found.{coefficient_found, coefficient_of_term}
 use Rattle.linear_combinations.proofs.LowestTerms.{not_zero-is_reduced}
@@ -27,17 +25,15 @@ use Rattle.lr_product.specs.WeighedSum.{at_state, weighed, comes_to}
 use Rattle.lr_product.specs.Counts.{HasCounts, IsPastSomewhere}
 use Rattle.lr_product.proofs.Steps.{IsReached}
 use Rattle.lr_product.proofs.Sums.{length_take}
+use Rattle.lr_product.proofs.Tables.{eq_states}
 
-abbrev equal : List ℕ → List ℕ → Bool
-equal = pointwise nat_eq
+equal_from : (a b : List ℕ) → a ≡ b → eq_states a b ≡ true
+equal_from a b e = subst (λ x. eq_states a x ≡ true) e (nat_list_eq_equiv.refl a)
 
-equal_from : (a b : List ℕ) → a ≡ b → equal a b ≡ true
-equal_from a b e = subst (λ x. equal a x ≡ true) e (nat_list_eq_equiv.refl a)
-
-equal_apart : (a b : List ℕ) → (a ≡ b → ⊥) → equal a b ≡ false
-equal_apart a b n = by (equal a b) refl
+equal_apart : (a b : List ℕ) → (a ≡ b → ⊥) → eq_states a b ≡ false
+equal_apart a b n = by (eq_states a b) refl
   where
-    by : (t : Bool) → equal a b ≡ t → equal a b ≡ false
+    by : (t : Bool) → eq_states a b ≡ t → eq_states a b ≡ false
     by true e = absurd (n (same_partition a b e))
     by false e = e
 
@@ -45,10 +41,10 @@ equal_apart a b n = by (equal a b) refl
 
 -- the look-ups find the counts
 abbrev pub Finds : (List ℕ → ℕ) → WholeTerms → Type 0
-Finds count terms = (parts : List ℕ) → coefficient equal (pos 0) terms parts ≡ pos (count parts)
+Finds count terms = (parts : List ℕ) → coefficient eq_states (pos 0) terms parts ≡ pos (count parts)
 
 -- so the list has them as its coefficients, where no partition of more than n rows is counted
-pub has_counts : (n : ℕ) (count : List ℕ → ℕ) (terms : WholeTerms) → IsCombination equal is_label whole terms → Finds count terms
+pub has_counts : (n : ℕ) (count : List ℕ → ℕ) (terms : WholeTerms) → IsCombination eq_states is_label whole terms → Finds count terms
     → ((parts : List ℕ) → n < rows parts → count parts ≡ 0) → HasCounts n count terms
 has_counts n count terms is finds short = record {
   table = is;
@@ -67,19 +63,12 @@ has_counts n count terms is finds short = record {
         absurd (not_zero-is_reduced (whole t.1) (and_parts _ (is_label t.0) (term-among is_label whole terms is.proper t m)).0 (ap whole zero))
 
 -- a list with the same look-ups
-pub finds_same : (count : List ℕ → ℕ) (first second : WholeTerms) → HasSameCoefficients equal (pos 0) first second → Finds count first → Finds count second
+pub finds_same : (count : List ℕ → ℕ) (first second : WholeTerms) → HasSameCoefficients eq_states (pos 0) first second → Finds count first → Finds count second
 finds_same count first second e h parts = e parts ∙ h parts
 
 -- counts that a table holds are below the limit
-pub held_small : (terms : WholeTerms) (count : List ℕ → ℕ) → AreHeld equal (pos 0) (FitsSigned w128) terms → Finds count terms → (parts : List ℕ) → count parts < 2 ^ 127
+pub held_small : (terms : WholeTerms) (count : List ℕ → ℕ) → AreHeld eq_states (pos 0) (FitsSigned w128) terms → Finds count terms → (parts : List ℕ) → count parts < 2 ^ 127
 held_small terms count h finds parts = let f = (subst (FitsSigned w128) (finds parts) (h.at_label parts)).sfits in omega arith
-
--- a count that is refused is past it
-pub refused_past : (old : WholeTerms) (label : List ℕ) (ways n : ℕ) → IsRefused (FitsSigned w128) (λ a b. checked_i128 (a +ℤ b)) (coefficient equal (pos 0) old label) (pos ways)
-    → coefficient equal (pos 0) old label ≡ pos n → 2 ^ 127 ≤ n + ways
-refused_past old label ways n r e =
-    let none : checked_i128 (pos n +ℤ pos ways) ≡ None = subst (λ z. checked_i128 (z +ℤ pos ways) ≡ None) e r.refused in
-    refused_size (pos n +ℤ pos ways) none
 
 -- ---- one count more
 
@@ -123,11 +112,11 @@ counted-zero n es i key w parts h z =
 
 -- the entry counts at its partition, and nowhere else
 counted-more : (n : ℕ) (es : List (List ℕ × ℕ)) (i : ℕ) (key : List ℕ) (w : ℕ) (parts : List ℕ) → slice_get es i ≡ Some (key, w)
-    → counted n es (i + 1) parts ≡ cond (equal (without_last_zeros (take n key)) parts) (counted n es i parts + w) (counted n es i parts)
+    → counted n es (i + 1) parts ≡ cond (eq_states (without_last_zeros (take n key)) parts) (counted n es i parts + w) (counted n es i parts)
 counted-more n es i key w parts h = weighed-take n (comes_to parts) es i key w h ∙ by (same_or_not (without_last_zeros (take n key)) parts)
   where
     by : (without_last_zeros (take n key) ≡ parts) ⊎ (without_last_zeros (take n key) ≡ parts → ⊥)
-        → counted n es i parts + w * at_state n (comes_to parts) key ≡ cond (equal (without_last_zeros (take n key)) parts) (counted n es i parts + w) (counted n es i parts)
+        → counted n es i parts + w * at_state n (comes_to parts) key ≡ cond (eq_states (without_last_zeros (take n key)) parts) (counted n es i parts + w) (counted n es i parts)
     by (inl e) =
         ap (λ t. counted n es i parts + w * cond t 1 0) (same_from (without_last_zeros (take n key)) parts e)
         ∙ (let q : counted n es i parts + w * 1 ≡ counted n es i parts + w = omega arith in q)
@@ -144,22 +133,22 @@ counted-here n es i key w h =
     counted-more n es i key w label h ∙ ap (λ t. cond t (counted n es i label + w) (counted n es i label)) (equal_from label label refl)
 
 pub finds_next : (n : ℕ) (es : List (List ℕ × ℕ)) (i : ℕ) (key sum : List ℕ) (w : ℕ) (old new : WholeTerms) → slice_get es i ≡ Some (key, w) → sum ≡ take n key
-    → Finds (counted n es i) old → HasMoreAt equal (pos 0) ◌+ℤ◌ old (without_last_zeros sum) (pos w) new → Finds (counted n es (i + 1)) new
+    → Finds (counted n es i) old → HasMoreAt eq_states (pos 0) ◌+ℤ◌ old (without_last_zeros sum) (pos w) new → Finds (counted n es (i + 1)) new
 finds_next n es i key sum w old new h is finds more parts =
     let label = without_last_zeros (take n key) in
-    subst (λ l. HasMoreAt equal (pos 0) ◌+ℤ◌ old (without_last_zeros l) (pos w) new) is more parts
-    ∙ by (equal label parts) refl
+    subst (λ l. HasMoreAt eq_states (pos 0) ◌+ℤ◌ old (without_last_zeros l) (pos w) new) is more parts
+    ∙ by (eq_states label parts) refl
     ∙ sym (ap pos (counted-more n es i key w parts h))
   where
-    by : (t : Bool) → equal (without_last_zeros (take n key)) parts ≡ t
-        → cond t (coefficient equal (pos 0) old (without_last_zeros (take n key)) +ℤ pos w) (coefficient equal (pos 0) old parts)
+    by : (t : Bool) → eq_states (without_last_zeros (take n key)) parts ≡ t
+        → cond t (coefficient eq_states (pos 0) old (without_last_zeros (take n key)) +ℤ pos w) (coefficient eq_states (pos 0) old parts)
         ≡ pos (cond t (counted n es i parts + w) (counted n es i parts))
-    by true e = ap (λ z. z +ℤ pos w) (ap (coefficient equal (pos 0) old) (same_partition (without_last_zeros (take n key)) parts e) ∙ finds parts)
+    by true e = ap (λ z. z +ℤ pos w) (ap (coefficient eq_states (pos 0) old) (same_partition (without_last_zeros (take n key)) parts e) ∙ finds parts)
     by false e = finds parts
 
 -- where the limit is met at the label, the count of the whole table is past it
 pub past_next : (n m : ℕ) (es : List (List ℕ × ℕ)) (i : ℕ) (key sum : List ℕ) (w : ℕ) (old : WholeTerms) → slice_get es i ≡ Some (key, w) → sum ≡ take n key → IsReached n m (take n key)
-    → Finds (counted n es i) old → ((k : ℕ) → coefficient equal (pos 0) old (without_last_zeros sum) ≡ pos k → 2 ^ 127 ≤ k + w)
+    → Finds (counted n es i) old → ((k : ℕ) → coefficient eq_states (pos 0) old (without_last_zeros sum) ≡ pos k → 2 ^ 127 ≤ k + w)
     → IsPastSomewhere n (λ parts. weighed n (comes_to parts) es)
 past_next n m es i key sum w old h is r finds large = record {
   parts = without_last_zeros (take n key);
@@ -167,7 +156,7 @@ past_next n m es i key sum w old h is r finds large = record {
   within = let l = length-without_last_zeros (take n key) in let e = r.long in omega arith;
   past =
       let label = without_last_zeros (take n key) in
-      let here : 2 ^ 127 ≤ counted n es i label + w = subst (λ l. (k : ℕ) → coefficient equal (pos 0) old (without_last_zeros l) ≡ pos k → 2 ^ 127 ≤ k + w) is large (counted n es i label) (finds label) in
+      let here : 2 ^ 127 ≤ counted n es i label + w = subst (λ l. (k : ℕ) → coefficient eq_states (pos 0) old (without_last_zeros l) ≡ pos k → 2 ^ 127 ≤ k + w) is large (counted n es i label) (finds label) in
       let more = counted-here n es i key w h in
       let front = weighed-front n (comes_to label) es (i + 1) in
       omega arith;
@@ -191,9 +180,9 @@ counted-long n (e ∷ es) parts h =
     omega arith
 
 -- a list that has the coefficients of the empty one
-pub same_as_none : (terms : WholeTerms) → IsCombination equal is_label whole terms → HasSameCoefficients equal (pos 0) [] terms → terms ≡ []
+pub same_as_none : (terms : WholeTerms) → IsCombination eq_states is_label whole terms → HasSameCoefficients eq_states (pos 0) [] terms → terms ≡ []
 same_as_none terms is e =
-    by terms (length_same nat_list_eq_equiv same_partition (pos 0) whole refl terms [] is (IsCombination-empty equal is_label whole) (λ label. sym (e label)))
+    by terms (length_same nat_list_eq_equiv same_partition (pos 0) whole refl terms [] is (IsCombination-empty eq_states is_label whole) (λ label. sym (e label)))
   where
     by : (ts : WholeTerms) → length ts ≤ 0 → ts ≡ []
     by [] h = refl

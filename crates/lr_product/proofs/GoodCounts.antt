@@ -1,11 +1,11 @@
 -- Counts of good tableaux and Schur coefficients.
-use Rattle.std.proofs.Common.{◌≡◌, ℕ, ◌+◌, ◌^◌, ◌<◌, ◌≤◌, ◌⊎◌, inl, inr, min, nat_abs, Bool, true, false, cond, List, [], ◌∷◌, map, length, refl, sym, ap, ◌∙◌, subst, arith, ℤ, pos, negsuc, ◌+ℤ◌, ◌≤ℤ◌}
+use Rattle.std.proofs.Common.{◌≡◌, ℕ, ◌+◌, ◌^◌, ◌<◌, ◌≤◌, ◌⊎◌, inl, inr, min, nat_abs, Bool, true, false, cond, List, [], ◌∷◌, map, length, refl, sym, ap, ◌∙◌, subst, arith, ℤ, pos, negsuc, ◌+ℤ◌, ◌≤ℤ◌, filter}
 use Rattle.std.specs.Prelude.{Result, Ok, Err, Option, Some, None, IfOk, OnOk, IfSome, IsTrue, nat_eq}
 use Rattle.std.specs.Cmp.Lexicographic.{pointwise}
 use Rattle.std.specs.Option.{unwrap_or}
 use Rattle.std.proofs.lemmas.Bool.{cases_lt, cases_Bool, le-leb, leb-true, false_from_ne_true, both_ways}
 use Rattle.std.proofs.lemmas.Int.{ints}
-use Rattle.sym_model.specs.Sum.{select, Among}
+use Rattle.sym_model.specs.Sum.{Among}
 use Rattle.sym_model.specs.Partition.{IsPartition, Holds, rows, size, without_last_zeros}
 use Rattle.sym_model.specs.Polynomial.{Poly, Term, Same, same, coefficient, join, resize, times}
 use Rattle.sym_model.specs.Schur.{contains, semistandard, fillings_of, row_lengths, content, letters_of, schur, skew_schur}
@@ -96,9 +96,9 @@ abbrev pub Counts : ℕ → Poly → (List ℕ → ℕ) → Type 0
 Counts m f count = (ν : List ℕ) → IsPartition ν → rows ν ≤ m → schur_coefficient m ν f ≡ pos (count ν)
 
 -- as many letters as there are variables, or as labels can have rows, are enough
-pub same_counts : (n m : ℕ) (start outer inner : List ℕ) (count : List ℕ → ℕ) → n ≡ min m (rows start + rows outer) → IsPartition start → IsPartition outer → IsPartition inner → contains outer inner ≡ true → rows start ≤ n
+pub same_counts : (n m : ℕ) (start outer inner : List ℕ) (count : List ℕ → ℕ) → n ≤ m → min m (rows start + rows outer) ≤ n → IsPartition start → IsPartition outer → IsPartition inner → contains outer inner ≡ true → rows start ≤ n
     → Counts m (times (schur start m) (skew_schur outer inner m)) count → SameCounts n m (good_count n start outer inner) count
-same_counts n m start outer inner count e p o i holds s c = record {
+same_counts n m start outer inner count most enough p o i holds s c = record {
   fewer = omega arith;
   same_within = λ ν q l.
       let a : pos (count ν) ≡ pos (good_count n start outer inner ν) = sym (c ν q (omega arith)) ∙ schur-good_count n m start outer inner ν (omega arith) p o i holds s q l in
@@ -109,7 +109,7 @@ same_counts n m start outer inner count e p o i holds s c = record {
 }
 
 -- no term has this label
-no_label : (terms : WholeTerms) (ν : List ℕ) → ((t : List ℕ × ℤ) → Among t terms → t.0 ≡ ν → ⊥) → coefficient terms ν ≡ pos 0
+pub no_label : (terms : WholeTerms) (ν : List ℕ) → ((t : List ℕ × ℤ) → Among t terms → t.0 ≡ ν → ⊥) → coefficient terms ν ≡ pos 0
 no_label terms ν h = total_none (λ (t : Term). cond (same t.0 ν) t.1 (pos 0)) terms (λ t m. ap (λ (b : Bool). cond b t.1 (pos 0)) (same_apart t.0 ν (h t m)))
 
 -- the terms as fractions
@@ -179,9 +179,9 @@ has_none_past m f count e small (c, d, past) =
 pub product_counts : (m : ℕ) (left right : List ℕ) → IsPartition left → IsPartition right → Counts m (schur_product (left ∷ right ∷ []) m) (product_count m left right)
 product_counts m left right p q ν r l = product_coefficients m left right ν p q r l
 
-pub same_product : (n m : ℕ) (left right : List ℕ) → n ≡ min m (rows left + rows right) → IsPartition left → IsPartition right → rows left ≤ n
+pub same_product : (n m : ℕ) (left right : List ℕ) → n ≤ m → min m (rows left + rows right) ≤ n → IsPartition left → IsPartition right → rows left ≤ n
     → SameCounts n m (good_count n left right []) (product_count m left right)
-same_product n m left right e p q h = same_counts n m left right [] (product_count m left right) e p q IsPartition-none (contains_nothing right) h (product_counts m left right p q)
+same_product n m left right most enough p q h = same_counts n m left right [] (product_count m left right) most enough p q IsPartition-none (contains_nothing right) h (product_counts m left right p q)
 
 variables_same : (rows_given : Option ℕ) (k : ℕ) → unwrap_or rows_given k ≡ variables_or rows_given k
 variables_same None k = refl
@@ -272,7 +272,7 @@ skew_counts m outer inner o i holds ν r l = skew_coefficients m outer inner ν 
 pub same_skew : (n m : ℕ) (outer inner : List ℕ) → n ≡ min m (rows outer) → IsPartition outer → IsPartition inner → contains outer inner ≡ true
     → SameCounts n m (good_count n [] outer inner) (skew_count outer inner)
 same_skew n m outer inner e o i holds =
-    same_counts n m [] outer inner (skew_count outer inner) (e ∙ ap (min m) (let z : rows outer ≡ rows [] + rows outer = omega arith in z)) IsPartition-none o i holds (omega arith)
+    same_counts n m [] outer inner (skew_count outer inner) (omega arith) (omega arith) IsPartition-none o i holds (omega arith)
     (λ ν r l. times_respects (alternant (staircase m)) (alternant (staircase m)) (times (schur [] m) (skew_schur outer inner m)) (skew_schur outer inner m) (Same_refl (alternant (staircase m))) (nothing_times m outer inner o i) (join ν (staircase m))
     ∙ skew_counts m outer inner o i holds ν r l)
 
@@ -301,7 +301,7 @@ contains-false outer inner h = false_from_ne_true (contains outer inner) (λ e. 
 
 -- where the inner partition does not lie inside, the polynomial is 0
 skew_none : (outer inner : List ℕ) (n : ℕ) → contains outer inner ≡ false → skew_schur outer inner n ≡ []
-skew_none outer inner n h = ap (λ (b : Bool). map (λ (T : List (List ℕ)). (content n (letters_of T), pos 1)) (cond b (select (semistandard inner) (fillings_of n (row_lengths outer inner))) [])) h
+skew_none outer inner n h = ap (λ (b : Bool). map (λ (T : List (List ℕ)). (content n (letters_of T), pos 1)) (cond b (filter (semistandard inner) (fillings_of n (row_lengths outer inner))) [])) h
 
 pub outside_answers : (variables : Option ℕ) (outer inner : List ℕ) → contains outer inner ≡ false → Meets (skew variables false outer inner) (answer product [])
 outside_answers None outer inner h = λ n. represents-whole (λ label. schur label n) [] (skew_schur outer inner n) tt (λ α. ap (λ (f : Poly). coefficient f α) (sym (skew_none outer inner n h)))

@@ -14,8 +14,7 @@ mod Sums
 mod Pruned
 mod CountedLists
 pub mod GoodCounts
-mod MixedNumbers
 mod PastCoefficients
-pub mod FactorSums
+mod ManyStarts
 mod Partial
 mod NothingLeft

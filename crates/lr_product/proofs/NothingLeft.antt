@@ -1,5 +1,5 @@
 -- A factor with more rows than there are variables leaves nothing of the product.
-use Rattle.std.proofs.Common.{◌≡◌, ◌≤◌, ◌<◌, inl, inr, ℕ, max, List, [], ◌∷◌, map, true, false, ◌∙◌, ap, arith, ℤ, pos, Option, Some, None}
+use Rattle.std.proofs.Common.{◌≡◌, ◌≤◌, inl, inr, ℕ, max, List, [], ◌∷◌, map, true, false, ◌∙◌, ap, arith, ℤ, pos, Option, Some, None}
 use Rattle.std.specs.Option.{unwrap_or}
 use Rattle.sym_model.specs.Sum.{Among}
 use Rattle.sym_model.specs.Polynomial.{Poly, Same, nothing, join, coefficient, times}
@@ -15,10 +15,7 @@ use Rattle.sym_model.specs.LargeAnswer.{HasPastCoefficient, is_past}
 use Rattle.sym_model.proofs.Polynomials.{at_only, coefficient_pair, pair_times, pair_zero, Same_refl, Same_sym, times_respects}
 use Rattle.sym_model.proofs.WholeTerms.{represents-whole}
 use Rattle.product_laws.proofs.Expanding.{product_nothing}
-
--- some factor has more than k rows
-abbrev pub HasLonger : ℕ → List (List ℕ) → Type 0
-HasLonger k factors = (parts : List ℕ) × Among parts factors × (k < rows parts)
+use Rattle.product_laws.specs.FactorSteps.{HasLong}
 
 among_rows : (factors : List (List ℕ)) (parts : List ℕ) → Among parts factors → rows parts ≤ size (map rows factors)
 among_rows [] parts m = absurd m
@@ -31,7 +28,7 @@ coefficient_of_nothing f g α e =
     ∙ coefficient_pair (times f nothing) α ∙ pair_times f nothing (at_only α) ∙ pair_zero f
 
 pub nothing_meets : (given : Option ℕ) (k : ℕ) (factors : List (List ℕ)) (terms : WholeTerms) → k ≡ unwrap_or given (max (size (map rows factors)) 1)
-    → ((parts : List ℕ) → Among parts factors → IsPartition parts) → HasLonger k factors → terms ≡ [] → Meets (mult given false factors) (answer product (as_fractions terms))
+    → ((parts : List ℕ) → Among parts factors → IsPartition parts) → HasLong k factors → terms ≡ [] → Meets (mult given false factors) (answer product (as_fractions terms))
 nothing_meets given k factors (t ∷ terms) e are h none = absurd (cc)
 nothing_meets None k factors [] e are h none = let l = among_rows factors h.0 h.1 in let m = h.2 in absurd (omega arith)
 nothing_meets (Some n) k factors [] e are h none = (
@@ -41,7 +38,7 @@ nothing_meets (Some n) k factors [] e are h none = (
 )
 
 pub nothing_fits : (given : Option ℕ) (k : ℕ) (factors : List (List ℕ)) → k ≡ unwrap_or given (max (size (map rows factors)) 1)
-    → ((parts : List ℕ) → Among parts factors → IsPartition parts) → HasLonger k factors → HasPastCoefficient (mult given false factors) → ⊥
+    → ((parts : List ℕ) → Among parts factors → IsPartition parts) → HasLong k factors → HasPastCoefficient (mult given false factors) → ⊥
 nothing_fits None k factors e are h past = let l = among_rows factors h.0 h.1 in let m = h.2 in omega arith
 nothing_fits (Some n) k factors e are h past =
     let s = past.1 in

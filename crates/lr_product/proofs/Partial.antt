@@ -8,7 +8,7 @@ use Rattle.std.proofs.lemmas.List.{take-append-drop}
 use Rattle.coeff_rings.specs.Fractions.{whole}
 use Rattle.sym_model.specs.Sum.{Among}
 use Rattle.sym_model.specs.Polynomial.{Poly, Term, Same, coefficient, scale, pair}
-use Rattle.sym_model.specs.Partition.{IsPartition, size, rows}
+use Rattle.sym_model.specs.Partition.{IsPartition, size, rows, ArePartitions}
 use Rattle.sym_model.specs.Schur.{schur}
 use Rattle.sym_model.specs.Canonical.{is_label}
 use Rattle.sym_model.specs.Expansion.{Fraction}
@@ -23,7 +23,7 @@ use Rattle.linear_combinations.proofs.Found.{coefficient_of_term, numerators-as_
 use Rattle.linear_combinations.proofs.LowestTerms.{not_zero-is_reduced}
 use Rattle.linear_combinations.proofs.Totals.{term-among}
 use Rattle.alternant_laws.proofs.ClassicalProducts.{classical_product-term}
-use Rattle.product_laws.specs.FactorSteps.{ArePartitions, multiplied}
+use Rattle.product_laws.specs.FactorSteps.{multiplied}
 use Rattle.product_laws.proofs.ManyFactors.{classical_step}
 use Rattle.product_laws.specs.CountedProducts.{IsShownIn, Reaches}
 use Rattle.product_laws.proofs.CountLists.{counts-coefficient, some_term}
@@ -32,7 +32,14 @@ use Rattle.product_laws.proofs.Growing.{counted-all, label_size, reaches_more}
 use Rattle.product_laws.proofs.Expanding.{HasFewRows, expands_next}
 use Rattle.partitions.specs.FactorList.{AreFactors}
 use Rattle.lr_product.specs.ProductOfFactors.{AreSmallCounts, AllMayMeet}
-use Rattle.lr_product.proofs.FactorSums.{small_same, Reaches-same}
+
+-- ---- lists that are the same
+
+small_same : (xs ys : WholeTerms) → Same xs ys → AreSmallCounts xs → AreSmallCounts ys
+small_same xs ys e small parts = let s = small parts in let x = e parts in (omega (arith, ints, s.0), omega (arith, ints, s.1))
+
+Reaches-same : (k c : ℕ) (xs ys : WholeTerms) → Same xs ys → Reaches k c xs → Reaches k c ys
+Reaches-same k c xs ys e r = record { parts = r.parts; partition = r.partition; within = r.within; reaches = let x = e r.parts in let g = r.reaches in omega (arith, ints) }
 
 -- ---- products of the first factors
 
@@ -109,11 +116,12 @@ cells-push [] next = omega arith
 cells-push (parts ∷ front) next = let h = cells-push front next in omega arith
 
 pub may_meet : (k : ℕ) (first : List ℕ) (rest : List (List ℕ)) (next : List ℕ) (product : WholeTerms) → ArePartitions (first ∷ rest) → IsPartial k (first ∷ rest) product
-    → size (map size (first ∷ rest)) + size next ≤ 4096 → AllMayMeet next product
+    → size (map size (first ∷ rest)) + size next ≤ 4096 → AllMayMeet k next product
 may_meet k first rest next product p h cells t m =
     let is = term_of k first rest product p h.table h.classical t m in
     record {
       partition = is.partition;
+      few = is.few;
       cells = let e = is.cells in omega arith;
       positive = is.positive;
     }
@@ -249,7 +257,7 @@ cells_within (x ∷ xs) ys = let h = cells_within xs ys in omega arith
 
 -- a product of the factors before one of them may meet it
 pub may_meet_at : (k i : ℕ) (factors : List (List ℕ)) (next : List ℕ) (product : WholeTerms) → AreFactors factors → 1 ≤ i → slice_get factors i ≡ Some next
-    → IsPartial k (take i factors) product → AllMayMeet next product
+    → IsPartial k (take i factors) product → AllMayMeet k next product
 may_meet_at k i factors next product f one at h = by (take i factors) refl h
   where
     within : (xs : List (List ℕ)) → take i factors ≡ xs → size (map size xs) + size next ≤ 4096
@@ -261,7 +269,7 @@ may_meet_at k i factors next product f one at h = by (take i factors) refl h
         let g : size (map size ((xs ++ next ∷ []) ++ drop (i + 1) factors)) ≤ 4096 = subst (λ l. size (map size l) ≤ 4096) all f.small.cells in
         omega arith
 
-    by : (xs : List (List ℕ)) → take i factors ≡ xs → IsPartial k xs product → AllMayMeet next product
+    by : (xs : List (List ℕ)) → take i factors ≡ xs → IsPartial k xs product → AllMayMeet k next product
     by [] e g = absurd (none i factors next one at e)
       where
         none : (j : ℕ) (ys : List (List ℕ)) (y : List ℕ) → 1 ≤ j → slice_get ys j ≡ Some y → take j ys ≡ [] → ⊥

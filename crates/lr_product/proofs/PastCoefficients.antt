@@ -4,7 +4,7 @@ use Rattle.std.specs.Prelude.{◌≤ℤ◌, ◌<ℤ◌, IsTrue}
 use Rattle.std.specs.Option.{unwrap_or}
 use Rattle.std.proofs.lemmas.Bool.{cases_lt}
 use Rattle.std.proofs.lemmas.Int.{ints}
-use Rattle.sym_model.specs.Partition.{IsPartition, size, rows}
+use Rattle.sym_model.specs.Partition.{IsPartition, size, rows, ArePartitions}
 use Rattle.sym_model.specs.Polynomial.{coefficient, times}
 use Rattle.sym_model.specs.GoodTableau.{product_count}
 use Rattle.sym_model.specs.Schur.{schur}
@@ -14,7 +14,6 @@ use Rattle.sym_model.specs.Target.{schur_product, classical_product}
 use Rattle.sym_model.specs.LargeAnswer.{IsSchurCoefficientOf, is_past, HasPastCoefficient}
 use Rattle.sym_model.proofs.Integers.{is_past-tells, is_past-from}
 use Rattle.alternant_laws.proofs.ClassicalProducts.{classical_product-coefficient, classical_product-term}
-use Rattle.product_laws.specs.FactorSteps.{ArePartitions}
 use Rattle.product_laws.specs.CountedProducts.{Reaches}
 use Rattle.product_laws.proofs.CountLists.{counts-coefficient, some_term}
 use Rattle.product_laws.proofs.Growing.{counted-all}

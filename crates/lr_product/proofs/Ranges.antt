@@ -1,7 +1,6 @@
 -- Sums over ranges of numbers, and over those of them that pass a test.
-use Rattle.std.proofs.Common.{◌≡◌, ℕ, zero, suc, ◌+◌, ◌-◌, ◌<◌, ◌≤◌, ◌⊎◌, inl, inr, Bool, true, false, cond, List, [], ◌∷◌, ◌++◌, map, refl, sym, ap, ap₂, ◌∙◌, arith}
+use Rattle.std.proofs.Common.{◌≡◌, ℕ, zero, suc, ◌+◌, ◌-◌, ◌<◌, ◌≤◌, ◌⊎◌, inl, inr, Bool, true, false, cond, List, [], ◌∷◌, ◌++◌, map, refl, sym, ap, ap₂, ◌∙◌, arith, flat_map}
 use Rattle.std.proofs.lemmas.Bool.{cases_lt}
-use Rattle.sym_model.specs.Sum.{each}
 use Rattle.sym_model.specs.Partition.{after}
 use Rattle.lr_product.specs.WeighedSum.{sum_over}
 use Rattle.lr_product.specs.Extension.{numbers_from}
@@ -19,9 +18,9 @@ pub sum-map : {A B : Type 0} (f : B → ℕ) (g : A → B) (xs : List A) → sum
 sum-map f g [] = refl
 sum-map f g (x ∷ xs) = ap (λ s. f (g x) + s) (sum-map f g xs)
 
-pub sum-each : {A B : Type 0} (f : B → ℕ) (g : A → List B) (xs : List A) → sum_over f (each g xs) ≡ sum_over (λ (x : A). sum_over f (g x)) xs
+pub sum-each : {A B : Type 0} (f : B → ℕ) (g : A → List B) (xs : List A) → sum_over f (flat_map g xs) ≡ sum_over (λ (x : A). sum_over f (g x)) xs
 sum-each f g [] = refl
-sum-each f g (x ∷ xs) = sum-append f (g x) (each g xs) ∙ ap (λ s. sum_over f (g x) + s) (sum-each f g xs)
+sum-each f g (x ∷ xs) = sum-append f (g x) (flat_map g xs) ∙ ap (λ s. sum_over f (g x) + s) (sum-each f g xs)
 
 pub sum-zero : {A : Type 0} (xs : List A) → sum_over (λ (x : A). 0) xs ≡ 0
 sum-zero [] = refl

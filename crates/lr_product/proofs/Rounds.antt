@@ -1,5 +1,5 @@
 -- One round of adding columns.
-use Rattle.std.proofs.Common.{◌≡◌, ℕ, zero, suc, ◌+◌, ◌-◌, ◌^◌, ◌<◌, ◌≤◌, ◌⊎◌, inl, inr, nat_le, nat_lt, Bool, true, false, ◌&&◌, cond, List, [], ◌∷◌, ◌++◌, length, take, drop, refl, sym, ap, ap₂, ◌∙◌, arith}
+use Rattle.std.proofs.Common.{◌≡◌, ℕ, zero, suc, ◌+◌, ◌-◌, ◌^◌, ◌<◌, ◌≤◌, ◌⊎◌, inl, inr, nat_le, nat_lt, Bool, true, false, ◌&&◌, cond, List, [], ◌∷◌, ◌++◌, length, take, drop, refl, sym, subst, ap, ap₂, ◌∙◌, arith}
 use Rattle.std.proofs.lemmas.Bool.{cases_lt, lt-ltb, le-ltb, lt-leb, le-leb}
 use Rattle.std.proofs.Math.Seq.{take-length}
 use Rattle.sym_model.specs.Partition.{Falls, IsPartition, size, columns}
@@ -29,6 +29,15 @@ size-resize : (n : ℕ) (s : List ℕ) → size (resize n s) ≤ size s
 size-resize zero s = omega arith
 size-resize (suc n) [] = let i = size-resize n [] in omega arith
 size-resize (suc n) (a ∷ s) = let i = size-resize n s in omega arith
+
+pub start_within : (n m : ℕ) (start right : List ℕ) → IsPartition start → size start ≤ m → unreached n m (resize n start) right ≡ 0
+start_within n m start right p room =
+    let small = size-resize n start in
+    reached n m (resize n start) right (record {
+      long = length-resize n start;
+      small = omega arith;
+      falls = falling-resize n start p.falls;
+    })
 
 pub resize-zero : (n : ℕ) (s : List ℕ) → length s < n → resize n (s ++ 0 ∷ []) ≡ resize n s
 resize-zero zero s h = absurd (omega arith)
@@ -75,26 +84,35 @@ vanishes-next n line bound kept f v ν right h =
     under true e = e
     under false e = refl
 
+-- what a function sees with no column vanishes where it does
+vanishes-seen : (kept : Bool) (bound : List ℕ) (f : List ℕ → List ℕ → ℕ) → VanishesOutside bound f → VanishesOutside bound (seen kept f)
+vanishes-seen true bound f v ν right h = v ν right h
+vanishes-seen false bound f v ν right h = v ν [] h
+
 -- ---- one column more
 
-pub first_counts : (n : ℕ) (start outer inner : List ℕ) (es : List (List ℕ × ℕ)) (at : ℕ) → Falls outer → contains outer inner ≡ true → at ≡ columns outer
-    → ((f : List ℕ → List ℕ → ℕ) → Agree (weighed n f es) (f (resize n start) []))
-    → (f : List ℕ → List ℕ → ℕ) → Agree (weighed n f es) (over_states n (drop at (column_lines outer inner)) (seen (nat_lt 0 at) f) (resize n start) [])
-first_counts n start outer inner es at fall c e agree f =
-    agree_then _ _ _ (agree f)
-    (agree_same _ _ (by (nat_lt 0 at) ∙ ap (λ ls. over_states n ls (seen (nat_lt 0 at) f) (resize n start) []) (sym (ap (λ k. drop k (column_lines outer inner)) e ∙ column-none outer inner fall c))))
-  where
-    by : (t : Bool) → f (resize n start) [] ≡ seen t f (resize n start) []
-    by true = refl
-    by false = refl
+-- before the first column
+pub start_counts : (n : ℕ) (outer inner : List ℕ) (starts : List (List ℕ × ℕ)) (at : ℕ) → Falls outer
+    → contains outer inner ≡ true → at ≡ columns outer → (f : List ℕ → List ℕ → ℕ)
+    → Agree (weighed n (seen (nat_lt 0 at) f) starts)
+    (weighed n (over_states n (drop at (column_lines outer inner)) (seen (nat_lt 0 at) f)) starts)
+start_counts n outer inner starts at fall c e f =
+    let none : drop at (column_lines outer inner) ≡ [] =
+    ap (λ k. drop k (column_lines outer inner)) e ∙ column-none outer inner fall c in
+    agree_same _ _ (ap (λ ls. weighed n (over_states n ls (seen (nat_lt 0 at) f)) starts) (sym none))
 
-pub first_reached : (n : ℕ) (start outer inner : List ℕ) (es : List (List ℕ × ℕ)) (at : ℕ) → IsPartition start → Falls outer → contains outer inner ≡ true → at ≡ columns outer
+pub start_reached : (n m : ℕ) (outer inner : List ℕ) (starts : List (List ℕ × ℕ)) (at : ℕ)
+    → weighed n (unreached n m) starts ≡ 0
+    → weighed n (unreached n (m + places (drop at (column_lines outer inner)))) starts ≡ 0
+start_reached n m outer inner starts at z =
+    weighed-weaker n m (m + places (drop at (column_lines outer inner))) starts (omega arith) z
+
+-- the one start, in n places
+pub first_reached : (n m : ℕ) (start : List ℕ) (es : List (List ℕ × ℕ)) → IsPartition start → size start ≤ m
     → ((f : List ℕ → List ℕ → ℕ) → Agree (weighed n f es) (f (resize n start) []))
-    → weighed n (unreached n (size start + places (drop at (column_lines outer inner)))) es ≡ 0
-first_reached n start outer inner es at p fall c e agree =
-    let m = size start + places (drop at (column_lines outer inner)) in
-    let small = size-resize n start in
-    agree_zero _ _ (agree (unreached n m)) (reached n m (resize n start) [] (record { long = length-resize n start; small = omega arith; falls = falling-resize n start p.falls }))
+    → weighed n (unreached n m) es ≡ 0
+first_reached n m start es p room agree =
+    agree_zero _ _ (agree (unreached n m)) (start_within n m start [] p room)
 
 -- the column before one and the others
 last_column : (outer inner : List ℕ) (at : ℕ) → Falls outer → contains outer inner ≡ true → 0 < at → at ≤ columns outer
@@ -109,49 +127,74 @@ places_last outer inner at line fall c h k is =
     ap places (last_column outer inner at fall c h k) ∙ ap (λ (l : List Bool). length l + places (drop at (column_lines outer inner))) (sym is)
 
 -- before a column is added, the states leave it room
-pub round_room : (n : ℕ) (start outer inner : List ℕ) (es : List (List ℕ × ℕ)) (at : ℕ) (line : List Bool) → Falls outer → contains outer inner ≡ true → 0 < at → at ≤ columns outer → size start + size outer ≤ 4096
-    → line ≡ column_line at outer inner → weighed n (unreached n (size start + places (drop at (column_lines outer inner)))) es ≡ 0
+pub round_room : (n m : ℕ) (outer inner : List ℕ) (es : List (List ℕ × ℕ)) (at : ℕ) (line : List Bool) → Falls outer
+    → contains outer inner ≡ true → 0 < at → at ≤ columns outer → m + size outer ≤ 4096
+    → line ≡ column_line at outer inner
+    → weighed n (unreached n (m + places (drop at (column_lines outer inner)))) es ≡ 0
     → (weighed n (unreached n (4096 - length line)) es ≡ 0) × (length line ≤ 4096)
-round_room n start outer inner es at line fall c h k room is z =
+round_room n m outer inner es at line fall c h k room is z =
     let p = places_last outer inner at line fall c h k is in
     let r = places-drop (at - 1) (column_lines outer inner) in
     let s = places-lines outer inner c in
     (weighed-weaker n _ (4096 - length line) es (omega arith) z, omega arith)
 
 -- and after it they are those with one column more
-pub round_counts : (n : ℕ) (start outer inner bound : List ℕ) (es new : List (List ℕ × ℕ)) (at : ℕ) (line : List Bool) (kept : Bool) → Falls outer → contains outer inner ≡ true → 0 < at → at ≤ columns outer
+pub round_counts : (n : ℕ) (outer inner bound : List ℕ) (starts es new : List (List ℕ × ℕ)) (at : ℕ)
+    (line : List Bool) (kept : Bool) → Falls outer → contains outer inner ≡ true → 0 < at → at ≤ columns outer
     → line ≡ column_line at outer inner → kept ≡ nat_lt 1 at
-    → ((f : List ℕ → List ℕ → ℕ) → VanishesOutside bound f → Agree (weighed n f es) (over_states n (drop at (column_lines outer inner)) (seen (nat_lt 0 at) f) (resize n start) []))
-    → ((f : List ℕ → List ℕ → ℕ) → VanishesOutside bound f → Agree (weighed n f new) (weighed n (next_states n line (seen kept f)) es))
-    → (f : List ℕ → List ℕ → ℕ) → VanishesOutside bound f → Agree (weighed n f new) (over_states n (drop (at - 1) (column_lines outer inner)) (seen (nat_lt 0 (at - 1)) f) (resize n start) [])
-round_counts n start outer inner bound es new at line kept fall c h k is last agree more f v =
-    agree_then _ _ _ (more f v) (agree_then _ _ _ (agree (next_states n line (seen kept f)) (vanishes-next n line bound kept f v)) (agree_same _ _
-    (ap (λ t. over_states n (drop at (column_lines outer inner)) (seen t (next_states n line (seen kept f))) (resize n start) []) (lt-ltb 0 at h)
-    ∙ ap₂ (λ (l : List Bool) (t : Bool). over_states n (l ∷ drop at (column_lines outer inner)) (seen t f) (resize n start) []) is (last ∙ fewer (cases_lt 1 at))
-    ∙ sym (ap (λ ls. over_states n ls (seen (nat_lt 0 (at - 1)) f) (resize n start) []) (last_column outer inner at fall c h k)))))
+    → ((f : List ℕ → List ℕ → ℕ) → VanishesOutside bound f → Agree (weighed n (seen (nat_lt 0 at) f) es)
+    (weighed n (over_states n (drop at (column_lines outer inner)) (seen (nat_lt 0 at) f)) starts))
+    → ((f : List ℕ → List ℕ → ℕ) → VanishesOutside bound f
+    → Agree (weighed n f new) (weighed n (next_states n line (seen kept f)) es))
+    → (f : List ℕ → List ℕ → ℕ) → VanishesOutside bound f
+    → Agree (weighed n (seen (nat_lt 0 (at - 1)) f) new)
+    (weighed n (over_states n (drop (at - 1) (column_lines outer inner)) (seen (nat_lt 0 (at - 1)) f)) starts)
+round_counts n outer inner bound starts es new at line kept fall c h k is last agree more f v =
+    let b = nat_lt 0 (at - 1) in
+    let w = vanishes-seen b bound f v in
+    let g = next_states n line (seen kept (seen b f)) in
+    let before = agree g (vanishes-next n line bound kept (seen b f) w) in
+    agree_then _ _ _ (more (seen b f) w) (agree_then _ _ _
+    (subst (λ t. Agree (weighed n (seen t g) es) (weighed n (over_states n rest (seen t g)) starts)) (lt-ltb 0 at h) before)
+    (agree_same _ _
+    (ap₂ (λ (l : List Bool) (t : Bool). weighed n (over_states n (l ∷ rest) (seen t (seen b f))) starts) is (last ∙ fewer (cases_lt 1 at))
+    ∙ twice (column_line at outer inner) b
+    ∙ sym (ap (λ ls. weighed n (over_states n ls (seen b f)) starts) (last_column outer inner at fall c h k)))))
   where
+    rest : List (List Bool)
+    rest = drop at (column_lines outer inner)
+
     fewer : (1 < at) ⊎ (at ≤ 1) → nat_lt 1 at ≡ nat_lt 0 (at - 1)
     fewer (inl l) = lt-ltb 1 at l ∙ sym (lt-ltb 0 (at - 1) (omega arith))
     fewer (inr l) = le-ltb 1 at l ∙ sym (le-ltb 0 (at - 1) (omega arith))
 
-pub round_reached : (n : ℕ) (start outer inner : List ℕ) (new : List (List ℕ × ℕ)) (at : ℕ) (line : List Bool) → Falls outer → contains outer inner ≡ true → 0 < at → at ≤ columns outer → line ≡ column_line at outer inner
-    → weighed n (unreached n (size start + places (drop at (column_lines outer inner)) + length line)) new ≡ 0
-    → weighed n (unreached n (size start + places (drop (at - 1) (column_lines outer inner)))) new ≡ 0
-round_reached n start outer inner new at line fall c h k is z =
+    twice : (l : List Bool) (t : Bool) → weighed n (over_states n (l ∷ rest) (seen t (seen t f))) starts ≡ weighed n (over_states n (l ∷ rest) (seen t f)) starts
+    twice l true = refl
+    twice l false = refl
+
+pub round_reached : (n m : ℕ) (outer inner : List ℕ) (new : List (List ℕ × ℕ)) (at : ℕ) (line : List Bool) → Falls outer
+    → contains outer inner ≡ true → 0 < at → at ≤ columns outer → line ≡ column_line at outer inner
+    → weighed n (unreached n (m + places (drop at (column_lines outer inner)) + length line)) new ≡ 0
+    → weighed n (unreached n (m + places (drop (at - 1) (column_lines outer inner)))) new ≡ 0
+round_reached n m outer inner new at line fall c h k is z =
     let p = places_last outer inner at line fall c h k is in
-    weighed-weaker n _ (size start + places (drop (at - 1) (column_lines outer inner))) new (omega arith) z
+    weighed-weaker n _ (m + places (drop (at - 1) (column_lines outer inner))) new (omega arith) z
 
 -- after the last column
-pub last_counts : (n : ℕ) (start outer inner : List ℕ) (at : ℕ) (f : List ℕ → ℕ) → at ≤ 0
-    → over_states n (drop at (column_lines outer inner)) (seen (nat_lt 0 at) (λ ν right. f ν)) (resize n start) [] ≡ over_states n (column_lines outer inner) (λ ν right. f ν) (resize n start) []
-last_counts n start outer inner at f h =
+pub last_counts : (n : ℕ) (outer inner : List ℕ) (starts es : List (List ℕ × ℕ)) (at : ℕ) (f : List ℕ → ℕ) → at ≤ 0
+    → Agree (weighed n (seen (nat_lt 0 at) (λ ν right. f ν)) es)
+    (weighed n (over_states n (drop at (column_lines outer inner)) (seen (nat_lt 0 at) (λ ν right. f ν))) starts)
+    → Agree (weighed n (λ ν right. f ν) es) (weighed n (over_states n (column_lines outer inner) (λ ν right. f ν)) starts)
+last_counts n outer inner starts es at f h agree =
+    let lines = column_lines outer inner in
     let z : at ≡ 0 = omega arith in
-    ap (λ k. over_states n (drop k (column_lines outer inner)) (seen (nat_lt 0 k) (λ ν right. f ν)) (resize n start) []) z
-    ∙ ap (λ ls. over_states n ls (seen (nat_lt 0 0) (λ ν right. f ν)) (resize n start) []) (column-all (column_lines outer inner))
+    subst (λ ls. Agree (weighed n (λ ν right. f ν) es) (weighed n (over_states n ls (λ ν right. f ν)) starts)) (column-all lines)
+    (subst (λ k. Agree (weighed n (seen (nat_lt 0 k) (λ ν right. f ν)) es) (weighed n (over_states n (drop k lines) (seen (nat_lt 0 k) (λ ν right. f ν))) starts)) z agree)
 
-pub last_reached : (n : ℕ) (start outer inner : List ℕ) (es : List (List ℕ × ℕ)) (at : ℕ) → contains outer inner ≡ true → size start + size outer ≤ 4096
-    → weighed n (unreached n (size start + places (drop at (column_lines outer inner)))) es ≡ 0 → weighed n (unreached n 4096) es ≡ 0
-last_reached n start outer inner es at c room z =
+pub last_reached : (n m : ℕ) (outer inner : List ℕ) (es : List (List ℕ × ℕ)) (at : ℕ) → contains outer inner ≡ true
+    → m + size outer ≤ 4096 → weighed n (unreached n (m + places (drop at (column_lines outer inner)))) es ≡ 0
+    → weighed n (unreached n 4096) es ≡ 0
+last_reached n m outer inner es at c room z =
     let r = places-drop at (column_lines outer inner) in
     let s = places-lines outer inner c in
     weighed-weaker n _ 4096 es (omega arith) z

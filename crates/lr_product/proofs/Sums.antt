@@ -46,11 +46,8 @@ pos_comes parts ν right = by (same (without_last_zeros ν) parts)
     by true = refl
     by false = refl
 
-abbrev comes_if : Bool → ℕ
-comes_if t = cond t 1 0
-
-pub comes-begins : (parts key : List ℕ) (t : Bool) → ArePositive parts → t ≡ pointwise nat_eq (take (length parts) key) parts → at_state (length parts) (comes_to parts) key ≡ comes_if t
-comes-begins parts key t p e = sym (ap comes_if (e ∙ begins key parts p))
+pub comes-begins : (parts key : List ℕ) (t : Bool) → ArePositive parts → t ≡ pointwise nat_eq (take (length parts) key) parts → at_state (length parts) (comes_to parts) key ≡ cond t 1 0
+comes-begins parts key t p e = sym (ap (λ s. cond s 1 0) (e ∙ begins key parts p))
 
 pub agree_skipped : (now rest all rest' ways x : ℕ) → Agree (now + rest) all → rest ≡ ways * x + rest' → x ≡ 0 → Agree (now + rest') all
 agree_skipped now rest all rest' ways x p e z = agree_then _ _ _ (agree_same _ (now + rest) (let q = ap (λ y. ways * y) z in omega arith)) p

@@ -1,4 +1,5 @@
--- Numbers that are known up to a cap (this project's own): a count is kept exactly below 2^127, and past that only as such.
+-- Numbers that are known up to a cap: a count is kept exactly below 2^127,
+-- and past that only as such.
 use Rattle.std.specs.Prelude.{◌≡◌, ℕ, ◌^◌, ◌<◌, ◌≤◌}
 
 -- both numbers are the same below the cap, or both are past it

@@ -1,9 +1,10 @@
--- The lines of the columns of a skew shape (this project's own).
+-- The lines of the columns of a skew shape.
 use Rattle.std.specs.Prelude.{ℕ, nat_le, nat_lt, Bool, cond, List, [], ◌∷◌, ◌++◌, drop}
 use Rattle.sym_model.specs.Partition.{part}
 
--- the line of the column j of outer/inner, j from 1: for each row of outer that reaches the column whether the place in the
--- column is a cell
+-- the line of the column j of outer/inner, j from 1: for each row of outer that reaches the column
+-- whether the place in the column is a cell
 abbrev pub column_line : ℕ → List ℕ → List ℕ → List Bool
 column_line j [] inner = []
-column_line j (a ∷ outer) inner = cond (nat_le j a) (nat_lt (part inner 1) j ∷ []) [] ++ column_line j outer (drop 1 inner)
+column_line j (a ∷ outer) inner =
+    cond (nat_le j a) (nat_lt (part inner 1) j ∷ []) [] ++ column_line j outer (drop 1 inner)

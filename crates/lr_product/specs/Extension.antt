@@ -1,6 +1,8 @@
--- A column added letter by letter to a state (this project's own). The state holds the sum reached so far, in n places, and
--- after it the letters of the column so far.
-use Rattle.std.specs.Prelude.{ℕ, zero, suc, ◌+◌, ◌-◌, ◌==◌, nat_le, nat_lt, min, Bool, true, false, ◌&&◌, ◌||◌, cond, List, [], ◌∷◌, ◌++◌, length, take, drop, slice_index}
+-- A column added letter by letter to a state. The state holds the sum reached so far, in n places,
+-- and after it the letters of the column so far.
+use Rattle.std.specs.Prelude.{ℕ, zero, suc, ◌+◌, ◌-◌, ◌==◌, nat_le, nat_lt, min, Bool, true, false}
+use Rattle.std.specs.Prelude.{◌&&◌, ◌||◌, cond, List, [], ◌∷◌, ◌++◌, length, take, drop}
+use Rattle.std.specs.Prelude.{slice_index}
 use Rattle.sym_model.specs.GoodTableau.{is_falling}
 use Rattle.lr_product.specs.WeighedSum.{sum_over, at_state}
 
@@ -36,17 +38,18 @@ abbrev pub mark : Bool → ℕ → List ℕ
 mark true b = b ∷ []
 mark false b = []
 
--- whether the number at an index may be raised by one: it stays at most the number before it, and at most that of the bound at
--- its index
+-- whether the number at an index may be raised by one: it stays at most the number before it, and
+-- at most that of the bound at its index
 abbrev pub can_rise : List ℕ → ℕ → List ℕ → Bool
 can_rise bound i numbers =
     ((i == 0) || nat_lt (slice_index numbers i) (slice_index numbers (i - 1)))
     && (nat_le (length bound) i || nat_lt (slice_index numbers i) (slice_index bound i))
 
--- the sum over all ways to go on along a line below a letter, of f of the state at the end, where its sum falls; the letters
--- are kept at the end of the state or not
+-- the sum over all ways to go on along a line below a letter, of f of the state at the end, where
+-- its sum falls; the letters are kept at the end of the state or not
 abbrev pub extended : Bool → ℕ → List Bool → List ℕ → ℕ → (List ℕ → List ℕ → ℕ) → List ℕ → ℕ
 extended kept n [] right above f state = cond (is_falling (take n state)) (at_state n f state) 0
 extended kept n (cell ∷ line) right above f state =
     sum_over (λ b. extended kept n line (drop 1 right) b f (raised b state ++ mark kept b))
-    (numbers_from (least_letter cell above) (letters_end n cell right above - least_letter cell above))
+    (numbers_from (least_letter cell above)
+    (letters_end n cell right above - least_letter cell above))

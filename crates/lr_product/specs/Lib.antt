@@ -3,5 +3,4 @@ pub mod Capped
 pub mod Extension
 pub mod ColumnLine
 pub mod Counts
-pub mod Mixing
 pub mod ProductOfFactors

@@ -1,10 +1,12 @@
--- Sums of natural numbers over lists, and tables from states to counts seen as sums (this project's own). A state is the sum
--- reached, which has n places, and after it the column added last.
-use Rattle.std.specs.Prelude.{◌≡◌, ℕ, ◌+◌, ◌*◌, ◌==◌, nat_le, Bool, true, false, ◌&&◌, cond, List, [], ◌∷◌, length, take, drop}
+-- Sums of natural numbers over lists, and tables from states to counts seen as sums. A state is the
+-- sum reached, which has n places, and after it the column added last.
+use Rattle.std.specs.Prelude.{◌≡◌, ℕ, ◌+◌, ◌*◌, ◌==◌, nat_le, nat_abs, ℤ, Bool, true, false, ◌&&◌}
+use Rattle.std.specs.Prelude.{cond, List, [], ◌∷◌, length, take, drop}
 use Rattle.sym_model.specs.Partition.{size, without_last_zeros}
-use Rattle.sym_model.specs.Polynomial.{same, join}
+use Rattle.sym_model.specs.Polynomial.{same, join, resize}
 use Rattle.sym_model.specs.Schur.{content}
 use Rattle.sym_model.specs.GoodTableau.{is_falling}
+use Rattle.sym_model.specs.WholeTerms.{WholeTerms}
 use Rattle.tableau_laws.specs.Grid.{pass_by_place}
 use Rattle.tableau_laws.specs.PaddedRows.{words_over}
 use Rattle.tableau_laws.specs.ColumnFold.{may_be_next}
@@ -22,12 +24,20 @@ at_state n f state = f (take n state) (drop n state)
 abbrev pub weighed : ℕ → (List ℕ → List ℕ → ℕ) → List (List ℕ × ℕ) → ℕ
 weighed n f entries = sum_over (λ (e : List ℕ × ℕ). e.1 * at_state n f e.0) entries
 
--- the sum over the columns of a line that may be next of f of the sum that is then reached and the column
+-- the sum over the terms of a list of the count times f of the label in n places,
+-- with no column added
+abbrev pub started : ℕ → (List ℕ → List ℕ → ℕ) → WholeTerms → ℕ
+started n f terms = sum_over (λ (t : List ℕ × ℤ). nat_abs t.1 * f (resize n t.0) []) terms
+
+-- the sum over the columns of a line that may be next of f of the sum that is then reached and the
+-- column
 abbrev pub next_states : ℕ → List Bool → (List ℕ → List ℕ → ℕ) → List ℕ → List ℕ → ℕ
 next_states n line f ν right =
-    sum_over (λ c. cond (may_be_next n ν right c) (f (join ν (content n c)) c) 0) (words_over n line)
+    sum_over (λ c. cond (may_be_next n ν right c) (f (join ν (content n c)) c) 0)
+    (words_over n line)
 
--- the same over all ways to add columns of these lines, which are listed from the leftmost on and added from the rightmost on
+-- the same over all ways to add columns of these lines, which are listed from the leftmost on and
+-- added from the rightmost on
 abbrev pub over_states : ℕ → List (List Bool) → (List ℕ → List ℕ → ℕ) → List ℕ → List ℕ → ℕ
 over_states n [] f ν right = f ν right
 over_states n (line ∷ lines) f ν right = over_states n lines (next_states n line f) ν right
@@ -36,7 +46,8 @@ over_states n (line ∷ lines) f ν right = over_states n lines (next_states n l
 abbrev pub unreached : ℕ → ℕ → List ℕ → List ℕ → ℕ
 unreached n m ν right = cond ((length ν == n) && (nat_le (size ν) m && is_falling ν)) 0 1
 
--- f is 0 where some number of the sum is greater than that of the bound at its place; the bound may be shorter than the sum
+-- f is 0 where some number of the sum is greater than that of the bound at its place;
+-- the bound may be shorter than the sum
 abbrev pub VanishesOutside : List ℕ → (List ℕ → List ℕ → ℕ) → Type 0
 VanishesOutside bound f = (ν right : List ℕ) → pass_by_place nat_le ν bound ≡ false → f ν right ≡ 0
 

@@ -1,5 +1,6 @@
 //! One coefficient of a product.
-ghost use Rattle.std.specs.Prelude.{◌≡◌, ℕ, ◌+◌, ◌^◌, ◌<◌, ◌≤◌, List, pos, length, take, nat_eq, IfOk, OnOk, IsErrOf};
+ghost use Rattle.std.specs.Prelude.{◌≡◌, ℕ, ◌+◌, ◌^◌, ◌<◌, ◌≤◌, List, pos, length, take, nat_eq};
+ghost use Rattle.std.specs.Prelude.{IfOk, OnOk, IsErrOf};
 ghost use Rattle.std.specs.Cmp.Lexicographic.{pointwise};
 ghost use Rattle.sym_model.specs.Partition.{IsPartition, ArePositive, size, rows};
 ghost use Rattle.sym_model.specs.GoodTableau.{product_count};
@@ -22,8 +23,9 @@ use indexmap::IndexMap;
 use partitions::Partition;
 use std::alloc::Global;
 
-/// The coefficient of the Schur polynomial of `outer` in the product of those of `left` and `right`: the number of good
-/// tableaux of the shape `right` for the start `left` that come to `outer`.
+/// The coefficient of the Schur polynomial of `outer` in the product of those of `left` and
+/// `right`: the number of good tableaux of the shape `right` for the start `left` that come to
+/// `outer`.
 ///
 /// It is refused as `Large` exactly where it is past 2^127 - 1.
 pub fn coef(
@@ -33,27 +35,34 @@ pub fn coef(
     right: &Partition,
 ) -> Result<Int, SumFault>
     requires { size left.now + size right.now ≤ 4096 }
-    ensures count { IfOk result (λ c. c ≡ pos (product_count (rows outer.now) left.now right.now outer.now)) }
+    ensures count { IfOk result (λ c. c
+        ≡ pos (product_count (rows outer.now) left.now right.now outer.now)) }
     // Every list of terms that is this number is the answer.
-    ensures meets { IfOk result (λ c. (terms : TermList (kinds.Label kinds.number)) → number_in terms ≡ c
+    ensures meets { IfOk result (λ c. (terms : TermList (kinds.Label kinds.number))
+        → number_in terms ≡ c
         → Meets (commands.coef outer.now left.now right.now) (answer kinds.number terms)) }
-    ensures large { IsErrOf result SumFault.Large → HasPastCoefficient (commands.coef outer.now left.now right.now) }
-    ensures fits { OnOk result (HasPastCoefficient (commands.coef outer.now left.now right.now) → ⊥) }
+    ensures large { IsErrOf result SumFault.Large
+        → HasPastCoefficient (commands.coef outer.now left.now right.now) }
+    ensures fits { OnOk result (HasPastCoefficient (commands.coef outer.now left.now right.now)
+        → ⊥) }
 {
     count_in(alloc, outer, left, right)
 }
 
-/// The coefficient, as a count of lattice tableaux of the shape `outer` by the greater factor with the content of the other, as
-/// that shape is the smaller one.
+/// The coefficient, as a count of lattice tableaux of the shape `outer` by the greater factor with
+/// the content of the other, as that shape is the smaller one.
 fn count_in(
     alloc: Global,
     outer: &Partition,
     left: &Partition,
     right: &Partition,
 ) -> Result<Int, SumFault>
-    ensures value { IfOk result (λ c. c ≡ pos (product_count (rows outer.now) left.now right.now outer.now)) }
-    ensures large { IsErrOf result SumFault.Large → 2 ^ 127 ≤ product_count (rows outer.now) left.now right.now outer.now }
-    ensures fits { OnOk result (product_count (rows outer.now) left.now right.now outer.now < 2 ^ 127) }
+    ensures value { IfOk result (λ c. c
+        ≡ pos (product_count (rows outer.now) left.now right.now outer.now)) }
+    ensures large { IsErrOf result SumFault.Large
+        → 2 ^ 127 ≤ product_count (rows outer.now) left.now right.now outer.now }
+    ensures fits { OnOk result (product_count (rows outer.now) left.now right.now outer.now
+        < 2 ^ 127) }
     ensures factors { IsPartition outer.now × IsPartition left.now × IsPartition right.now }
 {
     if left.size() < right.size() {
@@ -62,17 +71,20 @@ fn count_in(
     count_inside(alloc, outer, left, right)
 }
 
-/// The count of the lattice tableaux of the shape `outer` by `inner` with a content. With no more letters than the content has
-/// parts there are the same.
+/// The count of the lattice tableaux of the shape `outer` by `inner` with a content. With no more
+/// letters than the content has parts there are the same.
 fn count_inside(
     alloc: Global,
     outer: &Partition,
     inner: &Partition,
     content: &Partition,
 ) -> Result<Int, SumFault>
-    ensures value { IfOk result (λ c. c ≡ pos (product_count (rows outer.now) inner.now content.now outer.now)) }
-    ensures large { IsErrOf result SumFault.Large → 2 ^ 127 ≤ product_count (rows outer.now) inner.now content.now outer.now }
-    ensures fits { OnOk result (product_count (rows outer.now) inner.now content.now outer.now < 2 ^ 127) }
+    ensures value { IfOk result (λ c. c
+        ≡ pos (product_count (rows outer.now) inner.now content.now outer.now)) }
+    ensures large { IsErrOf result SumFault.Large
+        → 2 ^ 127 ≤ product_count (rows outer.now) inner.now content.now outer.now }
+    ensures fits { OnOk result (product_count (rows outer.now) inner.now content.now outer.now
+        < 2 ^ 127) }
     ensures factors { IsPartition outer.now × IsPartition inner.now × IsPartition content.now }
 {
     if inner.size() + content.size() != outer.size() {
@@ -94,7 +106,8 @@ fn count_inside(
 /// The number of ways to come to a sum, or the cap where there are more.
 fn count_of(table: &IndexMap<State, u128>, parts: &[u16]) -> u128
     requires { ArePositive parts.now }
-    ensures agrees { Agree result (weighed (length parts.now) (comes_to parts.now) table.now.entries) }
+    ensures agrees { Agree result
+        (weighed (length parts.now) (comes_to parts.now) table.now.entries) }
     ensures within { result ≤ 2 ^ 127 }
 {
     let mut count: u128 = 0;

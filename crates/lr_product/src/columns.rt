@@ -1,5 +1,6 @@
 //! All columns of a shape added one by one, from the rightmost to the leftmost.
-ghost use Rattle.std.specs.Prelude.{◌≡◌, ℕ, ◌+◌, ◌≤◌, true, List, [], length, IfOk, OnOk};
+ghost use Rattle.std.specs.Prelude.{◌≡◌, ℕ, ◌+◌, ◌-◌, ◌*◌, ◌^◌, ◌≤◌, true, List, [], length, IfOk};
+ghost use Rattle.std.specs.Prelude.{OnOk};
 ghost use Rattle.sym_model.specs.Partition.{IsPartition, size, rows};
 ghost use Rattle.sym_model.specs.Polynomial.{resize};
 ghost use Rattle.sym_model.specs.Schur.{contains};
@@ -16,8 +17,9 @@ use indexmap::IndexMap;
 use partitions::Partition;
 use std::alloc::Global;
 
-/// For each sum that a start and the content of a good tableau come to the number of these tableaux, which are those of a skew
-/// shape in `letters` letters. Sums in which some number is greater than that of the bound at its place may be missing.
+/// For each sum that a start and the content of a good tableau come to the number of these
+/// tableaux, which are those of a skew shape in `letters` letters. Sums in which some number is
+/// greater than that of the bound at its place may be missing.
 pub(crate) fn ways_by_columns(
     alloc: Global,
     start: &[u16],
@@ -32,13 +34,44 @@ pub(crate) fn ways_by_columns(
     requires inside { contains outer.now inner.now ≡ true }
     requires size { size start.now + size outer.now ≤ 4096 }
     requires bound { length bound.now ≤ letters }
-    ensures ways { IfOk result (λ table. (f : List ℕ → ℕ) → VanishesOutside bound.now (λ ν right. f ν)
+    ensures ways { IfOk result (λ table. (f : List ℕ → ℕ)
+        → VanishesOutside bound.now (λ ν right. f ν)
         → Agree (weighed letters (λ ν right. f ν) table.entries)
-        (over_states letters (column_lines outer.now inner.now) (λ ν right. f ν) (resize letters start.now) [])) }
-    ensures reached { IfOk result (λ table. weighed letters (unreached letters 4096) table.entries ≡ 0) }
+        (over_states letters (column_lines outer.now inner.now) (λ ν right. f ν)
+        (resize letters start.now) [])) }
+    ensures reached { IfOk result
+        (λ table. weighed letters (unreached letters 4096) table.entries ≡ 0) }
     ensures shape { OnOk result (IsPartition outer.now) }
 {
-    let mut table = first_table(alloc, start, letters)?;
+    let starts = first_table(alloc, start, letters)?;
+    with_columns(alloc, starts, outer, inner, letters, bound)
+}
+
+/// The table after all columns of a skew shape in `letters` letters, within a bound.
+pub(crate) fn with_columns(
+    alloc: Global,
+    starts: IndexMap<State, u128>,
+    outer: &Partition,
+    inner: &[u16],
+    letters: u16,
+    bound: &[u16],
+) -> Result<IndexMap<State, u128>, NoMemory>
+    requires letters { letters ≤ 512 }
+    requires inside { contains outer.now inner.now ≡ true }
+    requires size { size outer.now ≤ 4096 }
+    requires reached { weighed letters (unreached letters (4096 - size outer.now)) starts.entries
+        ≡ 0 }
+    requires bound { length bound.now ≤ letters }
+    ensures ways { IfOk result (λ table. (f : List ℕ → ℕ)
+        → VanishesOutside bound.now (λ ν right. f ν)
+        → Agree (weighed letters (λ ν right. f ν) table.entries)
+        (weighed letters (over_states letters (column_lines outer.now inner.now) (λ ν right. f ν))
+        starts.entries)) }
+    ensures reached { IfOk result
+        (λ table. weighed letters (unreached letters 4096) table.entries ≡ 0) }
+    ensures shape { OnOk result (IsPartition outer.now) }
+{
+    let mut table = starts;
     let mut at = outer.part(1);
     while at > 0 {
         let line = line_of(alloc, outer.parts(), inner, at)?;
@@ -72,10 +105,26 @@ fn first_table(
     ensures { IfOk result (λ table. (f : List ℕ → List ℕ → ℕ)
         → Agree (weighed letters f table.entries) (f (resize letters start.now) [])) }
 {
-    let state = padded(alloc, start, letters)?;
     let mut table = IndexMap::new(alloc);
-    add(&mut table, &state, 1)?;
+    add_start(alloc, &mut table, start, letters, 1)?;
     Ok(table)
+}
+
+/// Adds a count to that of a start, padded with zeros and with no column.
+pub(crate) fn add_start(
+    alloc: Global,
+    table: &mut IndexMap<State, u128>,
+    start: &[u16],
+    letters: u16,
+    count: u128,
+) -> Result<(), NoMemory>
+    requires rows { rows start.now ≤ letters }
+    requires count { count ≤ 2 ^ 127 }
+    ensures { OnOk result ((f : List ℕ → List ℕ → ℕ) → Agree (weighed letters f table.new.entries)
+        (weighed letters f table.old.entries + count * f (resize letters start.now) [])) }
+{
+    let state = padded(alloc, start, letters)?;
+    add(table, &state, count)
 }
 
 /// The numbers with zeros after them, `len` in all.

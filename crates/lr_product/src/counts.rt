@@ -1,5 +1,6 @@
 //! Counts of good tableaux as lists of terms.
-ghost use Rattle.std.specs.Prelude.{◌≡◌, ℕ, ◌+◌, ◌^◌, ◌<◌, ◌≤◌, ◌+ℤ◌, List, [], true, pos, length, nat_eq, IfOk, OnOk, IsErrOf};
+ghost use Rattle.std.specs.Prelude.{◌≡◌, ℕ, ◌+◌, ◌^◌, ◌<◌, ◌≤◌, ◌+ℤ◌, List, [], true, pos, length};
+ghost use Rattle.std.specs.Prelude.{nat_eq, IfOk, OnOk, IsErrOf};
 ghost use Rattle.std.specs.Cmp.Lexicographic.{pointwise};
 ghost use Rattle.sym_model.specs.Partition.{IsPartition, size, rows, without_last_zeros};
 ghost use Rattle.sym_model.specs.Schur.{contains};
@@ -19,7 +20,8 @@ use linear_combinations::{Lin, Terms};
 use partitions::Partition;
 use std::alloc::Global;
 
-/// For each partition the number of good tableaux of a skew shape for a start, in `letters` letters, that come to it.
+/// For each partition the number of good tableaux of a skew shape for a start, in `letters`
+/// letters, that come to it.
 ///
 /// It is refused as `Large` exactly where such a number is past 2^127 - 1.
 pub(crate) fn good_counts(
@@ -34,9 +36,12 @@ pub(crate) fn good_counts(
     requires rows { rows start.now ≤ letters }
     requires inside { contains outer.now inner.now ≡ true }
     requires size { size start.now + size outer.now ≤ 4096 }
-    ensures counts { IfOk result (HasCounts letters (good_count letters start.now outer.now inner.now)) }
-    ensures fits { OnOk result ((parts : List ℕ) → good_count letters start.now outer.now inner.now parts < 2 ^ 127) }
-    ensures large { IsErrOf result SumFault.Large → IsPastSomewhere letters (good_count letters start.now outer.now inner.now) }
+    ensures counts { IfOk result (HasCounts letters
+        (good_count letters start.now outer.now inner.now)) }
+    ensures fits { OnOk result ((parts : List ℕ)
+        → good_count letters start.now outer.now inner.now parts < 2 ^ 127) }
+    ensures large { IsErrOf result SumFault.Large
+        → IsPastSomewhere letters (good_count letters start.now outer.now inner.now) }
 {
     let table = ways_by_columns(alloc, start, outer, inner, letters, &[])?;
     terms_of_table(alloc, &table, letters)
@@ -52,16 +57,19 @@ pub(crate) fn no_terms(alloc: Global) -> Result<Terms<Partition, Int>, SumFault>
 }
 
 /// The numbers of ways to come to each sum, by the partition that the sum is.
-fn terms_of_table(
+pub(crate) fn terms_of_table(
     alloc: Global,
     table: &IndexMap<State, u128>,
     letters: u16,
 ) -> Result<Terms<Partition, Int>, SumFault>
     requires letters { letters ≤ 512 }
     requires reached { weighed letters (unreached letters 4096) table.now.entries ≡ 0 }
-    ensures counts { IfOk result (HasCounts letters (λ parts. weighed letters (comes_to parts) table.now.entries)) }
-    ensures fits { OnOk result ((parts : List ℕ) → weighed letters (comes_to parts) table.now.entries < 2 ^ 127) }
-    ensures large { IsErrOf result SumFault.Large → IsPastSomewhere letters (λ parts. weighed letters (comes_to parts) table.now.entries) }
+    ensures counts { IfOk result (HasCounts letters
+        (λ parts. weighed letters (comes_to parts) table.now.entries)) }
+    ensures fits { OnOk result ((parts : List ℕ)
+        → weighed letters (comes_to parts) table.now.entries < 2 ^ 127) }
+    ensures large { IsErrOf result SumFault.Large
+        → IsPastSomewhere letters (λ parts. weighed letters (comes_to parts) table.now.entries) }
 {
     let mut terms: Lin<Partition, Int> = Lin::new(alloc);
     for at in 0..table.len() {
@@ -83,9 +91,11 @@ fn add_sum(
     ways: u128,
 ) -> Result<(), SumFault>
     requires { IsWithinLimits (without_last_zeros sum.now) }
-    ensures more { OnOk result (HasMoreAt (pointwise nat_eq) (pos 0) ◌+ℤ◌ terms.old (without_last_zeros sum.now) (pos ways) terms.new) }
+    ensures more { OnOk result (HasMoreAt (pointwise nat_eq) (pos 0) ◌+ℤ◌ terms.old
+        (without_last_zeros sum.now) (pos ways) terms.new) }
     ensures large { IsErrOf result SumFault.Large
-        → (n : ℕ) → coefficient (pointwise nat_eq) (pos 0) terms.old (without_last_zeros sum.now) ≡ pos n → 2 ^ 127 ≤ n + ways }
+        → (n : ℕ) → coefficient (pointwise nat_eq) (pos 0) terms.old (without_last_zeros sum.now)
+        ≡ pos n → 2 ^ 127 ≤ n + ways }
 {
     if ways >= CAP {
         return Err(SumFault::Large);

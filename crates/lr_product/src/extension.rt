@@ -17,17 +17,18 @@ use indexmap::IndexMap;
 pub(crate) struct Column {
     /// The number of letters.
     pub(crate) letters: u16,
-    /// Whether the column stands after the sum in the states that are reached, as a further column needs it.
+    /// Whether the column stands after the sum in the states that are reached,
+    /// as a further column needs it.
     pub(crate) is_kept: bool,
     /// The number of ways to reach the state that the column is added to.
     pub(crate) ways: u128,
 }
 
-/// Adds the ways to go on along a line, below the letter `above` and left of the column `right`, from a state with the sum
-/// reached and the letters of the column so far.
+/// Adds the ways to go on along a line, below the letter `above` and left of the column `right`,
+/// from a state with the sum reached and the letters of the column so far.
 ///
-/// The bound is the greatest that each place of the sum may be, as far as it goes. A letter with which the sum would not fall,
-/// or would leave the bound, is passed over, as no later letter mends it.
+/// The bound is the greatest that each place of the sum may be, as far as it goes. A letter with
+/// which the sum would not fall, or would leave the bound, is skipped, as no later letter mends it.
 pub(crate) fn extend(
     table: &mut IndexMap<State, u128>,
     state: &mut State,
@@ -48,8 +49,10 @@ pub(crate) fn extend(
     ensures adds { OnOk result ((f : List ℕ → List ℕ → ℕ) → VanishesOutside bound.now f
         → Agree (weighed column.letters f table.new.entries)
         (weighed column.letters f table.old.entries
-        + column.ways * extended column.is_kept column.letters line.now right.now above f state.old)) }
-    ensures reached { OnOk result ((m : ℕ) → size (take column.letters state.old) + length line.now ≤ m
+        + column.ways * extended column.is_kept column.letters line.now right.now above f
+        state.old)) }
+    ensures reached { OnOk result
+        ((m : ℕ) → size (take column.letters state.old) + length line.now ≤ m
         → weighed column.letters (unreached column.letters m) table.old.entries ≡ 0
         → weighed column.letters (unreached column.letters m) table.new.entries ≡ 0) }
 {

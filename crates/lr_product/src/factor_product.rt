@@ -1,5 +1,6 @@
 //! The product of several Schur polynomials in Schur polynomials.
-ghost use Rattle.std.specs.Prelude.{◌≡◌, ℕ, false, ◌+◌, List, Option, [], ◌∷◌, ◌^◌, ◌≤◌, ◌<◌, ◌↔◌, length, map, slice_get, Some, IsTrue, IfOk, OnOk, IsErrOf};
+ghost use Rattle.std.specs.Prelude.{◌≡◌, ℕ, false, ◌+◌, List, Option, [], ◌∷◌, ◌^◌, ◌≤◌, ◌<◌, ◌↔◌};
+ghost use Rattle.std.specs.Prelude.{length, map, slice_get, Some, IsTrue, IfOk, OnOk, IsErrOf};
 ghost use Rattle.std.specs.Option.{ForSome};
 ghost use Rattle.sym_model.specs.Partition.{size, rows as number_of_rows};
 ghost use Rattle.sym_model.specs.Sum.{Among};
@@ -21,18 +22,20 @@ use linear_combinations::Terms;
 use partitions::{Factors, Partition};
 use std::alloc::Global;
 
-/// The product of the Schur polynomials of all factors in Schur polynomials: in every number of variables, or, where
-/// `rows` is given, in so many, with the labels of at most so many rows alone.
+/// The product of the Schur polynomials of all factors in Schur polynomials: in every number of
+/// variables, or in K variables, with the labels of at most K rows alone, if `rows` is K.
 ///
-/// It is refused as `Large` exactly where a coefficient is past 2^127 - 1.
+/// It is refused as `Large` exactly if a coefficient exceeds 2^127 - 1.
 pub fn mult_all(
     alloc: Global,
     factors: &Factors,
     rows: Option<u16>,
 ) -> Result<Terms<Partition, Int>, SumFault>
     requires { ForSome rows (λ k. (1 ≤ k) × (k ≤ 512)) }
-    ensures meets { IfOk result (λ terms. Meets (commands.mult rows false factors.now) (answer kinds.product (as_fractions terms))) }
-    ensures large { IsErrOf result SumFault.Large → HasPastCoefficient (commands.mult rows false factors.now) }
+    ensures meets { IfOk result (λ terms.
+        Meets (commands.mult rows false factors.now) (answer kinds.product (as_fractions terms))) }
+    ensures large { IsErrOf result SumFault.Large
+        → HasPastCoefficient (commands.mult rows false factors.now) }
     ensures fits { OnOk result (HasPastCoefficient (commands.mult rows false factors.now) → ⊥) }
 {
     let variables = rows.unwrap_or(factors.rows().max(1));
@@ -52,7 +55,8 @@ fn factor_at(factors: &Factors, at: usize) -> &Partition
 
 /// Whether some factor has more than `k` rows.
 fn has_longer(factors: &Factors, k: u16) -> bool
-    ensures { IsTrue result ↔ ((parts : List ℕ) × Among parts factors.now × (k < number_of_rows parts)) }
+    ensures { IsTrue result ↔ ((parts : List ℕ) × Among parts factors.now
+        × (k < number_of_rows parts)) }
 {
     for at in 0..factors.len() {
         if factor_at(factors, at).rows() > k {
@@ -62,7 +66,7 @@ fn has_longer(factors: &Factors, k: u16) -> bool
     false
 }
 
-/// The product in so many variables, of factors with at most so many rows.
+/// The product in K variables of factors with at most K rows.
 fn product_in(
     alloc: Global,
     factors: &Factors,
@@ -70,10 +74,12 @@ fn product_in(
 ) -> Result<Terms<Partition, Int>, SumFault>
     requires variables { (1 ≤ variables) × (variables ≤ 512) }
     requires rows { (parts : List ℕ) → Among parts factors.now → number_of_rows parts ≤ variables }
-    ensures meets { IfOk result (λ terms. (given : Option ℕ) → IsShownIn given (size (map number_of_rows factors.now)) variables
+    ensures meets { IfOk result (λ terms. (given : Option ℕ)
+        → IsShownIn given (size (map number_of_rows factors.now)) variables
         → ExpandsInSchurs given (schur_product factors.now) (as_fractions terms)) }
     ensures small { OnOk result (AreSmallCounts (classical_product variables factors.now)) }
-    ensures large { IsErrOf result SumFault.Large → Reaches variables (2 ^ 127) (classical_product variables factors.now) }
+    ensures large { IsErrOf result SumFault.Large
+        → Reaches variables (2 ^ 127) (classical_product variables factors.now) }
 {
     let len = factors.len();
     let mut product = counts_in(

@@ -1,6 +1,8 @@
 //! The letters of a column, and what a letter does to a state.
-ghost use Rattle.std.specs.Prelude.{◌≡◌, ◌+◌, ◌-◌, ◌^◌, ◌<◌, ◌≤◌, ◌==◌, ◌||◌, List, ℕ, ◌++◌, length, drop, slice_index, OnOk, IfOk};
-ghost use Rattle.lr_product.specs.Extension.{raised, mark, can_rise as can_rise_at, least_letter as least_letter_of, letters_end};
+ghost use Rattle.std.specs.Prelude.{◌≡◌, ◌+◌, ◌-◌, ◌^◌, ◌<◌, ◌≤◌, ◌==◌, ◌||◌, List, ℕ, ◌++◌};
+ghost use Rattle.std.specs.Prelude.{length, drop, slice_index, OnOk, IfOk};
+ghost use Rattle.lr_product.specs.Extension.{raised, mark, can_rise as can_rise_at};
+ghost use Rattle.lr_product.specs.Extension.{least_letter as least_letter_of, letters_end};
 
 use crate::state::State;
 use calc_base::NoMemory;
@@ -62,8 +64,8 @@ pub(crate) fn rest_of(right: &[u16]) -> &[u16]
     if right.is_empty() { right } else { &right[1..] }
 }
 
-/// Raises the sum at a letter's place, and where the column is kept puts the letter, or a 0 outside the shape, at its end. It
-/// gives the length before.
+/// Raises the sum at a letter's place, and where the column is kept puts the letter, or a 0 outside
+/// the shape, at its end. It gives the length before.
 pub(crate) fn place(state: &mut State, letter: u16, is_kept: bool) -> Result<usize, NoMemory>
     requires within { letter ≤ length state.old }
     requires room { 0 < letter → slice_index state.old (letter - 1) < 2 ^ 16 - 1 }
@@ -94,7 +96,8 @@ fn raise(state: &mut State, letter: u16)
 /// Takes a letter back that was placed when the state had this length.
 pub(crate) fn take_back(state: &mut State, len: usize, letter: u16)
     requires within { letter ≤ length state.old }
-    ensures { (before after : List ℕ) → state.old ≡ raised letter before ++ after → length before ≡ len → letter ≤ len
+    ensures { (before after : List ℕ) → state.old ≡ raised letter before ++ after
+        → length before ≡ len → letter ≤ len
         → state.new ≡ before }
 {
     if letter > 0 {

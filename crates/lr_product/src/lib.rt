@@ -1,7 +1,8 @@
-//! Products of two to eight Schur polynomials, skew Schur polynomials and their coefficients, as counts of good tableaux.
+//! Products of two to eight Schur polynomials, skew Schur polynomials and their coefficients, as
+//! counts of good tableaux.
 //!
-//! The tableaux are counted column by column from the rightmost to the leftmost, in a table from the sum reached and the
-//! column added last to the number of ways.
+//! The tableaux are counted column by column from the rightmost to the leftmost, in a table from
+//! the sum reached and the column added last to the number of ways.
 //!
 //! What is proved:
 //!

@@ -1,45 +1,69 @@
-//! A list of terms times one factor more.
-ghost use Rattle.std.specs.Prelude.{◌≡◌, ◌+◌, ◌^◌, ◌≤◌, pos, ◌≤ℤ◌, nat_eq, [], ◌∷◌, IfOk, OnOk, IsErrOf};
+//! A list of terms times one factor more: all labels go through the columns of the factor together.
+ghost use Rattle.std.specs.Prelude.{◌≡◌, ℕ, ◌^◌, ◌≤◌, ℤ, pos, ◌≤ℤ◌, nat_eq, List, IfOk, OnOk};
+ghost use Rattle.std.specs.Prelude.{IsErrOf};
 ghost use Rattle.std.specs.Cmp.Lexicographic.{pointwise};
 ghost use Rattle.sym_model.specs.LabelLimits.{is_label};
-ghost use Rattle.sym_model.specs.Partition.{IsPartition, size, rows};
+ghost use Rattle.sym_model.specs.Partition.{IsPartition, rows};
 ghost use Rattle.sym_model.specs.Polynomial.{Same};
-ghost use Rattle.sym_model.specs.Target.{classical_product};
+ghost use Rattle.sym_model.specs.Sum.{Among};
 ghost use Rattle.coeff_rings.specs.Fractions.{whole};
 ghost use Rattle.linear_combinations.specs.Entries.{IsCombination};
-ghost use Rattle.linear_combinations.specs.Gains.{Gains, Overflows, scaled};
 ghost use Rattle.product_laws.specs.FactorSteps.{multiplied};
 ghost use Rattle.product_laws.specs.CountedProducts.{Reaches};
+ghost use Rattle.lr_product.specs.Capped.{Agree};
 ghost use Rattle.lr_product.specs.ProductOfFactors.{AreSmallCounts, AllMayMeet};
+ghost use Rattle.lr_product.specs.WeighedSum.{started, weighed};
 
-use crate::product::counts_in;
-use calc_base::SumFault;
+use crate::columns::{add_start, with_columns};
+use crate::counts::terms_of_table;
+use crate::state::State;
+use calc_base::{NoMemory, SumFault};
 use coeff_rings::Int;
-use linear_combinations::{Lin, Terms};
+use indexmap::IndexMap;
+use linear_combinations::Terms;
 use partitions::Partition;
 use std::alloc::Global;
 
-/// Adds the product of a label and a factor in so many variables, times a count.
-fn add_product(
-    alloc: Global,
-    sums: &mut Lin<Partition, Int>,
-    label: &Partition,
-    c: Int,
-    next: &Partition,
-    variables: u16,
-) -> Result<(), SumFault>
-    requires sizes { size label.now + size next.now ≤ 4096 }
-    requires variables { variables ≤ 512 }
-    requires count { pos 1 ≤ℤ c }
-    ensures gains { OnOk result (Gains sums.old (scaled c (classical_product variables (label.now ∷ next.now ∷ []))) sums.new) }
-    ensures large { IsErrOf result SumFault.Large
-        → Overflows (pointwise nat_eq) sums.old (scaled c (classical_product variables (label.now ∷ next.now ∷ []))) }
+/// The most rows that a label of a list has.
+fn most_rows(product: &Terms<Partition, Int>) -> u16
+    ensures most { (t : List ℕ × ℤ) → Among t product.now → rows t.0 ≤ result }
+    ensures within { result ≤ 512 }
 {
-    let terms = counts_in(alloc, label, next, variables)?;
-    sums.add_list(&terms, c)
+    let mut most = 0;
+    for (label, _) in product.iter() {
+        most = label.rows().max(most);
+    }
+    most
 }
 
-/// The list of the products of all labels and a factor in so many variables, each times the count of its label.
+/// The table that has each label, in `letters` places and with no column,
+/// as often as its coefficient says.
+fn starts_of(
+    alloc: Global,
+    product: &Terms<Partition, Int>,
+    letters: u16,
+) -> Result<IndexMap<State, u128>, NoMemory>
+    requires rows { (t : List ℕ × ℤ) → Among t product.now → rows t.0 ≤ letters }
+    requires counts { (t : List ℕ × ℤ) → Among t product.now → pos 1 ≤ℤ t.1 }
+    ensures { IfOk result (λ table. (f : List ℕ → List ℕ → ℕ)
+        → Agree (weighed letters f table.entries) (started letters f product.now)) }
+{
+    let mut table = IndexMap::new(alloc);
+    for (label, c) in product.iter() {
+        add_start(
+            alloc,
+            &mut table,
+            label.parts(),
+            letters,
+            c.get().unsigned_abs(),
+        )?;
+    }
+    Ok(table)
+}
+
+/// The list of the products of all labels and a factor in so many variables, each times the count
+/// of its label. More letters than a label and the factor have rows together count no more
+/// tableaux.
 ///
 /// It is refused as `Large` exactly where a coefficient is past 2^127 - 1.
 pub(crate) fn times_factor(
@@ -50,15 +74,16 @@ pub(crate) fn times_factor(
 ) -> Result<Terms<Partition, Int>, SumFault>
     requires variables { variables ≤ 512 }
     requires factor { IsPartition next.now }
-    requires terms { AllMayMeet next.now product.now }
-    ensures product { IfOk result (λ terms. Same terms (multiplied variables next.now product.now)) }
+    requires terms { AllMayMeet variables next.now product.now }
+    ensures product { IfOk result
+        (λ terms. Same terms (multiplied variables next.now product.now)) }
     ensures table { IfOk result (IsCombination (pointwise nat_eq) is_label whole) }
     ensures small { OnOk result (AreSmallCounts (multiplied variables next.now product.now)) }
-    ensures large { IsErrOf result SumFault.Large → Reaches variables (2 ^ 127) (multiplied variables next.now product.now) }
+    ensures large { IsErrOf result SumFault.Large
+        → Reaches variables (2 ^ 127) (multiplied variables next.now product.now) }
 {
-    let mut sums = Lin::new(alloc);
-    for (label, c) in product.iter() {
-        add_product(alloc, &mut sums, label, *c, next, variables)?;
-    }
-    Ok(sums.sorted_terms()?)
+    let letters = variables.min(most_rows(product) + next.rows());
+    let starts = starts_of(alloc, product, letters)?;
+    let table = with_columns(alloc, starts, next, &[], letters, &[])?;
+    terms_of_table(alloc, &table, letters)
 }

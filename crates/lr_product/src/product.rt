@@ -1,5 +1,6 @@
 //! Products of two Schur polynomials.
-ghost use Rattle.std.specs.Prelude.{◌≡◌, ◌+◌, ◌^◌, ◌<◌, ◌≤◌, ℕ, List, [], ◌∷◌, false, IfOk, OnOk, IfSome, IsErrOf};
+ghost use Rattle.std.specs.Prelude.{◌≡◌, ◌+◌, ◌^◌, ◌<◌, ◌≤◌, ℕ, List, [], ◌∷◌, false, IfOk, OnOk};
+ghost use Rattle.std.specs.Prelude.{IfSome, IsErrOf};
 ghost use Rattle.std.specs.Option.{ForSome};
 ghost use Rattle.sym_model.specs.Partition.{IsPartition, size, rows as number_of_rows};
 ghost use Rattle.sym_model.specs.Polynomial.{Same};
@@ -20,11 +21,12 @@ use linear_combinations::Terms;
 use partitions::Partition;
 use std::alloc::Global;
 
-/// The product of the Schur polynomials of `left` and `right` in Schur polynomials: in every number of variables, or,
-/// where `rows` is given, in so many, with the labels of at most so many rows alone. The coefficient of a label is the
-/// number of good tableaux of the shape `right` for the start `left` that come to it (Littlewood and Richardson).
+/// The product of the Schur polynomials of `left` and `right` in Schur polynomials: in every number
+/// of variables, or in K variables, with the labels of at most K rows alone, if `rows` is K. The
+/// coefficient of a label is the number of good tableaux of the shape `right` for the start `left`
+/// that reach it (Littlewood and Richardson).
 ///
-/// It is refused as `Large` exactly where a coefficient is past 2^127 - 1.
+/// It is refused as `Large` exactly if a coefficient exceeds 2^127 - 1.
 pub fn mult(
     alloc: Global,
     left: &Partition,
@@ -34,16 +36,23 @@ pub fn mult(
     requires sizes { size left.now + size right.now ≤ 4096 }
     requires lengths { number_of_rows left.now + number_of_rows right.now ≤ 512 }
     requires variables { ForSome rows (λ k. (1 ≤ k) × (k ≤ 512)) }
-    ensures meets { IfOk result (λ terms. Meets (commands.mult rows false (left.now ∷ right.now ∷ [])) (answer kinds.product (as_fractions terms))) }
+    ensures meets { IfOk result (λ terms.
+        Meets (commands.mult rows false (left.now ∷ right.now ∷ []))
+        (answer kinds.product (as_fractions terms))) }
 
     // The coefficients are counts of good tableaux.
-    ensures counts { IfOk result (λ terms. ListsCounts (variables_or rows (number_of_rows left.now + number_of_rows right.now))
-        (product_count (variables_or rows (number_of_rows left.now + number_of_rows right.now)) left.now right.now)
+    ensures counts { IfOk result (λ terms.
+        ListsCounts (variables_or rows (number_of_rows left.now + number_of_rows right.now))
+        (product_count (variables_or rows (number_of_rows left.now + number_of_rows right.now))
+        left.now right.now)
         (as_fractions terms)) }
-    ensures large { IsErrOf result SumFault.Large → HasPastCoefficient (commands.mult rows false (left.now ∷ right.now ∷ [])) }
-    ensures fits { OnOk result (HasPastCoefficient (commands.mult rows false (left.now ∷ right.now ∷ [])) → ⊥) }
+    ensures large { IsErrOf result SumFault.Large
+        → HasPastCoefficient (commands.mult rows false (left.now ∷ right.now ∷ [])) }
+    ensures fits { OnOk result (HasPastCoefficient
+        (commands.mult rows false (left.now ∷ right.now ∷ [])) → ⊥) }
 
-    // In a number of variables it is the classical product, and a coefficient that is too large makes the sum of all so.
+    // In a number of variables it is the classical product, and a coefficient that is too large
+    // makes the sum of all so.
     ensures classical { IfOk result (λ terms. IfSome rows (λ k.
         Same terms (classical_product k (left.now ∷ right.now ∷ [])))) }
     ensures heavy { IsErrOf result SumFault.Large → IfSome rows (λ k.
@@ -53,8 +62,9 @@ pub fn mult(
     counts_in(alloc, left, right, variables)
 }
 
-/// The counts of good tableaux of the shape `right` for the start `left`, for the partitions with at most so many rows as
-/// there are variables. With more letters than both factors have rows there are no more tableaux.
+/// The counts of good tableaux of the shape `right` for the start `left`, for the partitions with
+/// no more rows than there are variables. With more letters than both factors have rows there are
+/// no more tableaux.
 pub(crate) fn counts_in(
     alloc: Global,
     left: &Partition,
@@ -63,10 +73,13 @@ pub(crate) fn counts_in(
 ) -> Result<Terms<Partition, Int>, SumFault>
     requires sizes { size left.now + size right.now ≤ 4096 }
     requires variables { variables ≤ 512 }
-    ensures counts { IfOk result (HasCounts variables (product_count variables left.now right.now)) }
-    ensures fits { OnOk result ((parts : List ℕ) → IsPartition parts → number_of_rows parts ≤ variables
+    ensures counts { IfOk result (HasCounts variables
+        (product_count variables left.now right.now)) }
+    ensures fits { OnOk result ((parts : List ℕ) → IsPartition parts
+        → number_of_rows parts ≤ variables
         → product_count variables left.now right.now parts < 2 ^ 127) }
-    ensures large { IsErrOf result SumFault.Large → IsPastSomewhere variables (product_count variables left.now right.now) }
+    ensures large { IsErrOf result SumFault.Large
+        → IsPastSomewhere variables (product_count variables left.now right.now) }
     ensures factors { IsPartition left.now × IsPartition right.now }
 {
     let letters = variables.min(left.rows() + right.rows());

@@ -20,11 +20,12 @@ use linear_combinations::Terms;
 use partitions::Partition;
 use std::alloc::Global;
 
-/// The skew Schur polynomial of `outer` by `inner` in Schur polynomials: in every number of variables, or, where `rows`
-/// is given, in so many, with the labels of at most so many rows alone. It is 0 where `inner` does not lie inside `outer`;
-/// elsewhere the coefficient of a label is the number of lattice tableaux of the shape `outer` by `inner` with this content.
+/// The skew Schur polynomial of `outer` by `inner` in Schur polynomials: in every number of
+/// variables, or in K variables, with the labels of at most K rows alone, if `rows` is K. It is 0
+/// if `inner` does not lie inside `outer`; otherwise the coefficient of a label is the number of
+/// lattice tableaux of the shape `outer` by `inner` with this content.
 ///
-/// It is refused as `Large` exactly where a coefficient is past 2^127 - 1.
+/// It is refused as `Large` exactly if a coefficient exceeds 2^127 - 1.
 pub fn skew(
     alloc: Global,
     outer: &Partition,
@@ -32,14 +33,19 @@ pub fn skew(
     rows: Option<u16>,
 ) -> Result<Terms<Partition, Int>, SumFault>
     requires { ForSome rows (λ k. (1 ≤ k) × (k ≤ 512)) }
-    ensures meets { IfOk result (λ terms. Meets (commands.skew rows false outer.now inner.now) (answer kinds.product (as_fractions terms))) }
+    ensures meets { IfOk result (λ terms.
+        Meets (commands.skew rows false outer.now inner.now)
+        (answer kinds.product (as_fractions terms))) }
 
     // The coefficients are counts of lattice tableaux.
     ensures counts { contains outer.now inner.now ≡ true
-        → IfOk result (λ terms. ListsCounts (variables_or rows (number_of_rows outer.now)) (skew_count outer.now inner.now)
+        → IfOk result (λ terms. ListsCounts (variables_or rows (number_of_rows outer.now))
+        (skew_count outer.now inner.now)
         (as_fractions terms)) }
-    ensures large { IsErrOf result SumFault.Large → HasPastCoefficient (commands.skew rows false outer.now inner.now) }
-    ensures fits { OnOk result (HasPastCoefficient (commands.skew rows false outer.now inner.now) → ⊥) }
+    ensures large { IsErrOf result SumFault.Large
+        → HasPastCoefficient (commands.skew rows false outer.now inner.now) }
+    ensures fits { OnOk result (HasPastCoefficient (commands.skew rows false outer.now inner.now)
+        → ⊥) }
 {
     if !outer.contains(inner) {
         return no_terms(alloc);
@@ -48,8 +54,8 @@ pub fn skew(
     counts_in(alloc, outer, inner, variables)
 }
 
-/// The counts of lattice tableaux of the shape, for the partitions with at most so many rows as there are variables. With more
-/// letters than `outer` has rows there are no more tableaux.
+/// The counts of lattice tableaux of the shape, for the partitions with no more rows than there are
+/// variables. With more letters than `outer` has rows there are no more tableaux.
 fn counts_in(
     alloc: Global,
     outer: &Partition,
@@ -59,9 +65,11 @@ fn counts_in(
     requires inside { contains outer.now inner.now ≡ true }
     requires variables { variables ≤ 512 }
     ensures counts { IfOk result (HasCounts variables (skew_count outer.now inner.now)) }
-    ensures fits { OnOk result ((parts : List ℕ) → IsPartition parts → number_of_rows parts ≤ variables
+    ensures fits { OnOk result ((parts : List ℕ) → IsPartition parts
+        → number_of_rows parts ≤ variables
         → skew_count outer.now inner.now parts < 2 ^ 127) }
-    ensures large { IsErrOf result SumFault.Large → IsPastSomewhere variables (skew_count outer.now inner.now) }
+    ensures large { IsErrOf result SumFault.Large
+        → IsPastSomewhere variables (skew_count outer.now inner.now) }
     ensures shape { IsPartition outer.now × IsPartition inner.now }
 {
     let letters = variables.min(outer.rows());

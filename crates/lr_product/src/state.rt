@@ -1,23 +1,21 @@
 //! The key of the table: the sum reached and after it the column added last.
-ghost use Rattle.std.specs.Prelude.{◌≡◌, ◌+◌, ◌≤◌, ◌<◌, [], ◌∷◌, ◌++◌, length, nat_eq, take, slice_index, slice_set, OnOk, IfOk};
+ghost use Rattle.std.specs.Prelude.{◌≡◌, ◌+◌, ◌≤◌, ◌<◌, [], ◌∷◌, ◌++◌, length, nat_eq, take};
+ghost use Rattle.std.specs.Prelude.{slice_index, slice_set, OnOk, IfOk};
 ghost use Rattle.std.specs.Cmp.{partial_equiv_from_equiv};
 ghost use Rattle.std.specs.Cmp.Lexicographic.{pointwise, nat_list_eq_equiv};
 ghost use Rattle.std.specs.Hash as fed;
 ghost use Rattle.std.proofs.Common.{ap};
 ghost use Rattle.std.proofs.lemmas.Slice.Eq.{bytes_eq-Decides};
-ghost use Rattle.lr_product.specs.Mixing.{mixed as mixed_of};
+ghost use Rattle.calc_base.specs.Mixing.{mixed as mixed_of};
 
-use calc_base::NoMemory;
+use calc_base::{NoMemory, mixed};
 use smallvec::SmallVec;
 use std::alloc::Global;
 use std::hash::{Hash, Hasher};
 use std::marker::Model;
 
-/// The base of the digits that are mixed into one number: a prime.
-const BASE: u64 = 1_000_003;
-
-/// The sum reached, in as many places as there are letters, and after it the letters of a column. A contract sees the
-/// numbers. Up to 24 of them take no memory of their own.
+/// The sum reached, in as many places as there are letters, and after it the letters of a column. A
+/// contract sees the numbers. Up to 24 of them take no memory of their own.
 #[derive(Drop)]
 pub(crate) struct State {
     numbers: SmallVec<u16, 24>,
@@ -96,21 +94,11 @@ impl Eq for State {
 impl Hash for State {
     ghost hash_input = { λ numbers. fed.u64 (mixed_of 0 numbers) };
 
-    ghost respects_eq = { λ a b same. ap (λ numbers. fed.u64 (mixed_of 0 numbers)) ((bytes_eq-Decides a b).0 same) };
+    ghost respects_eq = { λ a b same. ap (λ numbers. fed.u64 (mixed_of 0 numbers))
+        ((bytes_eq-Decides a b).0 same) };
 
     /// Feeds one number: a hasher takes a list number by number, which costs a multiple.
     fn hash<H: Hasher>(&self, state: &mut H) {
         mixed(self.numbers()).hash(state);
     }
-}
-
-/// The numbers as the digits of one, modulo 2^64.
-fn mixed(numbers: &[u16]) -> u64
-    ensures { result ≡ mixed_of 0 numbers.now }
-{
-    let mut sum: u64 = 0;
-    for number in numbers {
-        sum = sum.wrapping_mul(BASE).wrapping_add(u64::from(*number));
-    }
-    sum
 }

@@ -1,8 +1,10 @@
 //! One more column added to each state of a table.
-ghost use Rattle.std.specs.Prelude.{◌≡◌, ℕ, ◌+◌, ◌-◌, ◌*◌, ◌^◌, ◌<◌, ◌≤◌, List, length, take, slice_get, true, OnOk, IfOk, Some};
+ghost use Rattle.std.specs.Prelude.{◌≡◌, ℕ, ◌+◌, ◌-◌, ◌*◌, ◌^◌, ◌<◌, ◌≤◌, List, length, take};
+ghost use Rattle.std.specs.Prelude.{slice_get, true, OnOk, IfOk, Some};
 ghost use Rattle.sym_model.specs.GoodTableau.{is_falling};
 ghost use Rattle.sym_model.specs.Partition.{size};
-ghost use Rattle.lr_product.specs.WeighedSum.{at_state, weighed, next_states, seen, unreached, VanishesOutside};
+ghost use Rattle.lr_product.specs.WeighedSum.{at_state, weighed, next_states, seen, unreached};
+ghost use Rattle.lr_product.specs.WeighedSum.{VanishesOutside};
 ghost use Rattle.lr_product.specs.Capped.{Agree};
 
 use crate::extension::{Column, extend};
@@ -23,11 +25,14 @@ pub(crate) fn with_column(
 ) -> Result<IndexMap<State, u128>, NoMemory>
     requires letters { letters ≤ 512 }
     requires bound { length bound.now ≤ letters }
-    requires reached { weighed letters (unreached letters (4096 - length line.now)) table.now.entries ≡ 0 }
+    requires reached { weighed letters
+        (unreached letters (4096 - length line.now)) table.now.entries ≡ 0 }
     requires short { length line.now ≤ 4096 }
     ensures counts { IfOk result (λ next. (f : List ℕ → List ℕ → ℕ) → VanishesOutside bound.now f
-        → Agree (weighed letters f next.entries) (weighed letters (next_states letters line.now (seen is_kept f)) table.now.entries)) }
-    ensures reached { IfOk result (λ next. (m : ℕ) → weighed letters (unreached letters m) table.now.entries ≡ 0
+        → Agree (weighed letters f next.entries)
+        (weighed letters (next_states letters line.now (seen is_kept f)) table.now.entries)) }
+    ensures reached { IfOk result
+        (λ next. (m : ℕ) → weighed letters (unreached letters m) table.now.entries ≡ 0
         → weighed letters (unreached letters (m + length line.now)) next.entries ≡ 0) }
 {
     let mut next = IndexMap::new(alloc);
@@ -66,12 +71,15 @@ fn add_columns(
     requires ways { column.ways ≤ 2 ^ 127 }
     requires long { 0 < column.ways → column.letters ≤ length state.now }
     requires falls { 0 < column.ways → is_falling (take column.letters state.now) ≡ true }
-    requires size { 0 < column.ways → size (take column.letters state.now) + length line.now ≤ 4096 }
+    requires size { 0 < column.ways
+        → size (take column.letters state.now) + length line.now ≤ 4096 }
     ensures adds { OnOk result ((f : List ℕ → List ℕ → ℕ) → VanishesOutside bound.now f
         → Agree (weighed column.letters f next.new.entries)
         (weighed column.letters f next.old.entries
-        + column.ways * at_state column.letters (next_states column.letters line.now (seen column.is_kept f)) state.now)) }
-    ensures reached { OnOk result ((m : ℕ) → (0 < column.ways → size (take column.letters state.now) + length line.now ≤ m)
+        + column.ways * at_state column.letters
+        (next_states column.letters line.now (seen column.is_kept f)) state.now)) }
+    ensures reached { OnOk result
+        ((m : ℕ) → (0 < column.ways → size (take column.letters state.now) + length line.now ≤ m)
         → weighed column.letters (unreached column.letters m) next.old.entries ≡ 0
         → weighed column.letters (unreached column.letters m) next.new.entries ≡ 0) }
 {

@@ -1,5 +1,6 @@
 //! A table from states to counts.
-ghost use Rattle.std.specs.Prelude.{◌≡◌, ℕ, ◌+◌, ◌*◌, ◌^◌, ◌<◌, ◌≤◌, List, ◌∷◌, [], ◌++◌, min, length, slice_get, OnOk};
+ghost use Rattle.std.specs.Prelude.{◌≡◌, ℕ, ◌+◌, ◌*◌, ◌^◌, ◌<◌, ◌≤◌, List, ◌∷◌, [], ◌++◌, min};
+ghost use Rattle.std.specs.Prelude.{length, slice_get, OnOk};
 ghost use Rattle.lr_product.specs.WeighedSum.{at_state, weighed};
 ghost use Rattle.lr_product.specs.Capped.{Agree};
 
@@ -18,7 +19,8 @@ pub(crate) fn add(
 ) -> Result<(), NoMemory>
     requires { count ≤ 2 ^ 127 }
     ensures { OnOk result ((n : ℕ) (f : List ℕ → List ℕ → ℕ)
-        → Agree (weighed n f table.new.entries) (weighed n f table.old.entries + count * at_state n f state.now)) }
+        → Agree (weighed n f table.new.entries)
+        (weighed n f table.old.entries + count * at_state n f state.now)) }
 {
     let (at, before) = table.insert_full(state.copy()?, count)?;
     if let Some(had) = before {
@@ -32,7 +34,8 @@ fn add_at(table: &mut IndexMap<State, u128>, at: usize, count: u128)
     requires { at < length table.old.entries }
     ensures { (key : List ℕ) (had : ℕ) → slice_get table.old.entries at ≡ Some (key, had)
         → (n : ℕ) (f : List ℕ → List ℕ → ℕ)
-        → Agree (weighed n f table.new.entries) (weighed n f table.old.entries + count * at_state n f key) }
+        → Agree (weighed n f table.new.entries)
+        (weighed n f table.old.entries + count * at_state n f key) }
 {
     let had = table[at];
     table[at] = had.saturating_add(count).min(CAP);

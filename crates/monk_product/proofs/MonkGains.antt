@@ -3,7 +3,6 @@ use Rattle.std.proofs.Common.{◌≡◌, ℕ, ◌+◌, ◌*◌, ◌^◌, ◌≤�
 use Rattle.std.specs.Prelude.{nat_abs, neg_ℤ, nat_eq}
 use Rattle.std.specs.Cmp.Lexicographic.{pointwise, nat_list_eq_equiv}
 use Rattle.std.proofs.lemmas.Bool.{and_parts}
-use Rattle.std.proofs.lemmas.Int.{ints}
 use Rattle.coeff_rings.specs.Fractions.{whole}
 use Rattle.sym_model.specs.DividedDifference.{variable_in}
 use Rattle.sym_model.specs.LabelLimits.{is_permutation_label}
@@ -12,7 +11,7 @@ use Rattle.sym_model.specs.Polynomial.{join, one, pair, same, times}
 use Rattle.sym_model.specs.Schubert as polynomials
 use Rattle.sym_model.specs.Schubert.{schubert_in}
 use Rattle.sym_model.specs.Sum.{Among}
-use Rattle.sym_model.specs.WholeTerms.{combined}
+use Rattle.sym_model.specs.WholeTerms.{combined, WholeTerms}
 use Rattle.sym_model.proofs.Exponents.{same_from}
 use Rattle.sym_model.proofs.Polynomials.{pair_determined, pair_ext, pair_factor, pair_total, pair_times, times_respects, Same_refl, Same_trans, In_restrict}
 use Rattle.sym_model.proofs.PolynomialLaws.{one-times}
@@ -20,29 +19,27 @@ use Rattle.sym_model.proofs.Ring.{product-one}
 use Rattle.sym_model.proofs.Sums.{total_among, total_ext}
 use Rattle.sym_model.proofs.WholeTerms.{pair_of_combined}
 use Rattle.schubert_laws.proofs.LowerPermutations.{identity_is_one}
-use Rattle.sparse_polys.specs.Labels.{same_partition}
+use Rattle.linear_combinations.specs.Labels.{same_partition}
 use Rattle.linear_combinations.specs.Gains.{mass_at, scaled, replaced, Gains, Overflows}
 use Rattle.linear_combinations.proofs.Totals.{term-among}
 use Rattle.linear_combinations.proofs.Gains.{replaced_over, scaled_append, mass_at_append, over_only_within, mass_at_within, gains_mass}
 use Rattle.linear_combinations.proofs.Masses.{scaled_each, labels_append, labels_each, labels_replaced, mass_replaced, mass_at_replaced, labels_gained}
-use Rattle.schubert_transition.proofs.Covers.{up_within, down_within}
-use Rattle.schubert_transition.proofs.Labels.{label_one_line}
-use Rattle.monk_product.specs.Monk.{Schuberts, IsTable, AreShort, over, mass, each_with, monk_terms, over_covers, greatest_length, count_of}
+use Rattle.transition_walk.proofs.Covers.{up_within, down_within}
+use Rattle.transition_walk.proofs.Labels.{label_one_line, one_one_line}
+use Rattle.monk_product.specs.Monk.{IsTable, AreShort, over, mass, each_with, monk_terms, over_covers, greatest_length, count_of}
 use Rattle.monk_product.specs.MonkLaws.{over_terms, mass_terms}
 use Rattle.monk_product.proofs.MonkSteps.{pair_monk}
 use Rattle.monk_product.proofs.OneCover.{one_cover}
+use Rattle.sym_model.proofs.Integers.{product-neg_one}
 
 -- ---- the terms of one product
-
-neg_one : (c : ℤ) → c *ℤ negsuc 0 ≡ neg_ℤ c
-neg_one c = omega (arith, ints)
 
 -- c times them, as they are added
 pub monk_scaled : (c : ℤ) (r : ℕ) (w : List ℕ) → each_with c (covers_up r w) ++ each_with (neg_ℤ c) (covers_down r w) ≡ scaled c (monk_terms r w)
 monk_scaled c r w =
     sym (scaled_append c (each_with (pos 1) (covers_up r w)) (each_with (negsuc 0) (covers_down r w))
     ∙ ap₂ (λ x y. x ++ y) (scaled_each c (pos 1) (covers_up r w) ∙ ap (λ z. each_with z (covers_up r w)) (product-one c))
-    (scaled_each c (negsuc 0) (covers_down r w) ∙ ap (λ z. each_with z (covers_down r w)) (neg_one c)))
+    (scaled_each c (negsuc 0) (covers_down r w) ∙ ap (λ z. each_with z (covers_down r w)) (product-neg_one c)))
 
 at_count : (x : List ℕ) (a : ℤ) (vs : List (List ℕ)) → nat_abs a ≡ 1 → mass_at (pointwise nat_eq) x (each_with a vs) ≤ count_of x vs
 at_count x a [] one = omega arith
@@ -64,7 +61,7 @@ once_terms r w x o h =
 
 -- ---- the product of a list
 
-module _ (r : ℕ) (first : 1 ≤ r) (list : Schuberts) where
+module _ (r : ℕ) (first : 1 ≤ r) (list : WholeTerms) where
   pub over_product : (φ : List ℕ → ℤ) → over φ (replaced (monk_terms r) list) ≡ over (over_covers r φ) list
   over_product φ =
       replaced_over (monk_terms r) φ list
@@ -73,7 +70,7 @@ module _ (r : ℕ) (first : 1 ≤ r) (list : Schuberts) where
   pub one_line : IsTable list → (t : List ℕ × ℤ) → Among t list → IsOneLine t.0
   one_line is t m = label_one_line t.0 (and_parts _ (is_permutation_label t.0) (term-among is_permutation_label whole list is.proper t m)).1
 
-  module _ (old new : Schuberts) where
+  module _ (old new : WholeTerms) where
     pub product_mass : IsTable new → Gains old (replaced (monk_terms r) list) new → (most : ℕ) → AreShort most list → r ≤ most → mass new ≤ mass old + mass list * most
     product_mass is gains most short last =
         let a = gains_mass nat_list_eq_equiv same_partition old (replaced (monk_terms r) list) new is gains in
@@ -113,16 +110,13 @@ module _ (r : ℕ) (first : 1 ≤ r) (list : Schuberts) where
       (sym (pair_times (variable_in r n) (schubert_in t.0 n) φ)
       ∙ pair_monk n r t.0 φ (one_line is t m) first)))
 
-pub longest : (terms : Schuberts) (r : ℕ) → AreShort (max r (greatest_length terms)) terms
+pub longest : (terms : WholeTerms) (r : ℕ) → AreShort (max r (greatest_length terms)) terms
 longest [] r t m = absurd m
 longest (u ∷ terms) r t (inl e) = let l = ap (λ (v : List ℕ × ℤ). length v.0) e in omega arith
 longest (u ∷ terms) r t (inr m) = let l = longest terms r t m in omega arith
 
-one_one_line : IsOneLine (1 ∷ [])
-one_one_line = record { letters = λ a m. elim m [ inl e ↦ (omega arith, omega arith) | inr k ↦ absurd k ]; once = ((λ m. m), tt) }
-
 -- the identity leaves the list
-pub alone : (n : ℕ) (φ : List ℕ → ℤ) (list : Schuberts) → over (λ x. pair (schubert_in x n) φ) list ≡ over (λ x. pair (times (schubert_in (1 ∷ []) n) (schubert_in x n)) φ) list
+pub alone : (n : ℕ) (φ : List ℕ → ℤ) (list : WholeTerms) → over (λ x. pair (schubert_in x n) φ) list ≡ over (λ x. pair (times (schubert_in (1 ∷ []) n) (schubert_in x n)) φ) list
 alone n φ list =
     total_ext (λ (t : List ℕ × ℤ). t.1 *ℤ pair (schubert_in t.0 n) φ) (λ (t : List ℕ × ℤ). t.1 *ℤ pair (times (schubert_in (1 ∷ []) n) (schubert_in t.0 n)) φ)
     (λ t. ap (λ z. t.1 *ℤ z)

@@ -2,9 +2,9 @@
 -- exchanged with.
 --     one_cover      it stands at most once in both lists of covers
 --     total_count    how often it stands there, as a sum
-use Rattle.std.proofs.Common.{◌≡◌, ℕ, zero, suc, ◌+◌, ◌-◌, ◌<◌, ◌≤◌, ◌==◌, max, Bool, true, false, cond, List, [], ◌∷◌, map, length, get_or, refl, sym, ap, ◌∙◌, subst, inl, inr, arith, length-append, eqb-true}
+use Rattle.std.proofs.Common.{◌≡◌, ℕ, zero, suc, ◌+◌, ◌-◌, ◌<◌, ◌≤◌, ◌==◌, max, Bool, true, false, cond, List, [], ◌∷◌, map, length, get_or, refl, sym, ap, ◌∙◌, subst, inl, inr, arith, length-append, eqb-true, filter}
 use Rattle.std.proofs.lemmas.Bool.{cases_lt, eq-eqb}
-use Rattle.sym_model.specs.Sum.{Among, Once, select}
+use Rattle.sym_model.specs.Sum.{Among, Once}
 use Rattle.sym_model.specs.Partition.{after}
 use Rattle.sym_model.specs.PlaceOrders.{inversions}
 use Rattle.sym_model.specs.Permutation.{IsOneLine, letter, with_fixed, swapped, times_swap, covers_up, covers_down}
@@ -110,19 +110,19 @@ hits_split w y a (suc m) n =
     omega arith
 
 counted : (x w : List ℕ) (r : ℕ) (test : List ℕ → Bool) (f : ℕ → List ℕ) (js : List ℕ) → ((j : ℕ) → Among j js → letter (f j) r ≡ letter w j)
-    → count_of x (select test (map f js)) ≤ hits w (letter x r) js
+    → count_of x (filter test (map f js)) ≤ hits w (letter x r) js
 counted x w r test f [] h = omega arith
 counted x w r test f (j ∷ js) h = by (test (f j)) (same (f j) x) refl (counted x w r test f js (λ k m. h k (inr m)))
   where
     here : same (f j) x ≡ true → (letter w j == letter x r) ≡ true
     here e = eq-eqb (letter w j) (letter x r) (sym (h j (inl refl)) ∙ ap (λ v. letter v r) (same_true (f j) x e))
 
-    by : (b s : Bool) → same (f j) x ≡ s → count_of x (select test (map f js)) ≤ hits w (letter x r) js
-        → count_of x (cond b (f j ∷ select test (map f js)) (select test (map f js))) ≤ cond (letter w j == letter x r) 1 0 + hits w (letter x r) js
+    by : (b s : Bool) → same (f j) x ≡ s → count_of x (filter test (map f js)) ≤ hits w (letter x r) js
+        → count_of x (cond b (f j ∷ filter test (map f js)) (filter test (map f js))) ≤ cond (letter w j == letter x r) 1 0 + hits w (letter x r) js
     by false s e l = omega arith
-    by true false e l = let p = ap (λ t. cond t 1 0 + count_of x (select test (map f js))) e in omega arith
+    by true false e l = let p = ap (λ t. cond t 1 0 + count_of x (filter test (map f js))) e in omega arith
     by true true e l =
-        let p = ap (λ t. cond t 1 0 + count_of x (select test (map f js))) e in
+        let p = ap (λ t. cond t 1 0 + count_of x (filter test (map f js))) e in
         let q = ap (λ t. cond t 1 0 + hits w (letter x r) js) (here e) in
         omega arith
 

@@ -1,5 +1,6 @@
 -- Lists of permutations with whole coefficients, and Monk's rule on them.
-use Rattle.std.specs.Prelude.{ℕ, ◌+◌, ◌≤◌, ℤ, pos, negsuc, ◌-ℤ◌, nat_eq, cond, max, List, [], ◌∷◌, ◌++◌, length}
+use Rattle.std.specs.Prelude.{ℕ, ◌+◌, ◌≤◌, ℤ, pos, negsuc, ◌-ℤ◌, nat_eq, cond, max, List, [], ◌∷◌}
+use Rattle.std.specs.Prelude.{◌++◌, length}
 use Rattle.std.specs.Cmp.Lexicographic.{pointwise}
 use Rattle.coeff_rings.specs.Fractions.{whole}
 use Rattle.sym_model.specs.Sum.{total, Among}
@@ -7,30 +8,29 @@ use Rattle.sym_model.specs.LabelLimits.{is_permutation_label}
 use Rattle.sym_model.specs.Polynomial.{same}
 use Rattle.sym_model.specs.Permutation.{covers_up, covers_down}
 use Rattle.linear_combinations.specs.Entries.{IsCombination}
-pub use Rattle.linear_combinations.specs.Gains.{WholeTermsOf, over, mass, each_with}
-
--- a sum of Schubert polynomials: a list of permutations with whole coefficients
-abbrev pub Schuberts : Type 0
-Schuberts = WholeTermsOf (List ℕ)
+pub use Rattle.linear_combinations.specs.Gains.{over, mass, each_with}
+use Rattle.sym_model.specs.WholeTerms.{WholeTerms}
 
 -- each permutation stands once, with a coefficient that is not 0
-abbrev pub IsTable : Schuberts → Type 0
+abbrev pub IsTable : WholeTerms → Type 0
 IsTable terms = IsCombination (pointwise nat_eq) is_permutation_label whole terms
 
 -- each label has at most so many letters
-abbrev pub AreShort : ℕ → Schuberts → Type 0
+abbrev pub AreShort : ℕ → WholeTerms → Type 0
 AreShort most terms = (t : List ℕ × ℤ) → Among t terms → length t.0 ≤ most
 
--- the product of a Schubert polynomial and x_r: the covers with the other place greater, less those with it smaller
-abbrev pub monk_terms : ℕ → List ℕ → Schuberts
+-- the product of a Schubert polynomial and x_r: the covers with the other place greater,
+-- less those with it smaller
+abbrev pub monk_terms : ℕ → List ℕ → WholeTerms
 monk_terms r w = each_with (pos 1) (covers_up r w) ++ each_with (negsuc 0) (covers_down r w)
 
--- the sum of a test function over the covers with the other place greater less that over those with it smaller
+-- the sum of a test function over the covers with the other place greater less that over those with
+-- it smaller
 abbrev pub over_covers : ℕ → (List ℕ → ℤ) → List ℕ → ℤ
 over_covers r φ w = total φ (covers_up r w) -ℤ total φ (covers_down r w)
 
 -- the greatest number of letters of a label, 0 for the empty list
-abbrev pub greatest_length : Schuberts → ℕ
+abbrev pub greatest_length : WholeTerms → ℕ
 greatest_length [] = 0
 greatest_length (t ∷ terms) = max (length t.0) (greatest_length terms)
 

@@ -1,5 +1,7 @@
--- What the impls of `TimesVar` cite: a product of Schubert polynomials under the transition rule, and the terms of Monk's rule.
-use Rattle.std.proofs.Common.{◌≡◌, ℕ, ◌+◌, ◌≤◌, max, true, List, length, sym, ap, ◌∙◌, arith, ℤ, pos, negsuc, ◌+ℤ◌, ◌-ℤ◌}
+-- What the impls of `TimesVar` cite: a product of Schubert polynomials under the transition rule,
+-- and the terms of Monk's rule.
+use Rattle.std.proofs.Common.{◌≡◌, ℕ, ◌+◌, ◌≤◌, max, true, List, length, sym, ap, ◌∙◌, arith, ℤ}
+use Rattle.std.proofs.Common.{pos, negsuc, ◌+ℤ◌}
 use Rattle.std.proofs.lemmas.Int.{ints}
 use Rattle.sym_model.specs.DividedDifference.{variable_in}
 use Rattle.sym_model.specs.LabelLimits.{is_permutation_label}
@@ -7,30 +9,35 @@ use Rattle.sym_model.specs.Permutation.{IsOneLine, IsTransition, times_swap, cov
 use Rattle.sym_model.specs.Polynomial.{Poly, plus, negate, times, pair}
 use Rattle.sym_model.specs.Schubert.{schubert_in, schuberts_in}
 use Rattle.sym_model.specs.Sum.{total}
-use Rattle.sym_model.proofs.Polynomials.{pair_plus, pair_negate, pair_times_each, pair_determined, Same_refl, Same_sym, times_respects}
-use Rattle.sym_model.proofs.PolynomialLaws.{times_comm, times_assoc, times-plus, times-negate}
+use Rattle.sym_model.proofs.Polynomials.{pair_times_each, pair_determined, Same_refl, Same_sym}
+use Rattle.sym_model.proofs.Polynomials.{times_respects}
+use Rattle.sym_model.proofs.PolynomialLaws.{times_comm, times_assoc, pair_times_comm}
+use Rattle.sym_model.proofs.PolynomialLaws.{pair_times_plus, pair_times_minus}
 use Rattle.sym_model.proofs.Sums.{total_ext}
 use Rattle.schubert_laws.proofs.Members.{place_within}
 use Rattle.schubert_laws.proofs.MonkFromOne.{monk_in}
 use Rattle.schubert_laws.proofs.TransitionFromOne.{transition}
 use Rattle.linear_combinations.proofs.Gains.{over_append, each_over}
 use Rattle.linear_combinations.proofs.Masses.{mass_append, mass_each, labels_append, labels_each}
-use Rattle.schubert_transition.specs.Transitions.{IsShort}
-use Rattle.schubert_transition.proofs.Covers.{count_covers, up_within, down_within}
-use Rattle.schubert_transition.proofs.Labels.{label_one_line}
+use Rattle.transition_walk.specs.Transitions.{IsShort}
+use Rattle.transition_walk.proofs.Covers.{count_covers, up_within, down_within}
+use Rattle.transition_walk.proofs.Labels.{label_one_line}
 use Rattle.transition_walk.specs.Growth.{GrowsBy}
 use Rattle.monk_product.specs.Monk.{over, mass, each_with, monk_terms, over_covers}
 
 pub over_terms : (r : ℕ) (φ : List ℕ → ℤ) (w : List ℕ) → over φ (monk_terms r w) ≡ over_covers r φ w
 over_terms r φ w =
-    let a = over_append φ (each_with (pos 1) (covers_up r w)) (each_with (negsuc 0) (covers_down r w)) in
+    let a =
+    over_append φ (each_with (pos 1) (covers_up r w))
+    (each_with (negsuc 0) (covers_down r w)) in
     let b = each_over (pos 1) φ (covers_up r w) in
     let c = each_over (negsuc 0) φ (covers_down r w) in
     omega (arith, ints)
 
 pub mass_terms : (r : ℕ) (w : List ℕ) → 1 ≤ r → mass (monk_terms r w) ≤ max (length w) r
 mass_terms r w h =
-    let a = mass_append (each_with (pos 1) (covers_up r w)) (each_with (negsuc 0) (covers_down r w)) in
+    let a =
+    mass_append (each_with (pos 1) (covers_up r w)) (each_with (negsuc 0) (covers_down r w)) in
     let b = mass_each (pos 1) (covers_up r w) in
     let c = mass_each (negsuc 0) (covers_down r w) in
     let n = count_covers r w h in
@@ -38,69 +45,88 @@ mass_terms r w h =
 
 -- ---- products under the transition rule
 
-pair_times_plus : (p f g : Poly) (φ : List ℕ → ℤ) → pair (times p (plus f g)) φ ≡ pair (times p f) φ +ℤ pair (times p g) φ
-pair_times_plus p f g φ = pair_determined (times p (plus f g)) (plus (times p f) (times p g)) φ (times-plus p f g) ∙ pair_plus (times p f) (times p g) φ
-
-pair_times_minus : (p f g : Poly) (φ : List ℕ → ℤ) → pair (times p (plus f (negate g))) φ ≡ pair (times p f) φ -ℤ pair (times p g) φ
-pair_times_minus p f g φ =
-    let a = pair_times_plus p f (negate g) φ in
-    let b = pair_determined (times p (negate g)) (negate (times p g)) φ (times-negate p g) in
-    let c = pair_negate (times p g) φ in
-    omega (arith, ints)
-
-pair_times_comm : (p f : Poly) (φ : List ℕ → ℤ) → pair (times p f) φ ≡ pair (times f p) φ
-pair_times_comm p f φ = pair_determined (times p f) (times f p) φ (times_comm p f)
-
 monk_step_of : (n r : ℕ) (p : Poly) (w : List ℕ) (φ : List ℕ → ℤ) → IsOneLine w → 1 ≤ r
-    → pair (times p (times (variable_in r n) (schubert_in w n))) φ ≡ over_covers r (λ x. pair (times p (schubert_in x n)) φ) w
+    → pair (times p (times (variable_in r n) (schubert_in w n))) φ
+    ≡ over_covers r (λ x. pair (times p (schubert_in x n)) φ) w
 monk_step_of n r p w φ o h =
-    let a = pair_determined (times p (times (variable_in r n) (schubert_in w n))) (times p (plus (schuberts_in (covers_up r w) n) (negate (schuberts_in (covers_down r w) n)))) φ
-    (times_respects p p (times (variable_in r n) (schubert_in w n)) (plus (schuberts_in (covers_up r w) n) (negate (schuberts_in (covers_down r w) n))) (Same_refl p) (monk_in w r n o h)) in
-    let b = pair_times_minus p (schuberts_in (covers_up r w) n) (schuberts_in (covers_down r w) n) φ in
+    let a =
+    pair_determined (times p (times (variable_in r n) (schubert_in w n)))
+    (times p (plus (schuberts_in (covers_up r w) n)
+    (negate (schuberts_in (covers_down r w) n)))) φ
+    (times_respects p p (times (variable_in r n) (schubert_in w n))
+    (plus (schuberts_in (covers_up r w) n) (negate (schuberts_in (covers_down r w) n)))
+    (Same_refl p) (monk_in w r n o h)) in
+    let b =
+    pair_times_minus p (schuberts_in (covers_up r w) n) (schuberts_in (covers_down r w) n) φ in
     let c = pair_times_each p (λ (x : List ℕ). schubert_in x n) (covers_up r w) φ in
     let d = pair_times_each p (λ (x : List ℕ). schubert_in x n) (covers_down r w) φ in
     omega (arith, ints)
 
-product_step : (n r s : ℕ) (φ : List ℕ → ℤ) (w label : List ℕ) → IsOneLine w → IsTransition w r s → IsOneLine label → 1 ≤ r
+product_step : (n r s : ℕ) (φ : List ℕ → ℤ) (w label : List ℕ) → IsOneLine w → IsTransition w r s
+    → IsOneLine label → 1 ≤ r
     → pair (times (schubert_in w n) (schubert_in label n)) φ
     ≡ over_covers r (λ x. pair (times (schubert_in (times_swap r s w) n) (schubert_in x n)) φ) label
-    +ℤ total (λ (x : List ℕ). pair (times (schubert_in x n) (schubert_in label n)) φ) (covers_down r (times_swap r s w))
+    +ℤ total (λ (x : List ℕ). pair (times (schubert_in x n) (schubert_in label n)) φ)
+    (covers_down r (times_swap r s w))
 product_step n r s φ w label o t q h =
     let x = variable_in r n in
     let term = schubert_in label n in
     let lower = schubert_in (times_swap r s w) n in
     let covers = schuberts_in (covers_down r (times_swap r s w)) n in
     let a = pair_times_comm (schubert_in w n) term φ in
-    let b = pair_determined (times term (schubert_in w n)) (times term (plus (times x lower) covers)) φ
-    (times_respects term term (schubert_in w n) (plus (times x lower) covers) (Same_refl term) (transition w r s n o t)) in
+    let b =
+    pair_determined (times term (schubert_in w n)) (times term (plus (times x lower) covers)) φ
+    (times_respects term term (schubert_in w n) (plus (times x lower) covers) (Same_refl term)
+    (transition w r s n o t)) in
     let c = pair_times_plus term (times x lower) covers φ in
-    let f = pair_determined (times term (times x lower)) (times (times term x) lower) φ (Same_sym (times (times term x) lower) (times term (times x lower)) (times_assoc term x lower)) in
+    let f =
+    pair_determined (times term (times x lower)) (times (times term x) lower) φ
+    (Same_sym (times (times term x) lower) (times term (times x lower))
+    (times_assoc term x lower)) in
     let g = pair_times_comm (times term x) lower φ in
-    let i = pair_determined (times lower (times term x)) (times lower (times x term)) φ (times_respects lower lower (times term x) (times x term) (Same_refl lower) (times_comm term x)) in
+    let i =
+    pair_determined (times lower (times term x)) (times lower (times x term)) φ
+    (times_respects lower lower (times term x) (times x term) (Same_refl lower)
+    (times_comm term x)) in
     let j = monk_step_of n r lower label φ q h in
-    let k = pair_times_each term (λ (x : List ℕ). schubert_in x n) (covers_down r (times_swap r s w)) φ in
-    let l = total_ext (λ (x : List ℕ). pair (times (schubert_in label n) (schubert_in x n)) φ) (λ (x : List ℕ). pair (times (schubert_in x n) (schubert_in label n)) φ)
-    (λ x. pair_times_comm (schubert_in label n) (schubert_in x n) φ) (covers_down r (times_swap r s w)) in
+    let k =
+    pair_times_each term (λ (x : List ℕ). schubert_in x n)
+    (covers_down r (times_swap r s w)) φ in
+    let l =
+    total_ext (λ (x : List ℕ). pair (times (schubert_in label n) (schubert_in x n)) φ)
+    (λ (x : List ℕ). pair (times (schubert_in x n) (schubert_in label n)) φ)
+    (λ x. pair_times_comm (schubert_in label n) (schubert_in x n) φ)
+    (covers_down r (times_swap r s w)) in
     omega (arith, ints)
 
-pub monk_step : (n r s : ℕ) (φ : List ℕ → ℤ) (w label : List ℕ) → IsOneLine w → IsTransition w r s → is_permutation_label label ≡ true
+pub monk_step : (n r s : ℕ) (φ : List ℕ → ℤ) (w label : List ℕ) → IsOneLine w → IsTransition w r s
+    → is_permutation_label label ≡ true
     → pair (times (schubert_in w n) (schubert_in label n)) φ
-    ≡ over (λ x. pair (times (schubert_in (times_swap r s w) n) (schubert_in x n)) φ) (monk_terms r label)
-    +ℤ total (λ (x : List ℕ). pair (times (schubert_in x n) (schubert_in label n)) φ) (covers_down r (times_swap r s w))
+    ≡ over (λ x. pair (times (schubert_in (times_swap r s w) n) (schubert_in x n)) φ)
+    (monk_terms r label)
+    +ℤ total (λ (x : List ℕ). pair (times (schubert_in x n) (schubert_in label n)) φ)
+    (covers_down r (times_swap r s w))
 monk_step n r s φ w label o t is =
     let p = place_within w r s o t in
     product_step n r s φ w label o t (label_one_line label is) p.0
-    ∙ ap (λ z. z +ℤ total (λ (x : List ℕ). pair (times (schubert_in x n) (schubert_in label n)) φ) (covers_down r (times_swap r s w)))
-    (sym (over_terms r (λ x. pair (times (schubert_in (times_swap r s w) n) (schubert_in x n)) φ) label))
+    ∙ ap (λ z. z +ℤ total (λ (x : List ℕ). pair (times (schubert_in x n) (schubert_in label n)) φ)
+    (covers_down r (times_swap r s w)))
+    (sym (over_terms r (λ x. pair (times (schubert_in (times_swap r s w) n) (schubert_in x n)) φ)
+    label))
 
 -- ---- how far a label grows
 
-pub monk_grows : (k r : ℕ) (v label : List ℕ) → IsShort k v → 1 ≤ r → r ≤ k → k ≤ 254 → length label ≤ k
+pub monk_grows : (k r : ℕ) (v label : List ℕ) → IsShort k v → 1 ≤ r → r ≤ k → r ≤ 255 → k ≤ 254
+    → length label ≤ k
     → GrowsBy length (λ w. (1 ≤ r) × (r ≤ 254) × (length w ≤ 254)) (monk_terms r) k 0 label
-monk_grows k r v label short first last small few = record {
+monk_grows k r v label short first last place small few = record {
   taken = (first, omega arith, omega arith);
-  labels = labels_append (λ x. length x ≤ k + 1) (each_with (pos 1) (covers_up r label)) (each_with (negsuc 0) (covers_down r label))
-      (labels_each (λ x. length x ≤ k + 1) (pos 1) (covers_up r label) (λ x m. up_within r (k + 1) label x first (omega arith) m))
-      (labels_each (λ x. length x ≤ k + 1) (negsuc 0) (covers_down r label) (λ x m. down_within r (k + 1) label x (omega arith) m));
+  labels =
+      labels_append (λ x. length x ≤ k + 1) (each_with (pos 1) (covers_up r label))
+      (each_with (negsuc 0) (covers_down r label))
+      (labels_each (λ x. length x ≤ k + 1) (pos 1) (covers_up r label)
+      (λ x m. up_within r (k + 1) label x first (omega arith) m))
+      (labels_each (λ x. length x ≤ k + 1) (negsuc 0) (covers_down r label)
+      (λ x m. down_within r (k + 1) label x (omega arith) m));
   few = let m = mass_terms r label first in omega arith;
 }

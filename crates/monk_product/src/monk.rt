@@ -18,7 +18,8 @@ use transition_walk::Factor;
 /// A list of Schubert polynomials with whole coefficients.
 pub(crate) type Sum = Lin<Perm, Int>;
 
-/// Monk's rule: x_r·S_w is the sum over the covers w·t_rj with j > r less the sum over the covers w·t_ir with i < r.
+/// Monk's rule: x_r·S_w is the sum over the covers w·t_rj with j > r less the sum over the covers
+/// w·t_ir with i < r.
 #[derive(Drop)]
 pub(crate) struct TimesVar {
     pub(crate) r: u16,
@@ -49,6 +50,8 @@ impl Factor<Perm> for TimesVar {
 
     ghost extent = { length };
 
+    ghost most = { 254 };
+
     ghost extra = { 0 };
 
     ghost product = { λ n φ w x. pair (times (schubert_in w n) (schubert_in x n)) φ };
@@ -62,16 +65,18 @@ impl Factor<Perm> for TimesVar {
     ghost grows = { monk_grows };
 }
 
-/// The product of a sum of Schubert polynomials and the variable x_r, by Monk's rule. The place r is from 1 to 254, and each
-/// label has at most 254 letters.
+/// The product of a sum of Schubert polynomials and the variable x_r, by Monk's rule. The place r
+/// is from 1 to 254, and each label has at most 254 letters.
 ///
-/// The weight of the product is at most that of the list times the greater of r and the greatest number of letters of a
-/// label. It is refused as `Large` only where the weight of the list is 2^127 or more.
+/// The weight of the product is at most that of the list times the greater of r and the greatest
+/// number of letters of a label. It is refused as `Large` only where the weight of the list is
+/// 2^127 or more.
 pub fn times_var(alloc: Global, list: Sum, r: u16) -> Result<Sum, SumFault>
     requires first { 1 ≤ r }
     requires last { r ≤ 254 }
     requires letters { AreShort 254 list }
-    ensures value { IfOk result (λ product. (n : ℕ) → Represents (λ w. schubert_in w n) (as_fractions product)
+    ensures value { IfOk result (λ product. (n : ℕ)
+        → Represents (λ w. schubert_in w n) (as_fractions product)
         (times (variable_in r n) (combined (λ w. schubert_in w n) list)) 1) }
     ensures weight { IfOk result (λ product. list_weight (as_fractions product)
         ≤ list_weight (as_fractions list) * max r (greatest_length list)) }

@@ -1,5 +1,6 @@
 //! The product of two Schubert polynomials.
-ghost use Rattle.std.specs.Prelude.{◌≡◌, ℕ, ◌+◌, ◌*◌, ◌^◌, ◌≤◌, max, nat_abs, length, IfOk, IsErrOf};
+ghost use Rattle.std.specs.Prelude.{◌≡◌, ℕ, ◌+◌, ◌*◌, ◌^◌, ◌≤◌, max, nat_abs, length, IfOk};
+ghost use Rattle.std.specs.Prelude.{IsErrOf};
 ghost use Rattle.sym_model.specs.Answer.{answer};
 ghost use Rattle.sym_model.specs.Command as commands;
 ghost use Rattle.sym_model.specs.Expansion.{Represents};
@@ -20,13 +21,15 @@ use perm_codes::Perm;
 use std::alloc::Global;
 use transition_walk::product_of;
 
-/// The product of the Schubert polynomials of two permutations, as a sum of Schubert polynomials in the printed order of
-/// their permutations. The greater number of letters and the smaller number of inversions add up to at most 255.
+/// The product of the Schubert polynomials of two permutations, as a sum of Schubert polynomials in
+/// the printed order of their permutations. The greater number of letters and the smaller number of
+/// inversions add up to at most 255.
 ///
 /// It is refused as `Large` only where the weight of the pair is 2^127 or more.
 pub fn schubmult(alloc: Global, u: &Perm, v: &Perm) -> Result<Terms<Perm, Int>, SumFault>
     requires { max (length u.now) (length v.now) + inversions (shorter u.now v.now) ≤ 255 }
-    ensures meets { IfOk result (λ terms. Meets (commands.schubmult u.now v.now) (answer permutations (as_fractions terms))) }
+    ensures meets { IfOk result (λ terms.
+        Meets (commands.schubmult u.now v.now) (answer permutations (as_fractions terms))) }
     ensures large { IsErrOf result SumFault.Large → IsHeavy (commands.schubmult u.now v.now) }
 {
     if u.inversions() <= v.inversions() {
@@ -36,12 +39,15 @@ pub fn schubmult(alloc: Global, u: &Perm, v: &Perm) -> Result<Terms<Perm, Int>, 
     }
 }
 
-/// The product, where the transition rule works off the first permutation on the Schubert polynomial of the second.
+/// The product, where the transition rule works off the first permutation on the Schubert
+/// polynomial of the second.
 fn act(alloc: Global, w: &Perm, other: &Perm) -> Result<Terms<Perm, Int>, SumFault>
     requires { max (length w.now) (length other.now) + inversions w.now ≤ 255 }
-    ensures value { IfOk result (λ terms. (n : ℕ) → Represents (λ x. schubert_in x n) (as_fractions terms)
+    ensures value { IfOk result (λ terms. (n : ℕ)
+        → Represents (λ x. schubert_in x n) (as_fractions terms)
         (times (schubert_in w.now n) (schubert_in other.now n)) 1) }
-    ensures large { IsErrOf result SumFault.Large → 2 ^ 127 ≤ nat_abs (value_at_ones (polynomials.schubert w.now))
+    ensures large { IsErrOf result SumFault.Large
+        → 2 ^ 127 ≤ nat_abs (value_at_ones (polynomials.schubert w.now))
         * (max (length w.now) (length other.now) + inversions w.now) ^ inversions w.now }
 {
     let sum = product_of::<Perm, TimesVar>(alloc, w, other)?;

@@ -1,6 +1,5 @@
 -- How a program counts the arrangements that make ν: part by part of ν, each taken as b from the one label and the rest
 -- from the other (specs/MonomialProduct).
---     arrangements-none     of the empty list
 --     arrangements-cons     of a list with a first part x: over the different parts b of the left label, and b = 0
 --     arrangements-lacking  none where a label has a part greater than all parts of ν
 --     arrangements-sizes    none where the sizes of the labels do not add up to that of ν
@@ -13,7 +12,7 @@ use Rattle.sym_model.specs.Polynomial.{same, coefficient, times}
 use Rattle.sym_model.specs.Partition.{IsPartition, size, insert_part, sorted_parts}
 use Rattle.sym_model.specs.Bases.{has, down_from, monomial}
 use Rattle.sym_model.specs.RaisedPart.{without_one, distinct}
-use Rattle.monomial_laws.specs.MonomialProduct.{splits, arrangements, AreBelow}
+use Rattle.monomial_laws.specs.MonomialProduct.{splits, arrangements}
 use Rattle.sym_model.proofs.Sums.{Among_from_each, Among_from_map, total_ext, total_among, total_none, total_exchange, total_zero, length-select}
 use Rattle.sym_model.proofs.Exponents.{tests_agree, same_true, same_from}
 use Rattle.sym_model.proofs.SortedParts.{size-sorted_parts, IsPartition-sorted_parts, IsPartition-without_one, insert_part-without_one, without_one-insert_part, has-insert_part, has_past, has-zero_or, without_one-zero}
@@ -21,6 +20,7 @@ use Rattle.sym_model.proofs.Monomials.{total_down_from-only, coefficient-monomia
 use Rattle.sym_model.proofs.PolynomialLaws.{times_comm}
 use Rattle.monomial_laws.proofs.PowerSums.{total_distinct-only}
 use Rattle.monomial_laws.proofs.Splits.{total_splits, length-splits, coefficient_times}
+use Rattle.sym_model.specs.Bounded.{AreBelow}
 
 -- 1 where the sorted parts of both are the labels
 abbrev sorts_to_both : List ℕ → List ℕ → List ℕ × List ℕ → ℤ
@@ -178,7 +178,7 @@ down_from-below zero b (inr m) = absurd m
 down_from-below (suc c) b (inl e) = omega arith
 down_from-below (suc c) b (inr m) = omega (arith, down_from-below c b m)
 
-sizes-splits : (ν : List ℕ) (s : List ℕ × List ℕ) → Among s (splits ν) → size s.0 + size s.1 ≡ size ν
+pub sizes-splits : (ν : List ℕ) (s : List ℕ × List ℕ) → Among s (splits ν) → size s.0 + size s.1 ≡ size ν
 sizes-splits [] s (inl e) = omega (arith, ap (λ (p : List ℕ × List ℕ). size p.0) e, ap (λ (p : List ℕ × List ℕ). size p.1) e)
 sizes-splits [] s (inr m) = absurd m
 sizes-splits (c ∷ ν) s m =

@@ -1,5 +1,5 @@
 -- Majorants of polynomials (specs/Majorant), and what they say of an expression.
---     majorant-times, -scale               majorants of products and multiples
+--     majorant-times                       majorants of products and multiples
 --     majorant-monomials, -product_over    (x_1 + .. + x_n)^d is a majorant of the atoms of degree d
 --     bounded_value                        N of an expression bounds its value
 --     coefficient_bound                    so each coefficient is at most N·d!/Π α_i! in absolute value
@@ -17,13 +17,14 @@ use Rattle.sym_model.specs.Expansion.{Basis, elementaries, completes, power_sums
 use Rattle.sym_model.specs.Expression.{Tree, number, fraction, atom, negation, sum, difference, product, degree, lcm, denominator, cleared_value}
 use Rattle.sym_model.specs.Weight.{factorial, numerator}
 use Rattle.monomial_laws.specs.MonomialProduct.{splits}
-use Rattle.monomial_laws.specs.Majorant.{IsMajorant, IsBounded, power, powers, factorials}
+use Rattle.monomial_laws.specs.Majorant.{IsMajorant, IsBounded, power, powers}
 use Rattle.sym_model.proofs.Sums.{total_none, Among_from_append, Among_from_each, Among_from_map}
 use Rattle.sym_model.proofs.Polynomials.{coefficient_plus, coefficient_scale, coefficient_negate, Same_sym, Same_refl, In_one, In_plus, In_scale, In_negate, In_times, coefficient_outside}
 use Rattle.sym_model.proofs.Monomials.{is_exponent_list, coefficient-monomials, In-monomials}
 use Rattle.monomial_laws.proofs.Splits.{coefficient_times}
 use Rattle.monomial_laws.proofs.Powers.{power-elsewhere, power-add, In-power, In-powers, In-product_over, power-nonnegative, power-positive, coefficient_power, coefficient-powers, sums, length-sums, powers-product, copies, length-copies, powers-append, powers-copies, powers-few}
 use Rattle.monomial_laws.proofs.SchurMajorants.{In-schur, majorant-schur}
+use Rattle.sym_model.specs.ListWeight.{factorials}
 use native.Mathlib.Nat.{mul-le-mul_left}
 use lib.IntN.{+ℤ_idr}
 

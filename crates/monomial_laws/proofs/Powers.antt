@@ -1,20 +1,19 @@
 -- The powers of x_1 + .. + x_n (specs/Majorant).
 --     power-add                   a product of two powers is a power
 --     coefficient_power           the coefficient of x^α times Π α_i! is d!, or 0 where α has another sum
---     coefficient_power-positive  so it is positive at each α with the sum d
 --     powers-product              a product of two sums of powers
-use Rattle.std.proofs.Common.{◌≡◌, ◌⊎◌, ℕ, zero, suc, ◌+◌, ◌-◌, ◌*◌, ◌<◌, ◌≤◌, Bool, true, false, ◌&&◌, cond, eqb, leb, List, [], ◌∷◌, ◌++◌, map, length, replicate, sym, ◌∙◌, ap, ap₂, subst, refl, inl, inr, arith, ℤ, pos, negsuc, ◌+ℤ◌, ◌*ℤ◌}
+use Rattle.std.proofs.Common.{◌≡◌, ◌⊎◌, ℕ, zero, suc, ◌+◌, ◌-◌, ◌*◌, ◌<◌, ◌≤◌, Bool, true, false, ◌&&◌, cond, eqb, leb, List, [], ◌∷◌, ◌++◌, map, length, replicate, sym, ◌∙◌, ap, ap₂, subst, refl, inl, inr, arith, ℤ, pos, negsuc, ◌+ℤ◌, ◌*ℤ◌, flat_map}
 use Rattle.std.specs.Prelude.{◌≤ℤ◌}
 use Rattle.std.proofs.lemmas.Int.{ints}
 use Rattle.std.proofs.lemmas.Bool.{cases_eq, eq-eqb, ne_eqb, eqb-true, leb-true, le-leb}
 use Rattle.std.proofs.lemmas.List.{length-append, length-map}
 use Rattle.sym_model.proofs.Exponents.{tests_agree}
-use Rattle.sym_model.specs.Sum.{total, each, Among}
+use Rattle.sym_model.specs.Sum.{total, Among}
 use Rattle.sym_model.specs.Polynomial.{Poly, same, coefficient, Same, In, one, join, pair, times}
-use Rattle.sym_model.specs.Partition.{size}
+use Rattle.sym_model.specs.Partition.{size, insert_part, sorted_parts}
 use Rattle.sym_model.specs.Bases.{power_sum_of, product_over}
 use Rattle.sym_model.specs.Weight.{factorial}
-use Rattle.monomial_laws.specs.Majorant.{power, powers, factorials}
+use Rattle.monomial_laws.specs.Majorant.{power, powers}
 use Rattle.sym_model.proofs.Ring.{one-product, product_assoc, distributes_right, negation-product}
 use Rattle.sym_model.proofs.Sums.{total_ext, total_append, total_map, total_scale, total_each, Among_from_append, Among-map, Among_from_map}
 use Rattle.sym_model.proofs.Polynomials.{at_only, coefficient_pair, pair_ext, pair_each, pair_times, pair_total, pair_determined, same_from_pair, Same_refl, Same_sym, Same_trans, times_respects, In_one, In_times, In_each, coefficient_outside}
@@ -23,6 +22,7 @@ use Rattle.sym_model.proofs.Monomials.{In-monomials}
 use Rattle.monomial_laws.specs.LoweredPart.{lowered}
 use Rattle.monomial_laws.proofs.PowerSums.{length-lowered, coefficient-power_sum_times}
 use Rattle.monomial_laws.proofs.Growths.{factorial-positive}
+use Rattle.sym_model.specs.ListWeight.{factorials}
 use native.Mathlib.Nat.{mul-le-mul_left}
 use lib.IntN.{*ℤ-zero, zero-*ℤ, *ℤ_comm}
 
@@ -199,7 +199,7 @@ coefficient-powers exponents n α =
 
 -- the exponents of a product of two sums of powers
 abbrev pub sums : List ℕ → List ℕ → List ℕ
-sums ds es = each (λ (d : ℕ). map (λ (e : ℕ). d + e) es) ds
+sums ds es = flat_map (λ (d : ℕ). map (λ (e : ℕ). d + e) es) ds
 
 pub powers-product : (ds es : List ℕ) (n : ℕ) → Same (powers (sums ds es) n) (times (powers ds n) (powers es n))
 powers-product ds es n =
@@ -268,3 +268,20 @@ powers-few ds n d α e i = rw (coefficient-powers ds n α) (by ds)
     by : (xs : List ℕ) → total (λ (x : ℕ). coefficient (power x n) α) xs ≤ℤ (pos (length xs) *ℤ coefficient (power d n) α)
     by [] = rw (zero-*ℤ (coefficient (power d n) α)) (omega (arith, ints))
     by (x ∷ xs) = add (length xs) (coefficient (power x n) α) (total (λ (x : ℕ). coefficient (power x n) α) xs) (coefficient (power d n) α) (one x) (by xs)
+
+pub factorials-insert : (a : ℕ) (parts : List ℕ) → factorials (insert_part a parts) ≡ factorial a * factorials parts
+factorials-insert zero parts = omega arith
+factorials-insert (suc a) [] = refl
+factorials-insert (suc a) (b ∷ parts) = by (leb b (suc a)) (factorials-insert (suc a) parts)
+  where
+    by : (t : Bool) → factorials (insert_part (suc a) parts) ≡ factorial (suc a) * factorials parts
+        → factorials (cond t (suc a ∷ b ∷ parts) (b ∷ insert_part (suc a) parts)) ≡ factorial (suc a) * factorials (b ∷ parts)
+    by true r = refl
+    by false r = ap (λ k. factorial b * k) r ∙ swapped (factorial b) (factorial (suc a)) (factorials parts)
+      where
+        swapped : (x y z : ℕ) → x * (y * z) ≡ y * (x * z)
+        swapped x y z = omega arith
+
+pub factorials-sorted : (α : List ℕ) → factorials (sorted_parts α) ≡ factorials α
+factorials-sorted [] = refl
+factorials-sorted (a ∷ α) = factorials-insert a (sorted_parts α) ∙ ap (λ k. factorial a * k) (factorials-sorted α)

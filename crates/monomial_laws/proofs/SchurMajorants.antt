@@ -1,11 +1,11 @@
 -- (x_1 + .. + x_n)^d is the sum of x^content over all words of d letters, and a filling is such a word, row by row:
 -- so (x_1 + .. + x_n)^|λ| is a majorant of s_λ.
-use Rattle.std.proofs.Common.{◌≡◌, ℕ, zero, suc, ◌+◌, ◌<◌, Bool, true, false, cond, eqb, List, [], ◌∷◌, ◌++◌, map, sym, ◌∙◌, ap, ap₂, subst, refl, inl, inr, arith, ℤ, pos, ◌+ℤ◌}
+use Rattle.std.proofs.Common.{◌≡◌, ℕ, zero, suc, ◌+◌, ◌<◌, Bool, true, false, cond, eqb, List, [], ◌∷◌, ◌++◌, map, sym, ◌∙◌, ap, ap₂, subst, refl, inl, inr, arith, ℤ, pos, ◌+ℤ◌, filter}
 use Rattle.std.specs.Prelude.{◌≤ℤ◌, nat_abs}
 use Rattle.std.proofs.lemmas.Int.{ints}
 use Rattle.std.proofs.lemmas.Bool.{eq-eqb, ne_eqb}
 use Rattle.std.proofs.lemmas.List.{length-map}
-use Rattle.sym_model.specs.Sum.{total, select, Among}
+use Rattle.sym_model.specs.Sum.{total, Among}
 use Rattle.sym_model.specs.Polynomial.{Term, same, coefficient, In, join, pair}
 use Rattle.sym_model.specs.Partition.{size, after}
 use Rattle.sym_model.specs.Bases.{power_sum_of}
@@ -120,12 +120,12 @@ In-schur parts n =
     (λ filling m. length-map (after 0 n) (λ (k : ℕ). times_in k (letters_of filling)) ∙ length_after 0 n)
 
 -- a sum over some of the elements of numbers that are not negative
-total_select-within : {A : Type 0} (f : A → ℤ) (test : A → Bool) (xs : List A) → ((x : A) → pos 0 ≤ℤ f x) → (pos 0 ≤ℤ total f (select test xs)) × (total f (select test xs) ≤ℤ total f xs)
+total_select-within : {A : Type 0} (f : A → ℤ) (test : A → Bool) (xs : List A) → ((x : A) → pos 0 ≤ℤ f x) → (pos 0 ≤ℤ total f (filter test xs)) × (total f (filter test xs) ≤ℤ total f xs)
 total_select-within f test [] h = (omega (arith, ints), omega (arith, ints))
 total_select-within {A} f test (x ∷ xs) h = by (test x) (h x) (total_select-within f test xs h)
   where
-    by : (b : Bool) → pos 0 ≤ℤ f x → (pos 0 ≤ℤ total f (select test xs)) × (total f (select test xs) ≤ℤ total f xs)
-        → (pos 0 ≤ℤ total f (cond b (x ∷ select test xs) (select test xs))) × (total f (cond b (x ∷ select test xs) (select test xs)) ≤ℤ (f x +ℤ total f xs))
+    by : (b : Bool) → pos 0 ≤ℤ f x → (pos 0 ≤ℤ total f (filter test xs)) × (total f (filter test xs) ≤ℤ total f xs)
+        → (pos 0 ≤ℤ total f (cond b (x ∷ filter test xs) (filter test xs))) × (total f (cond b (x ∷ filter test xs) (filter test xs)) ≤ℤ (f x +ℤ total f xs))
     by true p r = (omega (arith, ints, r.0, r.1), omega (arith, ints, r.0, r.1))
     by false p r = (r.0, omega (arith, ints, r.0, r.1))
 
@@ -133,14 +133,14 @@ pub majorant-schur : (parts : List ℕ) (n : ℕ) → IsMajorant (power (size pa
 majorant-schur parts n α =
     let here : List (List ℕ) → ℤ = λ (filling : List (List ℕ)). at_only α (content n (letters_of filling)) in
     let bound = total_select-within here (semistandard []) (fillings_of n (row_lengths parts [])) (λ filling. not_negative (same (content n (letters_of filling)) α)) in
-    let left : coefficient (schur parts n) α ≡ total here (select (semistandard []) (fillings_of n (row_lengths parts []))) =
+    let left : coefficient (schur parts n) α ≡ total here (filter (semistandard []) (fillings_of n (row_lengths parts []))) =
     total_map (λ (t : Term). cond (same t.0 α) t.1 (pos 0)) (λ (filling : List (List ℕ)). (content n (letters_of filling), pos 1)) (tableaux n parts []) in
     let right : coefficient (power (size parts) n) α ≡ total here (fillings_of n (row_lengths parts [])) =
     coefficient_pair (power (size parts) n) α
     ∙ pair-power (size parts) n (at_only α)
     ∙ ap (λ (l : List ℕ). total (λ (w : List ℕ). at_only α (content n w)) (words n (size l))) (sym (row_lengths-none parts))
     ∙ sym (total_fillings n (row_lengths parts []) (λ w. at_only α (content n w))) in
-    rw (left, right) (within (total here (select (semistandard []) (fillings_of n (row_lengths parts [])))) (total here (fillings_of n (row_lengths parts []))) bound.0 bound.1)
+    rw (left, right) (within (total here (filter (semistandard []) (fillings_of n (row_lengths parts [])))) (total here (fillings_of n (row_lengths parts []))) bound.0 bound.1)
   where
     not_negative : (b : Bool) → pos 0 ≤ℤ cond b (pos 1) (pos 0)
     not_negative true = omega (arith, ints)

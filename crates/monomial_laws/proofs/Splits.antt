@@ -1,6 +1,5 @@
 -- Products by their coefficients, and m_λ·m_μ (specs/MonomialProduct).
 --     coefficient_times        the coefficient of x^α in f·g: over all ways to split α
---     arrangements-sorted      in how many ways ν is a sum depends on its sorted parts alone
 --     monomial_product         m_λ·m_μ is each list of terms with these coefficients
 use Rattle.std.proofs.Common.{◌≡◌, ◌⊎◌, ℕ, zero, suc, ◌+◌, ◌-◌, ◌<◌, ◌≤◌, Bool, true, false, ◌&&◌, cond, eqb, leb, List, [], ◌∷◌, map, length, sym, ◌∙◌, ap, ap₂, refl, inl, inr, arith, ℤ, pos, ◌+ℤ◌, ◌*ℤ◌}
 use Rattle.std.proofs.lemmas.Bool.{cases_lt, le-leb, lt-leb, eq-eqb, ne_eqb, eqb-true}
@@ -138,7 +137,7 @@ coefficient_times n f g α i j long =
 -- ---- splits by their sorted parts
 
 -- the sum over the splits of ν of a number for the sorted parts of both
-abbrev sorted_total : (List ℕ → List ℕ → ℤ) → List ℕ → ℤ
+abbrev pub sorted_total : (List ℕ → List ℕ → ℤ) → List ℕ → ℤ
 sorted_total ψ ν = total (λ (s : List ℕ × List ℕ). ψ (sorted_parts s.0) (sorted_parts s.1)) (splits ν)
 
 sorted_total-ext : (ψ χ : List ℕ → List ℕ → ℤ) → ((x y : List ℕ) → ψ x y ≡ χ x y) → (ν : List ℕ) → sorted_total ψ ν ≡ sorted_total χ ν

@@ -3,7 +3,7 @@
 --     coefficient_within_growth      a coefficient is at most N times the growth at the degree
 --     product_within_growth          so is a coefficient of the product of two lists with absolute values
 --     weight-sum_left .. -product_right      no part of an expression has a greater weight than the whole
-use Rattle.std.proofs.Common.{◌≡◌, ◌⊎◌, ℕ, zero, suc, ◌+◌, ◌-◌, ◌*◌, ◌/◌, ◌^◌, ◌<◌, ◌≤◌, max, cond, List, [], ◌∷◌, length, sym, ◌∙◌, ap, ap₂, subst, refl, inl, inr, arith, ℤ, pos, ◌+ℤ◌, ◌*ℤ◌}
+use Rattle.std.proofs.Common.{◌≡◌, ◌⊎◌, ℕ, zero, suc, ◌+◌, ◌-◌, ◌*◌, ◌/◌, ◌^◌, ◌<◌, ◌≤◌, cond, List, [], ◌∷◌, length, sym, ◌∙◌, ap, ap₂, subst, refl, inl, inr, arith, ℤ, pos, ◌+ℤ◌, ◌*ℤ◌}
 use Rattle.std.specs.Prelude.{nat_abs, ◌≤ℤ◌}
 use Rattle.std.proofs.lemmas.Int.{ints}
 use Rattle.std.proofs.lemmas.Nat.{mul-le}
@@ -222,49 +222,6 @@ numerator-positive (difference e f) h =
     let r = mul-le (suc zero) (suc zero) (numerator e) q (numerator-positive e h.0) (complement_left e f h.0 h.1) in omega arith
 numerator-positive (product e f) h =
     let r = mul-le (suc zero) (suc zero) (numerator e) (numerator f) (numerator-positive e h.0) (numerator-positive f h.1) in omega arith
-
-three : (a b c x y z : ℕ) → a ≤ x → b ≤ y → c ≤ z → a * b * c ≤ x * y * z
-three a b c x y z h k l = mul-le (a * b) c (x * y) z (mul-le a b x y h k) l
-
--- both parts of a sum or a difference have no greater weight
-pub weight-left : (e f : Tree) → HasDenominators e → HasDenominators f → weight Basis.monomials e ≤ weight Basis.monomials (sum e f)
-weight-left e f h k =
-    let q = lcm (denominator e) (denominator f) / denominator e in
-    let r = lcm (denominator e) (denominator f) / denominator f in
-    let n = times-more (numerator e) q (complement_left e f h k) in
-    let d = times-more (denominator e) q (complement_left e f h k) in
-    let m = lcm-left (denominator e) (denominator f) (denominator-positive e h) in
-    three (numerator e) (denominator e) (growth Basis.monomials (degree e))
-    (numerator e * q + numerator f * r) (lcm (denominator e) (denominator f)) (growth Basis.monomials (max (degree e) (degree f)))
-    (omega arith) (omega arith) (growth-mono (degree e) (max (degree e) (degree f)) (omega arith))
-
-pub weight-right : (e f : Tree) → HasDenominators e → HasDenominators f → weight Basis.monomials f ≤ weight Basis.monomials (sum e f)
-weight-right e f h k =
-    let q = lcm (denominator e) (denominator f) / denominator e in
-    let r = lcm (denominator e) (denominator f) / denominator f in
-    let n = times-more (numerator f) r (complement_right e f h k) in
-    let d = times-more (denominator f) r (complement_right e f h k) in
-    let m = lcm-right (denominator e) (denominator f) in
-    three (numerator f) (denominator f) (growth Basis.monomials (degree f))
-    (numerator e * q + numerator f * r) (lcm (denominator e) (denominator f)) (growth Basis.monomials (max (degree e) (degree f)))
-    (omega arith) (omega arith) (growth-mono (degree f) (max (degree e) (degree f)) (omega arith))
-
--- and both factors of a product
-pub weight-left_factor : (e f : Tree) → HasDenominators e → HasDenominators f → weight Basis.monomials e ≤ weight Basis.monomials (product e f)
-weight-left_factor e f h k =
-    three (numerator e) (denominator e) (growth Basis.monomials (degree e))
-    (numerator e * numerator f) (denominator e * denominator f) (growth Basis.monomials (degree e + degree f))
-    (times-more (numerator e) (numerator f) (numerator-positive f k)) (times-more (denominator e) (denominator f) (denominator-positive f k))
-    (growth-mono (degree e) (degree e + degree f) (omega arith))
-
-pub weight-right_factor : (e f : Tree) → HasDenominators e → HasDenominators f → weight Basis.monomials f ≤ weight Basis.monomials (product e f)
-weight-right_factor e f h k =
-    let n = times-more (numerator f) (numerator e) (numerator-positive e h) in
-    let d = times-more (denominator f) (denominator e) (denominator-positive e h) in
-    three (numerator f) (denominator f) (growth Basis.monomials (degree f))
-    (numerator e * numerator f) (denominator e * denominator f) (growth Basis.monomials (degree e + degree f))
-    (omega arith) (omega arith)
-    (growth-mono (degree f) (degree e + degree f) (omega arith))
 
 -- the weight is at least N times the growth, and at least D
 pub growth-within_weight : (e : Tree) → HasDenominators e → numerator e * growth Basis.monomials (degree e) ≤ weight Basis.monomials e

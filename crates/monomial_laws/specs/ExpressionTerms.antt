@@ -1,20 +1,23 @@
--- Expressions as lists of terms in m, with no fraction on the way (this project's own).
+-- Expressions as lists of terms in m, with no fraction on the way.
 --
--- An expression E with the denominator D stands for V/D, V being its cleared value, a polynomial with whole coefficients.
+-- An expression E with the denominator D stands for V/D, V being its cleared value, a polynomial
+-- with whole coefficients.
 -- A conversion into m keeps D and a list of labels with whole coefficients that is V:
 --   a number, a fraction     the one term of the empty label
 --   an atom                  e_k, h_k and p_k as lists, multiplied over the parts
 --   a negation               each coefficient negated
 --   a sum, a difference      both lists times what is lacking to the least common multiple, then term by term
 --   a product                `product_coefficient` of the two lists
--- and at the end it divides each coefficient by D, in lowest terms. So every number on the way is a coefficient of a part
--- of the expression, and the weight bounds it.
-use Rattle.std.specs.Prelude.{ℕ, ◌*◌, ◌/◌, ◌<◌, ℤ, pos, nat_abs, ◌*ℤ◌, List, [], ◌∷◌, map, replicate}
+-- and at the end it divides each coefficient by D, in lowest terms. So every number on the way is a
+-- coefficient of a part of the expression, and the weight bounds it.
+use Rattle.std.specs.Prelude.{ℕ, ◌*◌, ◌/◌, ◌<◌, ℤ, pos, nat_abs, ◌*ℤ◌, List, [], ◌∷◌, map}
+use Rattle.std.specs.Prelude.{replicate}
 use Rattle.sym_model.specs.Polynomial.{Poly, Same}
 use Rattle.sym_model.specs.Bases.{monomial}
 use Rattle.sym_model.specs.PartitionList.{partitions_of}
 use Rattle.sym_model.specs.Expansion.{Terms, Fraction}
-use Rattle.sym_model.specs.Expression.{Tree, number, fraction, atom, negation, sum, difference, product, cleared_value}
+use Rattle.sym_model.specs.Expression.{Tree, number, fraction, atom, negation, sum, difference}
+use Rattle.sym_model.specs.Expression.{product, cleared_value}
 use Rattle.sym_model.specs.WholeTerms.{WholeTerms, combined}
 
 -- the polynomial in n variables of a list of terms in m

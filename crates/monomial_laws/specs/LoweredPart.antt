@@ -1,7 +1,8 @@
--- A number taken from one part (this project's own; it goes the other way from a raised part).
+-- A number taken from one part (it goes the other way from a raised part).
 use Rattle.std.specs.Prelude.{ℕ, ◌-◌, List, [], ◌∷◌, ◌++◌, map, cond, nat_le}
 
 -- the lists got by taking a from one number that is at least a
 abbrev pub lowered : ℕ → List ℕ → List (List ℕ)
 lowered a [] = []
-lowered a (c ∷ α) = cond (nat_le a c) (((c - a) ∷ α) ∷ []) [] ++ map (λ (γ : List ℕ). c ∷ γ) (lowered a α)
+lowered a (c ∷ α) =
+    cond (nat_le a c) (((c - a) ∷ α) ∷ []) [] ++ map (λ (γ : List ℕ). c ∷ γ) (lowered a α)

@@ -1,12 +1,13 @@
--- Bounds of all coefficients of a polynomial at once: majorants (Cauchy), here sums of powers of x_1 + .. + x_n.
--- The coefficient of x^α in (x_1 + .. + x_n)^d is the multinomial d!/Π α_i! where α has the sum d, and 0 elsewhere.
--- Sums and products of majorants are majorants of sums and products, so a bound is a list of the exponents of the
--- powers: sums append the lists, products add each exponent to each.
-use Rattle.std.specs.Prelude.{ℕ, ◌≤◌, pos, nat_abs, ◌≤ℤ◌, List, ◌∷◌, [], length, replicate, ◌*◌}
-use Rattle.sym_model.specs.Sum.{each, Among}
+-- Bounds of all coefficients of a polynomial at once: majorants (Cauchy),
+-- here sums of powers of x_1 + .. + x_n.
+-- The coefficient of x^α in (x_1 + .. + x_n)^d is the multinomial d!/Π α_i! where α has the sum d,
+-- and 0 elsewhere.
+-- Sums and products of majorants are majorants of sums and products, so a bound is a list of the
+-- exponents of the powers: sums append the lists, products add each exponent to each.
+use Rattle.std.specs.Prelude.{ℕ, ◌≤◌, pos, nat_abs, ◌≤ℤ◌, List, length, replicate, flat_map}
+use Rattle.sym_model.specs.Sum.{Among}
 use Rattle.sym_model.specs.Polynomial.{Poly, coefficient}
 use Rattle.sym_model.specs.Bases.{power_sum}
-use Rattle.sym_model.specs.Weight.{factorial}
 
 -- no coefficient of f is, in absolute value, greater than that of the majorant
 abbrev pub IsMajorant : Poly → Poly → Type 0
@@ -18,7 +19,7 @@ power d n = power_sum (replicate d 1) n
 
 -- the sum of the powers with the given exponents
 abbrev pub powers : List ℕ → ℕ → Poly
-powers exponents n = each (λ d. power d n) exponents
+powers exponents n = flat_map (λ d. power d n) exponents
 
 -- f has a majorant that is a sum of at most N powers of x_1 + .. + x_n, with exponents up to d
 pub record IsBounded (N d n : ℕ) (f : Poly) : Type 0 where
@@ -26,8 +27,3 @@ pub record IsBounded (N d n : ℕ) (f : Poly) : Type 0 where
   pub few : length exponents ≤ N
   pub low : (k : ℕ) → Among k exponents → k ≤ d
   pub majorant : IsMajorant (powers exponents n) f
-
--- Π α_i!
-abbrev pub factorials : List ℕ → ℕ
-factorials [] = 1
-factorials (a ∷ α) = factorial a * factorials α

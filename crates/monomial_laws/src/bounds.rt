@@ -5,16 +5,19 @@ ghost use Rattle.sym_model.specs.Polynomial.{coefficient};
 ghost use Rattle.sym_model.specs.Partition.{size};
 ghost use Rattle.sym_model.specs.Expression.{Tree, degree, cleared_value};
 ghost use Rattle.sym_model.specs.Weight.{factorial, numerator};
-ghost use Rattle.monomial_laws.specs.Majorant.{IsBounded, factorials};
+ghost use Rattle.monomial_laws.specs.Majorant.{IsBounded};
+ghost use Rattle.sym_model.specs.ListWeight.{factorials};
 
 /// The value of an expression, its fractions cleared, has as a majorant a sum of at most N powers
 /// of x₁ + .. + xₙ, N being the numerator of its weight, with exponents up to its degree. So the
 /// coefficient of x^α, α of size d, is at most N·d!/Π αᵢ! in absolute value, and 0 where d is past
 /// the degree.
 pub fn expression_bound_law()
-    ensures bounded { (e : Tree) (n : ℕ) → IsBounded (numerator e) (degree e) n (cleared_value e n) }
+    ensures bounded { (e : Tree) (n : ℕ)
+        → IsBounded (numerator e) (degree e) n (cleared_value e n) }
     ensures coefficients { (e : Tree) (n : ℕ) (α : List ℕ) → length α ≡ n
-        → nat_abs (coefficient (cleared_value e n) α) * factorials α ≤ numerator e * factorial (size α) }
+        → nat_abs (coefficient (cleared_value e n) α) * factorials α
+        ≤ numerator e * factorial (size α) }
     ensures no_higher { (e : Tree) (n : ℕ) (α : List ℕ) → length α ≡ n → degree e < size α
         → coefficient (cleared_value e n) α ≡ pos 0 }
 {}

@@ -15,10 +15,12 @@ ghost use Rattle.monomial_laws.specs.MonomialProduct.{arrangements, product_coef
 pub fn monomial_product_law()
     ensures product { (left right : List ℕ) (terms : WholeTerms)
         → ((ν : List ℕ) → IsPartition ν → coefficient terms ν ≡ pos (arrangements left right ν))
-        → (n : ℕ) → Same (times (monomial left n) (monomial right n)) (combined (λ label. monomial label n) terms) }
+        → (n : ℕ) → Same (times (monomial left n) (monomial right n))
+        (combined (λ label. monomial label n) terms) }
     ensures lists { (left right terms : WholeTerms)
         → ((ν : List ℕ) → IsPartition ν → coefficient terms ν ≡ product_coefficient left right ν)
-        → (n : ℕ) → Same (times (combined (λ label. monomial label n) left) (combined (λ label. monomial label n) right))
+        → (n : ℕ) → Same (times (combined (λ label. monomial label n) left)
+        (combined (λ label. monomial label n) right))
         (combined (λ label. monomial label n) terms) }
     ensures square { arrangements (1 ∷ []) (1 ∷ []) (2 ∷ []) ≡ 1 }
     ensures apart { arrangements (1 ∷ []) (1 ∷ []) (1 ∷ 1 ∷ []) ≡ 2 }

@@ -1,5 +1,5 @@
 -- The first arrangement of a list of numbers in falling lexicographic order, and the one that comes next.
-use Rattle.std.proofs.Common.{◌≡◌, ◌⊎◌, ℕ, zero, suc, ◌+◌, ◌-◌, ◌<◌, ◌≤◌, Bool, true, false, cond, eqb, List, [], ◌∷◌, ◌++◌, map, length, replicate, refl, sym, ap, ap₂, subst, ◌∙◌, inl, inr, arith, nat_le, reverse, take, drop, get_or, length-append, length-drop, length-take, append_assoc}
+use Rattle.std.proofs.Common.{◌≡◌, ◌⊎◌, ℕ, zero, suc, ◌+◌, ◌-◌, ◌<◌, ◌≤◌, Bool, true, false, cond, eqb, List, [], ◌∷◌, ◌++◌, map, length, replicate, refl, sym, ap, ap₂, subst, ◌∙◌, inl, inr, arith, nat_le, reverse, take, drop, get_or, length-append, length-drop, length-take, append_assoc, filter, flat_map}
 use Rattle.std.proofs.Math.Nat.{eq-or-lt_of_le}
 use Rattle.std.proofs.lemmas.List.{length-reverse, length-replicate, reverse-append, take-append-drop, get_or-take, get_or-append-add, take_more}
 use Rattle.std.proofs.lemmas.Bool.{cases_eq, eq-eqb, ne_eqb}
@@ -7,7 +7,6 @@ use Rattle.std.proofs.Math.ListN.{set}
 use Rattle.std.proofs.Math.Seq.{drop-cons, get_or-append_seam, set-append_seam}
 use Rattle.std.proofs.lemmas.List.Edits.{swap_is}
 use Rattle.std.specs.List.{swap}
-use Rattle.sym_model.specs.Sum.{each, select}
 use Rattle.sym_model.specs.Polynomial.{same}
 use Rattle.sym_model.specs.Partition.{Falls, IsPartition, ArePositive, size, insert_part, sorted_parts}
 use Rattle.sym_model.specs.Bases.{down_from, exponent_lists}
@@ -21,22 +20,23 @@ use Rattle.sym_model.proofs.Contents.{times_in-append}
 use Rattle.sym_model.proofs.Parts.{size-append, Falls-zeros, size-zeros}
 use Rattle.sym_model.proofs.Lists.{select-each, select-map, select-none, select-ext, each-ext}
 use Rattle.partitions.specs.Arranging.{beginning_with, beginning_below, arrangements_after, Rises}
+use Rattle.sym_model.specs.Bounded.{AreAtLeast}
 
 -- ---- lists that are chosen from
 
 -- where the greatest numbers give nothing
 each-skip :
     (f : ℕ → List (List ℕ)) (a b : ℕ) → b ≤ a → ((c : ℕ) → b < c → c ≤ a → f c ≡ [])
-    → each f (down_from a) ≡ each f (down_from b)
-each-skip f zero b h none = let e : 0 ≡ b = omega arith in ap (λ n. each f (down_from n)) e
+    → flat_map f (down_from a) ≡ flat_map f (down_from b)
+each-skip f zero b h none = let e : 0 ≡ b = omega arith in ap (λ n. flat_map f (down_from n)) e
 each-skip f (suc a) b h none =
     by (eq-or-lt_of_le {n = b} {m = suc a} h) (λ l. each-skip f a b l (λ c p q. none c p (omega arith)))
   where
-    by : (b ≡ suc a) ⊎ (b < suc a) → (b ≤ a → each f (down_from a) ≡ each f (down_from b)) → each f (down_from (suc a)) ≡ each f (down_from b)
-    by (inl e) rest = ap (λ n. each f (down_from n)) (sym e)
-    by (inr l) rest = ap (λ xs. xs ++ each f (down_from a)) (none (suc a) l (omega arith)) ∙ rest (omega arith)
+    by : (b ≡ suc a) ⊎ (b < suc a) → (b ≤ a → flat_map f (down_from a) ≡ flat_map f (down_from b)) → flat_map f (down_from (suc a)) ≡ flat_map f (down_from b)
+    by (inl e) rest = ap (λ n. flat_map f (down_from n)) (sym e)
+    by (inr l) rest = ap (λ xs. xs ++ flat_map f (down_from a)) (none (suc a) l (omega arith)) ∙ rest (omega arith)
 
-each-none : (f : ℕ → List (List ℕ)) (a : ℕ) → ((c : ℕ) → c ≤ a → f c ≡ []) → each f (down_from a) ≡ []
+each-none : (f : ℕ → List (List ℕ)) (a : ℕ) → ((c : ℕ) → c ≤ a → f c ≡ []) → flat_map f (down_from a) ≡ []
 each-none f zero none = ap (λ xs. xs ++ []) (none 0 (omega arith))
 each-none f (suc a) none =
     ap₂ (λ xs ys. xs ++ ys) (none (suc a) (omega arith)) (each-none f a (λ c h. none c (omega arith)))
@@ -66,7 +66,7 @@ sorted-from_counts α β h =
 
 -- ---- which lists begin with a number
 
--- none, where the number is none of the numbers
+-- none, where the number is not one of the numbers
 absent : (c : ℕ) (α : List ℕ) (n d : ℕ) → 0 < c → times_in c α ≡ 0 → beginning_with c (sorted_parts α) n d ≡ []
 absent c α n d p none =
     ap (map (λ β. c ∷ β))
@@ -106,14 +106,14 @@ no_zero α n d p h =
 
 -- the lists of n numbers with the sum d that sort to these parts
 abbrev pub sorting_to : List ℕ → ℕ → ℕ → List (List ℕ)
-sorting_to parts n d = select (λ α. same (sorted_parts α) parts) (exponent_lists n d)
+sorting_to parts n d = filter (λ α. same (sorted_parts α) parts) (exponent_lists n d)
 
 sorting_to-each :
-    (parts : List ℕ) (n d : ℕ) → sorting_to parts (suc n) d ≡ each (λ b. beginning_with b parts n d) (down_from d)
+    (parts : List ℕ) (n d : ℕ) → sorting_to parts (suc n) d ≡ flat_map (λ b. beginning_with b parts n d) (down_from d)
 sorting_to-each parts n d =
     let test = λ (α : List ℕ). same (sorted_parts α) parts in
     select-each test (λ a. map (λ α. a ∷ α) (exponent_lists n (d - a))) (down_from d)
-    ∙ each-ext (λ a. select test (map (λ α. a ∷ α) (exponent_lists n (d - a)))) (λ b. beginning_with b parts n d) (down_from d)
+    ∙ each-ext (λ a. filter test (map (λ α. a ∷ α) (exponent_lists n (d - a)))) (λ b. beginning_with b parts n d) (down_from d)
     (λ a. select-map test (λ α. a ∷ α) (exponent_lists n (d - a)))
 
 -- the lists that begin with the first number of b ∷ g, where g is the first arrangement of the others
@@ -130,7 +130,7 @@ beginning_with-head b g first =
 
 head :
     (b : ℕ) (g : List ℕ) → sorting_to (sorted_parts g) (length g) (size g) ≡ g ∷ arrangements_after g
-    → each (λ c. beginning_with c (sorted_parts (b ∷ g)) (length g) (b + size g)) (down_from b)
+    → flat_map (λ c. beginning_with c (sorted_parts (b ∷ g)) (length g) (b + size g)) (down_from b)
     ≡ (b ∷ g) ∷ arrangements_after (b ∷ g)
 unfolding arrangements_after
 head zero g first = ap (λ xs. xs ++ []) (beginning_with-head zero g first)
@@ -193,7 +193,7 @@ arrangements_after-rising (a ∷ s) r =
         each_number (suc c) h z =
             absent (suc c) (suc b ∷ s) (length s) (suc b + size s) (omega arith) (smaller_absent (suc c) (suc b) s r (omega arith))
 
--- where the numbers behind the first rise: the greatest number that is smaller than the first comes to the front, and
+-- where the numbers after the first rise: the greatest number that is smaller than the first comes to the front, and
 -- the others fall
 pub arrangements_after-step :
     (a b : ℕ) (s g : List ℕ) → Rises s → Falls g → b < a → length s ≡ length g
@@ -209,8 +209,8 @@ arrangements_after-step (suc a) b s g r f h l counts between =
     (arrangements_after-rising s r)
     ∙ each-skip (λ c. beginning_with c (sorted_parts (suc a ∷ s)) (length s) (suc a + size s)) a b (omega arith)
     (λ c p q. absent c (suc a ∷ s) (length s) (suc a + size s) (omega arith) (between c p (omega arith)))
-    ∙ ap (λ xs. each (λ c. beginning_with c xs (length s) (suc a + size s)) (down_from b)) parts
-    ∙ ap₂ (λ n d. each (λ c. beginning_with c (sorted_parts (b ∷ g)) n d) (down_from b)) l sum
+    ∙ ap (λ xs. flat_map (λ c. beginning_with c xs (length s) (suc a + size s)) (down_from b)) parts
+    ∙ ap₂ (λ n d. flat_map (λ c. beginning_with c (sorted_parts (b ∷ g)) n d) (down_from b)) l sum
     ∙ head b g (first_arrangement g f)
 
 -- the numbers in front stay
@@ -237,11 +237,6 @@ arrangements_after-append (a ∷ front) now next h p l =
 
 -- ---- the exchange of a number with the first smaller one of a falling list
 
--- each number is at least a
-abbrev pub AtLeast : ℕ → List ℕ → Type 0
-AtLeast a [] = Unit {0}
-AtLeast a (b ∷ numbers) = (a ≤ b) × AtLeast a numbers
-
 reverse-cons : (a : ℕ) (s : List ℕ) → reverse (a ∷ s) ≡ reverse s ++ a ∷ []
 reverse-cons a s = reverse-append (a ∷ []) s
 
@@ -257,34 +252,34 @@ times_in-exchange k a b front back =
     omega (arith, times_in-append k front (b ∷ back), times_in-append k front (a ∷ back))
 
 Falls-exchange :
-    (a b : ℕ) (front back : List ℕ) → Falls (front ++ b ∷ back) → AtLeast a front → b < a → Falls (front ++ a ∷ back)
+    (a b : ℕ) (front back : List ℕ) → Falls (front ++ b ∷ back) → AreAtLeast a front → b < a → Falls (front ++ a ∷ back)
 Falls-exchange a b [] [] f m h = tt
 Falls-exchange a b [] (c ∷ back) f m h = (omega (arith, f.0), f.1)
 Falls-exchange a b (x ∷ []) back f m h = (m.0, Falls-exchange a b [] back f.1 tt h)
 Falls-exchange a b (x ∷ y ∷ front) back f m h = (f.0, Falls-exchange a b (y ∷ front) back f.1 m.1 h)
 
 absent_between :
-    (c a b : ℕ) (front back : List ℕ) → Falls (front ++ b ∷ back) → AtLeast a front → b < c → c < a
+    (c a b : ℕ) (front back : List ℕ) → Falls (front ++ b ∷ back) → AreAtLeast a front → b < c → c < a
     → times_in c (front ++ b ∷ back) ≡ 0
 absent_between c a b [] back f m h l = greater_absent c b back f h
 absent_between c a b (x ∷ front) back f m h l =
     ap (λ t. cond t 1 0 + times_in c (front ++ b ∷ back)) (ne_eqb x c (omega (arith, m.0)))
     ∙ omega (arith, absent_between c a b front back (Falls_tail x (front ++ b ∷ back) f) m.1 h l)
 
-Falls-push : (ys : List ℕ) (x : ℕ) → Falls ys → AtLeast x ys → Falls (ys ++ x ∷ [])
+Falls-push : (ys : List ℕ) (x : ℕ) → Falls ys → AreAtLeast x ys → Falls (ys ++ x ∷ [])
 Falls-push [] x f m = tt
 Falls-push (a ∷ []) x f m = (m.0, tt)
 Falls-push (a ∷ b ∷ ys) x f m = (f.0, Falls-push (b ∷ ys) x f.1 m.1)
 
-AtLeast-push : (a : ℕ) (ys : List ℕ) (x : ℕ) → AtLeast a ys → a ≤ x → AtLeast a (ys ++ x ∷ [])
+AtLeast-push : (a : ℕ) (ys : List ℕ) (x : ℕ) → AreAtLeast a ys → a ≤ x → AreAtLeast a (ys ++ x ∷ [])
 AtLeast-push a [] x m h = (h, tt)
 AtLeast-push a (b ∷ ys) x m h = (m.0, AtLeast-push a ys x m.1 h)
 
-AtLeast-reverse : (a : ℕ) (s : List ℕ) → AtLeast a s → AtLeast a (reverse s)
+AtLeast-reverse : (a : ℕ) (s : List ℕ) → AreAtLeast a s → AreAtLeast a (reverse s)
 AtLeast-reverse a [] m = tt
-AtLeast-reverse a (x ∷ s) m = subst (AtLeast a) (sym (reverse-cons x s)) (AtLeast-push a (reverse s) x (AtLeast-reverse a s m.1) m.0)
+AtLeast-reverse a (x ∷ s) m = subst (AreAtLeast a) (sym (reverse-cons x s)) (AtLeast-push a (reverse s) x (AtLeast-reverse a s m.1) m.0)
 
-AtLeast-rising : (a c : ℕ) (s : List ℕ) → c ≤ a → Rises (a ∷ s) → AtLeast c s
+AtLeast-rising : (a c : ℕ) (s : List ℕ) → c ≤ a → Rises (a ∷ s) → AreAtLeast c s
 AtLeast-rising a c [] h r = tt
 AtLeast-rising a c (b ∷ s) h r = (omega (arith, r.0), AtLeast-rising b c s (omega (arith, r.0)) r.1)
 
@@ -297,7 +292,7 @@ Falls-reverse (a ∷ s) r =
 -- the next arrangement, as it is made: the rising end is turned round, and the number in front of it changes places
 -- with the first number there that is smaller
 pub next_arrangement :
-    (before s front back : List ℕ) (a b : ℕ) → Rises s → reverse s ≡ front ++ b ∷ back → AtLeast a front → b < a
+    (before s front back : List ℕ) (a b : ℕ) → Rises s → reverse s ≡ front ++ b ∷ back → AreAtLeast a front → b < a
     → arrangements_after (before ++ a ∷ s)
     ≡ (before ++ b ∷ (front ++ a ∷ back)) ∷ arrangements_after (before ++ b ∷ (front ++ a ∷ back))
 next_arrangement before s front back a b r e m h =
@@ -347,7 +342,7 @@ not_last xs at bound h last here = by (cases_eq at (length xs - 1))
     by (inl e) = absurd (omega (arith, ap (λ i. get_or xs i 0) e))
     by (inr n) = omega (arith, n)
 
-AtLeast-from : (a : ℕ) (xs : List ℕ) → ((k : ℕ) → k < length xs → a ≤ get_or xs k 0) → AtLeast a xs
+AtLeast-from : (a : ℕ) (xs : List ℕ) → ((k : ℕ) → k < length xs → a ≤ get_or xs k 0) → AreAtLeast a xs
 AtLeast-from a [] h = tt
 AtLeast-from a (x ∷ xs) h = (h 0 (omega arith), AtLeast-from a xs (λ k l. h (suc k) (omega arith)))
 
@@ -421,7 +416,7 @@ next_by_places old turned new behind low p h r e l m below above f =
     let low_is : get_or turned low 0 ≡ b = ap (λ n. get_or turned n 0) (sym here) ∙ place j in
     let tail : t ≡ front ++ b ∷ back = sym (take-append-drop j t) ∙ ap (λ l. front ++ l) (drop-cons t j 0 within) in
     let short : length front ≡ low - behind = omega (arith, length-take (low - behind) t) in
-    let least : AtLeast a front =
+    let least : AreAtLeast a front =
     AtLeast-from a front
     (λ k q.
     let inside : k < low - behind = omega arith in

@@ -1,7 +1,6 @@
 -- The first partition of a list, and the one that comes next.
-use Rattle.std.proofs.Common.{◌≡◌, ℕ, zero, suc, ◌+◌, ◌-◌, ◌<◌, ◌≤◌, min, List, [], ◌∷◌, ◌++◌, map, length, sym, ◌∙◌, ap, ap₂, refl, arith}
+use Rattle.std.proofs.Common.{◌≡◌, ℕ, zero, suc, ◌+◌, ◌-◌, ◌<◌, ◌≤◌, min, List, [], ◌∷◌, ◌++◌, map, length, sym, ◌∙◌, ap, ap₂, refl, arith, flat_map}
 use Rattle.std.proofs.Math.Nat.{min-le_right, le-min, min-eq_left}
-use Rattle.sym_model.specs.Sum.{each}
 use Rattle.sym_model.specs.Partition.{ArePositive, size}
 use Rattle.sym_model.specs.PartitionList.{down_to_one, partitions_within}
 use Rattle.sym_model.proofs.PartitionLists.{partitions_within-rows}
@@ -52,16 +51,16 @@ partitions_within-none rows zero h = absurd (omega arith)
 partitions_within-none zero (suc d) h = refl
 partitions_within-none (suc rows) (suc d) h =
     let none : 0 ≤ suc d = omega arith in
-    ap (λ k. each (λ a. map (λ x. a ∷ x) (partitions_within (suc d - a) a rows)) (down_to_one k)) (min-eq_left none)
+    ap (λ k. flat_map (λ a. map (λ x. a ∷ x) (partitions_within (suc d - a) a rows)) (down_to_one k)) (min-eq_left none)
 
 same_size : (d e m n : ℕ) → d ≡ e → m ≡ n → partitions_within d m d ≡ partitions_within e n e
 same_size d e m n p q = ap₂ (λ x y. partitions_within x y x) p q
 
--- the lists that begin with a number up to a, where those behind the first part a begin with g
+-- the lists that begin with a number up to a, where those after the first part a begin with g
 starts :
     (rows d a : ℕ) (g : List ℕ) → 0 < a → a ≤ suc d → d ≤ rows → size g ≡ suc d - a
     → partitions_within (suc d - a) a rows ≡ g ∷ partitions_after g
-    → each (λ b. map (λ x. b ∷ x) (partitions_within (suc d - b) b rows)) (down_to_one a)
+    → flat_map (λ b. map (λ x. b ∷ x) (partitions_within (suc d - b) b rows)) (down_to_one a)
     ≡ (a ∷ g) ∷ partitions_after (a ∷ g)
 unfolding partitions_after partitions_within
 starts rows d zero g p l h s ih = absurd (omega arith)
@@ -70,11 +69,11 @@ starts rows d (suc a) g p l h s ih =
     let below : a ≤ suc d = omega arith in
     let whole : suc d ≡ suc a + size g = omega arith in
     let less : a ≡ suc a - 1 = omega arith in
-    let smaller : each here (down_to_one a) ≡ partitions_within (suc a + size g) (suc a - 1) (suc a + size g) =
-    ap (λ k. each here (down_to_one k)) (sym (min-eq_left below))
+    let smaller : flat_map here (down_to_one a) ≡ partitions_within (suc a + size g) (suc a - 1) (suc a + size g) =
+    ap (λ k. flat_map here (down_to_one k)) (sym (min-eq_left below))
     ∙ partitions_within-rows (suc rows) (suc d) (suc d) a (omega arith) (omega arith)
     ∙ same_size _ _ _ _ whole less in
-    ap (λ xs. map (λ x. suc a ∷ x) xs ++ each here (down_to_one a)) ih
+    ap (λ xs. map (λ x. suc a ∷ x) xs ++ flat_map here (down_to_one a)) ih
     ∙ ap (λ xs. (suc a ∷ g) ∷ (map (λ x. suc a ∷ x) (partitions_after g) ++ xs)) smaller
 
 pub partitions_within-first :

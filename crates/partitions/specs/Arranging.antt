@@ -1,6 +1,7 @@
--- How the arrangements of numbers in places are listed one after the other: what comes after one of them.
-use Rattle.std.specs.Prelude.{ℕ, zero, suc, ◌+◌, ◌-◌, ◌≤◌, List, [], ◌∷◌, ◌++◌, map, length}
-use Rattle.sym_model.specs.Sum.{each, select}
+-- How the arrangements of numbers in places are listed one after the other:
+-- what comes after one of them.
+use Rattle.std.specs.Prelude.{ℕ, zero, suc, ◌+◌, ◌-◌, ◌≤◌, List, [], ◌∷◌, ◌++◌, map, length, filter}
+use Rattle.std.specs.Prelude.{flat_map}
 use Rattle.sym_model.specs.Polynomial.{same}
 use Rattle.sym_model.specs.Partition.{size, insert_part, sorted_parts}
 use Rattle.sym_model.specs.Bases.{down_from, exponent_lists}
@@ -10,19 +11,21 @@ use Rattle.partitions.specs.declared.listing.Stage.TheVariants.{New, Listing, En
 -- the lists that begin with b, have n numbers more, the sum d, and sort to these parts
 abbrev pub beginning_with : ℕ → List ℕ → ℕ → ℕ → List (List ℕ)
 beginning_with b parts n d =
-    map (λ α. b ∷ α) (select (λ α. same (insert_part b (sorted_parts α)) parts) (exponent_lists n (d - b)))
+    map (λ α. b ∷ α) (filter (λ α. same (insert_part b (sorted_parts α)) parts)
+    (exponent_lists n (d - b)))
 
 -- those that begin with a number below a
 abbrev pub beginning_below : ℕ → List ℕ → ℕ → ℕ → List (List ℕ)
 beginning_below zero parts n d = []
-beginning_below (suc a) parts n d = each (λ b. beginning_with b parts n d) (down_from a)
+beginning_below (suc a) parts n d = flat_map (λ b. beginning_with b parts n d) (down_from a)
 
--- the arrangements of the same numbers after this one in falling lexicographic order: first those with the same first
--- number, then those with a smaller one
+-- the arrangements of the same numbers after this one in falling lexicographic order: first those
+-- with the same first number, then those with a smaller one
 unfoldable pub arrangements_after : List ℕ → List (List ℕ)
 arrangements_after [] = []
 arrangements_after (a ∷ α) =
-    map (λ rest. a ∷ rest) (arrangements_after α) ++ beginning_below a (sorted_parts (a ∷ α)) (length α) (a + size α)
+    map (λ rest. a ∷ rest) (arrangements_after α)
+    ++ beginning_below a (sorted_parts (a ∷ α)) (length α) (a + size α)
 
 -- no number is smaller than the one before it
 abbrev pub Rises : List ℕ → Type 0

@@ -1,4 +1,4 @@
--- Which lists of partitions are the factors of a product (this project's own).
+-- Which lists of partitions are the factors of a product.
 use Rattle.std.specs.Prelude.{◌≡◌, ℕ, ◌<◌, ◌≤◌, ◌⊎◌, List, length, map}
 use Rattle.sym_model.specs.Sum.{Among}
 use Rattle.sym_model.specs.Partition.{IsPartition, size, rows}

@@ -1,4 +1,4 @@
--- What the type `Partition` holds, and which list of numbers is refused (this project's own).
+-- What the type `Partition` holds, and which list of numbers is refused.
 use Rattle.std.specs.Prelude.{◌≡◌, ℕ, ◌-◌, ◌<◌, ◌≤◌, List, length, take, slice_index}
 use Rattle.sym_model.specs.Partition.{IsPartition, Falls, size, rows}
 

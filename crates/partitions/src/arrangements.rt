@@ -1,5 +1,6 @@
 //! The arrangements of the parts of a partition in places, one at a time.
-ghost use Rattle.std.specs.Prelude.{◌≡◌, ℕ, ◌+◌, ◌-◌, ◌<◌, ◌≤◌, ◌↔◌, [], ◌∷◌, ◌++◌, length, take, drop, reverse, slice_index, IfOk, None, IsTrue};
+ghost use Rattle.std.specs.Prelude.{◌≡◌, ℕ, ◌+◌, ◌-◌, ◌<◌, ◌≤◌, ◌↔◌, [], ◌∷◌, ◌++◌, length, take};
+ghost use Rattle.std.specs.Prelude.{drop, reverse, slice_index, IfOk, None, IsTrue};
 ghost use Rattle.std.specs.Bool.{OnTrue, OnFalse};
 ghost use Rattle.sym_model.specs.Arrangement.{arrangements};
 ghost use Rattle.sym_model.specs.Partition.{rows};
@@ -12,8 +13,8 @@ use calc_base::{Lister, NoMemory};
 use std::alloc::Global;
 use std::marker::Model;
 
-/// The distinct arrangements of the parts of a partition, and of zeros, in a number of places: in falling lexicographic
-/// order, each once. A `Lister` that works in one buffer.
+/// The distinct arrangements of the parts of a partition, and of zeros, in a number of places: in
+/// falling lexicographic order, each once. A `Lister` that works in one buffer.
 #[derive(Drop)]
 pub struct Arrangements {
     numbers: Vec<u16>,
@@ -32,12 +33,13 @@ impl Model for Arrangements {
 }
 
 impl Arrangements {
-    /// The arrangements of the parts of `shape` in so many places, none of them current. There are at least as many
-    /// places as parts, and at most 512.
+    /// The arrangements of the parts of `shape` in `places` places, none of them current. There are
+    /// at least as many places as parts, and at most 512.
     pub fn new(alloc: Global, shape: &Partition, places: u16) -> Result<Arrangements, NoMemory>
         requires rows { rows shape.now ≤ places }
         requires few { places ≤ 512 }
-        ensures rest { IfOk result (λ l. ⟦<Arrangements as Lister>⟧.rest l ≡ arrangements shape.now places) }
+        ensures rest { IfOk result (λ l. ⟦<Arrangements as Lister>⟧.rest l
+            ≡ arrangements shape.now places) }
         ensures item { IfOk result (λ l. ⟦<Arrangements as Lister>⟧.item l ≡ None) }
     {
         let mut numbers = Vec::from_slice(alloc, shape.parts())?;
@@ -79,8 +81,10 @@ impl Lister for Arrangements {
 
 /// Writes the arrangement that comes next over this one; false where this was the last one.
 fn next_in_place(numbers: &mut [u16]) -> bool
-    ensures next { OnTrue result (arrangements_after numbers.old ≡ numbers.new ∷ arrangements_after numbers.new) }
-    ensures none { OnFalse result ((arrangements_after numbers.old ≡ []) × (numbers.new ≡ numbers.old)) }
+    ensures next { OnTrue result (arrangements_after numbers.old
+        ≡ numbers.new ∷ arrangements_after numbers.new) }
+    ensures none { OnFalse result
+        ((arrangements_after numbers.old ≡ []) × (numbers.new ≡ numbers.old)) }
 {
     let behind = rising_end(numbers);
     if behind == 0 {
@@ -97,7 +101,8 @@ fn next_in_place(numbers: &mut [u16]) -> bool
 fn rising_end(numbers: &[u16]) -> usize
     ensures rises { Rises (drop result numbers.now) }
     ensures within { 0 < result → result < length numbers.now }
-    ensures falls { 0 < result → slice_index numbers.now result < slice_index numbers.now (result - 1) }
+    ensures falls { 0 < result → slice_index numbers.now result
+        < slice_index numbers.now (result - 1) }
 {
     let mut at = numbers.len().saturating_sub(1);
     while at > 0 && numbers[at - 1] <= numbers[at] {

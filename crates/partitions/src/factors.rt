@@ -1,5 +1,6 @@
 //! The factors of a product.
-ghost use Rattle.std.specs.Prelude.{◌≡◌, ◌≤◌, ◌<◌, ◌↔◌, ◌++◌, ◌∷◌, [], length, slice_get, Some, IfOk, OnOk, OnErr, IsErrOf, IsTrue, MatchOption, ◌⊎◌};
+ghost use Rattle.std.specs.Prelude.{◌≡◌, ◌≤◌, ◌<◌, ◌↔◌, ◌++◌, ◌∷◌, [], length, slice_get, Some};
+ghost use Rattle.std.specs.Prelude.{IfOk, OnOk, OnErr, IsErrOf, IsTrue, MatchOption, ◌⊎◌};
 ghost use Rattle.partitions.specs.FactorList.{AreFactors, AreTooBig, rows_of};
 
 use crate::{FactorsFault, Partition};
@@ -14,8 +15,8 @@ const MAX_CELLS: u16 = 4096;
 
 const MAX_ROWS: u16 = 512;
 
-/// The factors of a product: 2 to 8 partitions, with at most 4,096 cells and at most 512 rows in all. A contract sees
-/// the list of them.
+/// The factors of a product: 2 to 8 partitions, with at most 4,096 cells and at most 512 rows in
+/// all. A contract sees the list of them.
 #[derive(Debug, Drop)]
 pub struct Factors {
     factors: Vec<Partition>,
@@ -39,7 +40,8 @@ impl Model for Factors {
 impl Factors {
     /// Two factors.
     ///
-    /// They are refused as `TooBig` exactly where they have more than 4,096 cells or more than 512 rows together.
+    /// They are refused as `TooBig` exactly where they have more than 4,096 cells or more than 512
+    /// rows together.
     pub fn pair(alloc: Global, left: Partition, right: Partition) -> Result<Factors, FactorsFault>
         ensures ok { IfOk result (λ factors. factors ≡ left ∷ right ∷ []) }
         ensures too_many { ¬ IsErrOf result FactorsFault.TooMany }
@@ -62,13 +64,15 @@ impl Factors {
 
     /// Puts one more factor after the others.
     ///
-    /// It is refused as `TooMany` exactly where there are eight factors, else as `TooBig` exactly where the factors would
-    /// have more than 4,096 cells or more than 512 rows in all. Where it is refused the factors are as before.
+    /// It is refused as `TooMany` exactly where there are eight factors, else as `TooBig` exactly
+    /// where the factors would have more than 4,096 cells or more than 512 rows in all. Where it is
+    /// refused the factors are as before.
     pub fn push(&mut self, next: Partition) -> Result<(), FactorsFault>
         ensures ok { OnOk result (self.new ≡ self.old ++ next ∷ []) }
         ensures kept { OnErr result (self.new ≡ self.old) }
         ensures too_many { IsErrOf result FactorsFault.TooMany ↔ (length self.old ≡ 8) }
-        ensures too_big { IsErrOf result FactorsFault.TooBig ↔ ((length self.old < 8) × AreTooBig (self.old ++ next ∷ [])) }
+        ensures too_big { IsErrOf result FactorsFault.TooBig
+            ↔ ((length self.old < 8) × AreTooBig (self.old ++ next ∷ [])) }
     {
         if self.len() == MAX_FACTORS {
             return Err(FactorsFault::TooMany);
@@ -110,10 +114,11 @@ impl Factors {
         self.factors.len()
     }
 
-    /// The factor at the place `i`, counted from 0. None exactly where there are no more than `i` factors. It takes no
-    /// memory.
+    /// The factor at the place `i`, counted from 0. None exactly where there are no more than `i`
+    /// factors. It takes no memory.
     pub fn get(&self, i: usize) -> Option<&Partition>
-        ensures value { MatchOption result (length self.now ≤ i) (λ factor. slice_get self.now i ≡ Some factor.now) }
+        ensures value { MatchOption result (length self.now ≤ i)
+            (λ factor. slice_get self.now i ≡ Some factor.now) }
         ensures limits { AreFactors self.now }
     {
         self.factors.get(i)
@@ -143,7 +148,7 @@ impl Factors {
     }
 }
 
-/// Whether so many cells or so many rows are more than all factors may have.
+/// Whether there are more cells or more rows than all factors may have.
 fn is_too_big(cells: u16, rows: u16) -> bool
     ensures { IsTrue result ↔ ((4096 < cells) ⊎ (512 < rows)) }
 {

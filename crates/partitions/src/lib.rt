@@ -1,5 +1,5 @@
-//! Partitions, the labels of symmetric functions; the partitions of a number and the arrangements of parts one at a time; and the
-//! factors of a product, 2 to 8 partitions.
+//! Partitions, the labels of symmetric functions; the partitions of a number and the arrangements
+//! of parts one at a time; and the factors of a product, 2 to 8 partitions.
 //!
 //! What is proved:
 //!

@@ -1,5 +1,6 @@
 //! The partitions of a number, one at a time.
-ghost use Rattle.std.specs.Prelude.{◌≡◌, ◌+◌, ◌-◌, ◌<◌, ◌≤◌, ◌≢◌, [], ◌∷◌, ◌++◌, length, take, drop, slice_index, IfOk, IfSome, MatchOption, None};
+ghost use Rattle.std.specs.Prelude.{◌≡◌, ◌+◌, ◌-◌, ◌<◌, ◌≤◌, ◌≢◌, [], ◌∷◌, ◌++◌, length, take};
+ghost use Rattle.std.specs.Prelude.{drop, slice_index, IfOk, IfSome, MatchOption, None};
 ghost use Rattle.sym_model.specs.PartitionList.{partitions_of};
 ghost use Rattle.partitions.specs.Listing.{greatest_within, partitions_after, AreOnes, HoldsParts};
 
@@ -15,7 +16,8 @@ pub(crate) enum Stage {
     Ended,
 }
 
-/// The partitions of a number in falling lexicographic order, each once: a `Lister` that works in one buffer.
+/// The partitions of a number in falling lexicographic order, each once:
+/// a `Lister` that works in one buffer.
 #[derive(Drop)]
 pub struct PartitionsOf {
     /// One place for each row that a partition of the number can have.
@@ -33,7 +35,10 @@ impl Model for PartitionsOf {
     ghost use Rattle.partitions.specs.Listing.{HoldsParts};
     ghost use Rattle.partitions.specs.Stage.{rest_at, item_at};
 
-    ghost view = { λ l. (rest_at l.stage (take l.rows l.buffer.items), item_at l.stage (take l.rows l.buffer.items)) };
+    ghost view = { λ l. (
+      rest_at l.stage (take l.rows l.buffer.items),
+      item_at l.stage (take l.rows l.buffer.items),
+    ) };
 
     ghost invariant = { λ l. HoldsParts l.buffer.items l.rows };
 }
@@ -85,12 +90,14 @@ impl Lister for PartitionsOf {
     }
 }
 
-/// Writes the partition that comes next over the one in the first `rows` places, and gives its number of rows; None
-/// where that was the last one.
+/// Writes the partition that comes next over the one in the first `rows` places, and gives its
+/// number of rows; None where that was the last one.
 fn next_in_place(buffer: &mut [u16], rows: usize) -> Option<usize>
     requires { HoldsParts buffer.old rows }
-    ensures next { MatchOption result ((partitions_after (take rows buffer.old) ≡ []) × (buffer.new ≡ buffer.old))
-        (λ next. partitions_after (take rows buffer.old) ≡ take next buffer.new ∷ partitions_after (take next buffer.new)) }
+    ensures next { MatchOption result
+        ((partitions_after (take rows buffer.old) ≡ []) × (buffer.new ≡ buffer.old))
+        (λ next. partitions_after (take rows buffer.old)
+        ≡ take next buffer.new ∷ partitions_after (take next buffer.new)) }
     ensures holds { IfSome result (HoldsParts buffer.new) }
 {
     let above = rows_above_one(&buffer[..rows]);
@@ -115,12 +122,14 @@ fn rows_above_one(parts: &[u16]) -> usize
     rows
 }
 
-/// Writes the first partition of `left` with no part above `most` from the place `start` on, and gives the place behind it.
+/// Writes the first partition of `left` with no part above `most` from the place `start` on, and
+/// gives the place after it.
 fn fill(buffer: &mut [u16], start: usize, most: u16, left: u16) -> usize
     requires room { start + left ≤ length buffer.old }
     requires most { 0 < left → 0 < most }
     ensures within { result ≤ length buffer.new }
-    ensures parts { take result buffer.new ≡ take start buffer.old ++ greatest_within left most (length buffer.old - start) }
+    ensures parts { take result buffer.new
+        ≡ take start buffer.old ++ greatest_within left most (length buffer.old - start) }
 {
     let mut at = start;
     let mut part = most;

@@ -1,13 +1,16 @@
 //! The type of a partition.
-ghost use Rattle.std.specs.Prelude.{◌≡◌, ℕ, ◌+◌, ◌<◌, ◌≤◌, ◌↔◌, length, nat_eq, IsTrue, IsOk, IfOk, OnOk, IsErrOf, MatchOption};
+ghost use Rattle.std.specs.Prelude.{◌≡◌, ℕ, ◌+◌, ◌<◌, ◌≤◌, ◌↔◌, length, nat_eq, IsTrue, IsOk, IfOk};
+ghost use Rattle.std.specs.Prelude.{OnOk, IsErrOf, MatchOption};
 ghost use Rattle.std.specs.Cmp.{partial_equiv_from_equiv};
 ghost use Rattle.std.specs.Cmp.Lexicographic.{pointwise, nat_list_eq_equiv};
-ghost use Rattle.std.specs.Cmp.Rules.{hashing};
 ghost use Rattle.std.specs.Hash as fed;
-ghost use Rattle.std.proofs.Common.{rules};
+ghost use Rattle.std.proofs.Common.{ap};
+ghost use Rattle.std.proofs.lemmas.Slice.Eq.{bytes_eq-Decides};
+ghost use Rattle.calc_base.specs.Mixing.{mixed as mixed_of};
 ghost use Rattle.sym_model.specs.BetaList.{beta, from_beta};
 ghost use Rattle.sym_model.specs.Conjugate.{conjugate};
-ghost use Rattle.sym_model.specs.Partition.{Falls, Holds, columns, part, rows, size, without_last_zeros};
+ghost use Rattle.sym_model.specs.Partition.{Falls, Holds, columns, part, rows, size};
+ghost use Rattle.sym_model.specs.Partition.{without_last_zeros};
 ghost use Rattle.sym_model.specs.PrintedOrder.{printed_order};
 ghost use Rattle.sym_model.specs.Slide.{lowered_at};
 ghost use Rattle.partitions.specs.Limits.{HasCells, IsWithinLimits, RisesFirstAt};
@@ -16,7 +19,7 @@ use crate::beta::{lengthened, less_the_later};
 use crate::conjugate::column_lengths;
 use crate::corners::lower_last;
 use crate::{Beta, PartFault};
-use calc_base::NoMemory;
+use calc_base::{NoMemory, mixed};
 use smallvec::SmallVec;
 use std::alloc::Global;
 use std::cmp::Ordering;
@@ -28,7 +31,8 @@ const MAX_ROWS: usize = 512;
 
 const MAX_CELLS: u32 = 4096;
 
-/// A partition: a weakly falling list of positive numbers, its parts. It has at most 512 parts and at most 4,096 cells.
+/// A partition: a weakly falling list of positive numbers,
+/// its parts. It has at most 512 parts and at most 4,096 cells.
 /// Up to 16 parts are kept with no memory taken.
 #[derive(Debug, Drop)]
 pub struct Partition {
@@ -51,8 +55,9 @@ impl Model for Partition {
 impl Partition {
     /// The partition with these parts, where zeros at the end are dropped.
     ///
-    /// It is refused as `TooMany` where more than 512 numbers are left, else as `Rising` at the first place, counted
-    /// from 0, with a number greater than the one before it, else as `TooBig` where their sum is past 4,096.
+    /// It is refused as `TooMany` where more than 512 numbers are left, else as `Rising` at the
+    /// first place, counted from 0, with a number greater than the one before it, else as `TooBig`
+    /// where their sum is past 4,096.
     /// At most 16 parts take no memory.
     pub fn from_parts(alloc: Global, parts: &[u16]) -> Result<Partition, PartFault>
         ensures ok { IfOk result (λ p. p ≡ without_last_zeros parts.now) }
@@ -61,11 +66,13 @@ impl Partition {
         ensures too_many { IsErrOf result PartFault.TooMany
             ↔ (512 < rows (without_last_zeros parts.now)) }
         ensures rising { (at : ℕ) → IsErrOf result (PartFault.Rising at)
-            ↔ ((rows (without_last_zeros parts.now) ≤ 512) × RisesFirstAt (without_last_zeros parts.now) at) }
+            ↔ ((rows (without_last_zeros parts.now) ≤ 512)
+            × RisesFirstAt (without_last_zeros parts.now) at) }
         ensures too_big { IsErrOf result PartFault.TooBig
             ↔ ((rows (without_last_zeros parts.now) ≤ 512) × Falls (without_last_zeros parts.now)
             × (4096 < size (without_last_zeros parts.now))) }
-        ensures inline { rows (without_last_zeros parts.now) ≤ 16 → ¬ IsErrOf result PartFault.NoMemory }
+        ensures inline { rows (without_last_zeros parts.now) ≤ 16
+            → ¬ IsErrOf result PartFault.NoMemory }
     {
         let parts = numbers_before_zeros(parts);
         if parts.len() > MAX_ROWS {
@@ -81,7 +88,8 @@ impl Partition {
         Ok(with_cells(alloc, parts, cells as u16)?)
     }
 
-    /// The partition with these parts, of which the caller knows that they are one. At most 16 parts take no memory.
+    /// The partition with these parts, of which the caller knows that they are one. At most 16
+    /// parts take no memory.
     pub fn from_valid_parts(alloc: Global, parts: &[u16]) -> Result<Partition, NoMemory>
         requires { IsWithinLimits parts.now }
         ensures ok { IfOk result (λ p. p ≡ parts.now) }
@@ -90,8 +98,8 @@ impl Partition {
         with_cells(alloc, parts, sum_of(parts) as u16)
     }
 
-    /// The partition with these numbers, of which the caller knows that they are one with zeros at their end, which are
-    /// dropped. At most 16 parts take no memory.
+    /// The partition with these numbers, of which the caller knows that they are one with zeros at
+    /// their end, which are dropped. At most 16 parts take no memory.
     pub fn from_valid_numbers(alloc: Global, numbers: &[u16]) -> Result<Partition, NoMemory>
         requires { IsWithinLimits (without_last_zeros numbers.now) }
         ensures ok { IfOk result (λ p. p ≡ without_last_zeros numbers.now) }
@@ -136,7 +144,8 @@ impl Partition {
         }
     }
 
-    /// Whether the shape of `inner` lies inside this one: no part of `inner` is greater than the part of the same row.
+    /// Whether the shape of `inner` lies inside this one:
+    /// no part of `inner` is greater than the part of the same row.
     pub fn contains(&self, inner: &Partition) -> bool
         ensures { IsTrue result ↔ Holds self.now inner.now }
     {
@@ -149,7 +158,8 @@ impl Partition {
         true
     }
 
-    /// How this partition and `other` stand in print: the greater size first, then falling lexicographic order.
+    /// How this partition and `other` stand in print: the greater size first,
+    /// then falling lexicographic order.
     /// `Equal` only for equal partitions.
     pub fn cmp_printed(&self, other: &Partition) -> Ordering
         ensures value { result ≡ printed_order self.now other.now }
@@ -170,8 +180,8 @@ impl Partition {
         with_cells(*self.parts.allocator(), self.parts(), self.cells)
     }
 
-    /// The conjugate: its part i is the number of parts that are at least i. The first part is at most 512. At most 16
-    /// columns take no memory.
+    /// The conjugate: its part i is the number of parts that are at least i. The first part is at
+    /// most 512. At most 16 columns take no memory.
     pub fn conjugate(&self) -> Result<Partition, NoMemory>
         requires { columns self.now ≤ 512 }
         ensures ok { IfOk result (λ p. p ≡ conjugate self.now) }
@@ -183,7 +193,8 @@ impl Partition {
         })
     }
 
-    /// Takes the last cell of the row `row`, counted from 1, away. That row is longer than the next one.
+    /// Takes the last cell of the row `row`, counted from 1,
+    /// away. That row is longer than the next one.
     pub fn remove_corner(&mut self, row: u16)
         requires counted { 1 ≤ row }
         requires corner { part self.old (row + 1) < part self.old row }
@@ -193,8 +204,8 @@ impl Partition {
         self.cells -= 1;
     }
 
-    /// The beta list of length `k`: part i, plus k - i, for each i from 1 to k. `k` is at least the number of rows and
-    /// at most 512.
+    /// The beta list of length `k`: part i, plus k - i, for each i from 1 to k. `k` is at least the
+    /// number of rows and at most 512.
     pub fn beta(&self, k: u16) -> Result<Beta, NoMemory>
         requires rows { rows self.now ≤ k }
         requires few { k ≤ 512 }
@@ -203,7 +214,8 @@ impl Partition {
         Ok(Beta::new(lengthened(*self.parts.allocator(), self.parts(), k)?))
     }
 
-    /// The partition whose beta list of this length is `b`, a strictly falling list of at most 512 numbers.
+    /// The partition whose beta list of this length is `b`,
+    /// a strictly falling list of at most 512 numbers.
     pub fn from_beta(alloc: Global, b: &[u16]) -> Result<Partition, NoMemory>
         requires few { length b.now ≤ 512 }
         requires limits { IsWithinLimits (from_beta b.now) }
@@ -229,12 +241,13 @@ impl Eq for Partition {
 }
 
 impl Hash for Partition {
-    ghost hash_input = { fed.slice fed.u16 };
+    ghost hash_input = { λ numbers. fed.u64 (mixed_of 0 numbers) };
 
-    ghost respects_eq = { Prim.search (hashing, rules) };
+    ghost respects_eq = { λ a b same. ap (λ numbers. fed.u64 (mixed_of 0 numbers))
+        ((bytes_eq-Decides a b).0 same) };
 
     fn hash<H: Hasher>(&self, state: &mut H) {
-        self.parts().hash(state);
+        mixed(self.parts()).hash(state);
     }
 }
 

@@ -1,8 +1,7 @@
 -- Covers found one place after the other, in a list of letters with fixed ones added.
-use Rattle.std.proofs.Common.{◌≡◌, ℕ, zero, suc, ◌+◌, ◌-◌, ◌<◌, ◌≤◌, ◌==◌, max, Bool, true, false, cond, List, [], ◌∷◌, ◌++◌, map, length, refl, sym, ap, ap₂, ◌∙◌, arith, add-one}
+use Rattle.std.proofs.Common.{◌≡◌, ℕ, zero, suc, ◌+◌, ◌-◌, ◌<◌, ◌≤◌, ◌==◌, max, Bool, true, false, cond, List, [], ◌∷◌, ◌++◌, map, length, refl, sym, ap, ap₂, ◌∙◌, arith, add-one, filter}
 use Rattle.std.specs.List.{swap}
 use Rattle.std.proofs.lemmas.List.{append-nil}
-use Rattle.sym_model.specs.Sum.{select}
 use Rattle.sym_model.specs.Partition.{after}
 use Rattle.sym_model.specs.PlaceOrders.{inversions}
 use Rattle.sym_model.specs.Permutation.{kept, with_fixed, times_swap, covers_among, covers_up, covers_down}
@@ -13,9 +12,9 @@ use Rattle.schubert_laws.proofs.TransitionFromOne.{times_swap_kept, covers_down_
 use Rattle.perm_codes.specs.Limits.{IsShortPermutation, IsWithinLimits}
 use Rattle.perm_codes.proofs.WithinLimits.{kept_fixed, length-with_fixed, short_fixed, short_swap}
 
-select-append : {A : Type 0} (test : A → Bool) (xs : List A) (x : A) → select test (xs ++ x ∷ []) ≡ select test xs ++ cond (test x) (x ∷ []) []
+select-append : {A : Type 0} (test : A → Bool) (xs : List A) (x : A) → filter test (xs ++ x ∷ []) ≡ filter test xs ++ cond (test x) (x ∷ []) []
 select-append test [] x = refl
-select-append {A} test (y ∷ xs) x = by (test y) (select test (xs ++ x ∷ [])) (select test xs) (cond (test x) (x ∷ []) []) (select-append test xs x)
+select-append {A} test (y ∷ xs) x = by (test y) (filter test (xs ++ x ∷ [])) (filter test xs) (cond (test x) (x ∷ []) []) (select-append test xs x)
   where
     by : (t : Bool) (u v w : List A) → u ≡ v ++ w → cond t (y ∷ u) u ≡ cond t (y ∷ v) v ++ w
     by true u v w e = ap (λ z. y ∷ z) e
@@ -67,7 +66,7 @@ covers_up_fixed w r n h l p e =
     let long : length (with_fixed n w) - r ≡ max (length w) r + 1 - r = omega (arith, length-with_fixed n w) in
     ap (λ k. covers_among (with_fixed n w) (map (λ j. times_swap r j (with_fixed n w)) (after r k))) long
     ∙ ap (covers_among (with_fixed n w)) (map_after (λ j. times_swap r j (with_fixed n w)) (λ j. times_swap r j w) r (max (length w) r + 1 - r) (λ j k. same_swap w n r j l p k))
-    ∙ ap (λ c. select (λ (v : List ℕ). inversions v == c + 1) (map (λ j. times_swap r j w) (after r (max (length w) r + 1 - r)))) (same_inversions w n h l)
+    ∙ ap (λ c. filter (λ (v : List ℕ). inversions v == c + 1) (map (λ j. times_swap r j w) (after r (max (length w) r + 1 - r)))) (same_inversions w n h l)
 
 pub covers_down_fixed : (w : List ℕ) (r n : ℕ) → n ≤ 255 → IsWithinLimits w → covers_down r (with_fixed n w) ≡ covers_down r w
 covers_down_fixed w r n h l =

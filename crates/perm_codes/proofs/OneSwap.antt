@@ -30,7 +30,7 @@ below_both low high a h = ap (λ s. cond {A = ℕ} (s && nat_lt a high) 1 0) (na
 above_both : (low high a : ℕ) → low < a → high ≤ a → cond {A = ℕ} (lies_between low high a) 1 0 ≡ 0
 above_both low high a h l = ap₂ (λ s t. cond {A = ℕ} (s && t) 1 0) (lt-ltb low a h) (nat_lt-false a high l)
 
--- what one letter behind the first counts for
+-- what one letter after the first counts for
 one_letter : (low high a : ℕ) → low < high → (low ≡ a → ⊥) → (a ≡ high → ⊥)
     → cond {A = ℕ} (nat_lt a high) 1 0 + cond {A = ℕ} (nat_lt low a) 1 0
     ≡ cond {A = ℕ} (nat_lt a low) 1 0 + cond {A = ℕ} (nat_lt high a) 1 0 + 2 * cond {A = ℕ} (lies_between low high a) 1 0
@@ -60,7 +60,7 @@ one_letter low high a h n m = elim (cases_lt low a) [
       omega arith
 ]
 
--- the first letter of a list with one behind it
+-- the first letter of a list with one after it
 first_swapped : (x b : ℕ) (w : List ℕ) → b < length w → Once (x ∷ w) → x < get_or w b x
     → smaller (get_or w b x) (set w b x) + inversions (set w b x)
     ≡ smaller x w + inversions w + 1 + 2 * between x (get_or w b x) b w

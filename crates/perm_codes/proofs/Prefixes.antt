@@ -9,7 +9,7 @@ use Rattle.schubert_laws.proofs.FixedTails.{kept_added}
 
 -- ---- counts
 
-one_more : (t : Bool) (n : ℕ) → cond t 1 0 + n ≡ cond t (1 + n) n
+pub one_more : (t : Bool) (n : ℕ) → cond t 1 0 + n ≡ cond t (1 + n) n
 one_more true n = refl
 one_more false n = omega arith
 

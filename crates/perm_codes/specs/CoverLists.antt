@@ -1,4 +1,4 @@
--- The covers of a permutation at a place, as a value (this project's own).
+-- The covers of a permutation at a place, as a value.
 use Rattle.std.specs.Prelude.{ℕ, List}
 
 -- those where the other place is greater, and those where it is smaller

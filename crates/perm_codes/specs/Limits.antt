@@ -1,4 +1,4 @@
--- What the type `Perm` holds, and which list of letters or code is refused (this project's own).
+-- What the type `Perm` holds, and which list of letters or code is refused.
 use Rattle.std.specs.Prelude.{◌≡◌, ℕ, ◌+◌, ◌<◌, ◌≤◌, List, length, take, slice_index}
 use Rattle.sym_model.specs.Sum.{Among}
 use Rattle.sym_model.specs.PlaceOrders.{inversions}
@@ -20,8 +20,8 @@ pub record HasInversions (w : List ℕ) (count : ℕ) : Type 0 where
   pub limits : IsWithinLimits w
   pub count_is : count ≡ inversions w
 
--- the letter at the place `at`, counted from 0, is one of the numbers from 1 to the number of letters and occurs at no
--- place before
+-- the letter at the place `at`, counted from 0, is one of the numbers from 1 to the number of
+-- letters and occurs at no place before
 pub record IsNewLetter (w : List ℕ) (at : ℕ) : Type 0 where
   pub positive : 1 ≤ slice_index w at
   pub within : slice_index w at ≤ length w
@@ -33,7 +33,8 @@ pub record OffendsFirstAt (w : List ℕ) (at : ℕ) : Type 0 where
   pub offends : ¬ IsNewLetter w at
   pub before : (k : ℕ) → k < at → IsNewLetter w k
 
--- the place `at`, counted from 0, is the first whose entry is greater than the number of entries after it
+-- the place `at`, counted from 0, is the first whose entry is greater than the number of entries
+-- after it
 pub record ExceedsFirstAt (code : List ℕ) (at : ℕ) : Type 0 where
   pub inside : at < length code
   pub exceeds : length code < slice_index code at + at + 1

@@ -13,8 +13,8 @@ use smallvec::SmallVec;
 use std::alloc::Global;
 use std::marker::Model;
 
-/// The covers of a permutation at a place: what comes of it where the letter there changes places with another and
-/// exactly one more inversion is made.
+/// The covers of a permutation at a place: the result if the letter there changes places with
+/// another and exactly one more inversion is made.
 #[derive(Drop)]
 pub struct Covers {
     up: Vec<Perm>,
@@ -44,8 +44,8 @@ impl Covers {
         self.down.as_slice()
     }
 
-    /// The covers at a place, counted from 0, of the permutation with these letters, the other places being theirs. The
-    /// inversions of a cover are counted by the caller.
+    /// The covers at a place, counted from 0, of the permutation with these letters, the other
+    /// places being theirs. The inversions of a cover are counted by the caller.
     pub(crate) fn of_letters(
         alloc: Global,
         letters: &[u8],
@@ -56,7 +56,8 @@ impl Covers {
         requires inside { place < length letters.now }
         requires count { count ≡ inversions letters.now + 1 }
         ensures up { IfOk result (λ c. c.up ≡ covers_among letters.now (map
-            (λ j. times_swap (place + 1) j letters.now) (after (place + 1) (length letters.now - (place + 1))))) }
+            (λ j. times_swap (place + 1) j letters.now)
+            (after (place + 1) (length letters.now - (place + 1))))) }
         ensures down { IfOk result (λ c. c.down ≡ covers_among letters.now (map
             (λ i. times_swap i (place + 1) letters.now) (after 0 place))) }
     {
@@ -78,7 +79,8 @@ fn covers_above(
     requires inside { place < length letters.now }
     requires count { count ≡ inversions letters.now + 1 }
     ensures { IfOk result (λ list. list.items ≡ covers_among letters.now (map
-        (λ j. times_swap (place + 1) j letters.now) (after (place + 1) (length letters.now - (place + 1))))) }
+        (λ j. times_swap (place + 1) j letters.now)
+        (after (place + 1) (length letters.now - (place + 1))))) }
 {
     let mut covers = Vec::new(alloc);
     for other in place + 1..letters.len() {

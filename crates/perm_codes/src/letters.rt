@@ -1,9 +1,11 @@
 //! Lists of letters: what is read off them, and how they are made.
-ghost use Rattle.std.specs.Prelude.{◌≡◌, ℕ, ◌+◌, ◌<◌, ◌≤◌, ◌==◌, ◌&&◌, nat_lt, length, take, swap, IsOk, IfOk, MatchOption};
+ghost use Rattle.std.specs.Prelude.{◌≡◌, ℕ, ◌+◌, ◌<◌, ◌≤◌, ◌==◌, ◌&&◌, nat_lt, length, take, swap};
+ghost use Rattle.std.specs.Prelude.{IsOk, IfOk, MatchOption};
 ghost use Rattle.std.specs.List.{list_any};
 ghost use Rattle.sym_model.specs.Sum.{Once};
 ghost use Rattle.sym_model.specs.PlaceOrders.{smaller, inversions, places};
-ghost use Rattle.sym_model.specs.Permutation.{IsOneLine, IsCode, kept, last_descent, letters_by_code, with_fixed};
+ghost use Rattle.sym_model.specs.Permutation.{IsOneLine, IsCode, kept, last_descent};
+ghost use Rattle.sym_model.specs.Permutation.{letters_by_code, with_fixed};
 ghost use Rattle.perm_codes.specs.Limits.{ExceedsFirstAt, IsShortPermutation, OffendsFirstAt};
 
 use smallvec::SmallVec;
@@ -12,7 +14,8 @@ use std::alloc::{AllocError, Global};
 /// The letters of a permutation. Up to 16 are kept with no memory taken.
 pub(crate) type Letters = SmallVec<u8, 16>;
 
-/// The first place, counted from 0, whose letter is 0, is greater than the number of letters or occurs earlier.
+/// The first place, counted from 0, whose letter is 0,
+/// is greater than the number of letters or occurs earlier.
 pub(crate) fn first_offence(letters: &[u16]) -> Option<usize>
     ensures { MatchOption result (IsOneLine letters.now) (OffendsFirstAt letters.now) }
 {
@@ -85,8 +88,9 @@ pub(crate) fn count_kept(letters: &[u8]) -> usize
     len
 }
 
-/// Whether the letters at two places, counted from 0, in each other's place make one more inversion: the first is the
-/// smaller, and no letter between them is greater than the one and smaller than the other.
+/// Whether the letters at two places, counted from 0, in each other's place make one more
+/// inversion: the first is the smaller, and no letter between them is greater than the one and
+/// smaller than the other.
 pub(crate) fn makes_one_inversion(letters: &[u8], first: usize, second: usize) -> bool
     requires order { first < second }
     requires inside { second < length letters.now }
@@ -131,11 +135,13 @@ pub(crate) fn add_fixed(alloc: Global, letters: &[u8], last: usize) -> Result<Le
     Ok(list)
 }
 
-/// The letters that a code chooses: for each entry, of those that are left the one with so many smaller ones.
+/// The letters that a code chooses: for each entry a,
+/// of those that are left the one with a smaller ones.
 pub(crate) fn choose(alloc: Global, code: &[u16]) -> Result<Letters, AllocError>
     requires few { length code.now ≤ 255 }
     requires code { IsCode code.now }
-    ensures { IfOk result (λ list. list.items ≡ letters_by_code code.now (places (length code.now))) }
+    ensures { IfOk result (λ list. list.items
+        ≡ letters_by_code code.now (places (length code.now))) }
 {
     let mut left = add_fixed(alloc, &[], code.len())?;
     let mut list = SmallVec::new(alloc);

@@ -1,14 +1,17 @@
 //! The type of a permutation.
-ghost use Rattle.std.specs.Prelude.{◌≡◌, ℕ, ◌+◌, ◌<◌, ◌≤◌, ◌↔◌, [], ◌∷◌, length, nat_eq, swap, IsOk, IfOk, OnOk, IsErrOf};
+ghost use Rattle.std.specs.Prelude.{◌≡◌, ℕ, ◌+◌, ◌<◌, ◌≤◌, ◌↔◌, [], ◌∷◌, length, nat_eq, swap};
+ghost use Rattle.std.specs.Prelude.{IsOk, IfOk, OnOk, IsErrOf};
 ghost use Rattle.std.specs.Cmp.{partial_equiv_from_equiv};
 ghost use Rattle.std.specs.Cmp.Lexicographic.{pointwise, nat_list_eq_equiv};
 ghost use Rattle.std.specs.Cmp.Rules.{hashing};
 ghost use Rattle.std.specs.Hash as fed;
 ghost use Rattle.std.proofs.Common.{rules};
 ghost use Rattle.sym_model.specs.PlaceOrders.{inversions};
-ghost use Rattle.sym_model.specs.Permutation.{IsCode, IsOneLine, code, covers_down, covers_up, from_code, kept, last_descent, letter, times_swap};
+ghost use Rattle.sym_model.specs.Permutation.{IsCode, IsOneLine, code, covers_down, covers_up};
+ghost use Rattle.sym_model.specs.Permutation.{from_code, kept, last_descent, letter, times_swap};
 ghost use Rattle.sym_model.specs.PrintedOrder.{permutation_order};
-ghost use Rattle.perm_codes.specs.Limits.{ExceedsFirstAt, HasInversions, IsShortPermutation, IsWithinLimits, OffendsFirstAt};
+ghost use Rattle.perm_codes.specs.Limits.{ExceedsFirstAt, HasInversions, IsShortPermutation};
+ghost use Rattle.perm_codes.specs.Limits.{IsWithinLimits, OffendsFirstAt};
 
 use crate::covers::{Covers, covers_below};
 use crate::letters::{
@@ -26,8 +29,8 @@ use std::marker::Model;
 /// The most letters of a permutation.
 const MAX_LETTERS: usize = 255;
 
-/// A permutation in one-line form, of 1 to 255 letters, without fixed letters at its end; the identity keeps the
-/// letter 1. Up to 16 letters are kept with no memory taken.
+/// A permutation in one-line form, of 1 to 255 letters, without fixed letters at its end; the
+/// identity keeps the letter 1. Up to 16 letters are kept with no memory taken.
 #[derive(Debug, Drop)]
 pub struct Perm {
     letters: Letters,
@@ -48,8 +51,9 @@ impl Model for Perm {
 impl Perm {
     /// The permutation with these letters, where fixed letters at the end are dropped.
     ///
-    /// It is refused as `Empty` where there is no letter, as `TooMany` where there are more than 255, else as `Letter`
-    /// at the first place, counted from 0, whose letter is 0, is greater than the number of letters or occurs earlier.
+    /// It is refused as `Empty` where there is no letter, as `TooMany` where there are more than
+    /// 255, else as `Letter` at the first place, counted from 0, whose letter is 0, is greater than
+    /// the number of letters or occurs earlier.
     /// At most 16 letters take no memory.
     pub fn from_letters(alloc: Global, letters: &[u16]) -> Result<Perm, PermFault>
         ensures ok { IfOk result (λ w. w ≡ kept letters.now) }
@@ -72,8 +76,8 @@ impl Perm {
         Ok(Perm::from_valid_letters(alloc, letters)?)
     }
 
-    /// The permutation with these letters, of which the caller knows that they are one. At most 16 letters take no
-    /// memory.
+    /// The permutation with these letters, of which the caller knows that they are one. At most 16
+    /// letters take no memory.
     pub fn from_valid_letters(alloc: Global, letters: &[u16]) -> Result<Perm, NoMemory>
         requires { IsShortPermutation letters.now }
         ensures ok { IfOk result (λ w. w ≡ kept letters.now) }
@@ -84,8 +88,8 @@ impl Perm {
 
     /// The permutation whose code, followed by zeros up to the length of this list, is this list.
     ///
-    /// It is refused as `Empty` and `TooMany` where `from_letters` is, else as `Letter` at the first place, counted
-    /// from 0, whose entry is greater than the number of entries after it.
+    /// It is refused as `Empty` and `TooMany` where `from_letters` is, else as `Letter` at the
+    /// first place, counted from 0, whose entry is greater than the number of entries after it.
     pub fn from_code(alloc: Global, code: &[u16]) -> Result<Perm, PermFault>
         ensures ok { IfOk result (λ w. w ≡ from_code code.now) }
         ensures is_code { OnOk result (IsCode code.now) }
@@ -151,8 +155,8 @@ impl Perm {
         find_last_descent(self.letters())
     }
 
-    /// How this permutation and `other` stand in print: fewer inversions first, then rising lexicographic order of the
-    /// letters. `Equal` only for equal permutations.
+    /// How this permutation and `other` stand in print: fewer inversions first, then rising
+    /// lexicographic order of the letters. `Equal` only for equal permutations.
     pub fn cmp_printed(&self, other: &Perm) -> Ordering
         ensures value { result ≡ permutation_order self.now other.now }
         ensures equal { result ≡ Ordering.Equal → self.now ≡ other.now }
@@ -186,7 +190,8 @@ impl Perm {
         Word::from_slice(*self.letters.allocator(), &code[..letters.len()])
     }
 
-    /// The permutation with the letters at the places `i` and `j`, counted from 1, in each other's place.
+    /// The permutation with the letters at the places `i` and `j`, counted from 1,
+    /// in each other's place.
     pub fn times_swap(&self, i: u16, j: u16) -> Result<Perm, NoMemory>
         requires first { 1 ≤ i }
         requires order { i < j }
@@ -197,8 +202,8 @@ impl Perm {
         Ok(Perm::exchanged(letters, usize::from(i) - 1, usize::from(j) - 1))
     }
 
-    /// The permutations with exactly one more inversion that come of this one where the letter at place `r`, counted
-    /// from 1, changes places with another.
+    /// The permutations with exactly one more inversion that come of this one where the letter at
+    /// place `r`, counted from 1, changes places with another.
     pub fn covers_at(&self, r: u16) -> Result<Covers, NoMemory>
         requires place { 1 ≤ r }
         requires last { r ≤ 254 }
@@ -216,8 +221,8 @@ impl Perm {
         )
     }
 
-    /// The permutations with exactly one more inversion that come of this one where the letter at place `r`, counted
-    /// from 1, changes places with one further left, which rises.
+    /// The permutations with exactly one more inversion that come of this one where the letter at
+    /// place `r`, counted from 1, changes places with one further left, which rises.
     pub fn covers_down(&self, r: u16) -> Result<Vec<Perm>, NoMemory>
         requires place { 1 ≤ r }
         requires last { r ≤ 255 }
@@ -241,7 +246,8 @@ impl Perm {
         Perm::of_count(letters, count)
     }
 
-    /// The permutation with these letters, but for the fixed ones at the end, whose inversions are counted.
+    /// The permutation with these letters, but for the fixed ones at the end,
+    /// whose inversions are counted.
     fn of_count(letters: Letters, count: u16) -> Perm
         requires letters { IsShortPermutation letters.items }
         requires count { count ≡ inversions letters.items }
@@ -256,7 +262,8 @@ impl Perm {
         }
     }
 
-    /// The permutation with these letters, those at two places, counted from 0, in each other's place.
+    /// The permutation with these letters, those at two places, counted from 0,
+    /// in each other's place.
     fn exchanged(letters: Letters, first: usize, second: usize) -> Perm
         requires permutation { IsShortPermutation letters.items }
         requires first { first < length letters.items }
@@ -268,8 +275,8 @@ impl Perm {
         Perm::trimmed(letters)
     }
 
-    /// The permutation with these letters, those at two places, counted from 0, in each other's place, where the
-    /// inversions that it then has are known.
+    /// The permutation with these letters, those at two places, counted from 0, in each other's
+    /// place, where the inversions that it then has are known.
     pub(crate) fn cover(letters: Letters, first: usize, second: usize, count: u16) -> Perm
         requires permutation { IsShortPermutation letters.items }
         requires first { first < length letters.items }

@@ -1,17 +1,13 @@
 -- How many cells the first rows of a skew shape have.
-use Rattle.std.proofs.Common.{◌≡◌, ℕ, zero, suc, ◌+◌, ◌-◌, ◌≤◌, List, map, length, get_or, ◌∙◌, ap, arith}
+use Rattle.std.proofs.Common.{◌≡◌, ℕ, zero, suc, ◌+◌, ◌-◌, ◌≤◌, List, length, get_or, ◌∙◌, ap, arith, flat_map}
 use Rattle.std.proofs.lemmas.List.{length-map, length-append}
-use Rattle.sym_model.specs.Sum.{each}
-use Rattle.sym_model.specs.Partition.{part, after, cells}
+use Rattle.sym_model.specs.Partition.{part, after, cells, row_cells}
 use Rattle.plain_programs.proofs.WordLists.{each_after-more}
 use Rattle.sym_model.proofs.AfterLists.{length_after}
 
-abbrev row_cells : List ℕ → List ℕ → ℕ → List (ℕ × ℕ)
-row_cells outer inner row = map (λ column. (row, column)) (after (part inner row) (part outer row - part inner row))
-
 -- the cells of the rows 1, .., k
 abbrev pub cells_to : List ℕ → List ℕ → ℕ → List (ℕ × ℕ)
-cells_to outer inner k = each (row_cells outer inner) (after 0 k)
+cells_to outer inner k = flat_map (row_cells outer inner) (after 0 k)
 
 -- one row more, counted from 0
 pub cells_to-more : (outer inner : List ℕ) (k : ℕ) → length (cells_to outer inner (k + 1)) ≡ length (cells_to outer inner k) + (get_or outer k 0 - get_or inner k 0)

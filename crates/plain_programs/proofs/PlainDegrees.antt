@@ -1,11 +1,11 @@
 -- The degrees of the polynomials of the bases, and products of sums of monomials.
-use Rattle.std.proofs.Common.{◌≡◌, ℕ, zero, suc, ◌+◌, ◌-◌, ◌<◌, ◌≤◌, ◌^◌, Bool, true, false, ◌&&◌, cond, eqb, List, [], ◌∷◌, ◌++◌, map, length, get_or, take, drop, replicate, pos, ◌*ℤ◌, refl, sym, ap, ◌∙◌, subst, inl, inr, arith}
+use Rattle.std.proofs.Common.{◌≡◌, ℕ, zero, suc, ◌+◌, ◌-◌, ◌<◌, ◌≤◌, ◌^◌, Bool, true, false, ◌&&◌, cond, eqb, List, [], ◌∷◌, ◌++◌, map, length, get_or, take, drop, replicate, pos, ◌*ℤ◌, refl, sym, ap, ◌∙◌, subst, inl, inr, arith, filter, flat_map}
 use Rattle.std.specs.Global.{Vec}
 use Rattle.std.specs.Prelude.{nat_eq}
 use Rattle.std.specs.Cmp.Lexicographic.{pointwise}
 use Rattle.std.proofs.Math.Seq.{take-length}
 use Rattle.std.proofs.lemmas.Bool.{eqb-true}
-use Rattle.sym_model.specs.Sum.{each, select, Among}
+use Rattle.sym_model.specs.Sum.{Among}
 use Rattle.sym_model.specs.Polynomial.{Term, Poly, same, join, times, one}
 use Rattle.sym_model.specs.Partition.{size}
 use Rattle.sym_model.specs.Bases.{down_from, exponent_lists, monomials, product_over}
@@ -32,11 +32,11 @@ have_size-first : (d e a : ℕ) (αs : List (List ℕ)) → a + d ≡ e → Have
 have_size-first d e a [] h k = tt
 have_size-first d e a (α ∷ αs) h k = (let s = k.0 in omega arith, have_size-first d e a αs h k.1)
 
-have_size-select : (d : ℕ) (test : List ℕ → Bool) (αs : List (List ℕ)) → HaveSize d αs → HaveSize d (select test αs)
+have_size-select : (d : ℕ) (test : List ℕ → Bool) (αs : List (List ℕ)) → HaveSize d αs → HaveSize d (filter test αs)
 have_size-select d test [] h = tt
 have_size-select d test (α ∷ αs) h = by (have_size-select d test αs h.1) (test α)
   where
-    by : HaveSize d (select test αs) → (b : Bool) → HaveSize d (cond b (α ∷ select test αs) (select test αs))
+    by : HaveSize d (filter test αs) → (b : Bool) → HaveSize d (cond b (α ∷ filter test αs) (filter test αs))
     by rest true = (h.0, rest)
     by rest false = rest
 
@@ -49,7 +49,7 @@ exponent_lists-size zero d = by (eqb d 0) refl
     by false e = tt
 exponent_lists-size (suc n) d = by (λ e. exponent_lists-size n e) d (omega arith)
   where
-    by : ((e : ℕ) → HaveSize e (exponent_lists n e)) → (a : ℕ) → a ≤ d → HaveSize d (each (λ b. map (λ α. b ∷ α) (exponent_lists n (d - b))) (down_from a))
+    by : ((e : ℕ) → HaveSize e (exponent_lists n e)) → (a : ℕ) → a ≤ d → HaveSize d (flat_map (λ b. map (λ α. b ∷ α) (exponent_lists n (d - b))) (down_from a))
     by shorter zero h =
         have_size-append d (map (λ α. 0 ∷ α) (exponent_lists n (d - 0))) [] (have_size-first (d - 0) d 0 (exponent_lists n (d - 0)) (omega arith) (shorter (d - 0))) tt
     by shorter (suc a) h =
@@ -70,7 +70,7 @@ size-among d (β ∷ αs) α h (inr k) = size-among d αs α h.1 k
 
 pub monomials-degree : (test : List ℕ → Bool) (n d : ℕ) → HasDegree d (monomials test n d)
 monomials-degree test n d =
-    has_degree-sum d (select test (exponent_lists n d)) (have_size-select d test (exponent_lists n d) (exponent_lists-size n d))
+    has_degree-sum d (filter test (exponent_lists n d)) (have_size-select d test (exponent_lists n d) (exponent_lists-size n d))
 
 has_degree-append : (d : ℕ) (f g : Poly) → HasDegree d f → HasDegree d g → HasDegree d (f ++ g)
 has_degree-append d [] g h k = k
@@ -107,10 +107,10 @@ pub part_polynomial-degree : (basis : PlainBasis) (k n : ℕ) → HasDegree k (p
 part_polynomial-degree basis k n = subst (HasDegree k) (sym (part_polynomial-is basis k n)) (monomials-degree (keeps basis k) n k)
 
 -- sums of monomials, multiplied
-pub sum_of-times : (αs βs : List (List ℕ)) → sum_of (each (λ α. map (λ β. join α β) βs) αs) ≡ times (sum_of αs) (sum_of βs)
+pub sum_of-times : (αs βs : List (List ℕ)) → sum_of (flat_map (λ α. map (λ β. join α β) βs) αs) ≡ times (sum_of αs) (sum_of βs)
 sum_of-times [] βs = refl
 sum_of-times (α ∷ αs) βs =
-    sum_of-append (map (λ β. join α β) βs) (each (λ α. map (λ β. join α β) βs) αs) ∙ (ap (λ front. front ++ sum_of (each (λ α. map (λ β. join α β) βs) αs)) (row βs) ∙ ap (λ back. map (λ (t : Term). (join α t.0, pos 1 *ℤ t.1)) (sum_of βs) ++ back) (sum_of-times αs βs))
+    sum_of-append (map (λ β. join α β) βs) (flat_map (λ α. map (λ β. join α β) βs) αs) ∙ (ap (λ front. front ++ sum_of (flat_map (λ α. map (λ β. join α β) βs) αs)) (row βs) ∙ ap (λ back. map (λ (t : Term). (join α t.0, pos 1 *ℤ t.1)) (sum_of βs) ++ back) (sum_of-times αs βs))
   where
     sum_of-append : (xs ys : List (List ℕ)) → sum_of (xs ++ ys) ≡ sum_of xs ++ sum_of ys
     sum_of-append [] ys = refl
@@ -151,7 +151,7 @@ product_over-first f [] n h = absurd (omega arith)
 product_over-first f (k ∷ parts) n h = ap (λ ps. times (f k n) (product_over f ps n)) (rest-is (k ∷ parts) h)
 
 -- two sums of monomials and their product
-pub product-is : (f : ℕ → ℕ → Poly) (parts : List ℕ) (n : ℕ) (αs βs all : List (List ℕ)) → 1 ≤ length parts → sum_of αs ≡ f (get_or parts 0 0) n → sum_of βs ≡ product_over f (take (length parts - 1) (drop 1 parts)) n → all ≡ each (λ α. map (λ β. join α β) βs) αs → sum_of all ≡ product_over f parts n
+pub product-is : (f : ℕ → ℕ → Poly) (parts : List ℕ) (n : ℕ) (αs βs all : List (List ℕ)) → 1 ≤ length parts → sum_of αs ≡ f (get_or parts 0 0) n → sum_of βs ≡ product_over f (take (length parts - 1) (drop 1 parts)) n → all ≡ flat_map (λ α. map (λ β. join α β) βs) αs → sum_of all ≡ product_over f parts n
 product-is f parts n αs βs all h p q e =
     ap sum_of e ∙ (sum_of-times αs βs ∙ (ap (λ g. times g (sum_of βs)) p ∙ (ap (λ g. times (f (get_or parts 0 0) n) g) q ∙ product_over-first f parts n h)))
 

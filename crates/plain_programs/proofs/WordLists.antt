@@ -1,11 +1,10 @@
 -- Lists that loops build up.
-use Rattle.std.proofs.Common.{◌≡◌, ℕ, zero, suc, ◌+◌, ◌-◌, ◌≢◌, List, [], ◌∷◌, ◌++◌, map, take, reverse, length, get_or, Bool, true, false, cond, ◌<◌, sym, ◌∙◌, ap, refl, arith, append-nil, add-one}
+use Rattle.std.proofs.Common.{◌≡◌, ℕ, zero, suc, ◌+◌, ◌-◌, ◌≢◌, List, [], ◌∷◌, ◌++◌, map, take, reverse, length, get_or, Bool, true, false, cond, ◌<◌, sym, ◌∙◌, ap, refl, arith, append-nil, add-one, filter, flat_map}
 use Rattle.std.proofs.lemmas.List.{take_more, map-append, reverse-append}
-use Rattle.sym_model.specs.Sum.{each, select}
 use Rattle.sym_model.specs.Partition.{after}
 use Rattle.sym_model.proofs.Lists.{each-append}
 
-pub each-one : {A B : Type 0} (f : A → List B) (x : A) → each f (x ∷ []) ≡ f x
+pub each-one : {A B : Type 0} (f : A → List B) (x : A) → flat_map f (x ∷ []) ≡ f x
 each-one f x = append-nil (f x)
 
 -- one number more
@@ -15,47 +14,47 @@ after-more a (suc k) =
     let e : a + 1 + k + 1 ≡ a + suc k + 1 = omega arith in
     rw (add-one (suc k)) (ap (λ l. (a + 1) ∷ l) (ap (after (a + 1)) (sym (add-one k)) ∙ after-more (a + 1) k ∙ ap (λ n. after (a + 1) k ++ (n ∷ [])) e))
 
-pub each_after-more : {B : Type 0} (f : ℕ → List B) (k : ℕ) → each f (after 0 (k + 1)) ≡ each f (after 0 k) ++ f (k + 1)
+pub each_after-more : {B : Type 0} (f : ℕ → List B) (k : ℕ) → flat_map f (after 0 (k + 1)) ≡ flat_map f (after 0 k) ++ f (k + 1)
 each_after-more f k =
     let e : 0 + k + 1 ≡ k + 1 = omega arith in
-    ap (each f) (after-more 0 k) ∙ each-append f (after 0 k) ((0 + k + 1) ∷ []) ∙ ap (λ z. each f (after 0 k) ++ z) (each-one f (0 + k + 1) ∙ ap f e)
+    ap (flat_map f) (after-more 0 k) ∙ each-append f (after 0 k) ((0 + k + 1) ∷ []) ∙ ap (λ z. flat_map f (after 0 k) ++ z) (each-one f (0 + k + 1) ∙ ap f e)
 
 -- one element more of a list that is read through g
 pub each_take-more : {A B C : Type 0} (f : B → List C) (g : A → B) (xs : List A) (i : ℕ) (x : A) → i < length xs → x ≡ get_or xs i x
-    → each f (map g (take (i + 1) xs)) ≡ each f (map g (take i xs)) ++ f (g x)
+    → flat_map f (map g (take (i + 1) xs)) ≡ flat_map f (map g (take i xs)) ++ f (g x)
 each_take-more f g xs i x h e =
-    ap (λ l. each f (map g l)) (take_more xs i x h ∙ ap (λ y. take i xs ++ (y ∷ [])) (sym e))
-    ∙ ap (each f) (map-append g (take i xs) (x ∷ []))
+    ap (λ l. flat_map f (map g l)) (take_more xs i x h ∙ ap (λ y. take i xs ++ (y ∷ [])) (sym e))
+    ∙ ap (flat_map f) (map-append g (take i xs) (x ∷ []))
     ∙ each-append f (map g (take i xs)) (g x ∷ [])
-    ∙ ap (λ l. each f (map g (take i xs)) ++ l) (each-one f (g x))
+    ∙ ap (λ l. flat_map f (map g (take i xs)) ++ l) (each-one f (g x))
 
 -- falling numbers: the greatest first
-pub each_reverse-after : {B : Type 0} (f : ℕ → List B) (j k : ℕ) → k ≢ 0 → each f (reverse (after j k)) ≡ f (j + k) ++ each f (reverse (after j (k - 1)))
+pub each_reverse-after : {B : Type 0} (f : ℕ → List B) (j k : ℕ) → k ≢ 0 → flat_map f (reverse (after j k)) ≡ f (j + k) ++ flat_map f (reverse (after j (k - 1)))
 each_reverse-after f j k h =
     let e : k ≡ k - 1 + 1 = omega arith in
     let d : j + (k - 1) + 1 ≡ j + k = omega arith in
-    ap (λ n. each f (reverse (after j n))) e
-    ∙ ap (λ l. each f (reverse l)) (after-more j (k - 1))
-    ∙ ap (each f) (reverse-append (after j (k - 1)) ((j + (k - 1) + 1) ∷ []))
-    ∙ ap (λ n. f n ++ each f (reverse (after j (k - 1)))) d
+    ap (λ n. flat_map f (reverse (after j n))) e
+    ∙ ap (λ l. flat_map f (reverse l)) (after-more j (k - 1))
+    ∙ ap (flat_map f) (reverse-append (after j (k - 1)) ((j + (k - 1) + 1) ∷ []))
+    ∙ ap (λ n. f n ++ flat_map f (reverse (after j (k - 1)))) d
 
 pub map_after-more : {B : Type 0} (f : ℕ → B) (k : ℕ) → map f (after 0 (k + 1)) ≡ map f (after 0 k) ++ (f (k + 1) ∷ [])
 map_after-more f k =
     let e : 0 + k + 1 ≡ k + 1 = omega arith in
     ap (map f) (after-more 0 k) ∙ map-append f (after 0 k) ((0 + k + 1) ∷ []) ∙ ap (λ n. map f (after 0 k) ++ (f n ∷ [])) e
 
-select-append : {A : Type 0} (test : A → Bool) (xs : List A) (x : A) → select test (xs ++ (x ∷ [])) ≡ select test xs ++ cond (test x) (x ∷ []) []
+select-append : {A : Type 0} (test : A → Bool) (xs : List A) (x : A) → filter test (xs ++ (x ∷ [])) ≡ filter test xs ++ cond (test x) (x ∷ []) []
 select-append test [] x = refl
 select-append {A} test (y ∷ xs) x = by (test y) (select-append test xs x)
   where
-    by : (b : Bool) → select test (xs ++ (x ∷ [])) ≡ select test xs ++ cond (test x) (x ∷ []) []
-        → cond b (y ∷ select test (xs ++ (x ∷ []))) (select test (xs ++ (x ∷ []))) ≡ cond b (y ∷ select test xs) (select test xs) ++ cond (test x) (x ∷ []) []
+    by : (b : Bool) → filter test (xs ++ (x ∷ [])) ≡ filter test xs ++ cond (test x) (x ∷ []) []
+        → cond b (y ∷ filter test (xs ++ (x ∷ []))) (filter test (xs ++ (x ∷ []))) ≡ cond b (y ∷ filter test xs) (filter test xs) ++ cond (test x) (x ∷ []) []
     by true e = ap (λ l. y ∷ l) e
     by false e = e
 
 pub select_take-more : {A B : Type 0} (test : B → Bool) (g : A → B) (xs : List A) (i : ℕ) (x : A) → i < length xs → x ≡ get_or xs i x
-    → select test (map g (take (i + 1) xs)) ≡ select test (map g (take i xs)) ++ cond (test (g x)) (g x ∷ []) []
+    → filter test (map g (take (i + 1) xs)) ≡ filter test (map g (take i xs)) ++ cond (test (g x)) (g x ∷ []) []
 select_take-more test g xs i x h e =
-    ap (λ l. select test (map g l)) (take_more xs i x h ∙ ap (λ y. take i xs ++ (y ∷ [])) (sym e))
-    ∙ ap (select test) (map-append g (take i xs) (x ∷ []))
+    ap (λ l. filter test (map g l)) (take_more xs i x h ∙ ap (λ y. take i xs ++ (y ∷ [])) (sym e))
+    ∙ ap (filter test) (map-append g (take i xs) (x ∷ []))
     ∙ select-append test (map g (take i xs)) (g x)

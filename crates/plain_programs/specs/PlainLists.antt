@@ -4,9 +4,11 @@ use Rattle.std.specs.Global.{Vec}
 use Rattle.sym_model.specs.Sum.{Among}
 use Rattle.sym_model.specs.Polynomial.{Poly}
 use Rattle.sym_model.specs.Partition.{size}
-use Rattle.sym_model.specs.Bases.{at_most_one, has, elementary_of, complete_of, power_sum_of, elementary, complete, power_sum}
+use Rattle.sym_model.specs.Bases.{at_most_one, has, elementary_of, complete_of, power_sum_of}
+use Rattle.sym_model.specs.Bases.{elementary, complete, power_sum}
 use Rattle.plain_programs.specs.declared.bases.PlainBasis.{PlainBasis}
-use Rattle.plain_programs.specs.declared.bases.PlainBasis.TheVariants.{Elementary, Complete, PowerSum}
+use Rattle.plain_programs.specs.declared.bases.PlainBasis.TheVariants.{Elementary, Complete}
+use Rattle.plain_programs.specs.declared.bases.PlainBasis.TheVariants.{PowerSum}
 
 -- the lists that a vector of vectors holds
 abbrev pub lists : Vec (Vec ℕ) → List (List ℕ)

@@ -3,9 +3,10 @@
 //! Each gives the polynomial as the exponent lists of its monomials, one for each term of the
 //! formal sum, with coefficient 1. A monomial that the sum has twice stands twice.
 
-ghost use Rattle.std.specs.Prelude.{◌≡◌, ◌+◌, ◌^◌, ◌<◌, ◌++◌, ℕ, List, map, IfOk, OnOk};
-ghost use Rattle.plain_programs.specs.PlainLists.{lists, sum_of, CanMultiply, keeps, part_polynomial, product_polynomial};
-ghost use Rattle.sym_model.specs.Sum.{Among, each};
+ghost use Rattle.std.specs.Prelude.{◌≡◌, ◌+◌, ◌^◌, ◌<◌, ◌++◌, ℕ, List, map, IfOk, OnOk, flat_map};
+ghost use Rattle.plain_programs.specs.PlainLists.{lists, sum_of, CanMultiply, keeps};
+ghost use Rattle.plain_programs.specs.PlainLists.{part_polynomial, product_polynomial};
+ghost use Rattle.sym_model.specs.Sum.{Among};
 ghost use Rattle.sym_model.specs.Polynomial.{same, join, one};
 ghost use Rattle.sym_model.specs.Partition.{size, sorted_parts};
 ghost use Rattle.sym_model.specs.Bases.{at_most_one, has, monomial};
@@ -136,7 +137,8 @@ fn times(
     ensures { IfOk result
         (λ all.
         lists all
-        ≡ each (λ α. map (λ β. join α β) (map (λ β. β.items) second.now)) (map (λ α. α.items) first.now)) }
+        ≡ flat_map (λ α. map (λ β. join α β) (map (λ β. β.items) second.now))
+        (map (λ α. α.items) first.now)) }
 {
     let mut all = Vec::new(alloc);
     for exponents in first {
@@ -151,7 +153,8 @@ fn append_products(
     first: &[u64],
     second: &[Vec<u64>],
 ) -> Result<(), AllocError>
-    requires { (β : List ℕ) → Among β (map (λ β. β.items) second.now) → size first.now + size β < 2 ^ 64 }
+    requires { (β : List ℕ) → Among β (map (λ β. β.items) second.now)
+        → size first.now + size β < 2 ^ 64 }
     ensures { OnOk result
         (lists all.new
         ≡ lists all.old ++ map (λ β. join first.now β) (map (λ β. β.items) second.now)) }

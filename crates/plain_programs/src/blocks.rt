@@ -2,7 +2,8 @@
 
 ghost use Rattle.std.specs.Prelude.{◌≡◌, ◌++◌, codes, decimal, map, IfOk, OnOk, string_bytes};
 ghost use Rattle.std.specs.Fmt.{signed_decimal};
-ghost use Rattle.sym_model.specs.PrintedBlock.{fraction_text, numbers_text, label_text, line_text, lines_text, block};
+ghost use Rattle.sym_model.specs.PrintedBlock.{fraction_text, numbers_text, label_text, line_text};
+ghost use Rattle.sym_model.specs.PrintedBlock.{lines_text, block};
 ghost use Rattle.plain_programs.specs.PlainTerm.{term_of};
 
 use std::alloc::{AllocError, Global};
@@ -34,7 +35,8 @@ pub fn plain_block(alloc: Global, terms: &[PlainTerm]) -> Result<String, AllocEr
 }
 
 fn push_line(text: &mut String, term: &PlainTerm) -> Result<(), AllocError>
-    ensures { OnOk result (string_bytes text.new ≡ string_bytes text.old ++ line_text (term_of term.now)) }
+    ensures { OnOk result (string_bytes text.new
+        ≡ string_bytes text.old ++ line_text (term_of term.now)) }
 {
     push_fraction(text, term.numerator, term.denominator)?;
     text.push_str("  (")?;
@@ -43,7 +45,8 @@ fn push_line(text: &mut String, term: &PlainTerm) -> Result<(), AllocError>
 }
 
 fn push_fraction(text: &mut String, numerator: i128, denominator: u128) -> Result<(), AllocError>
-    ensures { OnOk result (string_bytes text.new ≡ string_bytes text.old ++ fraction_text (numerator, denominator)) }
+    ensures { OnOk result (string_bytes text.new
+        ≡ string_bytes text.old ++ fraction_text (numerator, denominator)) }
 {
     write!(text, "{numerator}")?;
     if denominator != 1 {
@@ -53,7 +56,8 @@ fn push_fraction(text: &mut String, numerator: i128, denominator: u128) -> Resul
 }
 
 fn push_numbers(text: &mut String, numbers: &[u64]) -> Result<(), AllocError>
-    ensures { OnOk result (string_bytes text.new ≡ string_bytes text.old ++ numbers_text numbers.now) }
+    ensures { OnOk result (string_bytes text.new
+        ≡ string_bytes text.old ++ numbers_text numbers.now) }
 {
     let [first, rest @ ..] = numbers else {
         return Ok(());

@@ -1,7 +1,6 @@
 //! Fillings of a skew shape and its semistandard tableaux, by listing all of them.
 
-ghost use Rattle.std.specs.Prelude.{◌≡◌, ◌∷◌, ◌++◌, map, IfOk, OnOk};
-ghost use Rattle.sym_model.specs.Sum.{each, select};
+ghost use Rattle.std.specs.Prelude.{◌≡◌, ◌∷◌, ◌++◌, map, IfOk, OnOk, filter, flat_map};
 ghost use Rattle.sym_model.specs.Schur.{row_lengths, fillings_of, semistandard, tableaux};
 ghost use Rattle.plain_programs.specs.Words.{words_of, fillings_in};
 
@@ -48,7 +47,8 @@ pub fn plain_fillings(
 }
 
 fn push_row_lengths(lengths: &mut Vec<u64>, outer: &[u64], inner: &[u64]) -> Result<(), AllocError>
-    ensures { OnOk result (lengths.new.items ≡ lengths.old.items ++ row_lengths outer.now inner.now) }
+    ensures { OnOk result (lengths.new.items
+        ≡ lengths.old.items ++ row_lengths outer.now inner.now) }
 {
     let [whole, outer @ ..] = outer else {
         return Ok(());
@@ -72,7 +72,8 @@ fn stacked(
     rest: &[Vec<Vec<u64>>],
 ) -> Result<Vec<Vec<Vec<u64>>>, AllocError>
     ensures { IfOk result (λ list. fillings_in list.items
-        ≡ each (λ row. map (λ filling. row ∷ filling) (fillings_in rest.now)) (words_of rows.now)) }
+        ≡ flat_map (λ row. map (λ filling. row ∷ filling) (fillings_in rest.now))
+        (words_of rows.now)) }
 {
     let mut list = Vec::new(alloc);
     for row in rows {
@@ -128,7 +129,8 @@ fn semistandard_among(
     inner: &[u64],
     fillings: &[Vec<Vec<u64>>],
 ) -> Result<Vec<Vec<Vec<u64>>>, AllocError>
-    ensures { IfOk result (λ list. fillings_in list.items ≡ select (semistandard inner.now) (fillings_in fillings.now)) }
+    ensures { IfOk result (λ list. fillings_in list.items
+        ≡ filter (semistandard inner.now) (fillings_in fillings.now)) }
 {
     let mut list = Vec::new(alloc);
     for filling in fillings {

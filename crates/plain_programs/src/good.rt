@@ -1,11 +1,12 @@
 //! Good tableaux, by listing all tableaux.
 
-ghost use Rattle.std.specs.Prelude.{◌≡◌, [], ◌∷◌, ◌++◌, ◌+◌, ◌<◌, ◌≤◌, ◌^◌, IfOk, OnOk, cond, length, map};
-ghost use Rattle.sym_model.specs.Sum.{select};
+ghost use Rattle.std.specs.Prelude.{◌≡◌, [], ◌∷◌, ◌++◌, ◌+◌, ◌<◌, ◌≤◌, ◌^◌, IfOk, OnOk, cond};
+ghost use Rattle.std.specs.Prelude.{length, map, filter};
 ghost use Rattle.sym_model.specs.Polynomial.{same, join};
 ghost use Rattle.sym_model.specs.Partition.{after, cells};
 ghost use Rattle.sym_model.specs.Schur.{times_in, content};
-ghost use Rattle.sym_model.specs.GoodTableau.{column_reading, is_falling, is_good, is_among, good_tableaux, good_readings};
+ghost use Rattle.sym_model.specs.GoodTableau.{column_reading, is_falling, is_good, is_among};
+ghost use Rattle.sym_model.specs.GoodTableau.{good_tableaux, good_readings};
 ghost use Rattle.plain_programs.specs.Words.{words_of, fillings_in};
 
 use crate::fillings::{plain_tableaux, push_rows};
@@ -14,9 +15,9 @@ use crate::readings::{plain_column_reading, plain_reading_right_of};
 use crate::words::plain_words;
 use std::alloc::{AllocError, Global};
 
-/// The column readings, in rising lexicographic order, of the good tableaux of the shape outer/inner
-/// with this start and entries from 1 to k; none where start has more than k parts. The number of
-/// cells is below 2^64. Want of memory is its only error.
+/// The column readings, in rising lexicographic order, of the good tableaux of the shape
+/// outer/inner with this start and entries from 1 to k; none where start has more than k parts. The
+/// number of cells is below 2^64. Want of memory is its only error.
 pub fn plain_good_readings(
     alloc: Global,
     k: u64,
@@ -25,7 +26,8 @@ pub fn plain_good_readings(
     inner: &[u64],
 ) -> Result<Vec<Vec<u64>>, AllocError>
     requires fits { length (cells outer.now inner.now) < 2 ^ 64 }
-    ensures { IfOk result (λ list. words_of list.items ≡ good_readings k start.now outer.now inner.now) }
+    ensures { IfOk result (λ list. words_of list.items
+        ≡ good_readings k start.now outer.now inner.now) }
 {
     let good = plain_good_tableaux(alloc, k, start, outer, inner)?;
     let readings = readings_of(alloc, outer, inner, &good)?;
@@ -42,7 +44,8 @@ pub fn plain_good_tableaux(
     outer: &[u64],
     inner: &[u64],
 ) -> Result<Vec<Vec<Vec<u64>>>, AllocError>
-    ensures { IfOk result (λ list. fillings_in list.items ≡ good_tableaux k start.now outer.now inner.now) }
+    ensures { IfOk result (λ list. fillings_in list.items
+        ≡ good_tableaux k start.now outer.now inner.now) }
 {
     if start.len() as u64 > k {
         return Ok(Vec::new(alloc));
@@ -60,7 +63,7 @@ fn good_among(
     tableaux: &[Vec<Vec<u64>>],
 ) -> Result<Vec<Vec<Vec<u64>>>, AllocError>
     ensures { IfOk result (λ list. fillings_in list.items
-        ≡ select (is_good k start.now outer.now inner.now) (fillings_in tableaux.now)) }
+        ≡ filter (is_good k start.now outer.now inner.now) (fillings_in tableaux.now)) }
 {
     let mut list = Vec::new(alloc);
     for tableau in tableaux {
@@ -98,7 +101,8 @@ pub fn plain_is_good(
     inner: &[u64],
     filling: &[Vec<u64>],
 ) -> Result<bool, AllocError>
-    ensures { IfOk result (λ good. good ≡ is_good k start.now outer.now inner.now (words_of filling.now)) }
+    ensures { IfOk result (λ good. good
+        ≡ is_good k start.now outer.now inner.now (words_of filling.now)) }
 {
     let whole = plain_column_reading(alloc, outer, inner, filling)?;
     let all_fall = falls_with(alloc, k, start, &whole)?;
@@ -189,7 +193,8 @@ pub(crate) fn readings_of(
     inner: &[u64],
     fillings: &[Vec<Vec<u64>>],
 ) -> Result<Vec<Vec<u64>>, AllocError>
-    ensures { IfOk result (λ list. words_of list.items ≡ map (column_reading outer.now inner.now) (fillings_in fillings.now)) }
+    ensures { IfOk result (λ list. words_of list.items
+        ≡ map (column_reading outer.now inner.now) (fillings_in fillings.now)) }
 {
     let mut list = Vec::new(alloc);
     for filling in fillings {
@@ -216,7 +221,8 @@ pub(crate) fn those_among(
     words: &[Vec<u64>],
     readings: &[Vec<u64>],
 ) -> Result<Vec<Vec<u64>>, AllocError>
-    ensures { IfOk result (λ list. words_of list.items ≡ select (λ w. is_among w (words_of readings.now)) (words_of words.now)) }
+    ensures { IfOk result (λ list. words_of list.items
+        ≡ filter (λ w. is_among w (words_of readings.now)) (words_of words.now)) }
 {
     let mut list = Vec::new(alloc);
     for word in words {

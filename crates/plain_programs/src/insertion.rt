@@ -1,7 +1,8 @@
 //! Row insertion of words, and the pair of tableaux that it makes.
 
 ghost use Rattle.std.specs.Prelude.{◌≡◌, ◌+◌, ◌<◌, ◌^◌, ◌++◌, Some, IfOk, OnOk, length};
-ghost use Rattle.sym_model.specs.Insertion.{row_with, bumped, inserted, with_step, inserted_from, insertion_pair, reading_word};
+ghost use Rattle.sym_model.specs.Insertion.{row_with, bumped, inserted, with_step, inserted_from};
+ghost use Rattle.sym_model.specs.Insertion.{insertion_pair, reading_word};
 ghost use Rattle.plain_programs.specs.Words.{words_of};
 ghost use Rattle.plain_programs.specs.Pairs.{tableaux_of};
 
@@ -37,7 +38,8 @@ fn inserted_from(
 ) -> Result<TableauPair, AllocError>
     requires { step + length word.now < 2 ^ 64 }
     ensures { IfOk result (λ after. tableaux_of after
-        ≡ inserted_from step word.now (words_of pair.insertion.items) (words_of pair.recording.items)) }
+        ≡ inserted_from step word.now (words_of pair.insertion.items)
+        (words_of pair.recording.items)) }
 {
     let [letter, others @ ..] = word else {
         return Ok(pair);
@@ -57,7 +59,8 @@ pub fn plain_inserted(
     rows: &[Vec<u64>],
     letter: u64,
 ) -> Result<Vec<Vec<u64>>, AllocError>
-    ensures { IfOk result (λ list. words_of list.items ≡ inserted (words_of rows.now) (Some letter)) }
+    ensures { IfOk result (λ list. words_of list.items
+        ≡ inserted (words_of rows.now) (Some letter)) }
 {
     let mut list = Vec::new(alloc);
     push_inserted(alloc, &mut list, rows, letter)?;
@@ -125,7 +128,8 @@ fn with_step(
     insertion: &[Vec<u64>],
     recording: &[Vec<u64>],
 ) -> Result<Vec<Vec<u64>>, AllocError>
-    ensures { IfOk result (λ list. words_of list.items ≡ with_step step (words_of insertion.now) (words_of recording.now)) }
+    ensures { IfOk result (λ list. words_of list.items
+        ≡ with_step step (words_of insertion.now) (words_of recording.now)) }
 {
     let mut list = Vec::new(alloc);
     push_with_step(alloc, &mut list, step, insertion, recording)?;
@@ -140,7 +144,8 @@ fn push_with_step(
     recording: &[Vec<u64>],
 ) -> Result<(), AllocError>
     ensures { OnOk result (words_of list.new.items
-        ≡ words_of list.old.items ++ with_step step (words_of insertion.now) (words_of recording.now)) }
+        ≡ words_of list.old.items
+        ++ with_step step (words_of insertion.now) (words_of recording.now)) }
 {
     let [row, lower @ ..] = insertion else {
         return push_rows(alloc, list, recording);

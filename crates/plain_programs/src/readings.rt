@@ -1,7 +1,7 @@
 //! Column readings of fillings.
 
 ghost use Rattle.std.specs.Prelude.{◌≡◌, ◌++◌, ◌+◌, ◌<◌, ◌≤◌, ◌^◌, IfOk, OnOk, length, reverse};
-ghost use Rattle.sym_model.specs.Sum.{each};
+ghost use Rattle.std.specs.Prelude.{flat_map};
 ghost use Rattle.sym_model.specs.Partition.{after};
 ghost use Rattle.sym_model.specs.GoodTableau.{column, reading_right_of, column_reading};
 ghost use Rattle.plain_programs.specs.Words.{words_of};
@@ -17,7 +17,8 @@ pub fn plain_column_reading(
     inner: &[u64],
     filling: &[Vec<u64>],
 ) -> Result<Vec<u64>, AllocError>
-    ensures { IfOk result (λ reading. reading.items ≡ column_reading outer.now inner.now (words_of filling.now)) }
+    ensures { IfOk result (λ reading. reading.items
+        ≡ column_reading outer.now inner.now (words_of filling.now)) }
 {
     plain_reading_right_of(alloc, 0, outer, inner, filling)
 }
@@ -31,7 +32,8 @@ pub fn plain_reading_right_of(
     inner: &[u64],
     filling: &[Vec<u64>],
 ) -> Result<Vec<u64>, AllocError>
-    ensures { IfOk result (λ reading. reading.items ≡ reading_right_of j outer.now inner.now (words_of filling.now)) }
+    ensures { IfOk result (λ reading. reading.items
+        ≡ reading_right_of j outer.now inner.now (words_of filling.now)) }
 {
     let mut reading = Vec::new(alloc);
     let columns = number_at(outer, 0);
@@ -49,7 +51,8 @@ fn push_columns(
 ) -> Result<(), AllocError>
     requires { j + count < 2 ^ 64 }
     ensures { OnOk result (reading.new.items
-        ≡ reading.old.items ++ each (column inner.now (words_of filling.now)) (reverse (after j count))) }
+        ≡ reading.old.items ++ flat_map (column inner.now (words_of filling.now))
+        (reverse (after j count))) }
 {
     if count == 0 {
         return Ok(());
@@ -64,7 +67,8 @@ fn push_column(
     filling: &[Vec<u64>],
     j: u64,
 ) -> Result<(), AllocError>
-    ensures { OnOk result (reading.new.items ≡ reading.old.items ++ column inner.now (words_of filling.now) j) }
+    ensures { OnOk result (reading.new.items
+        ≡ reading.old.items ++ column inner.now (words_of filling.now) j) }
 {
     let [row, below @ ..] = filling else {
         return Ok(());

@@ -1,8 +1,10 @@
 //! The reduction of partitions by reflections of their beta lists.
 
-ghost use Rattle.std.specs.Prelude.{◌≡◌, ℕ, ◌++◌, ◌+◌, ◌-◌, ◌≤◌, ◌<◌, ◌^◌, IfOk, OnOk, length, slice_index};
+ghost use Rattle.std.specs.Prelude.{◌≡◌, ℕ, ◌++◌, ◌+◌, ◌-◌, ◌≤◌, ◌<◌, ◌^◌, IfOk, OnOk, length};
+ghost use Rattle.std.specs.Prelude.{slice_index};
 ghost use Rattle.sym_model.specs.Partition.{part};
-ghost use Rattle.sym_model.specs.AlcoveReduction.{alcove_reduction, reflected_into_alcove, spread, last_raised, reflected};
+ghost use Rattle.sym_model.specs.AlcoveReduction.{alcove_reduction, reflected_into_alcove, spread};
+ghost use Rattle.sym_model.specs.AlcoveReduction.{last_raised, reflected};
 ghost use Rattle.plain_programs.specs.Signed.{signed_of};
 
 use crate::beta_lists::{
@@ -20,8 +22,8 @@ pub struct Signed {
     pub is_negative: bool,
 }
 
-/// The reduction of a partition with at most k rows into the alcove of level n - k: a partition with
-/// a sign, or None where it is 0. Want of memory is its only error.
+/// The reduction of a partition with at most k rows into the alcove of level n - k: a partition
+/// with a sign, or None where it is 0. Want of memory is its only error.
 pub fn plain_alcove(
     alloc: Global,
     k: u64,

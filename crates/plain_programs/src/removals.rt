@@ -37,7 +37,8 @@ pub fn plain_core(alloc: Global, k: u64, n: u64, shape: &[u64]) -> Result<Core, 
     requires partition { IsPartition shape.now }
     requires rows { length shape.now ≤ k }
     requires fits { size shape.now < 2 ^ 64 }
-    ensures end { IfOk result (λ core. GoesTo k n shape.now core.shape.items (sign_of core.is_negative) core.power) }
+    ensures end { IfOk result (λ core.
+        GoesTo k n shape.now core.shape.items (sign_of core.is_negative) core.power) }
     ensures bound { IfOk result (λ core. core.power ≤ size shape.now) }
 {
     let Some(removal) = plain_removal(alloc, n, shape)? else {
@@ -131,7 +132,8 @@ fn left_rows(
 ) -> Result<Vec<u64>, AllocError>
     requires ordered { first ≤ last }
     requires within { last < length shape.now }
-    ensures { IfOk result (λ left. (i : ℕ) → slice_index left.items i ≡ left_part shape.now first last rest i) }
+    ensures { IfOk result (λ left. (i : ℕ)
+        → slice_index left.items i ≡ left_part shape.now first last rest i) }
 {
     let mut left = Vec::new(alloc);
     for i in 0..shape.len() {

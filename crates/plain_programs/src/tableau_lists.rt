@@ -1,7 +1,6 @@
 //! Lists of tableaux by their column readings, and the filling of a reading.
 
-ghost use Rattle.std.specs.Prelude.{◌≡◌, ◌<◌, ◌^◌, IfOk, length};
-ghost use Rattle.sym_model.specs.Sum.{select};
+ghost use Rattle.std.specs.Prelude.{◌≡◌, ◌<◌, ◌^◌, IfOk, length, filter};
 ghost use Rattle.sym_model.specs.Polynomial.{same};
 ghost use Rattle.sym_model.specs.Partition.{cells};
 ghost use Rattle.sym_model.specs.Schur.{content};
@@ -40,7 +39,8 @@ pub fn plain_readings_with_content(
     inner: &[u64],
 ) -> Result<Vec<Vec<u64>>, AllocError>
     requires fits { length (cells outer.now inner.now) < 2 ^ 64 }
-    ensures { IfOk result (λ list. words_of list.items ≡ readings_with_content counts.now outer.now inner.now) }
+    ensures { IfOk result (λ list. words_of list.items
+        ≡ readings_with_content counts.now outer.now inner.now) }
 {
     let readings = plain_tableau_readings(alloc, counts.len() as u64, outer, inner)?;
     those_with_content(alloc, counts, &readings)
@@ -52,7 +52,7 @@ fn those_with_content(
     words: &[Vec<u64>],
 ) -> Result<Vec<Vec<u64>>, AllocError>
     ensures { IfOk result (λ list. words_of list.items
-        ≡ select (λ w. same (content (length counts.now) w) counts.now) (words_of words.now)) }
+        ≡ filter (λ w. same (content (length counts.now) w) counts.now) (words_of words.now)) }
 {
     let mut list = Vec::new(alloc);
     for word in words {

@@ -1,7 +1,6 @@
 //! All words of one length, in lexicographic order.
 
-ghost use Rattle.std.specs.Prelude.{◌≡◌, ◌+◌, ◌∷◌, ◌++◌, map, IfOk, OnOk};
-ghost use Rattle.sym_model.specs.Sum.{each};
+ghost use Rattle.std.specs.Prelude.{◌≡◌, ◌+◌, ◌∷◌, ◌++◌, map, IfOk, OnOk, flat_map};
 ghost use Rattle.sym_model.specs.Partition.{after};
 ghost use Rattle.sym_model.specs.Schur.{words};
 ghost use Rattle.plain_programs.specs.Words.{words_of};
@@ -23,7 +22,8 @@ pub fn plain_words(alloc: Global, n: u64, length: u64) -> Result<Vec<Vec<u64>>, 
 
 /// Each letter from 1 to n in front of each of the words.
 fn prefixed(alloc: Global, n: u64, words: &[Vec<u64>]) -> Result<Vec<Vec<u64>>, AllocError>
-    ensures { IfOk result (λ list. words_of list.items ≡ each (λ a. map (λ w. a ∷ w) (words_of words.now)) (after 0 n)) }
+    ensures { IfOk result (λ list. words_of list.items
+        ≡ flat_map (λ a. map (λ w. a ∷ w) (words_of words.now)) (after 0 n)) }
 {
     let mut list = Vec::new(alloc);
     for below in 0..n {
@@ -38,7 +38,8 @@ fn push_prefixed(
     first: u64,
     words: &[Vec<u64>],
 ) -> Result<(), AllocError>
-    ensures { OnOk result (words_of list.new.items ≡ words_of list.old.items ++ map (λ w. first ∷ w) (words_of words.now)) }
+    ensures { OnOk result (words_of list.new.items
+        ≡ words_of list.old.items ++ map (λ w. first ∷ w) (words_of words.now)) }
 {
     for word in words {
         list.push(with_first(alloc, first, word)?)?;

@@ -1,6 +1,5 @@
 -- Where the outer list has no label but the empty one, it is a number, whatever is put for the variables.
 use Rattle.std.proofs.Common.{◌≡◌, ℕ, ◌/◌, ◌≤◌, List, [], ◌∷◌, length, refl, sym, ◌∙◌, ap, ap₂, inl, inr, arith, ℤ, pos, ◌+ℤ◌, ◌*ℤ◌}
-use Rattle.coeff_rings.specs.Proved.Fractions.{product_cancel}
 use Rattle.sym_model.specs.Sum.{total, Among}
 use Rattle.sym_model.specs.Partition.{ArePositive, size}
 use Rattle.sym_model.specs.Polynomial.{Poly, Same, no_exponents, one, pair, scale}
@@ -20,6 +19,7 @@ use Rattle.plethysm_laws.proofs.Substitutions.{pair-substitute, replaced-zeros}
 use Rattle.whole_lists.specs.Tables.{IsTable}
 use Rattle.whole_lists.specs.LabelSizes.{AreWithin}
 use Rattle.plethysm.proofs.FactorLists.{label_of}
+use Rattle.sym_model.proofs.Integers.{product_cancel}
 use lib.IntN.{+ℤ_idr, *ℤ_comm, zero-*ℤ}
 
 pair-empty : (k : ℕ) (φ : List ℕ → ℤ) → pair (monomial [] k) φ ≡ φ (no_exponents k)

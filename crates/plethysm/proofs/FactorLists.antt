@@ -1,14 +1,11 @@
 -- p_k[G] and p_λ[G] of a list G in m, factor by factor.
-use Rattle.std.proofs.Common.{◌≡◌, cond, ℕ, ◌+◌, ◌*◌, ◌^◌, ◌<◌, ◌≤◌, List, [], ◌∷◌, ◌++◌, length, sym, ◌∙◌, ap, subst, arith, ℤ, pos, ◌+ℤ◌}
-use Rattle.std.specs.Prelude.{FitsSigned}
-use Rattle.std.specs.Int.{w128}
+use Rattle.std.proofs.Common.{◌≡◌, cond, ℕ, ◌+◌, ◌*◌, ◌^◌, ◌<◌, ◌≤◌, List, [], ◌∷◌, ◌++◌, length, refl, sym, ◌∙◌, ap, subst, arith, ℤ, pos}
+use Rattle.std.specs.Map.{keys_of}
 use Rattle.std.proofs.lemmas.Int.{ints}
 use Rattle.std.proofs.lemmas.Bool.{and_parts}
 use Rattle.std.proofs.lemmas.List.{map-append}
 use Rattle.std.proofs.lemmas.Nat.{mul-le, pow-add}
 use Rattle.std.proofs.Math.Nat.{pow-le-pow_right}
-use Rattle.coeff_rings.specs.Fractions.{whole}
-use Rattle.coeff_rings.specs.Checked.{checked_i128}
 use Rattle.sym_model.specs.Sum.{Among, Once}
 use Rattle.sym_model.specs.Partition.{IsPartition, Falls, ArePositive, size}
 use Rattle.sym_model.specs.Plethysm.{multiplied, repeated_monomials}
@@ -23,7 +20,7 @@ use Rattle.sym_model.proofs.Exponents.{same_apart}
 use Rattle.sym_model.proofs.Orders.{is_label-tells}
 use Rattle.sym_model.proofs.Polynomials.{Same_sym}
 use Rattle.sym_model.proofs.SortedParts.{rows_within_size}
-use Rattle.sym_model.proofs.Sums.{total_none, Among-map}
+use Rattle.sym_model.proofs.Sums.{total_none, Among-map, Among_from_map}
 use Rattle.partitions.specs.Limits.{IsWithinLimits}
 use Rattle.monomial_laws.specs.ExpressionTerms.{in_monomials, IsList}
 use Rattle.monomial_laws.specs.MonomialProduct.{product_coefficient}
@@ -38,13 +35,12 @@ use Rattle.plethysm_laws.proofs.RepeatedMonomials.{repeated-sum, repeated-places
 use Rattle.plethysm_laws.proofs.NonnegativeTerms.{coefficient-nonnegative, nonnegative-monomial_terms}
 use Rattle.plethysm_laws.proofs.PathBounds.{path-product}
 use Rattle.sparse_polys.specs.MonomialProducts.{greatest_size, AreSums}
-use Rattle.sparse_polys.specs.Refusal.{IsRefused}
 use Rattle.sparse_polys.proofs.Rows.{greatest_size-among}
-use Rattle.whole_lists.specs.Tables.{IsTable}
+use Rattle.whole_lists.specs.Tables.{IsTable, IsWholeTable}
 use Rattle.whole_lists.specs.LabelSizes.{AreWithin}
 use Rattle.whole_lists.specs.Large.{ProductIsLarge}
 use Rattle.whole_lists.proofs.PartitionTerms.{once_before}
-use Rattle.whole_lists.proofs.WholeLists.{not_refused, Once-labels}
+use Rattle.whole_lists.proofs.WholeLists.{Once-keys, labels-same}
 use Rattle.plethysm.specs.BoundedSums.{IsBoundedSum}
 use Rattle.plethysm.specs.PathSums.{power_sum_in}
 use native.Mathlib.Nat.{mul-le-mul_left, mul-pos}
@@ -131,12 +127,25 @@ list-none W V [] h e n =
 list-none W V (k ∷ parts) h e n = absurd (omega arith)
 
 -- the labels of a product are within the sum of the sizes
-pub within-product : (left right product : Terms (List ℕ)) (a b d : ℕ) → AreWithin a left → AreWithin b right → a + b ≤ d → AreSums left right product → AreWithin d product
+pub within-product : (left right product : WholeTerms) (a b d : ℕ) → AreWithin a left → AreWithin b right → a + b ≤ d → AreSums left right product → AreWithin d product
 within-product left right product a b d h k l added t m =
     let (x, y, p, q, e) = added t m in
     let s = h x p in
     let r = k y q in
     omega arith
+
+-- and those of a list with every part times k
+pub within-dilated : (k : ℕ) (inner : Terms (List ℕ)) (list : WholeTerms) → IsWholeTable list → Same list (dilated k (numerators inner)) → AreWithin (k * greatest_size inner) list
+within-dilated k inner list is same =
+    labels-same (λ (label : List ℕ). size label ≤ k * greatest_size inner) list (dilated k (numerators inner)) is same
+    (λ t m.
+    let u = Among_from_map (λ (v : List ℕ × ℤ). (multiplied k v.0, v.1)) t (numerators inner) m in
+    let v = Among_from_map (λ (w : List ℕ × Fraction). (w.0, w.1.0)) u.0 inner u.1 in
+    let e = ap (λ (w : List ℕ × ℤ). size w.0) u.2 in
+    let f = ap (λ (w : List ℕ × ℤ). k * size w.0) v.2 in
+    let g = mul-le-mul_left k (greatest_size-among inner v.0 v.1) in
+    let h = size-multiplied k u.0.0 in
+    omega arith)
 
 -- ---- the loop over the terms
 
@@ -153,6 +162,10 @@ dilated-push k done label c =
     ap (dilated k) (map-append (λ (t : List ℕ × Fraction). (t.0, t.1.0)) done ((label, c) ∷ []))
     ∙ map-append (λ (t : List ℕ × ℤ). (multiplied k t.0, t.1)) (numerators done) ((label, c.0) ∷ [])
 
+pub keys-numerators : (terms : Terms (List ℕ)) → labels (numerators terms) ≡ keys_of terms
+keys-numerators [] = refl
+keys-numerators (t ∷ terms) = ap (λ ks. t.0 ∷ ks) (keys-numerators terms)
+
 -- a label has no coefficient among those before it
 pub none_before : (terms done rest : Terms (List ℕ)) (label : List ℕ) (c : Fraction) → IsTable terms → done ++ (label, c) ∷ rest ≡ terms → coefficient (numerators done) label ≡ pos 0
 none_before terms done rest label c is e =
@@ -162,10 +175,8 @@ none_before terms done rest label c is e =
     once : Once (labels (numerators done) ++ (label ∷ labels (numerators rest)))
     once =
         subst (λ (ls : List (List ℕ)). Once ls)
-        (ap (λ ts. labels (numerators ts)) (sym e)
+        (sym (keys-numerators terms)
+        ∙ ap (λ ts. labels (numerators ts)) (sym e)
         ∙ ap labels (map-append (λ (t : List ℕ × Fraction). (t.0, t.1.0)) done ((label, c) ∷ rest))
         ∙ map-append (λ (t : List ℕ × ℤ). t.0) (numerators done) ((label, c.0) ∷ numerators rest))
-        (Once-labels terms is)
-
-pub refused-found : (a : Fraction) (z c : ℤ) → a ≡ whole z → z ≡ pos 0 → IsRefused (FitsSigned w128) whole (λ (x y : ℤ). checked_i128 (x +ℤ y)) a (whole c) → ⊥
-refused-found a z c e f r = not_refused z c f (subst (λ (b : Fraction). IsRefused (FitsSigned w128) whole (λ (x y : ℤ). checked_i128 (x +ℤ y)) b (whole c)) e r)
+        (Once-keys terms is)

@@ -49,8 +49,8 @@ module _ (N D a k K b : ℕ) (outer terms answer : Terms (List ℕ)) (W sum : Wh
       path-multiple D k outer terms sum n (γs n) (in_monomials W n) some (denominators-positive outer js.proper) (Once-keys outer js) (Once-keys terms is) (λ t m. (bounded t m).0)
       (positive-labels (D * k) terms is) whole (places W K b h n) (sums W K b h n) (same_sum n) changed
 
-  pub finished-bounded : listed.IsBounded (N * (a + 1) * K ^ a) D answer
-  finished-bounded = bounded-multiple (N * (a + 1) * K ^ a) (a * b) D k sum answer f some more ks quotients multiple bounded-at
-
-  pub finished-within : AreWithin (a * b) answer
-  finished-within = within-multiple (N * (a + 1) * K ^ a) (a * b) D k sum answer f some more ks quotients multiple bounded-at
+  pub finished : listed.IsBounded (N * (a + 1) * K ^ a) D answer × AreWithin (a * b) answer
+  finished = (
+    bounded-multiple (N * (a + 1) * K ^ a) (a * b) D k sum answer f some more ks quotients multiple bounded-at,
+    within-multiple (N * (a + 1) * K ^ a) (a * b) D k sum answer f some more ks quotients multiple bounded-at,
+  )

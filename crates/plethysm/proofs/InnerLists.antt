@@ -1,6 +1,7 @@
 -- Lists in m with whole coefficients, none of which is negative.
 use Rattle.std.proofs.Common.{◌≡◌, ℕ, ◌+◌, ◌*◌, ◌/◌, ◌%◌, ◌<◌, ◌≤◌, true, List, [], ◌∷◌, length, sym, ◌∙◌, ap, ap₂, subst, refl, inl, inr, arith, ℤ, pos, ◌*ℤ◌}
 use Rattle.std.specs.Prelude.{◌≤ℤ◌}
+use Rattle.std.specs.List.{IsDistinct}
 use Rattle.std.proofs.lemmas.Bool.{and_parts}
 use Rattle.std.proofs.lemmas.Int.{ints}
 use Rattle.std.proofs.lemmas.Nat.Gcd.{dvd_of_mod-eq-zero, le_of_dvd}
@@ -18,19 +19,21 @@ use Rattle.sym_model.proofs.CanonicalLists.{each_term-among}
 use Rattle.sym_model.proofs.Orders.{is_label-tells, is_reduced-tells}
 use Rattle.sym_model.proofs.Polynomials.{coefficient_scale, Same_sym}
 use Rattle.sym_model.proofs.Ring.{one-product}
-use Rattle.sym_model.proofs.Sums.{Among_from_map}
+use Rattle.sym_model.proofs.Sums.{Among-map, Among_from_map}
 use Rattle.monomial_laws.specs.ExpressionTerms.{in_monomials, over}
 use Rattle.monomial_laws.specs.Majorant.{IsBounded}
 use Rattle.monomial_laws.proofs.DividedTerms.{cleared-over}
 use Rattle.plethysm_laws.specs.PositiveExpression.{HasNoSigns}
 use Rattle.plethysm_laws.proofs.ListBounds.{bounded-list}
 use Rattle.plethysm_laws.proofs.NonnegativeTerms.{coefficient-nonnegative, nonnegative-value, denominator-one}
-use Rattle.whole_lists.specs.Tables.{IsTable}
+use Rattle.linear_combinations.proofs.Found.{coefficient_of_term}
+use Rattle.whole_lists.specs.Tables.{equal, IsTable}
 use Rattle.whole_lists.specs.LabelSizes.{AreWithin}
 use Rattle.whole_lists.proofs.Bounds.{coefficient-list}
-use Rattle.whole_lists.proofs.WholeLists.{Once-keys, coefficient-numerators, found-among}
+use Rattle.whole_lists.proofs.WholeLists.{Once-keys}
 use Rattle.plethysm.specs.BoundedSums.{IsBoundedSum}
 use Rattle.plethysm.specs.PlethysmLists.{AreNaturalNumbers}
+use Rattle.plethysm.proofs.FactorLists.{keys-numerators}
 use native.Mathlib.Nat.{mul-pos}
 
 -- each coefficient has the denominator 1
@@ -98,8 +101,9 @@ natural-expansion e terms h is bounded x t m = (ones t m, subst (λ z. pos 0 ≤
 
     at : t.1.0 ≡ coefficient (cleared_value e (length t.0)) t.0
     at =
-        sym (ap (λ (r : Fraction). r.0) (found-among terms is.distinct t m))
-        ∙ sym (coefficient-numerators terms is.distinct t.0)
+        sym
+        (coefficient_of_term (numerators terms) (subst (IsDistinct equal) (sym (keys-numerators terms)) is.distinct) (t.0, t.1.0)
+        (Among-map (λ (u : List ℕ × Fraction). (u.0, u.1.0)) t terms m))
         ∙ coefficient-list (numerators terms) (cleared_value e)
         (λ n. Same_sym (cleared_value e n) (in_monomials (numerators terms) n)
         (inner-value terms n (cleared_value e n) ones (subst (λ d. IsExpansionOf Basis.monomials terms n (cleared_value e n) d) (denominator-one e h) (x n))))

@@ -1,8 +1,8 @@
 -- The list in m that the path gives stands for the plethysm.
-use Rattle.std.proofs.Common.{◌≡◌, ℕ, ◌%◌, ◌<◌, List, [], ◌∷◌, ◌++◌, map, length, replicate, sym, ap, ap₂, subst, refl, pos}
+use Rattle.std.proofs.Common.{◌≡◌, ℕ, ◌%◌, ◌<◌, List, [], ◌∷◌, ◌++◌, map, length, replicate, sym, ap, ap₂, subst, refl, pos, flat_map}
 use Rattle.std.specs.Prelude.{nat_abs}
 use Rattle.std.proofs.lemmas.Bool.{and_parts}
-use Rattle.sym_model.specs.Sum.{each, Among}
+use Rattle.sym_model.specs.Sum.{Among}
 use Rattle.sym_model.specs.Partition.{ArePositive}
 use Rattle.sym_model.specs.Polynomial.{Poly, Same, coefficient}
 use Rattle.sym_model.specs.Expansion.{Basis, power_sums, Fraction, Terms, IsExpansionOf}
@@ -29,7 +29,7 @@ use Rattle.plethysm.proofs.InnerLists.{inner-value}
 repeated_same : (d n : ℕ) (f g : Poly) → Same f g → repeated_monomials d n f ≡ repeated_monomials d n g
 repeated_same d n f g e = by (exponent_lists_within n d)
   where
-    by : (αs : List (List ℕ)) → each (λ α. replicate (nat_abs (coefficient f α)) α) αs ≡ each (λ α. replicate (nat_abs (coefficient g α)) α) αs
+    by : (αs : List (List ℕ)) → flat_map (λ α. replicate (nat_abs (coefficient f α)) α) αs ≡ flat_map (λ α. replicate (nat_abs (coefficient g α)) α) αs
     by [] = refl
     by (α ∷ αs) = ap₂ ◌++◌ (ap (λ z. replicate (nat_abs z) α) (e α)) (by αs)
 

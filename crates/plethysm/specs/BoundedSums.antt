@@ -1,11 +1,13 @@
--- Lists in m of which no coefficient is negative, with their bounds as polynomials (this project's own).
+-- Lists in m of which no coefficient is negative,
+-- with their bounds as polynomials (this project's own).
 use Rattle.std.specs.Prelude.{ℕ, ℤ, pos, ◌≤◌, ◌≤ℤ◌, List}
 use Rattle.sym_model.specs.Sum.{Among}
 use Rattle.sym_model.specs.WholeTerms.{WholeTerms}
 use Rattle.monomial_laws.specs.ExpressionTerms.{in_monomials}
 use Rattle.monomial_laws.specs.Majorant.{IsBounded}
 
--- no coefficient of the list in m is negative, and in every number of variables it is bounded by K at the degree b
+-- no coefficient of the list in m is negative,
+-- and in every number of variables it is bounded by K at the degree b
 pub record IsBoundedSum (K b : ℕ) (W : WholeTerms) : Type 0 where
   pub some : 1 ≤ K
   pub natural : (t : List ℕ × ℤ) → Among t W → pos 0 ≤ℤ t.1

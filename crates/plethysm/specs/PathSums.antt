@@ -1,4 +1,5 @@
--- What is met where a list in power sums is multiplied out with a list in m for the variables (this project's own).
+-- What is met where a list in power sums is multiplied out with a list in m for the variables (this
+-- project's own).
 use Rattle.std.specs.Prelude.{ℕ, ◌+◌, ◌*◌, ◌^◌, ◌≤◌, ◌⊎◌, nat_abs, ℤ, List, length}
 use Rattle.sym_model.specs.Sum.{Among}
 use Rattle.sym_model.specs.Partition.{IsPartition, size}
@@ -26,9 +27,11 @@ IsProductPast K b parts = 2 ^ 127 ≤ K ^ size parts * growth monomials (size pa
 abbrev pub IsPastStep : ℕ → ℕ → WholeTerms → WholeTerms → List ℕ → ℤ → Type 0
 IsPastStep K b W sum parts z =
     IsProductPast K b parts
-    ⊎ ((ν : List ℕ) × IsPartition ν × (2 ^ 127 ≤ nat_abs (coefficient sum ν) + nat_abs z * nat_abs (power_sum_at W ν parts)))
+    ⊎ ((ν : List ℕ) × IsPartition ν
+    × (2 ^ 127 ≤ nat_abs (coefficient sum ν) + nat_abs z * nat_abs (power_sum_at W ν parts)))
 
--- a coefficient times den is past the limit, or the product over some label, or what is met at some partition
+-- a coefficient times den is past the limit, or the product over some label,
+-- or what is met at some partition
 abbrev pub IsPastPath : ℕ → ℕ → ℕ → WholeTerms → Terms (List ℕ) → Type 0
 IsPastPath den K b W terms =
     ((t : List ℕ × Fraction) × Among t terms × (2 ^ 127 ≤ nat_abs (scaled den t.1)))

@@ -9,8 +9,8 @@ use Rattle.sym_model.specs.Plethysm.{plethysm}
 abbrev pub AreNaturalNumbers : Terms (List ℕ) → Type 0
 AreNaturalNumbers terms = (t : List ℕ × Fraction) → Among t terms → (t.1.1 ≡ 1) × (pos 0 ≤ℤ t.1.0)
 
--- the list, labels read in the target, is F[G] for all F and G of which the two lists are the expansions in m, G of degree at
--- most b
+-- the list, labels read in the target, is F[G] for all F and G of which the two lists are the
+-- expansions in m, G of degree at most b
 abbrev pub IsPlethysmOf : Basis → ℕ → Terms (List ℕ) → Terms (List ℕ) → Terms (List ℕ) → Type 0
 IsPlethysmOf target b outer inner list =
     (n : ℕ) (f : ℕ → Poly) (g : Poly) (q : ℕ)

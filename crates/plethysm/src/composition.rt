@@ -13,7 +13,7 @@ ghost use Rattle.plethysm.specs.PlethysmLists.{AreNaturalNumbers, IsPlethysmOf};
 
 use crate::path::multiplied_out;
 use calc_base::{Basis, SumFault, Weight};
-use change_from_monomials::{greatest_size, is_table, to_basis};
+use change_from_monomials::{greatest_size, to_basis};
 use coeff_rings::Frac;
 use partitions::Partition;
 use sparse_polys::Lin;
@@ -21,15 +21,17 @@ use std::alloc::Global;
 use whole_lists::divided;
 use whole_numbers::{denominator_product, factorial};
 
-/// The plethysm F[G]: the variables of F replaced by the monomials of G, each as often as its coefficient says (Macdonald, I.8).
-/// Both lists are read in m; the answer is an expansion in the target, in every number of variables.
+/// The plethysm F[G]: the variables of F replaced by the monomials of G, each as often as its
+/// coefficient says (Macdonald, I.8).
+/// Both lists are read in m; the answer is an expansion in the target,
+/// in every number of variables.
 ///
-/// The lists are bounded by their bounds, of which the numbers are at least 1. The coefficients of the inner list are whole and
-/// not negative, and its bound has the denominator 1. The greatest sizes a and b of the labels of the two lists are at most 10,
-/// and so is their product.
+/// The lists are bounded by their bounds, of which the numbers are at least 1. The coefficients of
+/// the inner list are whole and not negative, and its bound has the denominator 1. The greatest
+/// sizes a and b of the labels of the two lists are at most 10, and so is their product.
 ///
-/// Where a is 0 the answer is F, whatever G is. The plethysm is refused as `Large` only where the plethysm weight of the bounds, a
-/// and b is 2^127 or more.
+/// Where a is 0 the answer is F, whatever G is. The plethysm is refused as `Large` only where the
+/// plethysm weight of the bounds, a and b is 2^127 or more.
 ///
 /// Examples: h_2[h_2] = s_4 + s_(2,2); p_2[p_3] = p_6; h_2[3] = 6.
 pub fn plethysm(
@@ -49,10 +51,12 @@ pub fn plethysm(
         (a ≤ 10) × (b ≤ 10) × (a * b ≤ 10) }
     ensures value { IfOk result (λ list. (b : ℕ) → AreWithin b inner.now
         → IsPlethysmOf (basis_of target) b outer.now inner.now list) }
-    ensures constant { IfOk result (λ list. AreWithin 0 outer.now → (n b q : ℕ) (f : ℕ → Poly) (g : Poly)
+    ensures constant { IfOk result
+        (λ list. AreWithin 0 outer.now → (n b q : ℕ) (f : ℕ → Poly) (g : Poly)
         → ((k : ℕ) → IsExpansionOf monomials outer.now k (f k) q)
         → IsExpansionOf (basis_of target) list n (plethysm f b n g) q) }
-    ensures large { IsErrOf result SumFault.Large → (a b : ℕ) → AreWithin a outer.now → AreWithin b inner.now
+    ensures large { IsErrOf result SumFault.Large → (a b : ℕ) → AreWithin a outer.now
+        → AreWithin b inner.now
         → 2 ^ 127 ≤ plethysm_weight outer_bound.num outer_bound.den a inner_bound.num b }
 {
     let a = greatest_size(outer);
@@ -60,8 +64,6 @@ pub fn plethysm(
     let Some(num) = finished_number(outer_bound.num, a, inner_bound.num, b) else {
         return Err(SumFault::Large);
     };
-    is_table(outer);
-    is_table(inner);
     let finished = in_m(alloc, outer, outer_bound, inner)?;
     let bound = Weight {
         num,
@@ -86,9 +88,7 @@ fn in_m(
         → IsPlethysmOf monomials b outer.now inner.now list) }
     ensures bounded { let a = greatest_size outer.now in
         IfOk result (λ list. (K b : ℕ) → IsBoundedSum K b (numerators inner.now)
-        → IsBounded (bound.num * (a + 1) * K ^ a) bound.den list) }
-    ensures labels { IfOk result (λ list. (K b : ℕ) → IsBoundedSum K b (numerators inner.now)
-        → AreWithin (greatest_size outer.now * b) list) }
+        → IsBounded (bound.num * (a + 1) * K ^ a) bound.den list × AreWithin (a * b) list) }
     ensures large { IsErrOf result SumFault.Large
         → (K b : ℕ) → 1 ≤ K → IsBoundedSum (K * (b + 1)) b (numerators inner.now)
         → 2 ^ 127 ≤ plethysm_weight bound.num bound.den (greatest_size outer.now) K b }
@@ -99,13 +99,12 @@ fn in_m(
         return Err(SumFault::Large);
     };
     let terms = to_basis(alloc, outer, bound, Basis::P)?;
-    is_table(&terms);
-    is_table(outer);
     let sum = multiplied_out(alloc, &terms, den, inner)?;
     divided(alloc, &sum, den)
 }
 
-/// What bounds the numerators of F[G] in m, for F of degree a and G of degree b; none where it is too large.
+/// What bounds the numerators of F[G] in m, for F of degree a and G of degree b;
+/// none where it is too large.
 fn finished_number(outer: u128, a: u16, inner: u128, b: u16) -> Option<u128>
     requires { (1 ≤ outer) × (1 ≤ inner) × (a ≤ 10) × (b ≤ 10) }
     ensures { let bound = outer * (a + 1) * (inner * (b + 1)) ^ a in

@@ -10,16 +10,18 @@ ghost use Rattle.monomial_laws.specs.ExpressionTerms.{IsList};
 ghost use Rattle.plethysm_laws.specs.PowerSumPlethysm.{dilated};
 ghost use Rattle.sparse_polys.specs.MonomialProducts.{greatest_size};
 ghost use Rattle.whole_lists.specs.LabelSizes.{AreWithin};
+ghost use Rattle.whole_lists.specs.Tables.{IsWholeTable};
 ghost use Rattle.plethysm.specs.BoundedSums.{IsBoundedSum};
 ghost use Rattle.plethysm.specs.PathSums.{power_sum_in};
 
 use calc_base::SumFault;
-use change_from_monomials::{is_table, numerator_of};
+use change_from_monomials::numerator_of;
 use coeff_rings::Frac;
+use linear_combinations::Lin as Table;
 use partitions::Partition;
 use sparse_polys::{Lin, times_whole_in_m};
 use std::alloc::{AllocError, Global};
-use whole_lists::{Whole, is_whole, single};
+use whole_lists::{Whole, single};
 
 /// Each number times k.
 fn multiplied(alloc: Global, parts: &[u16], k: u16) -> Result<Vec<u16>, AllocError>
@@ -37,12 +39,11 @@ fn multiplied(alloc: Global, parts: &[u16], k: u16) -> Result<Vec<u16>, AllocErr
 fn dilated(alloc: Global, inner: &Lin<Partition, Frac>, k: u16) -> Result<Whole, SumFault>
     requires positive { 0 < k }
     requires low { k * greatest_size inner.now ≤ 512 }
-    ensures value { IfOk result (λ list. Same (numerators list) (dilated k (numerators inner.now))) }
-    ensures labels { IfOk result (AreWithin (k * greatest_size inner.now)) }
+    ensures value { IfOk result (λ list. Same list (dilated k (numerators inner.now))) }
+    ensures table { IfOk result IsWholeTable }
     ensures small { ¬ IsErrOf result SumFault.Large }
 {
-    is_table(inner);
-    let mut list = Lin::new(alloc);
+    let mut list = Table::new(alloc);
     for (label, c) in inner.iter() {
         let parts = multiplied(alloc, label.parts(), k)?;
         list.add_term(
@@ -61,9 +62,12 @@ pub(crate) fn over_parts(
 ) -> Result<Whole, SumFault>
     requires positive { ArePositive parts.now }
     requires low { size parts.now * greatest_size inner.now ≤ 512 }
-    ensures value { IfOk result (λ list. IsList (numerators list) (power_sum_in (numerators inner.now) parts.now)) }
+    ensures value { IfOk result (λ list.
+        IsList list (power_sum_in (numerators inner.now) parts.now)) }
     ensures labels { IfOk result (AreWithin (size parts.now * greatest_size inner.now)) }
-    ensures large { IsErrOf result SumFault.Large → (K b : ℕ) → IsBoundedSum K b (numerators inner.now)
+    ensures table { IfOk result IsWholeTable }
+    ensures large { IsErrOf result SumFault.Large → (K b : ℕ)
+        → IsBoundedSum K b (numerators inner.now)
         → 2 ^ 127 ≤ K ^ size parts.now * growth monomials (size parts.now * b) }
 {
     let [k, rest @ ..] = parts else {
@@ -71,7 +75,5 @@ pub(crate) fn over_parts(
     };
     let others = over_parts(alloc, inner, rest)?;
     let first = dilated(alloc, inner, *k)?;
-    is_whole(&first);
-    is_whole(&others);
     times_whole_in_m(alloc, &first, &others)
 }

@@ -1,4 +1,5 @@
-//! Plethysm: the variables of one symmetric polynomial replaced by the monomials of another, by way of power sums.
+//! Plethysm: the variables of one symmetric polynomial replaced by the monomials of another,
+//! by way of power sums.
 //!
 //! What is proved:
 //!

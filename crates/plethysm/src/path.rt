@@ -12,6 +12,7 @@ use crate::factors::over_parts;
 use calc_base::SumFault;
 use change_from_monomials::scaled_number;
 use coeff_rings::{Frac, Int};
+use linear_combinations::Lin as Table;
 use partitions::Partition;
 use sparse_polys::Lin;
 use std::alloc::Global;
@@ -26,10 +27,11 @@ fn with_product(
     z: Int,
 ) -> Result<Whole, SumFault>
     requires { size label.now * greatest_size inner.now ≤ 512 }
-    ensures value { IfOk result (λ next. (n : ℕ) → Same (in_monomials (numerators next) n)
-        (plus (in_monomials (numerators sum) n) (scale z (power_sum_in (numerators inner.now) label.now n)))) }
-    ensures large { IsErrOf result SumFault.Large → (K b : ℕ) → IsBoundedSum K b (numerators inner.now)
-        → IsPastStep K b (numerators inner.now) (numerators sum) label.now z }
+    ensures value { IfOk result (λ next. (n : ℕ) → Same (in_monomials next n)
+        (plus (in_monomials sum n) (scale z (power_sum_in (numerators inner.now) label.now n)))) }
+    ensures large { IsErrOf result SumFault.Large → (K b : ℕ)
+        → IsBoundedSum K b (numerators inner.now)
+        → IsPastStep K b (numerators inner.now) sum label.now z }
 {
     let product = over_parts(alloc, inner, label.parts())?;
     sum_of(sum, 1, product, z.get())
@@ -44,12 +46,13 @@ pub(crate) fn multiplied_out(
 ) -> Result<Whole, SumFault>
     requires den { den < 2 ^ 127 }
     requires low { greatest_size outer.now * greatest_size inner.now ≤ 512 }
-    ensures value { IfOk result (λ list. (n : ℕ) → Same (in_monomials (numerators list) n)
+    ensures value { IfOk result (λ list. (n : ℕ) → Same (in_monomials list n)
         (combined (λ label. power_sum_in (numerators inner.now) label n) (over den outer.now))) }
-    ensures large { IsErrOf result SumFault.Large → (K b : ℕ) → IsBoundedSum K b (numerators inner.now)
+    ensures large { IsErrOf result SumFault.Large → (K b : ℕ)
+        → IsBoundedSum K b (numerators inner.now)
         → IsPastPath den K b (numerators inner.now) outer.now }
 {
-    let mut sum = Lin::new(alloc);
+    let mut sum = Table::new(alloc);
     for (label, c) in outer.iter() {
         let Some(z) = scaled_number(*c, den) else {
             return Err(SumFault::Large);

@@ -1,45 +1,30 @@
 -- A bounded list in m, its fractions cleared, is bounded as a polynomial in every number of variables.
-use Rattle.std.proofs.Common.{◌≡◌, ◌⊎◌, ℕ, zero, suc, ◌+◌, ◌*◌, ◌/◌, ◌<◌, ◌≤◌, Bool, true, false, cond, leb, List, [], ◌∷◌, length, sym, ◌∙◌, ap, subst, refl, inl, inr, arith, ℤ, pos, negsuc, ◌+ℤ◌, ◌*ℤ◌}
+use Rattle.std.proofs.Common.{◌≡◌, ◌⊎◌, ℕ, zero, suc, ◌+◌, ◌*◌, ◌/◌, ◌<◌, ◌≤◌, cond, List, [], ◌∷◌, length, sym, ◌∙◌, ap, subst, refl, inl, inr, arith, ℤ, pos, negsuc, ◌+ℤ◌, ◌*ℤ◌}
 use Rattle.std.specs.Prelude.{nat_abs, ◌≤ℤ◌}
 use Rattle.std.proofs.lemmas.Int.{ints, unsigned_abs-mul}
-use Rattle.std.proofs.lemmas.Bool.{cases_lt, cases_eq, eq-eqb}
+use Rattle.std.proofs.lemmas.Bool.{cases_eq, eq-eqb}
 use Rattle.sym_model.specs.Sum.{total, Among, Once}
 use Rattle.sym_model.specs.Polynomial.{Poly, coefficient, scale}
-use Rattle.sym_model.specs.Partition.{size, insert_part, sorted_parts}
+use Rattle.sym_model.specs.Partition.{size, sorted_parts}
 use Rattle.sym_model.specs.Bases.{down_from}
 use Rattle.sym_model.specs.Expansion.{Fraction, Terms}
-use Rattle.sym_model.specs.Weight.{factorial}
 use Rattle.sym_model.specs.ListWeight as listed
+use Rattle.sym_model.specs.Weight.{factorial}
 use Rattle.sym_model.proofs.Polynomials.{coefficient_scale, coefficient_outside}
 use Rattle.sym_model.proofs.SortedParts.{size-sorted_parts}
-use Rattle.monomial_laws.specs.Majorant.{IsMajorant, IsBounded, power, powers, factorials}
+use Rattle.monomial_laws.specs.Majorant.{IsMajorant, IsBounded, power, powers}
 use Rattle.monomial_laws.specs.ExpressionTerms.{in_monomials, over}
 use Rattle.monomial_laws.proofs.PowerSumCoefficients.{coefficient-monomial_terms}
 use Rattle.monomial_laws.proofs.Splits.{In-monomial_terms}
-use Rattle.monomial_laws.proofs.Powers.{factorials-positive, power-nonnegative, coefficient_power, coefficient-powers}
+use Rattle.monomial_laws.proofs.Powers.{factorials-positive, power-nonnegative, coefficient_power, coefficient-powers, factorials-sorted}
 use Rattle.monomial_laws.proofs.Majorants.{bounded-scale, bounded-weaken, bounded-majorant}
 use Rattle.monomial_laws.proofs.DividedTerms.{labels_of, over-there, over-missing, among_or_not}
 use Rattle.std.proofs.Math.Nat.{le_of_mul-le-mul_right}
+use Rattle.sym_model.specs.ListWeight.{factorials}
+use Rattle.sym_model.proofs.Sums.{among_down_from}
 use native.Mathlib.Nat.{mul-le-mul_left}
 
 -- ---- factorials of sorted exponents
-
-factorials-insert : (a : ℕ) (parts : List ℕ) → listed.factorials (insert_part a parts) ≡ factorial a * listed.factorials parts
-factorials-insert zero parts = omega arith
-factorials-insert (suc a) [] = refl
-factorials-insert (suc a) (b ∷ parts) = by (leb b (suc a)) (factorials-insert (suc a) parts)
-  where
-    by : (t : Bool) → listed.factorials (insert_part (suc a) parts) ≡ factorial (suc a) * listed.factorials parts
-        → listed.factorials (cond t (suc a ∷ b ∷ parts) (b ∷ insert_part (suc a) parts)) ≡ factorial (suc a) * listed.factorials (b ∷ parts)
-    by true r = refl
-    by false r = ap (λ k. factorial b * k) r ∙ swapped (factorial b) (factorial (suc a)) (listed.factorials parts)
-      where
-        swapped : (x y z : ℕ) → x * (y * z) ≡ y * (x * z)
-        swapped x y z = omega arith
-
-factorials-sorted : (α : List ℕ) → listed.factorials (sorted_parts α) ≡ factorials α
-factorials-sorted [] = refl
-factorials-sorted (a ∷ α) = factorials-insert a (sorted_parts α) ∙ ap (λ k. factorial a * k) (factorials-sorted α)
 
 -- ---- one of the powers
 
@@ -63,14 +48,6 @@ member_within {A = A} f x (y ∷ xs) h (inr m) = let r = member_within f x xs h 
 
     both : (a b : ℤ) → pos 0 ≤ℤ a → pos 0 ≤ℤ b → pos 0 ≤ℤ (a +ℤ b)
     both a b p q = omega (arith, ints)
-
-Among-down_from : (d a : ℕ) → d ≤ a → Among d (down_from a)
-Among-down_from d zero h = inl (omega arith)
-Among-down_from d (suc a) h = by (cases_lt a d) (Among-down_from d a)
-  where
-    by : (a < d) ⊎ (d ≤ a) → (d ≤ a → Among d (down_from a)) → Among d (down_from (suc a))
-    by (inl l) r = inl (omega arith)
-    by (inr l) r = inr (r l)
 
 low-down_from : (d a : ℕ) → Among d (down_from a) → d ≤ a
 low-down_from d zero (inl e) = omega arith
@@ -121,19 +98,19 @@ majorant-list N D a n terms is w b α = by (cases_eq (length α) n)
     within (inl (t, m, e)) l =
         let c : coefficient (over D terms) (sorted_parts α) ≡ t.1.0 *ℤ pos (D / t.1.1) = ap (coefficient (over D terms)) (sym e) ∙ over-there D terms is t m in
         let s : size t.0 ≡ size α = ap size e ∙ size-sorted_parts α in
-        let f : listed.factorials t.0 ≡ factorials α = ap listed.factorials e ∙ factorials-sorted α in
+        let f : factorials t.0 ≡ factorials α = ap factorials e ∙ factorials-sorted α in
         let low = w t m in
         let h : nat_abs (coefficient (over D terms) (sorted_parts α)) * factorials α ≤ N * factorial (size α) =
         subst (λ z. nat_abs z * factorials α ≤ N * factorial (size α)) (sym c)
         (subst (λ k. k * factorials α ≤ N * factorial (size α)) (sym (unsigned_abs-mul t.1.0 (pos (D / t.1.1))))
         (subst (λ k. nat_abs t.1.0 * (D / t.1.1) * k ≤ N * factorial (size α)) f
-        (subst (λ k. nat_abs t.1.0 * (D / t.1.1) * listed.factorials t.0 ≤ N * factorial k) s (b t m).1))) in
+        (subst (λ k. nat_abs t.1.0 * (D / t.1.1) * factorials t.0 ≤ N * factorial k) s (b t m).1))) in
         within-power (coefficient (over D terms) (sorted_parts α)) (coefficient (power (size α) n) α) (coefficient (powers (down_from a) n) α) (factorials α) N (factorial (size α)) h
         (coefficient_power (size α) n α l ∙ ap (λ t. cond t (pos (factorial (size α))) (pos 0)) (eq-eqb (size α) (size α) refl))
         (factorials-positive α)
         (power-nonnegative (size α) n α)
         (subst (λ z. coefficient (power (size α) n) α ≤ℤ z) (sym (coefficient-powers (down_from a) n α))
-        (member_within (λ (d : ℕ). coefficient (power d n) α) (size α) (down_from a) (λ d. power-nonnegative d n α) (Among-down_from (size α) a (omega arith))).0)
+        (member_within (λ (d : ℕ). coefficient (power d n) α) (size α) (down_from a) (λ d. power-nonnegative d n α) (among_down_from (size α) a (omega arith))).0)
 
     by : (length α ≡ n) ⊎ (length α ≡ n → ⊥) → pos (nat_abs (coefficient (in_monomials (over D terms) n) α)) ≤ℤ coefficient (scale (pos N) (powers (down_from a) n)) α
     by (inl l) =

@@ -1,8 +1,8 @@
 -- The value of an expression of whole numbers and atoms by sums and products has no negative coefficient.
-use Rattle.std.proofs.Common.{◌≡◌, ℕ, ◌/◌, Bool, true, false, cond, List, [], ◌∷◌, map, sym, subst, inl, inr, refl, arith, ℤ, pos, ◌+ℤ◌, ◌*ℤ◌}
+use Rattle.std.proofs.Common.{◌≡◌, ℕ, ◌/◌, Bool, true, false, cond, List, [], ◌∷◌, map, sym, subst, inl, inr, refl, arith, ℤ, pos, ◌+ℤ◌, ◌*ℤ◌, filter}
 use Rattle.std.specs.Prelude.{◌≤ℤ◌}
 use Rattle.std.proofs.lemmas.Int.{ints}
-use Rattle.sym_model.specs.Sum.{select, Among}
+use Rattle.sym_model.specs.Sum.{Among}
 use Rattle.sym_model.specs.Polynomial.{Term, Poly, same, coefficient, one, join, plus, scale, times}
 use Rattle.sym_model.specs.Partition.{sorted_parts, size}
 use Rattle.sym_model.specs.Bases.{exponent_lists, monomials, monomial, has, at_most_one, product_over, elementary_of, complete_of, power_sum_of}
@@ -46,7 +46,7 @@ nonnegative-one n t (inl e) = subst (λ (u : Term). pos 0 ≤ℤ u.1) (sym e) (o
 nonnegative-one n t (inr m) = absurd m
 
 nonnegative-monomials : (test : List ℕ → Bool) (n d : ℕ) → AreNonnegative (monomials test n d)
-nonnegative-monomials test n d = nonnegative-map (λ α. (α, pos 1)) (select test (exponent_lists n d)) (λ α m. omega (arith, ints))
+nonnegative-monomials test n d = nonnegative-map (λ α. (α, pos 1)) (filter test (exponent_lists n d)) (λ α m. omega (arith, ints))
 
 nonnegative-product_over : (f : ℕ → ℕ → Poly) (parts : List ℕ) (n : ℕ) → ((k : ℕ) → AreNonnegative (f k n)) → AreNonnegative (product_over f parts n)
 nonnegative-product_over f [] n h = nonnegative-one n

@@ -16,8 +16,7 @@ use Rattle.sym_model.specs.Plethysm.{replaced, substitute}
 use Rattle.plethysm_laws.specs.PowerSumPlethysm.{dilated}
 use Rattle.plethysm_laws.specs.SumsOfMonomials.{HavePlaces, monomial_sum}
 use Rattle.plethysm_laws.proofs.Substitutions.{pair-substitute, substitute_respects, substitute-scale, substitute-power_sum}
-use native.Mathlib.Nat.{eq_of_mul-eq-mul_right, add-mul}
-use borrow.Author.Differences.{up, down}
+use Rattle.sym_model.proofs.Integers.{product_cancel}
 use lib.IntN.{*ℤ_comm}
 
 -- ---- substitution into a combination
@@ -48,13 +47,6 @@ substitute-combined n γs g W p h e =
         (by φ V p.1)
 
 -- ---- the path
-
-product_cancel : (x y : ℤ) (d : ℕ) → 0 < d → x *ℤ pos d ≡ y *ℤ pos d → x ≡ y
-product_cancel x y d some e =
-    let both : (up x + down y) * d ≡ (up y + down x) * d =
-    omega (arith, ints, ap up e, ap down e, add-mul (up x) (down y) d, add-mul (up y) (down x) d) in
-    let parts : up x + down y ≡ up y + down x = eq_of_mul-eq-mul_right d some (up x + down y) (up y + down x) both in
-    omega (arith, ints)
 
 -- M·v = Q·w and q·v = Q·f give q·w = M·f
 turned : (M q v w f : ℤ) (Q : ℕ) → 0 < Q → M *ℤ v ≡ pos Q *ℤ w → q *ℤ v ≡ pos Q *ℤ f → q *ℤ w ≡ M *ℤ f

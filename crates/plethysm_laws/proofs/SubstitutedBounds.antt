@@ -1,15 +1,15 @@
 -- Majorants go to majorants where monomials are substituted for the variables, and so bounds to bounds.
-use Rattle.std.proofs.Common.{◌≡◌, ℕ, zero, suc, ◌+◌, ◌*◌, ◌^◌, ◌<◌, ◌≤◌, max, true, false, Bool, cond, List, [], ◌∷◌, length, replicate, sym, ◌∙◌, subst, refl, inl, inr, arith, pos}
+use Rattle.std.proofs.Common.{◌≡◌, ℕ, zero, suc, ◌+◌, ◌*◌, ◌^◌, ◌<◌, ◌≤◌, max, List, [], ◌∷◌, length, replicate, sym, ◌∙◌, subst, refl, inl, inr, arith, pos}
 use Rattle.std.specs.Prelude.{◌≤ℤ◌, nat_abs}
 use Rattle.std.proofs.lemmas.Int.{ints}
 use Rattle.std.proofs.lemmas.Nat.{mul-le}
 use Rattle.sym_model.specs.Sum.{Among}
-use Rattle.sym_model.specs.Polynomial.{Poly, same, coefficient, Same, In, one, plus, times, pair}
-use Rattle.sym_model.specs.Partition.{ArePositive, size}
+use Rattle.sym_model.specs.Polynomial.{Poly, coefficient, Same, In, one, plus, times, pair}
+use Rattle.sym_model.specs.Partition.{size}
 use Rattle.sym_model.specs.Bases.{has, power_sum, power_sum_of, product_over}
 use Rattle.sym_model.specs.Expansion.{completes, power_sums}
 use Rattle.monomial_laws.specs.Majorant.{IsMajorant, IsBounded, power, powers}
-use Rattle.sym_model.proofs.Polynomials.{at_only, coefficient_pair, Same_sym}
+use Rattle.sym_model.proofs.Polynomials.{at_only, coefficient_pair, Same_sym, at_only-nonnegative}
 use Rattle.monomial_laws.proofs.Powers.{In-product_over}
 use Rattle.std.proofs.Math.Nat.{pow-le-pow_right}
 use Rattle.monomial_laws.proofs.MajorantPairs.{majorant-pair}
@@ -18,16 +18,10 @@ use Rattle.sym_model.specs.Plethysm.{replaced, substitute}
 use Rattle.plethysm_laws.specs.PowerSumPlethysm.{dilated}
 use Rattle.plethysm_laws.specs.SumsOfMonomials.{HavePlaces, monomial_sum}
 use Rattle.plethysm_laws.proofs.Substitutions.{pair-substitute, substitute-plus, substitute-power_sum, substitute-power_sum_of, In-dilated, dilated-once}
+use Rattle.sym_model.proofs.Parts.{ArePositive-ones}
 use native.Mathlib.Nat.{pow-suc, pow-zero}
 
 -- ---- substitution
-
-at_only-nonnegative : (α β : List ℕ) → pos 0 ≤ℤ at_only α β
-at_only-nonnegative α β = by (same β α)
-  where
-    by : (b : Bool) → pos 0 ≤ℤ cond b (pos 1) (pos 0)
-    by true = omega (arith, ints)
-    by false = omega (arith, ints)
 
 pub majorant-substitute : (n : ℕ) (γs : List (List ℕ)) (F f : Poly) → IsMajorant F f → IsMajorant (substitute n γs F) (substitute n γs f)
 majorant-substitute n γs F f m α =
@@ -52,10 +46,6 @@ bounded-product K b (suc s) n g i h =
     (In-product_over (λ k m. dilated k g) (replicate s 1) n (λ k. In-dilated k n g i))
     (bounded_respects K b n g (dilated 1 g) (Same_sym (dilated 1 g) g (dilated-once g)) h)
     (bounded-product K b s n g i h))
-
-ArePositive-ones : (s : ℕ) → ArePositive (replicate s 1)
-ArePositive-ones zero = tt
-ArePositive-ones (suc s) = (omega arith, ArePositive-ones s)
 
 -- a power of the sum of the variables goes to that power of g
 bounded-power : (K b s n : ℕ) (γs : List (List ℕ)) (g : Poly) → HavePlaces n γs → Same (monomial_sum γs) g → In n g → IsBounded K b n g

@@ -9,10 +9,12 @@ ghost use Rattle.sym_model.specs.WholeTerms.{WholeTerms, EachLabel, combined};
 ghost use Rattle.plethysm_laws.specs.SumsOfMonomials.{IsMonomialSum};
 ghost use Rattle.plethysm_laws.specs.PowerSumPlethysm.{power_sum_plethysm};
 
-/// p_λ[g] is the product of the p_k[g] over the parts k of λ, and so f[g] is a sum of such products for each list in p that f is,
-/// in every number of variables, where no coefficient of g is negative.
+/// p_λ[g] is the product of the p_k[g] over the parts k of λ, and so f[g] is a sum of such products
+/// for each list in p that f is, in every number of variables,
+/// where no coefficient of g is negative.
 ///
-/// Examples: h_2[h_2] = s_4 + s_(2,2) and e_2[h_2] = s_(3,1), by coefficients in two variables; h_2[3] = 6.
+/// Examples: h_2[h_2] = s_4 + s_(2,2) and e_2[h_2] = s_(3,1),
+/// by coefficients in two variables; h_2[3] = 6.
 pub fn power_sum_path_law()
     ensures power_sum { (parts : List ℕ) (d n : ℕ) (g : Poly)
         → ArePositive parts → IsMonomialSum d n g
@@ -21,9 +23,14 @@ pub fn power_sum_path_law()
         → EachLabel ArePositive terms → IsMonomialSum d n g
         → Same (plethysm (λ m. combined (λ label. power_sum label m) terms) d n g)
         (combined (λ label. power_sum_plethysm label g n) terms) }
-    ensures square { coefficient (plethysm (complete_of 2) 2 2 (complete_of 2 2)) (2 ∷ 2 ∷ []) ≡ pos 2 }
-    ensures front { coefficient (plethysm (complete_of 2) 2 2 (complete_of 2 2)) (3 ∷ 1 ∷ []) ≡ pos 1 }
-    ensures exterior { coefficient (plethysm (elementary_of 2) 2 2 (complete_of 2 2)) (3 ∷ 1 ∷ []) ≡ pos 1 }
-    ensures no_square { coefficient (plethysm (elementary_of 2) 2 2 (complete_of 2 2)) (4 ∷ 0 ∷ []) ≡ pos 0 }
-    ensures number { coefficient (plethysm (complete_of 2) 0 1 (scale (pos 3) (one 1))) (0 ∷ []) ≡ pos 6 }
+    ensures square { coefficient (plethysm (complete_of 2) 2 2 (complete_of 2 2)) (2 ∷ 2 ∷ [])
+        ≡ pos 2 }
+    ensures front { coefficient (plethysm (complete_of 2) 2 2 (complete_of 2 2)) (3 ∷ 1 ∷ [])
+        ≡ pos 1 }
+    ensures exterior { coefficient (plethysm (elementary_of 2) 2 2 (complete_of 2 2)) (3 ∷ 1 ∷ [])
+        ≡ pos 1 }
+    ensures no_square { coefficient (plethysm (elementary_of 2) 2 2 (complete_of 2 2)) (4 ∷ 0 ∷ [])
+        ≡ pos 0 }
+    ensures number { coefficient (plethysm (complete_of 2) 0 1 (scale (pos 3) (one 1))) (0 ∷ [])
+        ≡ pos 6 }
 {}

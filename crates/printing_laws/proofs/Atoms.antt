@@ -2,11 +2,12 @@
 use Rattle.std.proofs.Common.{◌≡◌, ℕ, ◌<◌, ◌≤◌, Bool, true, false, List, [], ◌∷◌, ◌++◌, length, cond, eqb, pos, nat_abs, refl, sym, ap, ◌∙◌, append_assoc, length-append, decimal, arith}
 use Rattle.std.proofs.lemmas.Bool.{eqb-true, and_parts}
 use Rattle.sym_model.specs.Expansion.{Basis, monomials, elementaries, completes, power_sums, schurs, Fraction}
-use Rattle.sym_model.specs.NumberText.{Lacks, fraction_text, numbers_text, fraction_of, numbers_of}
+use Rattle.sym_model.specs.NumberText.{fraction_text, numbers_text, fraction_of, numbers_of}
 use Rattle.sym_model.specs.OneLine.{atom_text, without_sign, is_unit, unsigned_text, numbers_in_atom, term_of_cut, unsigned_term}
 use Rattle.printing_laws.proofs.Decimals.{lacks-append, decimal-lacks}
 use Rattle.printing_laws.proofs.NumberTexts.{AreShort, IsShortFraction, numbers_text-lacks, numbers_of-text, without_last-push, fraction_of-text}
 use Rattle.printing_laws.proofs.Pieces.{LacksSigns, cut_at-front, cut_at-whole}
+use Rattle.sym_model.specs.Bounded.{Lacks}
 
 -- what a term has to be so that it can be read
 pub record IsReadable (t : List ℕ × Fraction) : Type 0 where

@@ -4,13 +4,14 @@ use Rattle.std.proofs.lemmas.Bool.{ltb-true, cond-true, and_parts, and_from}
 use Rattle.sym_model.specs.Polynomial.{same}
 use Rattle.sym_model.specs.Expansion.{Fraction, Terms}
 use Rattle.sym_model.specs.Canonical.{gcd, is_reduced, is_coefficient, each_term, fits_128_bits, is_canonical_by, is_printable}
-use Rattle.sym_model.specs.NumberText.{Lacks, fraction_text, cut_at}
+use Rattle.sym_model.specs.NumberText.{fraction_text, cut_at}
 use Rattle.sym_model.specs.Kind.{LabelRules, IsLegible}
 use Rattle.sym_model.specs.PrintedBlock.{line_by, lines_by, block_by, term_of_parts, term_of_line, terms_of_lines, terms_of, accepted, read_by}
 use Rattle.printing_laws.proofs.Decimals.{lacks-append, IsShort}
 use Rattle.printing_laws.proofs.NumberTexts.{split_at-piece, cut_at-space, IsShortFraction, fraction_of-text, fraction_text-lacks}
 use Rattle.sym_model.proofs.Exponents.{same_refl, same_true}
 use Rattle.printing_laws.proofs.LegibleKinds.{legible}
+use Rattle.sym_model.specs.Bounded.{Lacks}
 
 -- what a term has to be so that its line is read back
 pub record IsShortTerm {Label : Type 0} (rules : LabelRules Label) (t : Label × Fraction) : Type 0 where

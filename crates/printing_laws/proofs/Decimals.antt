@@ -5,7 +5,8 @@ use Rattle.std.proofs.lemmas.Fmt.{decimal_by_steps_wide}
 use Rattle.std.proofs.lemmas.List.{take_more}
 use Rattle.std.proofs.lemmas.Bool.{ne_eqb, cond-false}
 use Rattle.sym_model.specs.NumberWord.{IsDigit, AreDigits}
-use Rattle.sym_model.specs.NumberText.{Lacks, value_from, decimal_value, signed_value}
+use Rattle.sym_model.specs.NumberText.{value_from, decimal_value, signed_value}
+use Rattle.sym_model.specs.Bounded.{Lacks}
 
 -- the value of digits, read on over further digits
 pub value_from-append : (n : ℕ) (xs ys : List ℕ) → value_from n (xs ++ ys) ≡ value_from (value_from n xs) ys

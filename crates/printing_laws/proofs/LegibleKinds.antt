@@ -3,11 +3,12 @@ use Rattle.std.proofs.Common.{◌≡◌, ℕ, ◌^◌, ◌<◌, ◌≤◌, Bool,
 use Rattle.std.specs.declared.cmp.Ordering.{Ordering}
 use Rattle.std.proofs.lemmas.Bool.{leb-true, ltb-true, and_parts}
 use Rattle.sym_model.specs.Partition.{size, rows}
-use Rattle.sym_model.specs.NumberText.{Lacks, label_text, decimal_value, label_of}
+use Rattle.sym_model.specs.NumberText.{label_text, decimal_value, label_of}
 use Rattle.sym_model.specs.LabelLimits.{is_partition, is_label, is_pair_label, is_power_label, are_letters, is_permutation_label, is_monomial_label, is_shifted_label}
 use Rattle.sym_model.specs.Kind.{Kind, number, expansion, product, pairs, powers, permutations, polynomial, shifts, LabelRules, after_one, list_text, list_of, pair_text, pair_of, power_text, power_of, list_rules, label_rules, IsLegible}
 use Rattle.printing_laws.proofs.Decimals.{lacks-append, decimal-lacks, decimal_value-decimal}
 use Rattle.printing_laws.proofs.NumberTexts.{cut_at-space, AreShort, are_short-from_size, label_of-text, label_text-lacks}
+use Rattle.sym_model.specs.Bounded.{Lacks}
 
 -- lists of numbers below 10^64 can be read
 list_rules-legible : (order : List ℕ → List ℕ → Ordering) (limits : List ℕ → Bool) (has_fractions : Bool)

@@ -1,7 +1,7 @@
 -- No number of a one-line form is past 2^127 - 1 where no numerator is -2^127.
-use Rattle.std.proofs.Common.{◌≡◌, ℕ, suc, ◌+◌, ◌^◌, ◌<◌, nat_lt, Bool, true, false, cond, eqb, ◌&&◌, List, [], ◌∷◌, ◌++◌, length, map, ℤ, pos, negsuc, nat_abs, neg_ℤ, Option, Some, None, inl, inr, refl, sym, ap, ◌∙◌, subst, decimal, arith}
+use Rattle.std.proofs.Common.{◌≡◌, ℕ, suc, ◌+◌, ◌^◌, ◌<◌, nat_lt, Bool, true, false, cond, eqb, ◌&&◌, List, [], ◌∷◌, ◌++◌, length, map, ℤ, pos, negsuc, nat_abs, neg_ℤ, Option, Some, None, inl, inr, refl, sym, ap, ◌∙◌, subst, decimal, arith, flat_map}
 use Rattle.std.proofs.lemmas.Bool.{lt-leb, ltb-true, and_parts, cases_eq}
-use Rattle.sym_model.specs.Sum.{each, Among}
+use Rattle.sym_model.specs.Sum.{Among}
 use Rattle.sym_model.specs.Partition.{size}
 use Rattle.sym_model.specs.Expansion.{Basis, Fraction, Terms}
 use Rattle.sym_model.specs.Expression.{degree}
@@ -86,10 +86,10 @@ of_whole target phrase o a is =
 
 none-literal : (target : Basis) (phrase : Phrase) → IsNarrow phrase → (o : WordOffence) → Among o (offences target phrase) → o.1 ≡ literal → ⊥
 none-literal target phrase h o a is =
-    elim (Among_from_append o (each offences_at (marks 0 0 phrase)) (offences_of_whole target phrase) a)
+    elim (Among_from_append o (flat_map offences_at (marks 0 0 phrase)) (offences_of_whole target phrase) a)
     [ inl b ↦ at_marks b | inr b ↦ of_whole target phrase o b is ]
   where
-    at_marks : Among o (each offences_at (marks 0 0 phrase)) → ⊥
+    at_marks : Among o (flat_map offences_at (marks 0 0 phrase)) → ⊥
     at_marks b =
         let found = Among_from_each offences_at o (marks 0 0 phrase) b in
         at_mark found.0 o (marks-narrow 0 0 phrase h found.0 found.1) found.2 is

@@ -4,9 +4,10 @@ use Rattle.std.specs.Fmt.{signed_decimal}
 use Rattle.std.proofs.lemmas.Bool.{eq-eqb, ne_eqb, eqb-true, cond-true, cond-false}
 use Rattle.sym_model.specs.Partition.{size}
 use Rattle.sym_model.specs.Expansion.{Fraction}
-use Rattle.sym_model.specs.NumberText.{Lacks, fraction_text, numbers_text, label_text, before_first, split_at, before_cut, cut_at, decimal_value, fraction_of_pieces, fraction_of, without_last, numbers_of, label_of}
+use Rattle.sym_model.specs.NumberText.{fraction_text, numbers_text, label_text, before_first, split_at, before_cut, cut_at, decimal_value, fraction_of_pieces, fraction_of, without_last, numbers_of, label_of}
 use Rattle.sym_model.specs.Kind.{BeginsWithSpace}
 use Rattle.printing_laws.proofs.Decimals.{lacks-append, decimal-lacks, decimal-nonempty, decimal_value-decimal, IsShort, signed_decimal-lacks, signed_value-signed_decimal}
+use Rattle.sym_model.specs.Bounded.{Lacks}
 
 -- a text without the separator is one piece
 pub split_at-whole : (s : ℕ) (text : List ℕ) → Lacks s text → split_at s text ≡ text ∷ []
@@ -20,7 +21,7 @@ split_at-piece s [] rest h = cond-true (eqb s s) _ _ (eq-eqb s s refl)
 split_at-piece s (b ∷ piece) rest h =
     cond-false (eqb b s) _ _ (ne_eqb b s h.0) ∙ ap (before_first b) (split_at-piece s piece rest h.1)
 
--- a text without a space, and behind it one that begins with a space, are cut between them
+-- a text without a space, and after it one that begins with a space, are cut between them
 pub cut_at-space : (front rest : List ℕ) → Lacks 32 front → BeginsWithSpace rest → cut_at 32 (front ++ rest) ≡ (front, rest)
 cut_at-space [] [] h k = refl
 cut_at-space [] (b ∷ rest) h k = cond-true (eqb b 32) _ _ (eq-eqb b 32 k)

@@ -100,7 +100,7 @@ later-terms basis (t ∷ terms) h = ap₂ ◌∷◌ (later-term basis t h.0) (la
 
 -- ---- the line
 
--- the line with its LF behind it
+-- the line with its LF after it
 one_line-front : (basis : Basis) (t : List ℕ × Fraction) (terms : Terms (List ℕ)) → one_line basis (t ∷ terms) ≡ (first_piece basis t ++ later_text basis terms) ++ (10 ∷ [])
 one_line-front basis t terms = simp append_assoc refl
 

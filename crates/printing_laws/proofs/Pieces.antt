@@ -1,15 +1,16 @@
 -- Texts that are cut in front of signs, and at a byte.
 use Rattle.std.proofs.Common.{◌≡◌, ℕ, true, false, ◌||◌, List, [], ◌∷◌, ◌++◌, eqb, refl, ap, ◌∙◌}
 use Rattle.std.proofs.lemmas.Bool.{eq-eqb, ne_eqb, cond-true, cond-false}
-use Rattle.sym_model.specs.NumberText.{Lacks, before_first, before_cut, cut_at}
+use Rattle.sym_model.specs.NumberText.{before_first, before_cut, cut_at}
 use Rattle.sym_model.specs.OneLine.{is_sign, cut_at_signs, pieces_of}
+use Rattle.sym_model.specs.Bounded.{Lacks}
 
 -- no byte of the text is `+` or `-`
 pub record LacksSigns (text : List ℕ) : Type 0 where
   pub plus : Lacks 43 text
   pub minus : Lacks 45 text
 
--- a text without the separator, and behind it one that begins with it, are cut between them
+-- a text without the separator, and after it one that begins with it, are cut between them
 pub cut_at-front : (separator : ℕ) (front rest : List ℕ) → Lacks separator front → cut_at separator (front ++ (separator ∷ rest)) ≡ (front, separator ∷ rest)
 cut_at-front separator [] rest h = cond-true (eqb separator separator) _ _ (eq-eqb separator separator refl)
 cut_at-front separator (b ∷ front) rest h =

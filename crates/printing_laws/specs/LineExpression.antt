@@ -1,4 +1,4 @@
--- A one-line form as an expression (this project's own).
+-- A one-line form as an expression.
 use Rattle.std.specs.Prelude.{◌≡◌, ℕ, ◌^◌, pos, neg_ℤ, List, ◌++◌, codes}
 use Rattle.sym_model.specs.Sum.{Among}
 use Rattle.sym_model.specs.Expansion.{Basis, Fraction, Terms, IsExpansionOf}
@@ -7,16 +7,20 @@ use Rattle.sym_model.specs.ExpressionOffence.{literal, WordOffence, offences}
 use Rattle.sym_model.specs.Phrase.{Phrase, SpellsPhrase, tree}
 use Rattle.sym_model.specs.OneLine.{one_line}
 
--- the numerator of no coefficient is -2^127, the one number of 128 bits whose absolute value is none
+-- the numerator of no coefficient is -2^127,
+-- the one number of 128 bits whose absolute value is none
 abbrev pub LacksLowest : Terms (List ℕ) → Type 0
 LacksLowest terms = (t : List ℕ × Fraction) → Among t terms → t.1.0 ≡ neg_ℤ (pos (2 ^ 127)) → ⊥
 
--- the one-line form without its LF spells an expression, and the list is what that denotes, whatever the number of variables;
--- where no numerator is -2^127, no number in the expression is past 2^127 - 1, so that none is an offence
+-- the one-line form without its LF spells an expression, and the list is what that denotes,
+-- whatever the number of variables; where no numerator is -2^127, no number in the expression is
+-- past 2^127 - 1, so that none is an offence
 pub record IsExpression (basis : Basis) (terms : Terms (List ℕ)) : Type 0 where
   pub word : List ℕ
   pub phrase : Phrase
   pub line : one_line basis terms ≡ word ++ codes "\n"
   pub spells : SpellsPhrase word phrase
-  pub value : (n : ℕ) → IsExpansionOf basis terms n (cleared_value (tree phrase) n) (denominator (tree phrase))
-  pub no_literal : LacksLowest terms → (target : Basis) (o : WordOffence) → Among o (offences target phrase) → o.1 ≡ literal → ⊥
+  pub value : (n : ℕ) → IsExpansionOf basis terms n (cleared_value (tree phrase) n)
+      (denominator (tree phrase))
+  pub no_literal : LacksLowest terms → (target : Basis) (o : WordOffence)
+      → Among o (offences target phrase) → o.1 ≡ literal → ⊥

@@ -1,33 +1,25 @@
 //! A one-line form has one reading, and a list one such form for each basis.
 
 ghost use Rattle.std.specs.Prelude.{◌≡◌, ℕ, List, IsTrue, Some};
-ghost use Rattle.sym_model.specs.Expansion.{Basis, Terms};
-ghost use Rattle.sym_model.specs.Kind.{Kind, Label, label_rules, expansion, product};
+ghost use Rattle.sym_model.specs.Expansion.{Terms};
+ghost use Rattle.sym_model.specs.Kind.{Kind, Label, label_rules};
 ghost use Rattle.sym_model.specs.Canonical.{IsCanonicalBy, is_printable};
-ghost use Rattle.sym_model.specs.OneLine.{one_line, read_one_line};
 ghost use Rattle.sym_model.specs.PrintedForm.{PrintedForm, text_in, read_in};
 
-/// For each basis: the one-line form of a canonical list of partitions with numbers of 128 bits, with fractions or with whole
-/// coefficients, reads back as that list; so two such lists with one text are one list.
-pub fn one_line_law()
-    ensures expansions { (basis : Basis) (terms : Terms (List ℕ)) → IsCanonicalBy (label_rules expansion) terms
-        → IsTrue (is_printable terms) → read_one_line basis (label_rules expansion) (one_line basis terms) ≡ Some terms }
-    ensures products { (basis : Basis) (terms : Terms (List ℕ)) → IsCanonicalBy (label_rules product) terms
-        → IsTrue (is_printable terms) → read_one_line basis (label_rules product) (one_line basis terms) ≡ Some terms }
-    ensures one_list { (basis : Basis) (first second : Terms (List ℕ)) → IsCanonicalBy (label_rules expansion) first
-        → IsTrue (is_printable first) → IsCanonicalBy (label_rules expansion) second → IsTrue (is_printable second)
-        → one_line basis first ≡ one_line basis second → first ≡ second }
-{}
-
-/// In each form: the text of a canonical list with numbers of 128 bits reads back as that list, and a text that reads as a
-/// list is the text of that list, which is canonical with numbers of 128 bits.
+/// In each form: the text of a canonical list with numbers of 128 bits reads back as that list, and
+/// a text that reads as a list is the text of that list,
+/// which is canonical with numbers of 128 bits.
 pub fn printed_form_law()
-    ensures reads { (form : PrintedForm) (kind : Kind) (terms : Terms (Label kind)) → IsCanonicalBy (label_rules kind) terms
+    ensures reads { (form : PrintedForm) (kind : Kind) (terms : Terms (Label kind))
+        → IsCanonicalBy (label_rules kind) terms
         → IsTrue (is_printable terms) → read_in form kind (text_in form kind terms) ≡ Some terms }
-    ensures is_text { (form : PrintedForm) (kind : Kind) (text : List ℕ) (terms : Terms (Label kind))
+    ensures is_text { (form : PrintedForm) (kind : Kind) (text : List ℕ)
+        (terms : Terms (Label kind))
         → read_in form kind text ≡ Some terms → text ≡ text_in form kind terms }
-    ensures canonical { (form : PrintedForm) (kind : Kind) (text : List ℕ) (terms : Terms (Label kind))
+    ensures canonical { (form : PrintedForm) (kind : Kind) (text : List ℕ)
+        (terms : Terms (Label kind))
         → read_in form kind text ≡ Some terms → IsCanonicalBy (label_rules kind) terms }
-    ensures printable { (form : PrintedForm) (kind : Kind) (text : List ℕ) (terms : Terms (Label kind))
+    ensures printable { (form : PrintedForm) (kind : Kind) (text : List ℕ)
+        (terms : Terms (Label kind))
         → read_in form kind text ≡ Some terms → IsTrue (is_printable terms) }
 {}

@@ -1,8 +1,8 @@
 -- Lists of terms with coefficients that are not negative, and what a coefficient that is not 0 tells.
-use Rattle.std.proofs.Common.{◌≡◌, ◌⊎◌, inl, inr, cond, ℕ, List, [], ◌∷◌, ◌++◌, map, refl, sym, ◌∙◌, ap, ap₂, subst, arith, ℤ, pos, ◌+ℤ◌, ◌*ℤ◌}
+use Rattle.std.proofs.Common.{◌≡◌, ◌⊎◌, inl, inr, cond, ℕ, List, [], ◌∷◌, map, refl, sym, ◌∙◌, ap, ap₂, subst, arith, ℤ, pos, ◌+ℤ◌, ◌*ℤ◌, flat_map}
 use Rattle.std.specs.Prelude.{◌≤ℤ◌}
 use Rattle.std.proofs.lemmas.Int.{ints}
-use Rattle.sym_model.specs.Sum.{each, Among, Once}
+use Rattle.sym_model.specs.Sum.{Among, Once}
 use Rattle.sym_model.specs.Polynomial.{Term, same, coefficient, scale}
 use Rattle.sym_model.specs.WholeTerms.{WholeTerms}
 use Rattle.sym_model.proofs.Sums.{total_none, Among-map, Among_from_map, Among_from_each}
@@ -26,24 +26,20 @@ counts-scale c terms h k t m =
     let s = Among_from_map (λ (u : Term). let scaled : Term = (u.0, c *ℤ u.1) in scaled) t terms m in
     subst (λ (z : ℤ). pos 0 ≤ℤ z) (sym (ap (λ (u : Term). u.1) s.2)) (product-nonnegative c s.0.1 h (k s.0 s.1))
 
-pub counts-each : {A : Type 0} (h : A → WholeTerms) (xs : List A) → ((x : A) → Among x xs → AreCounts (h x)) → AreCounts (each h xs)
+pub counts-each : {A : Type 0} (h : A → WholeTerms) (xs : List A) → ((x : A) → Among x xs → AreCounts (h x)) → AreCounts (flat_map h xs)
 counts-each h xs c t m = let s = Among_from_each h t xs m in c s.0 s.1 t s.2
-
--- further counts lower no coefficient
-pub coefficient-more : (xs ys : WholeTerms) (α : List ℕ) → AreCounts ys → coefficient xs α ≤ℤ coefficient (xs ++ ys) α
-coefficient-more xs ys α h = let e = coefficient_plus xs ys α in let c = counts-coefficient ys α h in omega (arith, ints)
 
 -- nor is one part of a sum above the sum
 pub coefficient-each : {A : Type 0} (h : A → WholeTerms) (xs : List A) (x : A) (α : List ℕ) → ((y : A) → Among y xs → AreCounts (h y)) → Among x xs
-    → coefficient (h x) α ≤ℤ coefficient (each h xs) α
+    → coefficient (h x) α ≤ℤ coefficient (flat_map h xs) α
 coefficient-each h [] x α c m = absurd m
 coefficient-each h (y ∷ xs) x α c (inl e) =
-    let s = coefficient_plus (h y) (each h xs) α in
-    let r = counts-coefficient (each h xs) α (counts-each h xs (λ z m. c z (inr m))) in
+    let s = coefficient_plus (h y) (flat_map h xs) α in
+    let r = counts-coefficient (flat_map h xs) α (counts-each h xs (λ z m. c z (inr m))) in
     let d : coefficient (h x) α ≡ coefficient (h y) α = ap (λ z. coefficient (h z) α) e in
     omega (arith, ints)
 coefficient-each h (y ∷ xs) x α c (inr m) =
-    let s = coefficient_plus (h y) (each h xs) α in
+    let s = coefficient_plus (h y) (flat_map h xs) α in
     let r = coefficient-each h xs x α (λ z n. c z (inr n)) m in
     let d = counts-coefficient (h y) α (c y (inl refl)) in
     omega (arith, ints)

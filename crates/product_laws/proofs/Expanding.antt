@@ -1,6 +1,6 @@
 -- Expansions of products of Schur polynomials with one factor more, by the classical products of the labels.
-use Rattle.std.proofs.Common.{◌≡◌, ℕ, ◌+◌, ◌≤◌, ◌<◌, inl, inr, List, [], ◌∷◌, ◌++◌, refl, sym, ◌∙◌, ap, ap₂, subst, arith, pos, Option, Some, None}
-use Rattle.sym_model.specs.Sum.{each, Among}
+use Rattle.std.proofs.Common.{◌≡◌, ℕ, ◌+◌, ◌≤◌, ◌<◌, inl, inr, List, [], ◌∷◌, ◌++◌, refl, sym, ◌∙◌, ap, ap₂, subst, arith, pos, Option, Some, None, flat_map}
+use Rattle.sym_model.specs.Sum.{Among}
 use Rattle.sym_model.specs.Polynomial.{Poly, Term, Same, nothing, coefficient, scale, times}
 use Rattle.sym_model.specs.Partition.{IsPartition, rows}
 use Rattle.sym_model.specs.Schur.{schur}
@@ -29,7 +29,7 @@ pub AreWhole-as_fractions : (terms : WholeTerms) → AreWhole (as_fractions term
 AreWhole-as_fractions [] = tt
 AreWhole-as_fractions (t ∷ terms) = (refl, AreWhole-as_fractions terms)
 
-each_same : {A : Type 0} (f g : A → WholeTerms) (xs : List A) → ((x : A) → f x ≡ g x) → each f xs ≡ each g xs
+each_same : {A : Type 0} (f g : A → WholeTerms) (xs : List A) → ((x : A) → f x ≡ g x) → flat_map f xs ≡ flat_map g xs
 each_same f g [] e = refl
 each_same f g (x ∷ xs) e = ap₂ ◌++◌ (e x) (each_same f g xs e)
 

@@ -1,19 +1,11 @@
 -- The exponent lists of n places with the sum d are all lists of n numbers with this sum, each once.
-use Rattle.std.proofs.Common.{◌≡◌, ◌⊎◌, ℕ, zero, suc, ◌-◌, ◌≤◌, Bool, true, false, cond, ◌==◌, List, [], ◌∷◌, map, length, drop, get_or, refl, sym, ◌∙◌, ap, subst, inl, inr, arith}
-use Rattle.std.proofs.lemmas.Bool.{cases_eq, eq-eqb}
+use Rattle.std.proofs.Common.{◌≡◌, ℕ, zero, suc, ◌-◌, Bool, true, false, cond, ◌==◌, List, [], ◌∷◌, map, length, drop, get_or, refl, sym, ◌∙◌, ap, subst, inl, arith}
+use Rattle.std.proofs.lemmas.Bool.{eq-eqb}
 use Rattle.sym_model.specs.Sum.{Among, Once}
 use Rattle.sym_model.specs.Partition.{size}
 use Rattle.sym_model.specs.Bases.{down_from, exponent_lists}
-use Rattle.sym_model.proofs.Sums.{Among-each, Among-map, Among_from_map, Once-each, Once-map}
+use Rattle.sym_model.proofs.Sums.{Among-each, Among-map, Among_from_map, Once-each, Once-map, among_down_from}
 use Rattle.monomial_laws.proofs.Arrangements.{down_from-below}
-
-among_down_from : (a d : ℕ) → a ≤ d → Among a (down_from d)
-among_down_from a zero h = inl (omega arith)
-among_down_from a (suc d) h = by (cases_eq a (suc d)) (λ g. among_down_from a d g)
-  where
-    by : (a ≡ suc d) ⊎ (a ≡ suc d → ⊥) → (a ≤ d → Among a (down_from d)) → Among a (down_from (suc d))
-    by (inl e) r = inl e
-    by (inr n) r = inr (r (omega arith))
 
 once_down_from : (d : ℕ) → Once (down_from d)
 once_down_from zero = (λ m. m, tt)

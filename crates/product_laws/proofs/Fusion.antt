@@ -9,7 +9,7 @@ use Rattle.std.proofs.lemmas.List.{length-map}
 use Rattle.std.proofs.Math.Nat.{mod-mod, mod-add-mod}
 use Rattle.std.proofs.Math.IntN.{*ℤ-zero, +ℤ_idr}
 use Rattle.sym_model.specs.Polynomial.{Term, Same, same, join, pair, negate, scale}
-use Rattle.sym_model.specs.Partition.{IsPartition, part, size, rows}
+use Rattle.sym_model.specs.Partition.{IsPartition, part, size, rows, ArePartitions}
 use Rattle.sym_model.specs.Bases.{has}
 use Rattle.sym_model.specs.Schur.{schur}
 use Rattle.sym_model.specs.Alternant.{alternant}
@@ -29,13 +29,15 @@ use Rattle.alternant_laws.proofs.Alternants.{alternant_exchange, opposite_is_zer
 use Rattle.alternant_laws.proofs.SortedAlternants.{alternant-equal, alternant-sorted}
 use Rattle.beta_list_laws.specs.AlcoveEnd.{remainders, IsAlcoveEnd, past, up}
 use Rattle.beta_list_laws.proofs.Lowest.{strict_falls}
-use Rattle.beta_list_laws.proofs.Windows.{sorted-map-sorted, last_of, LieIn, narrow_lie, window_back, alcove_only, length-end}
+use Rattle.beta_list_laws.proofs.Windows.{sorted-map-sorted, LieIn, narrow_lie, window_back, alcove_only, length-end}
 use Rattle.beta_list_laws.proofs.AlcoveEnds.{equal_map, not_both, remainders_of_ups, matches_up, same_remainders_has, Reduced, alcove_reduced, end_found, equal_inside}
 use Rattle.beta_list_laws.proofs.ReducedSums.{alcove_value, alcove_share, reflected_sum}
 use Rattle.beta_list_laws.proofs.BetaLowerings.{map_append}
-use Rattle.product_laws.specs.FactorSteps.{ArePartitions, fused}
-use Rattle.product_laws.proofs.Straightened.{IsShape, at_shape, on_strict, pair-value, at_strict, shape_of_strict}
+use Rattle.product_laws.specs.FactorSteps.{fused}
+use Rattle.product_laws.proofs.Straightened.{IsShape, on_strict, pair-value, at_strict, shape_of_strict}
 use Rattle.product_laws.proofs.ManyFactors.{sums-schur, added, join-beta, pair_shapes, two_value, step_value}
+use Rattle.alternant_laws.proofs.FailingColumns.{at_sum}
+use Rattle.strip_laws.proofs.Reflections.{last_of}
 
 -- ---- windows
 
@@ -71,10 +73,10 @@ lies_from_bottom n (a ∷ b) f l = narrow_lie n a b f l
 
 -- ---- the value at a label
 
-abbrev value : Bool → Bool → Bool → ℤ → ℤ
+abbrev pub value : Bool → Bool → Bool → ℤ → ℤ
 value equal sum there sign = cond equal (pos 0) (cond sum (cond there sign (pos 0)) (pos 0))
 
-value-negated : (equal sum there : Bool) (sign : ℤ) → value equal sum there (neg_ℤ sign) ≡ neg_ℤ (value equal sum there sign)
+pub value-negated : (equal sum there : Bool) (sign : ℤ) → value equal sum there (neg_ℤ sign) ≡ neg_ℤ (value equal sum there sign)
 value-negated true sum there sign = refl
 value-negated false true true sign = refl
 value-negated false true false sign = refl
@@ -327,7 +329,7 @@ IsAnswer k (Some a) = IsShape k a.0
 
 record IsReducedEarly (k n : ℕ) (next label : List ℕ) (x : ℤ) (answer : Option (List ℕ × ℤ)) : Type 0 where
   shape : IsAnswer k answer
-  equal : x ≡ at_reduced (at_shape k (added k next (on_strict (alcove_share k n label)))) answer
+  equal : x ≡ at_reduced (at_sum k (added k next (on_strict (alcove_share k n label)))) answer
 
 reflected_list : (k n : ℕ) (next label b : List ℕ) → 1 ≤ n → IsPartition next → length b ≡ k → FallsStrictly b
     → IsReducedEarly k n next label (multiplied_value k n next label b) (as_partition (reflected_into_alcove n b))
@@ -351,10 +353,10 @@ reflected_list k n next label b h q l f = by (reflected_into_alcove n b) (alcove
         }
 
 reflected_early : (k n : ℕ) (next label parts : List ℕ) → 1 ≤ n → IsPartition next → IsShape k parts
-    → IsReducedEarly k n next label (at_shape k (added k next (on_strict (alcove_share k n label))) parts) (alcove_reduction k n parts)
+    → IsReducedEarly k n next label (at_sum k (added k next (on_strict (alcove_share k n label))) parts) (alcove_reduction k n parts)
 reflected_early k n next label parts h q p =
     let r = reflected_list k n next label (beta k parts) h q (length-beta k parts) (beta_strict k parts p.partition.falls) in
-    subst (λ v. IsReducedEarly k n next label (at_shape k (added k next (on_strict (alcove_share k n label))) parts) (cond {A = Option (List ℕ × ℤ)} v (as_partition (reflected_into_alcove n (beta k parts))) None))
+    subst (λ v. IsReducedEarly k n next label (at_sum k (added k next (on_strict (alcove_share k n label))) parts) (cond {A = Option (List ℕ × ℤ)} v (as_partition (reflected_into_alcove n (beta k parts))) None))
     (sym (le-leb (rows parts) k p.few))
     (subst (λ z. IsReducedEarly k n next label z (as_partition (reflected_into_alcove n (beta k parts))))
     (sym (ap (λ b. pair (alternant b) (added k next (on_strict (alcove_share k n label)))) (join-beta k parts p))) r)
@@ -385,16 +387,16 @@ fusion_step k n front next terms h p q is label =
     ∙ ap (λ z. t.1 *ℤ z) (sym (coefficient_pair (reflected_terms k n (classical_product k (t.0 ∷ next ∷ []))) label) ∙ reflected_sum k n (classical_product k (t.0 ∷ next ∷ [])) label)) terms
     ∙ pair_determined terms (reflected_terms k n (classical_product k front)) reduced is
     ∙ pair-reflected k n (classical_product k front) reduced
-    ∙ pair_shapes k front (λ parts. at_reduced reduced (alcove_reduction k n parts)) (at_shape k (added k next (on_strict (alcove_share k n label)))) early
+    ∙ pair_shapes k front (λ parts. at_reduced reduced (alcove_reduction k n parts)) (at_sum k (added k next (on_strict (alcove_share k n label)))) early
     ∙ sym (step_value k front next (alcove_share k n label) p q)
     ∙ sym (reflected_sum k n (classical_product k (front ++ (next ∷ []))) label)
   where
     reduced : List ℕ → ℤ
     reduced parts = pair (classical_product k (parts ∷ next ∷ [])) (alcove_share k n label)
 
-    early : (parts : List ℕ) → IsShape k parts → at_reduced reduced (alcove_reduction k n parts) ≡ at_shape k (added k next (on_strict (alcove_share k n label))) parts
+    early : (parts : List ℕ) → IsShape k parts → at_reduced reduced (alcove_reduction k n parts) ≡ at_sum k (added k next (on_strict (alcove_share k n label))) parts
     early parts s =
         let r = reflected_early k n next label parts h q s in
-        at_answers k reduced (at_shape k (added k next (on_strict (alcove_share k n label)))) (alcove_reduction k n parts) r.shape
+        at_answers k reduced (at_sum k (added k next (on_strict (alcove_share k n label)))) (alcove_reduction k n parts) r.shape
         (λ x t. two_value k x next (alcove_share k n label) t q)
         ∙ sym r.equal

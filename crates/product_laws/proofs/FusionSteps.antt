@@ -9,10 +9,11 @@ use Rattle.sym_model.specs.ReductionSteps.{AreCollected, IsFusionStep, StepsLead
 use Rattle.sym_model.proofs.Ring.{one-product}
 use Rattle.sym_model.proofs.Sums.{Among-append_left, Among-append_right}
 use Rattle.sym_model.proofs.Exponents.{same_refl, same_true}
-use Rattle.product_laws.specs.FactorSteps.{ArePartitions, fused}
+use Rattle.product_laws.specs.FactorSteps.{fused}
 use Rattle.product_laws.proofs.Fusion.{fusion_step}
 use Rattle.product_laws.proofs.GatheredLists.{gathered, coefficient-gathered, collected-gathered}
 use Rattle.product_laws.proofs.LeadingSteps.{last_changed, last_is, some_lead}
+use Rattle.sym_model.specs.Partition.{ArePartitions}
 
 -- ---- from steps to the whole
 

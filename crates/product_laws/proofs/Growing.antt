@@ -1,12 +1,12 @@
 -- Products of Schur polynomials with one factor more: counts again, at labels with no more rows than all factors have, and some
 -- coefficient is at least as great as each one before.
-use Rattle.std.proofs.Common.{◌≡◌, ℕ, zero, suc, ◌+◌, ◌≤◌, ◌<◌, ◌⊎◌, inl, inr, Bool, true, false, cond, List, [], ◌∷◌, ◌++◌, append_assoc, append-nil, map, refl, sym, ◌∙◌, ap, subst, arith, ℤ, pos, ◌*ℤ◌}
+use Rattle.std.proofs.Common.{◌≡◌, ℕ, zero, suc, ◌+◌, ◌≤◌, ◌<◌, ◌⊎◌, inl, inr, Bool, true, false, cond, List, [], ◌∷◌, ◌++◌, append_assoc, append-nil, map, refl, sym, ◌∙◌, ap, subst, arith, ℤ, pos, ◌*ℤ◌, filter}
 use Rattle.std.specs.Prelude.{◌≤ℤ◌, nat_abs, nat_le, nat_lt}
 use Rattle.std.proofs.lemmas.Bool.{cases_lt}
 use Rattle.std.proofs.lemmas.Int.{ints}
-use Rattle.sym_model.specs.Sum.{select, Among}
+use Rattle.sym_model.specs.Sum.{Among}
 use Rattle.sym_model.specs.Polynomial.{Term, same, coefficient, scale}
-use Rattle.sym_model.specs.Partition.{IsPartition, size, rows}
+use Rattle.sym_model.specs.Partition.{IsPartition, size, rows, ArePartitions}
 use Rattle.sym_model.specs.Alternant.{schur_coefficient}
 use Rattle.sym_model.specs.PartitionList.{partitions_of}
 use Rattle.sym_model.specs.WholeTerms.{WholeTerms}
@@ -20,7 +20,7 @@ use Rattle.sym_model.proofs.Integers.{product-at_least}
 use Rattle.tableau_laws.proofs.ColumnCounts.{contains_nothing}
 use Rattle.alternant_laws.proofs.ClassicalProducts.{classical_product-coefficient, classical_product-term, classical_product-once, IsClassicalTerm}
 use Rattle.alternant_laws.proofs.CountedTerms.{schur_coefficient_of_schur, product_coefficients, coefficient_counts, no_long_labels}
-use Rattle.product_laws.specs.FactorSteps.{ArePartitions, multiplied}
+use Rattle.product_laws.specs.FactorSteps.{multiplied}
 use Rattle.product_laws.proofs.ManyFactors.{classical_step, are_more}
 use Rattle.product_laws.specs.CountedProducts.{AreCounts, Reaches}
 use Rattle.product_laws.proofs.CountLists.{counts-coefficient, counts-scale, counts-each, coefficient-each, some_term, coefficient_of_once}
@@ -35,7 +35,7 @@ term_is k factors t m =
 -- its label has as many cells as all factors
 pub label_size : (k : ℕ) (factors : List (List ℕ)) (t : Term) → Among t (classical_product k factors) → size t.0 ≡ size (map size factors)
 label_size k factors t m =
-    let few : List (List ℕ) = select (λ (parts : List ℕ). nat_le (rows parts) k) (partitions_of (size (map size factors))) in
+    let few : List (List ℕ) = filter (λ (parts : List ℕ). nat_le (rows parts) k) (partitions_of (size (map size factors))) in
     let a = Among_from_select (λ (u : Term). nat_lt 0 (nat_abs u.1)) t (map (λ (parts : List ℕ). let term : Term = (parts, schur_coefficient k parts (schur_product factors k)) in term) few) m in
     let b = Among_from_map (λ (parts : List ℕ). let term : Term = (parts, schur_coefficient k parts (schur_product factors k)) in term) t few a.0 in
     let c = Among_from_select (λ (parts : List ℕ). nat_le (rows parts) k) b.0 (partitions_of (size (map size factors))) b.1 in

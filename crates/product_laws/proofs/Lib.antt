@@ -12,7 +12,6 @@ pub mod CountLists
 pub mod SomeLabel
 pub mod Growing
 pub mod Expanding
-pub mod TwoLists
 pub mod ExponentLists
 pub mod StripShapes
 pub mod StaircaseProducts

@@ -1,10 +1,9 @@
 -- The classical product of several factors, one factor after another.
---     times_alternant      an alternant times a product of Schur polynomials, as a sum of alternants
 --     classical_pairing    the classical product, paired with alternants
 --     classical_step       the product with one factor more
 use Rattle.std.proofs.Common.{◌≡◌, ℕ, List, [], ◌∷◌, ◌++◌, length, refl, sym, ◌∙◌, ap, subst, inl, inr, arith, ℤ, ◌*ℤ◌}
 use Rattle.sym_model.specs.Polynomial.{Poly, Term, In, Same, join, one, times, pair, no_exponents, scale}
-use Rattle.sym_model.specs.Partition.{IsPartition}
+use Rattle.sym_model.specs.Partition.{IsPartition, ArePartitions}
 use Rattle.sym_model.specs.Schur.{schur}
 use Rattle.sym_model.specs.Alternant.{alternant, staircase}
 use Rattle.sym_model.specs.BetaList.{beta, from_beta}
@@ -23,8 +22,9 @@ use Rattle.alternant_laws.proofs.SchurProducts.{bialternant}
 use Rattle.alternant_laws.proofs.ClassicalProducts.{classical_product-coefficient, classical_product-term}
 use Rattle.beta_list_laws.proofs.BetaLists.{beta_strict, from_beta-beta, length-beta}
 use Rattle.alternant_laws.proofs.SortedAlternants.{from_beta-join}
-use Rattle.product_laws.specs.FactorSteps.{ArePartitions, multiplied}
-use Rattle.product_laws.proofs.Straightened.{IsShape, at_shape, on_strict, pair-value, straightened_sum, pair-straightened, straightened-shape, coefficient-straightened, same_shapes}
+use Rattle.product_laws.specs.FactorSteps.{multiplied}
+use Rattle.product_laws.proofs.Straightened.{IsShape, on_strict, pair-value, straightened_sum, pair-straightened, straightened-shape, coefficient-straightened, same_shapes}
+use Rattle.alternant_laws.proofs.FailingColumns.{at_sum}
 
 -- ---- an alternant times a product
 
@@ -91,10 +91,10 @@ classical_straightened k factors p =
     s = sums-product k factors p
 
 pub classical_pairing : (k : ℕ) (factors : List (List ℕ)) (φ : List ℕ → ℤ) → ArePartitions factors
-    → pair (classical_product k factors) (at_shape k φ) ≡ pair (times (alternant (staircase k)) (schur_product factors k)) φ
+    → pair (classical_product k factors) (at_sum k φ) ≡ pair (times (alternant (staircase k)) (schur_product factors k)) φ
 classical_pairing k factors φ p =
     let s = sums-product k factors p in
-    pair_determined (classical_product k factors) (straightened_sum (staircase k) (schur_product factors k)) (at_shape k φ) (classical_straightened k factors p)
+    pair_determined (classical_product k factors) (straightened_sum (staircase k) (schur_product factors k)) (at_sum k φ) (classical_straightened k factors p)
     ∙ pair-straightened k (staircase k) (schur_product factors k) φ (length-staircase k) s.within
     ∙ sym (s.sums (staircase k) φ (length-staircase k))
 
@@ -126,7 +126,7 @@ are_more (x ∷ front) next p q parts (inl e) = p parts (inl e)
 are_more (x ∷ front) next p q parts (inr m) = are_more front next (λ y n. p y (inr n)) q parts m
 
 pub step_pairing : (k : ℕ) (front : List (List ℕ)) (next : List ℕ) (φ : List ℕ → ℤ) → ArePartitions front → IsPartition next
-    → pair (classical_product k (front ++ (next ∷ []))) (at_shape k φ) ≡ pair (classical_product k front) (at_shape k (added k next φ))
+    → pair (classical_product k (front ++ (next ∷ []))) (at_sum k φ) ≡ pair (classical_product k front) (at_sum k (added k next φ))
 step_pairing k front next φ p q =
     classical_pairing k (front ++ (next ∷ [])) φ (are_more front next p q)
     ∙ pair_determined (times (alternant (staircase k)) (schur_product (front ++ (next ∷ [])) k)) (times (alternant (staircase k)) (times (schur_product front k) (schur next k))) φ
@@ -135,7 +135,7 @@ step_pairing k front next φ p q =
     ∙ sym (classical_pairing k front (added k next φ) p)
 
 pub two_pairing : (k : ℕ) (parts next : List ℕ) (φ : List ℕ → ℤ) → IsShape k parts → IsPartition next
-    → pair (classical_product k (parts ∷ next ∷ [])) (at_shape k φ) ≡ at_shape k (added k next φ) parts
+    → pair (classical_product k (parts ∷ next ∷ [])) (at_sum k φ) ≡ at_sum k (added k next φ) parts
 two_pairing k parts next φ p q =
     classical_pairing k (parts ∷ next ∷ []) φ are_two
     ∙ moved_out k (schur parts k) next φ
@@ -155,7 +155,7 @@ join-beta k parts p =
     ∙ ap (λ m. join (from_beta (beta k parts)) (staircase m)) (sym (length-beta k parts))
     ∙ b
 
-pub at_shape-value : (k : ℕ) (χ : List ℕ → ℤ) (parts : List ℕ) → IsShape k parts → at_shape k (on_strict χ) parts ≡ χ parts
+pub at_shape-value : (k : ℕ) (χ : List ℕ → ℤ) (parts : List ℕ) → IsShape k parts → at_sum k (on_strict χ) parts ≡ χ parts
 at_shape-value k χ parts p =
     ap (λ b. pair (alternant b) (on_strict χ)) (join-beta k parts p)
     ∙ pair-value (beta k parts) χ (beta_strict k parts p.partition.falls)
@@ -168,15 +168,15 @@ pair_shapes k factors χ ψ e =
     (λ t m. let c = classical_product-term k factors t m in ap (λ z. t.1 *ℤ z) (e t.0 (record { partition = c.partition; few = c.few })))
 
 pub two_value : (k : ℕ) (parts next : List ℕ) (χ : List ℕ → ℤ) → IsShape k parts → IsPartition next
-    → pair (classical_product k (parts ∷ next ∷ [])) χ ≡ at_shape k (added k next (on_strict χ)) parts
+    → pair (classical_product k (parts ∷ next ∷ [])) χ ≡ at_sum k (added k next (on_strict χ)) parts
 two_value k parts next χ p q =
-    pair_shapes k (parts ∷ next ∷ []) χ (at_shape k (on_strict χ)) (λ x s. sym (at_shape-value k χ x s))
+    pair_shapes k (parts ∷ next ∷ []) χ (at_sum k (on_strict χ)) (λ x s. sym (at_shape-value k χ x s))
     ∙ two_pairing k parts next (on_strict χ) p q
 
 pub step_value : (k : ℕ) (front : List (List ℕ)) (next : List ℕ) (χ : List ℕ → ℤ) → ArePartitions front → IsPartition next
-    → pair (classical_product k (front ++ (next ∷ []))) χ ≡ pair (classical_product k front) (at_shape k (added k next (on_strict χ)))
+    → pair (classical_product k (front ++ (next ∷ []))) χ ≡ pair (classical_product k front) (at_sum k (added k next (on_strict χ)))
 step_value k front next χ p q =
-    pair_shapes k (front ++ (next ∷ [])) χ (at_shape k (on_strict χ)) (λ x s. sym (at_shape-value k χ x s))
+    pair_shapes k (front ++ (next ∷ [])) χ (at_sum k (on_strict χ)) (λ x s. sym (at_shape-value k χ x s))
     ∙ step_pairing k front next (on_strict χ) p q
 
 pub classical_step : (k : ℕ) (front : List (List ℕ)) (next : List ℕ) → ArePartitions front → IsPartition next
@@ -184,7 +184,7 @@ pub classical_step : (k : ℕ) (front : List (List ℕ)) (next : List ℕ) → A
 classical_step k front next p q =
     same_from_pair (classical_product k (front ++ (next ∷ []))) (multiplied k next (classical_product k front)) (λ χ.
     step_value k front next χ p q
-    ∙ pair_shapes k front (at_shape k (added k next (on_strict χ))) (λ parts. pair (classical_product k (parts ∷ next ∷ [])) χ) (λ x s. sym (two_value k x next χ s q))
+    ∙ pair_shapes k front (at_sum k (added k next (on_strict χ))) (λ parts. pair (classical_product k (parts ∷ next ∷ [])) χ) (λ x s. sym (two_value k x next χ s q))
     ∙ total_ext (λ (t : Term). t.1 *ℤ pair (classical_product k (t.0 ∷ next ∷ [])) χ) (λ (t : Term). pair (scale t.1 (classical_product k (t.0 ∷ next ∷ []))) χ)
     (λ t. sym (pair_scale t.1 (classical_product k (t.0 ∷ next ∷ [])) χ)) (classical_product k front)
     ∙ sym (pair_each (λ (t : Term). scale t.1 (classical_product k (t.0 ∷ next ∷ []))) (classical_product k front) χ))

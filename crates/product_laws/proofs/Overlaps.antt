@@ -1,8 +1,8 @@
 -- Exponents that do not add a strip cancel: in pairs, or as alternants with two equal exponents.
-use Rattle.std.proofs.Common.{◌≡◌, ◌⊎◌, ℕ, zero, suc, ◌+◌, ◌-◌, ◌<◌, ◌≤◌, Bool, true, false, ◌&&◌, ◌||◌, not, cond, nat_le, List, [], ◌∷◌, ◌++◌, map, length, drop, refl, sym, ◌∙◌, ap, ap₂, subst, inl, inr, arith, ℤ, pos, ◌+ℤ◌, neg_ℤ}
+use Rattle.std.proofs.Common.{◌≡◌, ◌⊎◌, ℕ, zero, suc, ◌+◌, ◌-◌, ◌<◌, ◌≤◌, Bool, true, false, ◌&&◌, ◌||◌, not, cond, nat_le, List, [], ◌∷◌, ◌++◌, map, length, drop, refl, sym, ◌∙◌, ap, ap₂, subst, inl, inr, arith, ℤ, pos, ◌+ℤ◌, neg_ℤ, filter}
 use Rattle.std.proofs.lemmas.Int.{ints}
 use Rattle.std.proofs.lemmas.Bool.{cases_lt, and_parts, le-leb, leb-true, lt-leb, or_right}
-use Rattle.sym_model.specs.Sum.{total, select, Among}
+use Rattle.sym_model.specs.Sum.{total, Among}
 use Rattle.sym_model.specs.Partition.{Falls, size}
 use Rattle.sym_model.specs.Polynomial.{join, pair, negate}
 use Rattle.sym_model.specs.Bases.{down_from, exponent_lists, at_most_one, has}
@@ -56,9 +56,9 @@ not_above a b y t h = ap (λ (s : Bool). not (s && t)) (lt-leb (b + y) a h)
 
 -- ---- sums over all exponents and over those that keep below
 
-narrowed : {A : Type 0} (f : A → ℤ) (wide narrow : A → Bool) (xs : List A) → ((x : A) → Among x xs → narrow x ≡ true → wide x ≡ true) → total f (select narrow (select wide xs)) ≡ total f (select narrow xs)
+narrowed : {A : Type 0} (f : A → ℤ) (wide narrow : A → Bool) (xs : List A) → ((x : A) → Among x xs → narrow x ≡ true → wide x ≡ true) → total f (filter narrow (filter wide xs)) ≡ total f (filter narrow xs)
 narrowed {A} f wide narrow xs h =
-    total_select f narrow (select wide xs)
+    total_select f narrow (filter wide xs)
     ∙ total_select (λ (x : A). cond (narrow x) (f x) (pos 0)) wide xs
     ∙ total_among (λ (x : A). cond (wide x) (cond (narrow x) (f x) (pos 0)) (pos 0)) (λ (x : A). cond (narrow x) (f x) (pos 0)) xs (λ x m. by (wide x) (narrow x) (f x) (h x m))
     ∙ sym (total_select f narrow xs)
@@ -80,9 +80,9 @@ record IsOver (a b : ℕ) (m : List ℕ) (n d : ℕ) (α : List ℕ) : Type 0 wh
 
 over_step : (a b : ℕ) (m : List ℕ) (n d : ℕ) (U : List ℕ → ℤ) → b ≤ a → Turns U
     → total (λ (α : List ℕ). U (join ((a + suc n) ∷ (b + n) ∷ join m (staircase n)) α))
-    (select (λ (α : List ℕ). not (keeps_below (a ∷ b ∷ m) α)) (select (λ (α : List ℕ). keeps_below (b ∷ m) (drop 1 α)) (exponent_lists (suc (suc n)) d))) ≡ pos 0
+    (filter (λ (α : List ℕ). not (keeps_below (a ∷ b ∷ m) α)) (filter (λ (α : List ℕ). keeps_below (b ∷ m) (drop 1 α)) (exponent_lists (suc (suc n)) d))) ≡ pos 0
 over_step a b m n d U h turns =
-    total_cancel F (changed a b) xs (Once-select (λ (α : List ℕ). not (keeps_below (a ∷ b ∷ m) α)) (select wide lists) (Once-select wide lists (once_exponent_lists (suc (suc n)) d)))
+    total_cancel F (changed a b) xs (Once-select (λ (α : List ℕ). not (keeps_below (a ∷ b ∷ m) α)) (filter wide lists) (Once-select wide lists (once_exponent_lists (suc (suc n)) d)))
     (λ α i. into α (over α i)) (λ α i. twice α (over α i)) (λ α i. turned α (over α i))
   where
     lists : List (List ℕ)
@@ -92,7 +92,7 @@ over_step a b m n d U h turns =
     wide α = keeps_below (b ∷ m) (drop 1 α)
 
     xs : List (List ℕ)
-    xs = select (λ (α : List ℕ). not (keeps_below (a ∷ b ∷ m) α)) (select wide lists)
+    xs = filter (λ (α : List ℕ). not (keeps_below (a ∷ b ∷ m) α)) (filter wide lists)
 
     F : List ℕ → ℤ
     F α = U (join ((a + suc n) ∷ (b + n) ∷ join m (staircase n)) α)
@@ -104,7 +104,7 @@ over_step a b m n d U h turns =
 
     over : (α : List ℕ) → Among α xs → IsOver a b m n d α
     over α i =
-        let p = Among_from_select (λ (α : List ℕ). not (keeps_below (a ∷ b ∷ m) α)) α (select wide lists) i in
+        let p = Among_from_select (λ (α : List ℕ). not (keeps_below (a ∷ b ∷ m) α)) α (filter wide lists) i in
         let q = Among_from_select wide α lists p.0 in
         let r = members_of-exponent_lists α (suc (suc n)) d q.0 in
         shape α r.0 r.1 q.1 p.1
@@ -115,7 +115,7 @@ over_step a b m n d U h turns =
         found : (x y : ℕ) (α : List ℕ) → length α ≡ n → x + (y + size α) ≡ d → keeps_below (b ∷ m) (y ∷ α) ≡ true → a < b + y → Among (changed a b (x ∷ y ∷ α)) xs
         found x y α l s k o =
             let e : (b + y - (a + 1)) + ((a + 1 + x - b) + size α) ≡ d = omega arith in
-            Among-select (λ (α : List ℕ). not (keeps_below (a ∷ b ∷ m) α)) (changed a b (x ∷ y ∷ α)) (select wide lists)
+            Among-select (λ (α : List ℕ). not (keeps_below (a ∷ b ∷ m) α)) (changed a b (x ∷ y ∷ α)) (filter wide lists)
             (Among-select wide (changed a b (x ∷ y ∷ α)) lists (among_exponent_lists (changed a b (x ∷ y ∷ α)) (suc (suc n)) d (omega arith) e)
             (first_free b m (a + 1 + x - b) y α ∙ k))
             (not_above a b (a + 1 + x - b) (keeps_below (b ∷ m) ((a + 1 + x - b) ∷ α)) (omega arith))
@@ -141,16 +141,16 @@ over_step a b m n d U h turns =
 
 pub strips_remain : (n : ℕ) (m : List ℕ) (U : List ℕ → ℤ) → length m ≡ n → Falls m → Turns U → (d : ℕ)
     → total (λ (α : List ℕ). U (join (join m (staircase n)) α)) (exponent_lists n d)
-    ≡ total (λ (α : List ℕ). U (join (join m (staircase n)) α)) (select (keeps_below m) (exponent_lists n d))
+    ≡ total (λ (α : List ℕ). U (join (join m (staircase n)) α)) (filter (keeps_below m) (exponent_lists n d))
 strips_remain n [] U l f t d = sym (total_select (λ (α : List ℕ). U (join (join [] (staircase n)) α)) (keeps_below []) (exponent_lists n d))
 strips_remain n (a ∷ []) U l f t d = sym (total_select (λ (α : List ℕ). U (join (join (a ∷ []) (staircase n)) α)) (keeps_below (a ∷ [])) (exponent_lists n d))
 strips_remain zero (a ∷ b ∷ m) U l f t d = absurd (omega arith)
 strips_remain (suc zero) (a ∷ b ∷ m) U l f t d = absurd (omega arith)
 strips_remain (suc (suc n)) (a ∷ b ∷ m) U l f t d =
     first (λ c. strips_remain (suc n) (b ∷ m) (λ β. U ((a + suc n + c) ∷ β)) (omega arith) f.1 (λ left. t ((a + suc n + c) ∷ left)) (d - c))
-    ∙ total_split F narrow (select wide lists)
+    ∙ total_split F narrow (filter wide lists)
     ∙ ap₂ ◌+ℤ◌ (narrowed F wide narrow lists (λ α i. implied α)) (over_step a b m n d U f.0 t)
-    ∙ alone (total F (select narrow lists))
+    ∙ alone (total F (filter narrow lists))
   where
     lists : List (List ℕ)
     lists = exponent_lists (suc (suc n)) d
@@ -186,8 +186,8 @@ strips_remain (suc (suc n)) (a ∷ b ∷ m) U l f t d =
     kept : List ℕ → ℤ
     kept α = cond (wide α) (F α) (pos 0)
 
-    first : ((c : ℕ) → total (λ (α : List ℕ). F (c ∷ α)) (exponent_lists (suc n) (d - c)) ≡ total (λ (α : List ℕ). F (c ∷ α)) (select (keeps_below (b ∷ m)) (exponent_lists (suc n) (d - c))))
-        → total F lists ≡ total F (select wide lists)
+    first : ((c : ℕ) → total (λ (α : List ℕ). F (c ∷ α)) (exponent_lists (suc n) (d - c)) ≡ total (λ (α : List ℕ). F (c ∷ α)) (filter (keeps_below (b ∷ m)) (exponent_lists (suc n) (d - c))))
+        → total F lists ≡ total F (filter wide lists)
     first r =
         total_each F rows_of (down_from d)
         ∙ total_ext (λ (c : ℕ). total F (rows_of c)) (λ (c : ℕ). total kept (rows_of c)) (λ c.

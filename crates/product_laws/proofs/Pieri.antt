@@ -1,8 +1,8 @@
 -- Pieri's rules, by alternants: h_k and e_k are sums of monomials, and what is no strip cancels.
-use Rattle.std.proofs.Common.{◌≡◌, ℕ, ◌+◌, ◌≤◌, Bool, true, false, ◌&&◌, cond, eqb, nat_le, List, [], ◌∷◌, ◌++◌, length, refl, sym, ◌∙◌, ap, ap₂, arith, ℤ, pos, ◌*ℤ◌}
+use Rattle.std.proofs.Common.{◌≡◌, ℕ, ◌+◌, ◌≤◌, Bool, true, false, ◌&&◌, cond, eqb, nat_le, List, [], ◌∷◌, ◌++◌, length, refl, sym, ◌∙◌, ap, ap₂, arith, ℤ, pos, ◌*ℤ◌, filter, flat_map}
 use Rattle.std.proofs.lemmas.Int.{ints}
 use Rattle.std.proofs.lemmas.Bool.{leb-true}
-use Rattle.sym_model.specs.Sum.{total, each, select}
+use Rattle.sym_model.specs.Sum.{total}
 use Rattle.sym_model.specs.Partition.{Falls, IsPartition, Holds, rows, size, without_last_zeros}
 use Rattle.sym_model.specs.Polynomial.{Same, join, resize, pair, times}
 use Rattle.sym_model.specs.Symmetric.{Symmetric}
@@ -60,13 +60,13 @@ pub strips_total : (n k : ℕ) (parts : List ℕ) → IsPartition parts → rows
     → ((ν : List ℕ) → S ν → Holds ν parts)
     → (list : List (List ℕ)) → ListsEach (λ ν. IsPartition ν × (size ν ≡ size parts + k) × S ν) list
     → (φ : List ℕ → ℤ)
-    → total (λ (α : List ℕ). pair (alternant (join (join (resize n parts) (staircase n)) α)) φ) (select test (exponent_lists n k))
-    ≡ total (λ (ν : List ℕ). pos 1 *ℤ pair (alternant (join ν (staircase n))) φ) (select (λ (ν : List ℕ). nat_le (rows ν) n) list)
+    → total (λ (α : List ℕ). pair (alternant (join (join (resize n parts) (staircase n)) α)) φ) (filter test (exponent_lists n k))
+    ≡ total (λ (ν : List ℕ). pos 1 *ℤ pair (alternant (join ν (staircase n))) φ) (filter (λ (ν : List ℕ). nat_le (rows ν) n) list)
 strips_total n k parts p few test S sound complete held list l φ =
     total_ext (λ (α : List ℕ). pair (alternant (join (join (resize n parts) (staircase n)) α)) φ) (λ (α : List ℕ). pair (alternant (join (join (resize n parts) α) (staircase n))) φ)
-    (λ α. ap (λ β. pair (alternant β) φ) (turned_sum n (resize n parts) α)) (select test (exponent_lists n k))
+    (λ α. ap (λ β. pair (alternant β) φ) (turned_sum n (resize n parts) α)) (filter test (exponent_lists n k))
     ∙ shapes_total n k parts p few test S sound complete held list l (λ γ. pair (alternant (join γ (staircase n))) φ)
-    ∙ total_among (λ (ν : List ℕ). pair (alternant (join (resize n ν) (staircase n))) φ) (λ (ν : List ℕ). pos 1 *ℤ pair (alternant (join ν (staircase n))) φ) (select (λ (ν : List ℕ). nat_le (rows ν) n) list)
+    ∙ total_among (λ (ν : List ℕ). pair (alternant (join (resize n ν) (staircase n))) φ) (λ (ν : List ℕ). pos 1 *ℤ pair (alternant (join ν (staircase n))) φ) (filter (λ (ν : List ℕ). nat_le (rows ν) n) list)
     (λ ν i.
     ap (λ β. pair (alternant β) φ) (join_padded n ν (leb-true (rows ν) n (Among_from_select (λ (ν : List ℕ). nat_le (rows ν) n) ν list i).1))
     ∙ once_times (pair (alternant (join ν (staircase n))) φ))
@@ -76,12 +76,12 @@ falls-padded n parts f = falls_from_test (resize n parts) (falling-resize n part
 
 pub horizontal : (n k : ℕ) (parts : List ℕ) (list : List (List ℕ)) → IsPartition parts
     → ListsEach (AddsHorizontalStrip k parts) list
-    → Same (times (complete_of k n) (schur parts n)) (each (λ ν. schur ν n) list)
+    → Same (times (complete_of k n) (schur parts n)) (flat_map (λ ν. schur ν n) list)
 horizontal n k parts list p l =
     strip_product n parts (complete_of k n) (λ ν. schur ν n) (λ ν. pos 1) list p (In-monomials (λ α. true) n k) (symmetric-monomials (λ α. true) n k (λ left a b right. refl))
     (λ ν. In-schur ν n) (λ ν φ. once_times (pair (schur ν n) φ)) (λ ν i. let q = (l.members ν).0 i in (q.0, q.2.holds))
     (λ few φ.
-    pair_monomials (select (λ (α : List ℕ). true) (exponent_lists n k)) (λ α. pair (alternant (join (join parts (staircase n)) α)) φ)
+    pair_monomials (filter (λ (α : List ℕ). true) (exponent_lists n k)) (λ α. pair (alternant (join (join parts (staircase n)) α)) φ)
     ∙ total_select (λ (α : List ℕ). pair (alternant (join (join parts (staircase n)) α)) φ) (λ (α : List ℕ). true) (exponent_lists n k)
     ∙ total_ext (λ (α : List ℕ). pair (alternant (join (join parts (staircase n)) α)) φ) (λ (α : List ℕ). pair (alternant (join (join (resize n parts) (staircase n)) α)) φ)
     (λ α. ap (λ β. pair (alternant (join β α)) φ) (sym (join_padded n parts few))) (exponent_lists n k)
@@ -91,14 +91,14 @@ horizontal n k parts list p l =
 
 pub vertical : (n k : ℕ) (parts : List ℕ) (list : List (List ℕ)) → IsPartition parts
     → ListsEach (AddsVerticalStrip k parts) list
-    → Same (times (elementary_of k n) (schur parts n)) (each (λ ν. schur ν n) list)
+    → Same (times (elementary_of k n) (schur parts n)) (flat_map (λ ν. schur ν n) list)
 vertical n k parts list p l =
     strip_product n parts (elementary_of k n) (λ ν. schur ν n) (λ ν. pos 1) list p (In-monomials at_most_one n k) (symmetric-monomials at_most_one n k ones-exchange)
     (λ ν. In-schur ν n) (λ ν φ. once_times (pair (schur ν n) φ)) (λ ν i. let q = (l.members ν).0 i in (q.0, q.2.holds))
     (λ few φ.
-    pair_monomials (select at_most_one (exponent_lists n k)) (λ α. pair (alternant (join (join parts (staircase n)) α)) φ)
+    pair_monomials (filter at_most_one (exponent_lists n k)) (λ α. pair (alternant (join (join parts (staircase n)) α)) φ)
     ∙ total_ext (λ (α : List ℕ). pair (alternant (join (join parts (staircase n)) α)) φ) (λ (α : List ℕ). pair (alternant (join (join (resize n parts) (staircase n)) α)) φ)
-    (λ α. ap (λ β. pair (alternant (join β α)) φ) (sym (join_padded n parts few))) (select at_most_one (exponent_lists n k))
+    (λ α. ap (λ β. pair (alternant (join β α)) φ) (sym (join_padded n parts few))) (filter at_most_one (exponent_lists n k))
     ∙ columns_remain φ
     ∙ strips_total n k parts p few (adds_column (resize n parts)) (λ ν. IsVerticalStrip ν parts)
     (λ α e t. vertical_sound n parts α few e t) (λ α e f s. vertical_complete n parts α few e f s) (λ ν s. s.holds) list l φ)
@@ -106,8 +106,8 @@ vertical n k parts list p l =
     m : List ℕ
     m = resize n parts
 
-    columns_remain : (φ : List ℕ → ℤ) → total (λ (α : List ℕ). pair (alternant (join (join m (staircase n)) α)) φ) (select at_most_one (exponent_lists n k))
-        ≡ total (λ (α : List ℕ). pair (alternant (join (join m (staircase n)) α)) φ) (select (adds_column m) (exponent_lists n k))
+    columns_remain : (φ : List ℕ → ℤ) → total (λ (α : List ℕ). pair (alternant (join (join m (staircase n)) α)) φ) (filter at_most_one (exponent_lists n k))
+        ≡ total (λ (α : List ℕ). pair (alternant (join (join m (staircase n)) α)) φ) (filter (adds_column m) (exponent_lists n k))
     columns_remain φ =
         total_select F at_most_one (exponent_lists n k)
         ∙ total_among (λ (α : List ℕ). cond (at_most_one α) (F α) (pos 0)) (λ (α : List ℕ). cond (adds_column m α) (F α) (pos 0)) (exponent_lists n k)

@@ -10,7 +10,7 @@ use Rattle.std.proofs.lemmas.List.{length-map}
 use Rattle.std.proofs.Math.Nat.{mod-le, mod-lt, mod-mod, mul-le-mul_left}
 use Rattle.std.proofs.Math.IntN.{*ℤ-zero, +ℤ_idl}
 use Rattle.sym_model.specs.Sum.{total}
-use Rattle.sym_model.specs.Partition.{Falls, IsPartition, columns, size}
+use Rattle.sym_model.specs.Partition.{Falls, IsPartition, columns, size, ArePartitions}
 use Rattle.sym_model.specs.Polynomial.{Term, Same, same, join, coefficient, pair, negate}
 use Rattle.sym_model.specs.Bases.{has}
 use Rattle.sym_model.specs.Schur.{schur}
@@ -26,7 +26,6 @@ use Rattle.beta_list_laws.specs.StrictFall.{FallsStrictly}
 use Rattle.beta_list_laws.proofs.NeighbourExchanges.{KeptByExchanges, sort_reach, sort_back, sorted_falls, sorted-exchange, size-exchange, length-exchange, equal-exchange, equal-sorted, size-sorted, length-sorted, sorting_sign-exchange}
 use Rattle.beta_list_laws.proofs.SortedLists.{sorted_strict}
 use Rattle.beta_list_laws.proofs.BetaLists.{length-beta, beta-from_beta, rest_within, part-from_beta, size-from_beta, size-beta}
-use Rattle.alternant_laws.proofs.Staircase.{AreBelow}
 use Rattle.alternant_laws.proofs.Alternants.{alternant_exchange, opposite_is_zero}
 use Rattle.alternant_laws.proofs.SortedAlternants.{alternant-equal, alternant-sorted}
 use Rattle.beta_list_laws.specs.AlcoveEnd.{remainders}
@@ -40,10 +39,13 @@ use Rattle.sym_model.specs.WholeTerms.{WholeTerms, WholeTermsOf, coefficient_by,
 use Rattle.sym_model.specs.Target.{Reduction, classical_product, reduced_terms}
 use Rattle.beta_list_laws.specs.ReductionLists.{reductions_of}
 use Rattle.beta_list_laws.proofs.BetaLowerings.{map_append}
-use Rattle.product_laws.specs.FactorSteps.{ArePartitions, reduced_product, raised, quantized}
-use Rattle.product_laws.proofs.Straightened.{IsShape, at_shape, on_strict, pair-value, at_strict, shape_of_strict}
+use Rattle.product_laws.specs.FactorSteps.{reduced_product, quantized}
+use Rattle.product_laws.proofs.Straightened.{IsShape, on_strict, pair-value, at_strict, shape_of_strict}
 use Rattle.product_laws.proofs.ManyFactors.{sums-schur, added, join-beta, pair_shapes, two_value, step_value}
-use Rattle.product_laws.proofs.Fusion.{repeated, remainders-join, exchanged_remainders, exchanged_size, exchanged_length}
+use Rattle.product_laws.proofs.Fusion.{repeated, remainders-join, exchanged_remainders, exchanged_size, exchanged_length, value, value-negated}
+use Rattle.sym_model.specs.Bounded.{AreBelow}
+use Rattle.alternant_laws.proofs.FailingColumns.{at_sum}
+use Rattle.sym_model.specs.ReductionSteps.{with_power}
 
 -- ---- lists with no two entries of one remainder
 
@@ -154,15 +156,6 @@ repeated_end k n parts h p e =
     (sorted_falls (lowest n b)) (sort_reach (HasAtLeast n) (lowest n b) (high_kept n) (high_lowest n b h e)))
 
 -- ---- the value at a label
-
-abbrev value : Bool → Bool → Bool → ℤ → ℤ
-value equal sum there sign = cond equal (pos 0) (cond sum (cond there sign (pos 0)) (pos 0))
-
-value-negated : (equal sum there : Bool) (sign : ℤ) → value equal sum there (neg_ℤ sign) ≡ neg_ℤ (value equal sum there sign)
-value-negated true sum there sign = refl
-value-negated false true true sign = refl
-value-negated false true false sign = refl
-value-negated false false there sign = refl
 
 -- the sign of sorting u, where it sorts to the beta list of the label and a list of the sum s is higher by so many n; else 0
 abbrev sorted_value : ℕ → ℕ → ℕ → List ℕ → List ℕ → ℕ → ℤ
@@ -459,7 +452,7 @@ powers_determined f xs ys e =
     alike_coded (p ∷ label) = one_label p label xs ∙ e (p, label) ∙ sym (one_label p label ys)
 
 coefficient-raised : (q : ℕ) (c : ℤ) (terms : WholeTermsOf (ℕ × List ℕ)) (power : ℕ) (label : List ℕ)
-    → coefficient_by same_power (raised q c terms) (power, label) ≡ c *ℤ within power q (λ p. coefficient_by same_power terms (p, label))
+    → coefficient_by same_power (with_power q c terms) (power, label) ≡ c *ℤ within power q (λ p. coefficient_by same_power terms (p, label))
 coefficient-raised q c terms power label =
     total_map (λ (t : (ℕ × List ℕ) × ℤ). cond (same_power t.0 (power, label)) t.1 (pos 0)) (λ (t : (ℕ × List ℕ) × ℤ). ((q + t.0.0, t.0.1), c *ℤ t.1)) terms
     ∙ by (nat_le q power) refl
@@ -503,13 +496,13 @@ pub quantum_step : (k n : ℕ) (front : List (List ℕ)) (next : List ℕ) (term
     → ((label : ℕ × List ℕ) → coefficient_by same_power terms label ≡ coefficient_by same_power (reduced_product k n front) label)
     → (label : ℕ × List ℕ) → coefficient_by same_power (quantized k n next terms) label ≡ coefficient_by same_power (reduced_product k n (front ++ (next ∷ []))) label
 quantum_step k n front next terms h p q is (power, label) =
-    total_each (λ (t : (ℕ × List ℕ) × ℤ). cond (same_power t.0 (power, label)) t.1 (pos 0)) (λ (t : (ℕ × List ℕ) × ℤ). raised t.0.0 t.1 (reduced_product k n (t.0.1 ∷ next ∷ []))) terms
-    ∙ total_ext (λ (t : (ℕ × List ℕ) × ℤ). coefficient_by same_power (raised t.0.0 t.1 (reduced_product k n (t.0.1 ∷ next ∷ []))) (power, label)) (λ (t : (ℕ × List ℕ) × ℤ). t.1 *ℤ within power t.0.0 (λ m. two_reduced k n next label m t.0.1))
+    total_each (λ (t : (ℕ × List ℕ) × ℤ). cond (same_power t.0 (power, label)) t.1 (pos 0)) (λ (t : (ℕ × List ℕ) × ℤ). with_power t.0.0 t.1 (reduced_product k n (t.0.1 ∷ next ∷ []))) terms
+    ∙ total_ext (λ (t : (ℕ × List ℕ) × ℤ). coefficient_by same_power (with_power t.0.0 t.1 (reduced_product k n (t.0.1 ∷ next ∷ []))) (power, label)) (λ (t : (ℕ × List ℕ) × ℤ). t.1 *ℤ within power t.0.0 (λ m. two_reduced k n next label m t.0.1))
     (λ t. coefficient-raised t.0.0 t.1 (reduced_product k n (t.0.1 ∷ next ∷ [])) power label
     ∙ ap (λ z. t.1 *ℤ cond (nat_le t.0.0 power) z (pos 0)) (reduced_sum k n (classical_product k (t.0.1 ∷ next ∷ [])) (power - t.0.0, label))) terms
     ∙ powers_determined (λ m parts. within power m (λ left. two_reduced k n next label left parts)) terms (reduced_product k n front) is
     ∙ reduced_pairing k n power (two_reduced k n next label) (classical_product k front)
-    ∙ pair_shapes k front (λ parts. at_power power (two_reduced k n next label) (reduction_by_remainders k n parts)) (at_shape k (added k next (on_strict (reduced_share k n (power, label)))))
+    ∙ pair_shapes k front (λ parts. at_power power (two_reduced k n next label) (reduction_by_remainders k n parts)) (at_sum k (added k next (on_strict (reduced_share k n (power, label)))))
     (λ parts s. lowered_early k n next power label parts h q s
     ∙ sym (ap (λ b. pair (alternant b) (added k next (on_strict (reduced_share k n (power, label))))) (join-beta k parts s)))
     ∙ sym (step_value k front next (reduced_share k n (power, label)) p q)

@@ -6,23 +6,21 @@
 use Rattle.std.proofs.Common.{◌≡◌, ℕ, ◌+◌, ◌≤◌, true, List, [], ◌∷◌, ◌++◌, map, length, refl, sym, ◌∙◌, ap, ap₂, subst, inl, arith, append-nil, append_assoc, ℤ, pos}
 use Rattle.std.proofs.lemmas.Bool.{and_parts, and_from, eq-eqb, eqb-true}
 use Rattle.sym_model.specs.Expansion.{Terms}
-use Rattle.sym_model.specs.WholeTerms.{WholeTermsOf, coefficient_by, same_power, numerators}
+use Rattle.sym_model.specs.WholeTerms.{coefficient_by, same_power, numerators}
 use Rattle.sym_model.specs.Target.{Reduction, IsRimHookReduction, classical_product, reduced_terms}
-use Rattle.sym_model.specs.ReductionSteps.{AreCollected, ReduceEach, reduced_each, IsQuantumStep, StepsLead, IsReducedInSteps}
+use Rattle.sym_model.specs.ReductionSteps.{AreCollected, ReduceEach, reduced_each, IsQuantumStep, StepsLead, IsReducedInSteps, with_power}
 use Rattle.sym_model.proofs.Ring.{one-product}
 use Rattle.sym_model.proofs.Sums.{Among-append_right}
 use Rattle.sym_model.proofs.Exponents.{same_refl, same_true}
 use Rattle.beta_list_laws.specs.ReductionLists.{reductions_of}
 use Rattle.beta_list_laws.proofs.ReducedSums.{are_reductions}
-use Rattle.product_laws.specs.FactorSteps.{ArePartitions, raised, reduced_product, quantized}
+use Rattle.product_laws.specs.FactorSteps.{reduced_product, quantized, PowerTerms}
 use Rattle.product_laws.proofs.Quantum.{quantum_step}
 use Rattle.product_laws.proofs.RimHookSteps.{classical_labels, classical_only}
 use Rattle.product_laws.proofs.FusionSteps.{are_front}
 use Rattle.product_laws.proofs.GatheredLists.{gathered, coefficient-gathered, collected-gathered}
 use Rattle.product_laws.proofs.LeadingSteps.{last_changed, last_is, some_lead}
-
-abbrev PowerTerms : Type 0
-PowerTerms = WholeTermsOf (ℕ × List ℕ)
+use Rattle.sym_model.specs.Partition.{ArePartitions}
 
 -- ---- labels
 
@@ -48,7 +46,7 @@ reduce_each k n factor (t ∷ terms) h =
 reduced_each-quantized : (k n : ℕ) (factor : List ℕ) (terms : PowerTerms) → reduced_each k factor terms (reductions_each k n factor terms) ≡ quantized k n factor terms
 reduced_each-quantized k n factor [] = refl
 reduced_each-quantized k n factor (t ∷ terms) =
-    ap (λ (l : PowerTerms). raised t.0.0 t.1 (reduced_product k n (t.0.1 ∷ factor ∷ [])) ++ l) (reduced_each-quantized k n factor terms)
+    ap (λ (l : PowerTerms). with_power t.0.0 t.1 (reduced_product k n (t.0.1 ∷ factor ∷ [])) ++ l) (reduced_each-quantized k n factor terms)
 
 each_only : (k n : ℕ) (factor : List ℕ) (terms : PowerTerms) (reductions : List (List Reduction)) → 1 ≤ n → ReduceEach k n factor terms reductions
     → reductions ≡ reductions_each k n factor terms
@@ -98,7 +96,7 @@ later_steps k n front (factor ∷ factors) terms last h p e lead label =
     ∙ ap (λ (l : List (List ℕ)). coefficient_by same_power (reduced_product k n l) label) whole
 
 -- a list that is not raised
-raised_itself : (xs : PowerTerms) → raised 0 (pos 1) xs ≡ xs
+raised_itself : (xs : PowerTerms) → with_power 0 (pos 1) xs ≡ xs
 raised_itself [] = refl
 raised_itself (x ∷ xs) =
     let zero_more : 0 + x.0.0 ≡ x.0.0 = omega arith in
@@ -107,7 +105,7 @@ raised_itself (x ∷ xs) =
 
 first_step : (k n : ℕ) (first second : List ℕ) → quantized k n second (((0, first), pos 1) ∷ []) ≡ reduced_product k n (first ∷ second ∷ [])
 first_step k n first second =
-    append-nil (raised 0 (pos 1) (reduced_product k n (first ∷ second ∷ []))) ∙ raised_itself (reduced_product k n (first ∷ second ∷ []))
+    append-nil (with_power 0 (pos 1) (reduced_product k n (first ∷ second ∷ []))) ∙ raised_itself (reduced_product k n (first ∷ second ∷ []))
 
 pub steps_whole : (k n : ℕ) (factors : List (List ℕ)) (terms : PowerTerms) → 1 ≤ n → 2 ≤ length factors → ArePartitions factors → IsReducedInSteps k n factors terms
     → (label : ℕ × List ℕ) → coefficient_by same_power terms label ≡ coefficient_by same_power (reduced_product k n factors) label

@@ -1,6 +1,6 @@
 -- One entry of a strictly falling list raised: where the raised list has no equal entries, the entry passes some others and
 -- the list is the beta list of a greater partition.
-use Rattle.std.proofs.Common.{◌≡◌, ◌⊎◌, ℕ, zero, suc, ◌+◌, ◌<◌, ◌≤◌, Bool, true, false, ◌||◌, ◌==◌, List, [], ◌∷◌, ◌++◌, map, length, replicate, drop, get_or, refl, sym, ◌∙◌, ap, ap₂, subst, inl, inr, arith, ℤ, pos, neg_ℤ, ◌*ℤ◌, append_assoc}
+use Rattle.std.proofs.Common.{◌≡◌, ◌⊎◌, ℕ, zero, suc, ◌+◌, ◌<◌, ◌≤◌, true, false, ◌==◌, List, [], ◌∷◌, ◌++◌, map, length, replicate, drop, get_or, refl, sym, ◌∙◌, ap, ap₂, subst, inl, inr, arith, ℤ, pos, neg_ℤ, ◌*ℤ◌, append_assoc}
 use Rattle.std.proofs.lemmas.Int.{ints}
 use Rattle.std.proofs.lemmas.Bool.{cases_lt, cases_eq, both_ways, eq-eqb, or_parts, or_right}
 use Rattle.sym_model.specs.Sum.{Among, Once}
@@ -59,10 +59,6 @@ sign_twice k x = elim (parity_of k) [ inl e ↦ ap (λ s. s *ℤ (s *ℤ x)) e.1
     twice x = omega (arith, ints)
 
 -- ---- entries of strict lists
-
-pub strict_distinct : (b : List ℕ) → FallsStrictly b → has_equal_entries b ≡ false
-strict_distinct [] f = refl
-strict_distinct (a ∷ b) f = ap₂ (λ (s t : Bool). s || t) (not_below a a b f (omega arith)) (strict_distinct b (strict_tail a b f))
 
 strict_without : (front : List ℕ) (x : ℕ) (rest : List ℕ) → FallsStrictly (front ++ (x ∷ rest)) → FallsStrictly (front ++ rest)
 strict_without [] x rest f = strict_tail x rest f

@@ -1,16 +1,12 @@
 -- The relation of rim-hook reduction, one factor after another.
-use Rattle.std.proofs.Common.{◌≡◌, ◌≤◌, ℕ, List, [], ◌∷◌, ◌++◌, refl, ◌∙◌, ap, ap₂, inl, inr, ℤ}
+use Rattle.std.proofs.Common.{◌≡◌, ◌≤◌, ℕ, List, [], ◌∷◌, refl, ap₂, inl, inr, ℤ}
 use Rattle.sym_model.specs.Sum.{Among}
 use Rattle.sym_model.specs.Partition.{IsPartition, rows}
-use Rattle.sym_model.specs.Expansion.{Terms}
-use Rattle.sym_model.specs.WholeTerms.{WholeTerms, coefficient_by, same_power, numerators, EachLabel}
-use Rattle.sym_model.specs.Target.{Reduction, AreReductions, IsRimHookReduction, classical_product, reduced_terms}
+use Rattle.sym_model.specs.WholeTerms.{WholeTerms, EachLabel}
+use Rattle.sym_model.specs.Target.{Reduction, AreReductions, classical_product}
 use Rattle.alternant_laws.proofs.ClassicalProducts.{classical_product-term}
 use Rattle.beta_list_laws.specs.ReductionLists.{reductions_of}
 use Rattle.beta_list_laws.proofs.Ends.{reduces_only}
-use Rattle.beta_list_laws.proofs.ReducedSums.{are_reductions}
-use Rattle.product_laws.specs.FactorSteps.{ArePartitions, quantized}
-use Rattle.product_laws.proofs.Quantum.{quantum_step}
 
 -- reductions of labels are the reductions by remainders
 are_only : (k n : ℕ) (terms : WholeTerms) (reductions : List Reduction) → 1 ≤ n → ((t : List ℕ × ℤ) → Among t terms → IsPartition t.0)
@@ -34,18 +30,3 @@ pub classical_only : (k n : ℕ) (factors : List (List ℕ)) (reductions : List 
     → reductions ≡ reductions_of k n (classical_product k factors)
 classical_only k n factors reductions h =
     are_only k n (classical_product k factors) reductions h (λ t m. (classical_product-term k factors t m).partition)
-
-pub rim_hook_step : (k n : ℕ) (front : List (List ℕ)) (next : List ℕ) (terms after : Terms (ℕ × List ℕ)) → 1 ≤ n → ArePartitions front → IsPartition next
-    → IsRimHookReduction k n (classical_product k front) terms
-    → ((label : ℕ × List ℕ) → coefficient_by same_power (numerators after) label ≡ coefficient_by same_power (quantized k n next (numerators terms)) label)
-    → IsRimHookReduction k n (classical_product k (front ++ (next ∷ []))) after
-rim_hook_step k n front next terms after h p q r e = record {
-  reductions = reductions_of k n (classical_product k (front ++ (next ∷ [])));
-  reduce = are_reductions k n (classical_product k (front ++ (next ∷ []))) h (classical_labels k (front ++ (next ∷ [])));
-  sums = λ label.
-      e label
-      ∙ quantum_step k n front next (numerators terms) h p q (λ l.
-      r.sums l
-      ∙ ap (λ (list : List Reduction). coefficient_by same_power (reduced_terms (classical_product k front) list) l)
-      (classical_only k n front r.reductions h r.reduce)) label;
-}

@@ -1,8 +1,8 @@
 -- The rule of Murnaghan and Nakayama: p_k times an alternant raises one exponent by k; where none are then equal, a rim hook
 -- of k cells is added.
-use Rattle.std.proofs.Common.{◌≡◌, ℕ, ◌+◌, ◌-◌, ◌≤◌, Bool, true, false, not, cond, nat_le, List, ◌∷◌, ◌++◌, map, length, refl, sym, ◌∙◌, ap, ap₂, subst, arith, ℤ, pos, ◌*ℤ◌, append_assoc}
+use Rattle.std.proofs.Common.{◌≡◌, ℕ, ◌+◌, ◌-◌, ◌≤◌, Bool, true, false, not, cond, nat_le, List, ◌∷◌, ◌++◌, map, length, refl, sym, ◌∙◌, ap, ap₂, subst, arith, ℤ, pos, ◌*ℤ◌, append_assoc, filter, flat_map}
 use Rattle.std.proofs.lemmas.Bool.{leb-true, le-leb, not-true}
-use Rattle.sym_model.specs.Sum.{total, each, select, Among, Within}
+use Rattle.sym_model.specs.Sum.{total, Among, Within}
 use Rattle.sym_model.specs.Partition.{IsPartition, rows}
 use Rattle.sym_model.specs.Polynomial.{Same, join, pair, times, scale}
 use Rattle.sym_model.specs.Strip.{height}
@@ -18,7 +18,7 @@ use Rattle.sym_model.proofs.Monomials.{one_place, pair-power_sum_of, In-monomial
 use Rattle.monomial_laws.proofs.SchurMajorants.{In-schur}
 use Rattle.beta_list_laws.specs.StrictFall.{FallsStrictly}
 use Rattle.beta_list_laws.proofs.BetaLists.{length-beta, beta_strict, from_beta-beta, beta-from_beta, from_beta_partition, rows-from_beta}
-use Rattle.beta_list_laws.proofs.BetaLowerings.{removal_as_lowered}
+use Rattle.beta_list_laws.proofs.BetaLowerings.{removal_as_lowered, strict_distinct}
 use Rattle.beta_list_laws.proofs.BetaRemovals.{before, lowered, shown_removal, shown_height}
 use Rattle.beta_list_laws.proofs.NeighbourExchanges.{sorted-exchange, equal-exchange, has-exchange, length-sorted, has-sorted, sorted-falling}
 use Rattle.beta_list_laws.proofs.SortedLists.{sorted_strict}
@@ -28,7 +28,7 @@ use Rattle.product_laws.specs.StripLists.{ListsEach, AddsRimHook}
 use Rattle.product_laws.proofs.StaircaseProducts.{strip_product}
 use Rattle.product_laws.proofs.Overlaps.{alternants_turn}
 use Rattle.product_laws.proofs.Pieri.{symmetric-monomials}
-use Rattle.product_laws.proofs.RaisedEntries.{moved, turned_past, sign_twice, strict_distinct, place_found, Raises, raises, length-raised, once_one_place, same_place}
+use Rattle.product_laws.proofs.RaisedEntries.{moved, turned_past, sign_twice, place_found, Raises, raises, length-raised, once_one_place, same_place}
 
 -- the exponents of a_(μ+ρ) are the beta list of μ
 beta_joined : (n : ℕ) (parts : List ℕ) → IsPartition parts → rows parts ≤ n → join parts (staircase n) ≡ beta n parts
@@ -128,7 +128,7 @@ found n k parts ν p q few r =
 
 hooks_total : (n k : ℕ) (parts : List ℕ) (list : List (List ℕ)) (φ : List ℕ → ℤ) → 1 ≤ k → IsPartition parts → rows parts ≤ n → ListsEach (AddsRimHook k parts) list
     → total (λ (α : List ℕ). pair (alternant (join (beta n parts) α)) φ) (one_place k n)
-    ≡ total (λ (ν : List ℕ). minus_one_to (height ν parts - 1) *ℤ pair (alternant (join ν (staircase n))) φ) (select (λ (ν : List ℕ). nat_le (rows ν) n) list)
+    ≡ total (λ (ν : List ℕ). minus_one_to (height ν parts - 1) *ℤ pair (alternant (join ν (staircase n))) φ) (filter (λ (ν : List ℕ). nat_le (rows ν) n) list)
 hooks_total n k parts list φ h p few l =
     total_among F (λ (α : List ℕ). cond (apart b α) (F α) (pos 0)) (one_place k n) (λ α m. equal_or α (has_equal_entries (join b α)) refl)
     ∙ sym (total_select F (apart b) (one_place k n))
@@ -146,10 +146,10 @@ hooks_total n k parts list φ h p few l =
     W ν = minus_one_to (height ν parts - 1) *ℤ pair (alternant (join ν (staircase n))) φ
 
     xs : List (List ℕ)
-    xs = select (apart (beta n parts)) (one_place k n)
+    xs = filter (apart (beta n parts)) (one_place k n)
 
     ys : List (List ℕ)
-    ys = select (λ (ν : List ℕ). nat_le (rows ν) n) list
+    ys = filter (λ (ν : List ℕ). nat_le (rows ν) n) list
 
     equal_or : (α : List ℕ) (t : Bool) → has_equal_entries (join (beta n parts) α) ≡ t → F α ≡ cond (not (has_equal_entries (join (beta n parts) α))) (F α) (pos 0)
     equal_or α true e = alternant-equal (join (beta n parts) α) φ e ∙ sym (ap (λ (s : Bool). cond (not s) (F α) (pos 0)) e)
@@ -187,7 +187,7 @@ hooks_total n k parts list φ h p few l =
 
 pub rim_hooks : (n k : ℕ) (parts : List ℕ) (list : List (List ℕ)) → 1 ≤ k → IsPartition parts
     → ListsEach (AddsRimHook k parts) list
-    → Same (times (power_sum_of k n) (schur parts n)) (each (λ ν. scale (minus_one_to (height ν parts - 1)) (schur ν n)) list)
+    → Same (times (power_sum_of k n) (schur parts n)) (flat_map (λ ν. scale (minus_one_to (height ν parts - 1)) (schur ν n)) list)
 rim_hooks n k parts list h p l =
     strip_product n parts (power_sum_of k n) (λ ν. scale (minus_one_to (height ν parts - 1)) (schur ν n)) (λ ν. minus_one_to (height ν parts - 1)) list p
     (In-monomials (has k) n k) (symmetric-monomials (has k) n k (has-exchange k))

@@ -5,7 +5,7 @@ use Rattle.std.proofs.lemmas.Int.{ints}
 use Rattle.std.proofs.Math.Nat.{mul-suc}
 use Rattle.sym_model.specs.Sum.{Among}
 use Rattle.sym_model.specs.Polynomial.{Poly, Term, Same, nothing, join, times, pair}
-use Rattle.sym_model.specs.Partition.{IsPartition, rows}
+use Rattle.sym_model.specs.Partition.{IsPartition, rows, ArePartitions}
 use Rattle.sym_model.specs.Schur.{schur, tableaux, content, letters_of}
 use Rattle.sym_model.specs.Alternant.{alternant, staircase, schur_coefficient}
 use Rattle.sym_model.specs.WholeTerms.{WholeTerms}
@@ -16,9 +16,8 @@ use Rattle.sym_model.proofs.Polynomials.{at_only, coefficient_pair, pair_factor,
 use Rattle.alternant_laws.proofs.Staircase.{staircase_cancels}
 use Rattle.alternant_laws.proofs.GoodAlternants.{In-skew_schur}
 use Rattle.alternant_laws.proofs.CountedTerms.{schur_coefficient_of_schur}
-use Rattle.product_laws.specs.FactorSteps.{ArePartitions}
-use Rattle.product_laws.proofs.Straightened.{at_shape}
 use Rattle.product_laws.proofs.ManyFactors.{classical_pairing}
+use Rattle.alternant_laws.proofs.FailingColumns.{at_sum}
 
 -- ---- values at ones
 
@@ -82,7 +81,7 @@ some_label k left right p q h l = by (classical_product k (left ∷ right ∷ []
         staircase_cancels k f nothing (In_times k (schur left k) (schur right k) (In-skew_schur k left []) (In-skew_schur k right [])) (λ t m. absurd m)
         (same_from_pair (times (alternant (staircase k)) f) (times (alternant (staircase k)) nothing) (λ φ.
         sym (classical_pairing k (left ∷ right ∷ []) φ (are_two left right p q))
-        ∙ ap (λ (terms : WholeTerms). pair terms (at_shape k φ)) e
+        ∙ ap (λ (terms : WholeTerms). pair terms (at_sum k φ)) e
         ∙ sym (times_nothing (alternant (staircase k)) φ)))
 
     by : (terms : WholeTerms) → classical_product k (left ∷ right ∷ []) ≡ terms → (t : Term) × Among t (classical_product k (left ∷ right ∷ []))

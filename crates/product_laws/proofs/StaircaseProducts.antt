@@ -1,7 +1,7 @@
 -- A product with a Schur polynomial, told by its products with alternants.
-use Rattle.std.proofs.Common.{◌≡◌, ◌⊎◌, ℕ, ◌<◌, ◌≤◌, cond, nat_le, List, length, sym, ◌∙◌, ap, inl, inr, arith, ℤ, pos, ◌*ℤ◌}
+use Rattle.std.proofs.Common.{◌≡◌, ◌⊎◌, ℕ, ◌<◌, ◌≤◌, cond, nat_le, List, length, sym, ◌∙◌, ap, inl, inr, arith, ℤ, pos, ◌*ℤ◌, filter, flat_map}
 use Rattle.std.proofs.lemmas.Bool.{cases_lt, lt-leb, le-leb}
-use Rattle.sym_model.specs.Sum.{total, each, select, Among}
+use Rattle.sym_model.specs.Sum.{total, Among}
 use Rattle.sym_model.specs.Partition.{IsPartition, Holds, rows}
 use Rattle.sym_model.specs.Polynomial.{Poly, Same, In, nothing, join, pair, times}
 use Rattle.sym_model.specs.Symmetric.{Symmetric}
@@ -50,8 +50,8 @@ pub strip_product : (n : ℕ) (parts : List ℕ) (f : Poly) (h : List ℕ → Po
     → ((ν : List ℕ) → In n (h ν)) → ((ν : List ℕ) (φ : List ℕ → ℤ) → pair (h ν) φ ≡ c ν *ℤ pair (schur ν n) φ)
     → ((ν : List ℕ) → Among ν list → IsPartition ν × Holds ν parts)
     → (rows parts ≤ n → (φ : List ℕ → ℤ) → pair f (λ α. pair (alternant (join (join parts (staircase n)) α)) φ)
-    ≡ total (λ (ν : List ℕ). c ν *ℤ pair (alternant (join ν (staircase n))) φ) (select (λ (ν : List ℕ). nat_le (rows ν) n) list))
-    → Same (times f (schur parts n)) (each h list)
+    ≡ total (λ (ν : List ℕ). c ν *ℤ pair (alternant (join ν (staircase n))) φ) (filter (λ (ν : List ℕ). nat_le (rows ν) n) list))
+    → Same (times f (schur parts n)) (flat_map h list)
 strip_product n parts f h c list p i s inside multiple shapes sums = by (cases_lt n (rows parts))
   where
     A : Poly
@@ -60,8 +60,8 @@ strip_product n parts f h c list p i s inside multiple shapes sums = by (cases_l
     none : (ν : List ℕ) (φ : List ℕ → ℤ) → IsPartition ν → n < rows ν → pair (h ν) φ ≡ pos 0
     none ν φ q l = multiple ν φ ∙ ap (λ z. c ν *ℤ z) (pair_determined (schur ν n) nothing φ (schur_few_variables n ν q l)) ∙ *ℤ-zero (c ν)
 
-    many_rows : n < rows parts → Same (times f (schur parts n)) (each h list)
-    many_rows l = same_from_pair (times f (schur parts n)) (each h list) (λ φ.
+    many_rows : n < rows parts → Same (times f (schur parts n)) (flat_map h list)
+    many_rows l = same_from_pair (times f (schur parts n)) (flat_map h list) (λ φ.
         pair_times f (schur parts n) φ
         ∙ pair_ext f (λ α. pair (schur parts n) (λ β. φ (join α β))) (λ α. pos 0) (λ α. pair_determined (schur parts n) nothing (λ β. φ (join α β)) (schur_few_variables n parts p l))
         ∙ pair_zero f
@@ -82,15 +82,15 @@ strip_product n parts f h c list p i s inside multiple shapes sums = by (cases_l
             ∙ pair_factor (c ν) A (λ α. pair (schur ν n) (λ β. φ (join α β)))
             ∙ ap (λ z. c ν *ℤ z) (sym (pair_times A (schur ν n) φ) ∙ pair_determined (times A (schur ν n)) (alternant (join ν (staircase n))) φ (bialternant n ν q l)))
 
-    few_rows : rows parts ≤ n → Same (times f (schur parts n)) (each h list)
-    few_rows l = staircase_cancels n (times f (schur parts n)) (each h list) (In_times n f (schur parts n) i (In-schur parts n)) (In_each n h list (λ ν m. inside ν))
-        (same_from_pair (times A (times f (schur parts n))) (times A (each h list)) (λ φ.
+    few_rows : rows parts ≤ n → Same (times f (schur parts n)) (flat_map h list)
+    few_rows l = staircase_cancels n (times f (schur parts n)) (flat_map h list) (In_times n f (schur parts n) i (In-schur parts n)) (In_each n h list (λ ν m. inside ν))
+        (same_from_pair (times A (times f (schur parts n))) (times A (flat_map h list)) (λ φ.
         staircase_first n parts f φ p l i s
         ∙ sums l φ
         ∙ total_select (λ (ν : List ℕ). c ν *ℤ pair (alternant (join ν (staircase n))) φ) (λ (ν : List ℕ). nat_le (rows ν) n) list
         ∙ total_among (λ (ν : List ℕ). cond (nat_le (rows ν) n) (c ν *ℤ pair (alternant (join ν (staircase n))) φ) (pos 0)) (λ (ν : List ℕ). pair (times A (h ν)) φ) list (λ ν m. one_shape φ ν (shapes ν m).0)
         ∙ sym (pair_times_each A h list φ)))
 
-    by : (n < rows parts) ⊎ (rows parts ≤ n) → Same (times f (schur parts n)) (each h list)
+    by : (n < rows parts) ⊎ (rows parts ≤ n) → Same (times f (schur parts n)) (flat_map h list)
     by (inl l) = many_rows l
     by (inr l) = few_rows l

@@ -2,11 +2,11 @@
 --     straightened_sum       the terms that the alternants a_b of a list of terms (b, c) come to
 --     pair-straightened      both have the same pairings
 --     pair-value             an alternant of a strictly falling list takes the value of a test function at it
-use Rattle.std.proofs.Common.{◌≡◌, ◌⊎◌, ℕ, ◌<◌, ◌≤◌, Bool, true, false, ◌&&◌, cond, nat_lt, List, [], ◌∷◌, length, refl, sym, ◌∙◌, ap, subst, inl, inr, arith, ℤ, pos, ◌+ℤ◌, ◌*ℤ◌}
+use Rattle.std.proofs.Common.{◌≡◌, ◌⊎◌, ℕ, ◌<◌, ◌≤◌, Bool, true, false, ◌&&◌, cond, nat_lt, List, [], ◌∷◌, length, refl, sym, ◌∙◌, ap, subst, inl, inr, arith, ℤ, pos, ◌+ℤ◌, ◌*ℤ◌, flat_map}
 use Rattle.std.proofs.lemmas.Bool.{and_parts, cond-true, cond-false}
 use Rattle.std.proofs.lemmas.Bool.Decides.{nat_tests}
 use Rattle.std.proofs.Math.IntN.{*ℤ-zero, +ℤ_idl, +ℤ_idr}
-use Rattle.sym_model.specs.Sum.{each, Among}
+use Rattle.sym_model.specs.Sum.{Among}
 use Rattle.sym_model.specs.Polynomial.{Poly, Term, In, Same, same, join, coefficient, pair, resize}
 use Rattle.sym_model.specs.Partition.{IsPartition, rows}
 use Rattle.sym_model.specs.Alternant.{alternant, staircase}
@@ -20,10 +20,11 @@ use Rattle.beta_list_laws.specs.StrictFall.{FallsStrictly}
 use Rattle.beta_list_laws.proofs.NeighbourExchanges.{length-sorted}
 use Rattle.beta_list_laws.proofs.SortedLists.{sorted_strict}
 use Rattle.beta_list_laws.proofs.BetaLists.{from_beta_partition, rows-from_beta}
-use Rattle.alternant_laws.proofs.Staircase.{AreBelow}
 use Rattle.alternant_laws.proofs.FallingAlternants.{Descends, coefficient_descending, coefficient_at_partition, join_padded, without_last_zeros-resize}
 use Rattle.tableau_laws.proofs.ColumnCounts.{falling-resize}
 use Rattle.alternant_laws.proofs.SortedAlternants.{alternant-equal, alternant-sorted, from_beta-join}
+use Rattle.sym_model.specs.Bounded.{AreBelow}
+use Rattle.alternant_laws.proofs.FailingColumns.{at_sum}
 
 -- ---- strictly falling lists
 
@@ -36,7 +37,7 @@ strict_descends [] f = tt
 strict_descends (a ∷ []) f = (tt, tt)
 strict_descends (a ∷ b ∷ l) f = let d = strict_descends (b ∷ l) f.1 in ((f.0, below_raise a b l f.0 d.0), d)
 
--- whether a list falls strictly
+-- whether a list is strictly decreasing
 abbrev pub is_strict : List ℕ → Bool
 is_strict [] = true
 is_strict (a ∷ []) = true
@@ -81,10 +82,6 @@ pair-value b χ f =
 
 -- ---- alternants of partitions plus ρ
 
--- the pairing of a_(λ+ρ) with φ
-abbrev pub at_shape : ℕ → (List ℕ → ℤ) → List ℕ → ℤ
-at_shape k φ parts = pair (alternant (join parts (staircase k))) φ
-
 -- a partition with at most k rows
 pub record IsShape (k : ℕ) (parts : List ℕ) : Type 0 where
   pub partition : IsPartition parts
@@ -93,11 +90,11 @@ pub record IsShape (k : ℕ) (parts : List ℕ) : Type 0 where
 pub shape_of_strict : (k : ℕ) (b : List ℕ) → length b ≡ k → FallsStrictly b → IsShape k (from_beta b)
 shape_of_strict k b e f = let r = rows-from_beta b in record { partition = from_beta_partition b f; few = omega arith }
 
-pub at_strict : (k : ℕ) (b : List ℕ) (φ : List ℕ → ℤ) → length b ≡ k → FallsStrictly b → at_shape k φ (from_beta b) ≡ pair (alternant b) φ
+pub at_strict : (k : ℕ) (b : List ℕ) (φ : List ℕ → ℤ) → length b ≡ k → FallsStrictly b → at_sum k φ (from_beta b) ≡ pair (alternant b) φ
 at_strict k b φ e f = ap (λ l. pair (alternant l) φ) (ap (λ m. join (from_beta b) (staircase m)) (sym e) ∙ from_beta-join b f)
 
 -- at the exponents of another partition it is 0
-pub at_shape-only : (k : ℕ) (label parts : List ℕ) → IsShape k label → IsShape k parts → at_shape k (at_only (join label (staircase k))) parts ≡ at_only label parts
+pub at_shape-only : (k : ℕ) (label parts : List ℕ) → IsShape k label → IsShape k parts → at_sum k (at_only (join label (staircase k))) parts ≡ at_only label parts
 at_shape-only k label parts p q =
     sym (coefficient_pair (alternant (join parts (staircase k))) (join label (staircase k)))
     ∙ ap (λ l. coefficient (alternant l) (join label (staircase k))) (sym (join_padded k parts q.few))
@@ -112,26 +109,26 @@ straight b c = cond (has_equal_entries b) [] ((from_beta (sorted_falling b), c *
 
 -- the terms that the sum over the terms (α, c) of f of c times a_(β + α) comes to
 abbrev pub straightened_sum : List ℕ → Poly → WholeTerms
-straightened_sum β f = each (λ (u : Term). straight (join β u.0) u.1) f
+straightened_sum β f = flat_map (λ (u : Term). straight (join β u.0) u.1) f
 
-pair-straight : (k : ℕ) (b : List ℕ) (c : ℤ) (φ : List ℕ → ℤ) → length b ≡ k → pair (straight b c) (at_shape k φ) ≡ c *ℤ pair (alternant b) φ
+pair-straight : (k : ℕ) (b : List ℕ) (c : ℤ) (φ : List ℕ → ℤ) → length b ≡ k → pair (straight b c) (at_sum k φ) ≡ c *ℤ pair (alternant b) φ
 pair-straight k b c φ e = by (has_equal_entries b) refl
   where
     turned : (c s x : ℤ) → (c *ℤ s) *ℤ x +ℤ pos 0 ≡ c *ℤ (s *ℤ x)
     turned c s x = +ℤ_idr ((c *ℤ s) *ℤ x) ∙ product_assoc c s x
 
-    by : (t : Bool) → has_equal_entries b ≡ t → pair (cond t [] ((from_beta (sorted_falling b), c *ℤ sorting_sign b) ∷ [])) (at_shape k φ) ≡ c *ℤ pair (alternant b) φ
+    by : (t : Bool) → has_equal_entries b ≡ t → pair (cond t [] ((from_beta (sorted_falling b), c *ℤ sorting_sign b) ∷ [])) (at_sum k φ) ≡ c *ℤ pair (alternant b) φ
     by true h = sym (ap (λ z. c *ℤ z) (alternant-equal b φ h) ∙ *ℤ-zero c)
     by false h =
-        turned c (sorting_sign b) (at_shape k φ (from_beta (sorted_falling b)))
+        turned c (sorting_sign b) (at_sum k φ (from_beta (sorted_falling b)))
         ∙ ap (λ z. c *ℤ (sorting_sign b *ℤ z)) (at_strict k (sorted_falling b) φ (length-sorted b ∙ e) (sorted_strict b h))
         ∙ ap (λ z. c *ℤ z) (sym (alternant-sorted b φ h))
 
 pub pair-straightened : (k : ℕ) (β : List ℕ) (f : Poly) (φ : List ℕ → ℤ) → length β ≡ k → In k f
-    → pair (straightened_sum β f) (at_shape k φ) ≡ pair f (λ α. pair (alternant (join β α)) φ)
+    → pair (straightened_sum β f) (at_sum k φ) ≡ pair f (λ α. pair (alternant (join β α)) φ)
 pair-straightened k β f φ e i =
-    pair_each (λ (u : Term). straight (join β u.0) u.1) f (at_shape k φ)
-    ∙ total_among (λ (u : Term). pair (straight (join β u.0) u.1) (at_shape k φ)) (λ (u : Term). u.1 *ℤ pair (alternant (join β u.0)) φ) f
+    pair_each (λ (u : Term). straight (join β u.0) u.1) f (at_sum k φ)
+    ∙ total_among (λ (u : Term). pair (straight (join β u.0) u.1) (at_sum k φ)) (λ (u : Term). u.1 *ℤ pair (alternant (join β u.0)) φ) f
     (λ u m. pair-straight k (join β u.0) u.1 φ (length-join_same k β u.0 e (i u m)))
 
 pub straightened-shape : (k : ℕ) (β : List ℕ) (f : Poly) (t : Term) → length β ≡ k → In k f → Among t (straightened_sum β f) → IsShape k t.0
@@ -148,7 +145,7 @@ pub coefficient-straightened : (k : ℕ) (β label : List ℕ) (f : Poly) → le
     → coefficient (straightened_sum β f) label ≡ pair f (λ α. pair (alternant (join β α)) (at_only (join label (staircase k))))
 coefficient-straightened k β label f e i p =
     coefficient_pair (straightened_sum β f) label
-    ∙ total_among (λ (t : Term). t.1 *ℤ at_only label t.0) (λ (t : Term). t.1 *ℤ at_shape k (at_only (join label (staircase k))) t.0) (straightened_sum β f)
+    ∙ total_among (λ (t : Term). t.1 *ℤ at_only label t.0) (λ (t : Term). t.1 *ℤ at_sum k (at_only (join label (staircase k))) t.0) (straightened_sum β f)
     (λ t m. ap (λ z. t.1 *ℤ z) (sym (at_shape-only k label t.0 p (straightened-shape k β f t e i m))))
     ∙ pair-straightened k β f (at_only (join label (staircase k))) e i
 

@@ -1,9 +1,9 @@
 -- How many strips and rim hooks of k cells there are around a partition.
-use Rattle.std.proofs.Common.{◌≡◌, ℕ, zero, suc, ◌+◌, ◌-◌, ◌*◌, ◌^◌, ◌≤◌, Bool, cond, List, [], ◌∷◌, map, length, refl, ◌∙◌, ap, subst, arith, length-append, pow-suc}
+use Rattle.std.proofs.Common.{◌≡◌, ℕ, zero, suc, ◌+◌, ◌-◌, ◌*◌, ◌^◌, ◌≤◌, Bool, cond, List, [], ◌∷◌, map, length, refl, ◌∙◌, ap, subst, arith, length-append, pow-suc, flat_map}
 use Rattle.std.proofs.lemmas.Bool.{ne_eqb}
 use Rattle.std.proofs.lemmas.List.{length-map}
 use Rattle.std.proofs.Math.Nat.{pow-zero, one-le-pow}
-use Rattle.sym_model.specs.Sum.{each, Among, Within}
+use Rattle.sym_model.specs.Sum.{Among, Within}
 use Rattle.sym_model.specs.Partition.{IsPartition, Holds, rows, size, without_last_zeros}
 use Rattle.sym_model.specs.Polynomial.{join, resize}
 use Rattle.sym_model.specs.Bases.{down_from, exponent_lists}
@@ -36,7 +36,7 @@ abbrev lists_of : ℕ → ℕ → ℕ → List (List ℕ)
 lists_of n d c = map (λ (α : List ℕ). c ∷ α) (exponent_lists n (d - c))
 
 firsts_within : (n : ℕ) → ((j : ℕ) → length (exponent_lists n j) ≤ n ^ j) → (d e whole : ℕ) → whole ≡ d + e
-    → length (each (lists_of n whole) (down_from d)) ≤ suc n ^ d * n ^ e
+    → length (flat_map (lists_of n whole) (down_from d)) ≤ suc n ^ d * n ^ e
 firsts_within n r zero e whole h =
     let a = length-append (lists_of n whole 0) [] in
     let b = length-map (exponent_lists n (whole - 0)) (λ (α : List ℕ). 0 ∷ α) in
@@ -45,13 +45,13 @@ firsts_within n r zero e whole h =
     let i = r e in
     omega (arith, a, b, c, m, i)
 firsts_within n r (suc d) e whole h =
-    let a = length-append (lists_of n whole (suc d)) (each (lists_of n whole) (down_from d)) in
+    let a = length-append (lists_of n whole (suc d)) (flat_map (lists_of n whole) (down_from d)) in
     let b = length-map (exponent_lists n (whole - suc d)) (λ (α : List ℕ). suc d ∷ α) in
     let c = ap (λ j. length (exponent_lists n j)) (let k : whole - suc d ≡ e = omega arith in k) in
     let i = firsts_within n r d (suc e) whole (omega arith) in
-    let j : length (each (lists_of n whole) (down_from d)) ≤ suc n ^ d * (n ^ e * n) = subst (λ x. length (each (lists_of n whole) (down_from d)) ≤ suc n ^ d * x) (pow-suc n e) i in
+    let j : length (flat_map (lists_of n whole) (down_from d)) ≤ suc n ^ d * (n ^ e * n) = subst (λ x. length (flat_map (lists_of n whole) (down_from d)) ≤ suc n ^ d * x) (pow-suc n e) i in
     let f = r e in
-    let t = next_power n (suc n ^ d) (n ^ e) (length (lists_of n whole (suc d))) (length (each (lists_of n whole) (down_from d))) (one-le-pow d (suc n) (omega arith)) (omega (arith, b, c, f)) j in
+    let t = next_power n (suc n ^ d) (n ^ e) (length (lists_of n whole (suc d))) (length (flat_map (lists_of n whole) (down_from d))) (one-le-pow d (suc n) (omega arith)) (omega (arith, b, c, f)) j in
     let q : suc n ^ suc d * n ^ e ≡ suc n ^ d * suc n * n ^ e = ap (λ x. x * n ^ e) (pow-suc (suc n) d) in
     omega (arith, a, t, q)
 

@@ -1,7 +1,7 @@
 -- A partition in n places plus a list of exponents: which sums are strips around the partition.
-use Rattle.std.proofs.Common.{◌≡◌, ℕ, zero, suc, ◌+◌, ◌-◌, ◌≤◌, Bool, true, ◌&&◌, nat_le, List, [], ◌∷◌, length, get_or, refl, sym, ◌∙◌, ap, ap₂, subst, arith, ℤ}
+use Rattle.std.proofs.Common.{◌≡◌, ℕ, zero, suc, ◌+◌, ◌-◌, ◌≤◌, Bool, true, ◌&&◌, nat_le, List, [], ◌∷◌, length, get_or, refl, sym, ◌∙◌, ap, ap₂, subst, arith, ℤ, filter}
 use Rattle.std.proofs.lemmas.Bool.{and_parts, and_from, le-leb, leb-true}
-use Rattle.sym_model.specs.Sum.{total, select, Among}
+use Rattle.sym_model.specs.Sum.{total, Among}
 use Rattle.sym_model.specs.Partition.{Falls, ArePositive, IsPartition, Holds, part, rows, size, without_last_zeros}
 use Rattle.sym_model.specs.Polynomial.{join, resize}
 use Rattle.sym_model.specs.Strip.{IsHorizontalStrip, IsVerticalStrip}
@@ -62,7 +62,7 @@ pub shapes_total : (n k : ℕ) (parts : List ℕ) → IsPartition parts → rows
     → ((ν : List ℕ) → S ν → Holds ν parts)
     → (list : List (List ℕ)) → ListsEach (λ ν. IsPartition ν × (size ν ≡ size parts + k) × S ν) list
     → (g : List ℕ → ℤ)
-    → total (λ (α : List ℕ). g (join (resize n parts) α)) (select test (exponent_lists n k)) ≡ total (λ (ν : List ℕ). g (resize n ν)) (select (λ (ν : List ℕ). nat_le (rows ν) n) list)
+    → total (λ (α : List ℕ). g (join (resize n parts) α)) (filter test (exponent_lists n k)) ≡ total (λ (ν : List ℕ). g (resize n ν)) (filter (λ (ν : List ℕ). nat_le (rows ν) n) list)
 shapes_total n k parts p few test S sound complete held list l g =
     total_among (λ (α : List ℕ). g (join m α)) (λ (α : List ℕ). g (resize n (to α))) xs (λ α i. ap g (sym (resize-without_last_zeros n (join m α) (wide α (lists α i).0))))
     ∙ total_bijection (λ (ν : List ℕ). g (resize n ν)) to from xs ys (Once-select test (exponent_lists n k) (once_exponent_lists n k)) (Once-select (λ (ν : List ℕ). nat_le (rows ν) n) list l.once)
@@ -78,10 +78,10 @@ shapes_total n k parts p few test S sound complete held list l g =
     from ν = row_lengths (resize n ν) m
 
     xs : List (List ℕ)
-    xs = select test (exponent_lists n k)
+    xs = filter test (exponent_lists n k)
 
     ys : List (List ℕ)
-    ys = select (λ (ν : List ℕ). nat_le (rows ν) n) list
+    ys = filter (λ (ν : List ℕ). nat_le (rows ν) n) list
 
     lists : (α : List ℕ) → Among α xs → (length α ≡ n) × (size α ≡ k) × (test α ≡ true)
     lists α i = let s = Among_from_select test α (exponent_lists n k) i in let q = members_of-exponent_lists α n k s.0 in (q.0, q.1, s.1)

@@ -1,4 +1,4 @@
--- Lists of the partitions that a strip or a rim hook makes of a partition (this project's own).
+-- Lists of the partitions that a strip or a rim hook makes of a partition.
 use Rattle.std.specs.Prelude.{◌≡◌, ◌↔◌, ℕ, ◌+◌, List}
 use Rattle.sym_model.specs.Sum.{Among, Once}
 use Rattle.sym_model.specs.Partition.{IsPartition, size}
@@ -11,7 +11,8 @@ pub record ListsEach (P : List ℕ → Type 0) (list : List (List ℕ)) : Type 0
 
 -- ν is a partition, and ν/inner is a horizontal strip of k cells
 abbrev pub AddsHorizontalStrip : ℕ → List ℕ → List ℕ → Type 0
-AddsHorizontalStrip k inner ν = IsPartition ν × (size ν ≡ size inner + k) × IsHorizontalStrip ν inner
+AddsHorizontalStrip k inner ν =
+    IsPartition ν × (size ν ≡ size inner + k) × IsHorizontalStrip ν inner
 
 -- ν is a partition, and ν/inner is a vertical strip of k cells
 abbrev pub AddsVerticalStrip : ℕ → List ℕ → List ℕ → Type 0

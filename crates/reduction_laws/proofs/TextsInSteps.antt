@@ -14,11 +14,11 @@ use Rattle.sym_model.specs.Target.{Meets}
 use Rattle.sym_model.specs.Headline.{ReadsBack}
 use Rattle.sym_model.proofs.Exponents.{same_true}
 use Rattle.printing_laws.proofs.PrintedForms.{read_in-tells}
-use Rattle.product_laws.specs.FactorSteps.{ArePartitions}
 use Rattle.product_laws.proofs.QuantumSteps.{power_true, quantum_steps_meet, rim_hooks_in_steps}
 use Rattle.product_laws.proofs.FusionSteps.{fusion_steps_meet, fusion_in_steps}
 use Rattle.reduction_laws.specs.PrintedSteps.{ReadsReducedInSteps, ReadsReflectedInSteps}
 use Rattle.reduction_laws.proofs.CanonicalTerms.{canonical-collected}
+use Rattle.sym_model.specs.Partition.{ArePartitions}
 
 module _ (k width : ℕ) (factors : List (List ℕ)) (text : List ℕ) (some : 1 ≤ k)
     (two : 2 ≤ length factors) (partitions : ArePartitions factors) where

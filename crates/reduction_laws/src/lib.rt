@@ -1,8 +1,7 @@
 //! Laws of quantum and fusion products: in which order rim hooks are removed plays no part, and
 //! what a text of such a product says of reducing after each factor.
 //!
-//! A law function takes nothing, answers nothing and does no work when it runs: its contract is
-//! the law.
+//! A law function has an empty body: its contract is the law.
 //!
 //! What is proved:
 //!

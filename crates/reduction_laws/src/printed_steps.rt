@@ -3,8 +3,8 @@
 ghost use Rattle.std.specs.Prelude.{◌↔◌, ℕ, ◌+◌, ◌≤◌, List, length};
 ghost use Rattle.sym_model.specs.Command.{fusion, quantum};
 ghost use Rattle.sym_model.specs.Headline.{ReadsBack};
-ghost use Rattle.product_laws.specs.FactorSteps.{ArePartitions};
 ghost use Rattle.reduction_laws.specs.PrintedSteps.{ReadsReducedInSteps, ReadsReflectedInSteps};
+ghost use Rattle.sym_model.specs.Partition.{ArePartitions};
 
 /// The headline of `quantum` and of `fusion`, factor by factor: a text reads back as a canonical
 /// list that is what the command names exactly if it reads back as a list that reducing after each

@@ -1,10 +1,10 @@
 -- The classical product as a list of terms, and its weight.
 --     classical_long_left, classical_long_right    it is empty where a factor has more rows than there are variables
 --     weight_within       its weight is at least that of a canonical list with its coefficients
-use Rattle.std.proofs.Common.{◌≡◌, ℕ, ◌<◌, ◌≤◌, cond, true, arith, nat_le, nat_lt, List, [], ◌∷◌, map, refl, ◌∙◌, ap, subst, ℤ, pos}
+use Rattle.std.proofs.Common.{◌≡◌, ℕ, ◌<◌, ◌≤◌, cond, true, arith, nat_le, nat_lt, List, [], ◌∷◌, map, refl, ◌∙◌, ap, subst, ℤ, pos, filter}
 use Rattle.std.specs.Prelude.{nat_abs}
 use Rattle.std.proofs.lemmas.Bool.{and_parts}
-use Rattle.sym_model.specs.Sum.{select, Once}
+use Rattle.sym_model.specs.Sum.{Once}
 use Rattle.sym_model.specs.Polynomial.{Poly, Same, nothing, times, join}
 use Rattle.sym_model.specs.Partition.{IsPartition, size, rows}
 use Rattle.sym_model.specs.PartitionList.{partitions_of}
@@ -60,7 +60,7 @@ none_of_nothing k f parts s =
 pub classical_nothing : (k : ℕ) (factors : List (List ℕ)) → Same (schur_product factors k) nothing → classical_product k factors ≡ []
 classical_nothing k factors s =
     all_zero (λ parts. schur_coefficient k parts (schur_product factors k)) (λ parts. none_of_nothing k (schur_product factors k) parts s)
-    (select (λ parts. nat_le (rows parts) k) (partitions_of (size (map size factors))))
+    (filter (λ parts. nat_le (rows parts) k) (partitions_of (size (map size factors))))
 
 pub classical_long_right : (k : ℕ) (left right : List ℕ) → IsPartition right → k < rows right → classical_product k (left ∷ right ∷ []) ≡ []
 classical_long_right k left right p h =

@@ -3,17 +3,16 @@
 --     factor_at           the factors from a place on
 --     lead_on, heavy_here, heavy_later    one step more in front
 use Rattle.std.proofs.Common.{◌≡◌, ◌⊎◌, ℕ, ◌+◌, ◌^◌, ◌<◌, ◌≤◌, List, [], ◌∷◌, suc, drop, drop-cons, add-one, refl, sym, ◌∙◌, ap, subst, inl, inr, arith, Some}
-use Rattle.std.specs.Prelude.{slice_get, Option, MatchOption, length, Result, Ok, Err, IfOk}
+use Rattle.std.specs.Prelude.{slice_get}
 use Rattle.std.proofs.lemmas.Option.{slice_get_within, get_or_from_slice_get}
 use Rattle.std.proofs.lemmas.Bool.{cases_lt}
 use Rattle.sym_model.specs.Sum.{Among}
-use Rattle.sym_model.specs.Partition.{IsPartition, rows}
+use Rattle.sym_model.specs.Partition.{IsPartition, rows, ArePartitions}
 use Rattle.sym_model.specs.WholeTerms.{WholeTermsOf}
 use Rattle.sym_model.specs.ReductionSteps.{StepsLead, step_weight}
 use Rattle.schur_laws.proofs.GoodTableaux.{drop_none}
-use Rattle.product_laws.specs.FactorSteps.{ArePartitions}
-use Rattle.rim_hooks.specs.FactorRows.{HasLong, AreFew}
 use Rattle.rim_hooks.specs.HeavySteps.{HasHeavyStep}
+use Rattle.product_laws.specs.FactorSteps.{HasLong}
 
 module _ {L : Type 0} (step : List ℕ → WholeTermsOf L → WholeTermsOf L → Type 0) where
   module _ (k : ℕ) (none : (factor : List ℕ) → step factor [] [])
@@ -41,29 +40,13 @@ factor_at xs i x e =
     ∙ ap (λ (u : List ℕ). u ∷ drop (suc i) xs) (get_or_from_slice_get xs i x x e)
     ∙ ap (λ j. x ∷ drop j xs) (sym (add-one i))
 
--- the factor that is there
-pub there : {B : Type 0} (xs : List (List ℕ)) (i : ℕ) (r : Option B) (b : B) (now : B → List ℕ) → r ≡ Some b → MatchOption r (length xs ≤ i) (λ factor. slice_get xs i ≡ Some (now factor))
-    → slice_get xs i ≡ Some (now b)
-there {B} xs i r b now e m = subst (λ (s : Option B). MatchOption s (length xs ≤ i) (λ factor. slice_get xs i ≡ Some (now factor))) e m
-
 pub first_two : (xs : List (List ℕ)) (x y : List ℕ) → slice_get xs 0 ≡ Some x → slice_get xs 1 ≡ Some y → xs ≡ x ∷ y ∷ drop 2 xs
 first_two xs x y e d = sym (drop_none xs) ∙ factor_at xs 0 x e ∙ ap (λ (l : List (List ℕ)). x ∷ l) (factor_at xs 1 y d)
-
--- the rest of factors with few rows
-pub few_rest : (k : ℕ) (x : List ℕ) (xs rest : List (List ℕ)) → xs ≡ x ∷ rest → AreFew k xs → AreFew k rest
-few_rest k x xs rest e f parts m = f parts (subst (Among parts) (sym e) (inr m))
-
-pub few_here : (k : ℕ) (x : List ℕ) (xs rest : List (List ℕ)) → xs ≡ x ∷ rest → AreFew k xs → rows x ≤ k
-few_here k x xs rest e f = f x (subst (Among x) (sym e) (inl refl))
 
 pub long_here : (k : ℕ) (x : List ℕ) (xs rest : List (List ℕ)) → xs ≡ x ∷ rest → k < rows x → HasLong k xs
 long_here k x xs rest e h = subst (HasLong k) (sym e) (x, inl refl, h)
 
 -- ---- one step more in front
-
-pub if_ok : {T E : Type 0} {P Q : T → Type 0} (r : Result T E) → ((x : T) → P x → Q x) → IfOk r P → IfOk r Q
-if_ok (Ok x) f p = f x p
-if_ok (Err e) f p = p
 
 module _ {L : Type 0} (shape : L → List ℕ) (step : List ℕ → WholeTermsOf L → WholeTermsOf L → Type 0) where
   pub lead_on : (xs rest : List (List ℕ)) (x : List ℕ) (terms next last : WholeTermsOf L) → xs ≡ x ∷ rest → step x terms next → StepsLead step next rest last

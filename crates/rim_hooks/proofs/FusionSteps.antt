@@ -4,14 +4,13 @@
 use Rattle.std.proofs.Common.{◌≡◌, ◌⊎◌, ℕ, ◌<◌, ◌≤◌, List, [], ◌∷◌, ◌++◌, length, refl, sym, ◌∙◌, ap, subst, inl, inr, arith, pos}
 use Rattle.sym_model.specs.Sum.{Among}
 use Rattle.sym_model.specs.Polynomial.{Same, coefficient, scale}
-use Rattle.sym_model.specs.Partition.{IsPartition, rows}
+use Rattle.sym_model.specs.Partition.{IsPartition, rows, ArePartitions}
 use Rattle.sym_model.specs.WholeTerms.{WholeTerms, as_fractions, numerators}
 use Rattle.sym_model.specs.Target.{classical_product, reflected_terms}
 use Rattle.sym_model.specs.ReductionSteps.{IsFusionStep, StepsLead, IsReflectedInSteps}
-use Rattle.product_laws.specs.FactorSteps.{ArePartitions, fused}
+use Rattle.product_laws.specs.FactorSteps.{fused, HasLong}
 use Rattle.product_laws.proofs.FusionSteps.{fusion_step_some, fusion_steps_meet}
 use Rattle.linear_combinations.proofs.Found.{numerators-as_fractions}
-use Rattle.rim_hooks.specs.FactorRows.{HasLong}
 use Rattle.rim_hooks.specs.HeavySteps.{IsHeavyFusion}
 use Rattle.rim_hooks.specs.Reductions.{LeadsTo, IsHeavyFrom}
 use Rattle.rim_hooks.proofs.ClassicalLists.{classical_long_left, classical_long_right}

@@ -3,18 +3,16 @@
 --     quantum_meets        steps lead to the answer of the command
 use Rattle.std.proofs.Common.{◌≡◌, ◌⊎◌, ℕ, ◌<◌, ◌≤◌, List, [], ◌∷◌, ◌++◌, length, refl, sym, ◌∙◌, ap, subst, inl, inr, arith, pos}
 use Rattle.sym_model.specs.Sum.{Among}
-use Rattle.sym_model.specs.Partition.{IsPartition, rows}
+use Rattle.sym_model.specs.Partition.{IsPartition, rows, ArePartitions}
 use Rattle.sym_model.specs.WholeTerms.{WholeTerms, coefficient_by, same_power, as_fractions}
 use Rattle.sym_model.specs.Target.{IsRimHookReduction, classical_product, reduced_terms}
-use Rattle.sym_model.specs.ReductionSteps.{shape_of, IsQuantumStep, StepsLead, IsReducedInSteps}
+use Rattle.sym_model.specs.ReductionSteps.{shape_of, IsQuantumStep, StepsLead, IsReducedInSteps, with_power}
 use Rattle.beta_list_laws.specs.ReductionLists.{reductions_of}
-use Rattle.product_laws.specs.FactorSteps.{ArePartitions, raised, quantized}
+use Rattle.product_laws.specs.FactorSteps.{quantized, PowerTerms, HasLong}
 use Rattle.product_laws.proofs.QuantumSteps.{quantum_step_made, quantum_step_some, quantum_steps_meet}
 use Rattle.linear_combinations.proofs.Found.{numerators-as_fractions}
-use Rattle.rim_hooks.specs.FactorRows.{HasLong}
 use Rattle.rim_hooks.specs.HeavySteps.{IsHeavyQuantum}
 use Rattle.rim_hooks.specs.Reductions.{LeadsTo, IsHeavyFrom}
-use Rattle.rim_hooks.specs.ReducedLists.{PowerTerms}
 use Rattle.rim_hooks.proofs.ClassicalLists.{classical_long_left, classical_long_right}
 use Rattle.rim_hooks.proofs.FactorSteps.{none_stays, vanishes}
 
@@ -26,7 +24,7 @@ step_none k n h factor = quantum_step_made k n factor [] [] h tt (λ label. refl
 nothing_quantized : (k n : ℕ) (factor : List ℕ) (terms : PowerTerms) → IsPartition factor → k < rows factor → quantized k n factor terms ≡ []
 nothing_quantized k n factor [] p l = refl
 nothing_quantized k n factor (t ∷ terms) p l =
-    ap (λ (xs : WholeTerms). raised t.0.0 t.1 (reduced_terms xs (reductions_of k n xs)) ++ quantized k n factor terms) (classical_long_right k t.0.1 factor p l)
+    ap (λ (xs : WholeTerms). with_power t.0.0 t.1 (reduced_terms xs (reductions_of k n xs)) ++ quantized k n factor terms) (classical_long_right k t.0.1 factor p l)
     ∙ nothing_quantized k n factor terms p l
 
 step_long : (k n : ℕ) → 1 ≤ n → (factor : List ℕ) (terms : PowerTerms) → IsPartition factor → k < rows factor → IsQuantumStep k n factor terms []
@@ -44,7 +42,7 @@ quantum_none k n (first ∷ second ∷ factors) h l p g = by g.1
         let made : IsQuantumStep k n second (((0, first), pos 1) ∷ []) [] =
         quantum_step_made k n second (((0, first), pos 1) ∷ []) [] h tt
         (λ label.
-        ap (λ (xs : WholeTerms). coefficient_by same_power (raised 0 (pos 1) (reduced_terms xs (reductions_of k n xs)) ++ []) label)
+        ap (λ (xs : WholeTerms). coefficient_by same_power (with_power 0 (pos 1) (reduced_terms xs (reductions_of k n xs)) ++ []) label)
         (sym (classical_long_left k first second (p first (inl refl)) long))) in
         ([], made, none_stays (IsQuantumStep k n) k (step_none k n h) (step_long k n h) (quantum_step_some k n h) factors)
     by (inr m) =

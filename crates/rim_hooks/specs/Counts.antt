@@ -1,4 +1,4 @@
--- Tables by remainders (this project's own).
+-- Tables by remainders.
 use Rattle.std.specs.Prelude.{◌≡◌, ℕ, ◌<◌, List, length, slice_index}
 use Rattle.beta_list_laws.specs.LowestList.{alike}
 

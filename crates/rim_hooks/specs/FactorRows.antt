@@ -1,12 +1,8 @@
--- The rows of the factors of a reduced product (this project's own).
-use Rattle.std.specs.Prelude.{ℕ, ◌<◌, ◌≤◌, List}
+-- The rows of the factors of a reduced product.
+use Rattle.std.specs.Prelude.{ℕ, ◌≤◌, List}
 use Rattle.sym_model.specs.Sum.{Among}
 use Rattle.sym_model.specs.Partition.{rows}
 
 -- each factor has at most k rows
 abbrev pub AreFew : ℕ → List (List ℕ) → Type 0
 AreFew k factors = (parts : List ℕ) → Among parts factors → rows parts ≤ k
-
--- some factor has more than k rows
-abbrev pub HasLong : ℕ → List (List ℕ) → Type 0
-HasLong k factors = (parts : List ℕ) × Among parts factors × (k < rows parts)

@@ -1,4 +1,4 @@
--- Steps of a weight of 2^127 or more (this project's own).
+-- Steps of a weight of 2^127 or more.
 use Rattle.std.specs.Prelude.{ℕ, ◌^◌, ◌≤◌, List}
 use Rattle.sym_model.specs.ReductionSteps.{IsQuantumWeight, IsFusionWeight, IsStepWeight}
 use Rattle.sym_model.specs.WholeTerms.{WholeTermsOf}
@@ -12,7 +12,8 @@ abbrev pub HasHeavyStep : {Label : Type 0}
     → List (List ℕ)
     → Type 0
 HasHeavyStep {Label = Label} shape step k terms factors =
-    (weight : ℕ) × IsStepWeight {Label = Label} shape step k terms factors weight × (2 ^ 127 ≤ weight)
+    (weight : ℕ) × IsStepWeight {Label = Label} shape step k terms factors weight
+    × (2 ^ 127 ≤ weight)
 
 -- a step weight of the quantum product of the factors is 2^127 or more
 abbrev pub IsHeavyQuantum : ℕ → ℕ → List (List ℕ) → Type 0

@@ -1,13 +1,10 @@
 -- What a label becomes where its product with a factor has a shape.
 use Rattle.std.specs.Prelude.{ℕ, ◌+◌, ℤ, Option, Some, None, List, [], ◌∷◌}
 use Rattle.sym_model.specs.AlcoveReduction.{alcove_reduction}
-use Rattle.sym_model.specs.WholeTerms.{WholeTerms, WholeTermsOf}
+use Rattle.sym_model.specs.WholeTerms.{WholeTerms}
 use Rattle.sym_model.specs.Target.{Reduction}
 use Rattle.beta_list_laws.specs.LowestList.{reduction_by_remainders}
-
--- terms with powers of q
-abbrev pub PowerTerms : Type 0
-PowerTerms = WholeTermsOf (ℕ × List ℕ)
+use Rattle.product_laws.specs.FactorSteps.{PowerTerms}
 
 -- the partition of a reduction with its sign and the sum of both powers, or nothing
 abbrev pub at_power : ℕ × List ℕ → Reduction → PowerTerms

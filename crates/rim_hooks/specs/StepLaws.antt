@@ -1,5 +1,6 @@
 -- Tables of whole numbers as the lists of a step: collected, and known by their sums.
-use Rattle.std.proofs.Common.{◌≡◌, Bool, true, false, cond, ◌&&◌, [], ◌∷◌, sym, ◌∙◌, ap, ℤ, pos, ◌*ℤ◌, subst, inl, inr, arith}
+use Rattle.std.proofs.Common.{◌≡◌, Bool, true, false, cond, ◌&&◌, [], ◌∷◌, sym, ◌∙◌, ap, ℤ, pos}
+use Rattle.std.proofs.Common.{◌*ℤ◌, subst, inl, inr, arith}
 use Rattle.std.specs.List.{IsDistinct, AllByRecursion}
 use Rattle.std.specs.Map.{keys_of}
 use Rattle.std.proofs.lemmas.Bool.{and_parts}
@@ -26,12 +27,16 @@ module _ {L : Type 0} (eq test : L → L → Bool) (eq_true : (a b : L) → eq a
       (λ e. subst (λ c. test a c ≡ true) (eq_true a b e) (test_self a))
       (λ e. subst (λ c. eq a c ≡ true) (test_true a b e) (eq_self a))
 
-  all_apart : (x : L) (terms : WholeTermsOf L) → AllByRecursion (λ y. eq x y ≡ false) (keys_of terms) → (u : L × ℤ) → Among u terms → test x u.0 ≡ false
+  all_apart : (x : L) (terms : WholeTermsOf L)
+      → AllByRecursion (λ y. eq x y ≡ false) (keys_of terms) → (u : L × ℤ) → Among u terms
+      → test x u.0 ≡ false
   all_apart x [] h u m = absurd m
-  all_apart x (t ∷ terms) h u (inl e) = sym (same_tests x u.0) ∙ ap (λ (v : L × ℤ). eq x v.0) e ∙ h.0
+  all_apart x (t ∷ terms) h u (inl e) =
+      sym (same_tests x u.0) ∙ ap (λ (v : L × ℤ). eq x v.0) e ∙ h.0
   all_apart x (t ∷ terms) h u (inr m) = all_apart x terms h.1 u m
 
-  collected : (is_label : L → Bool) (terms : WholeTermsOf L) → IsDistinct eq (keys_of terms) → are_terms whole is_label terms ≡ true → AreCollected test terms
+  collected : (is_label : L → Bool) (terms : WholeTermsOf L) → IsDistinct eq (keys_of terms)
+      → are_terms whole is_label terms ≡ true → AreCollected test terms
   collected is_label [] d p = tt
   collected is_label (t ∷ terms) d p =
       let here = and_parts (is_reduced (whole t.1) && is_label t.0) _ p in
@@ -42,22 +47,31 @@ module _ {L : Type 0} (eq test : L → L → Bool) (eq_true : (a b : L) → eq a
       )
 
   -- the terms of a table are collected
-  pub collected_table : (is_label : L → Bool) (terms : WholeTermsOf L) → IsCombination eq is_label whole terms → AreCollected test terms
+  pub collected_table : (is_label : L → Bool) (terms : WholeTermsOf L)
+      → IsCombination eq is_label whole terms → AreCollected test terms
   collected_table is_label terms c = collected is_label terms c.distinct c.proper
 
 -- what all terms of a label come to, as a sum against a test function
-by_over : {L : Type 0} (test : L → L → Bool) (terms : WholeTermsOf L) (label : L) → coefficient_by test terms label ≡ over (λ l. cond (test l label) (pos 1) (pos 0)) terms
+by_over : {L : Type 0} (test : L → L → Bool) (terms : WholeTermsOf L) (label : L)
+    → coefficient_by test terms label ≡ over (λ l. cond (test l label) (pos 1) (pos 0)) terms
 by_over {L} test terms label =
-    total_ext (λ (t : L × ℤ). cond (test t.0 label) t.1 (pos 0)) (λ (t : L × ℤ). t.1 *ℤ cond (test t.0 label) (pos 1) (pos 0)) (λ t. by (test t.0 label) t.1) terms
+    total_ext (λ (t : L × ℤ). cond (test t.0 label) t.1 (pos 0))
+    (λ (t : L × ℤ). t.1 *ℤ cond (test t.0 label) (pos 1) (pos 0))
+    (λ t. by (test t.0 label) t.1) terms
   where
     by : (b : Bool) (c : ℤ) → cond b c (pos 0) ≡ c *ℤ cond b (pos 1) (pos 0)
     by true c = sym (product-one c)
     by false c = sym (*ℤ-zero c)
 
 -- lists with the same sums have the same coefficients
-pub same_by : {L : Type 0} (test : L → L → Bool) (first second : WholeTermsOf L) → ((φ : L → ℤ) → over φ first ≡ over φ second) → (label : L) → coefficient_by test first label ≡ coefficient_by test second label
-same_by {L} test first second e label = by_over test first label ∙ e (λ l. cond (test l label) (pos 1) (pos 0)) ∙ sym (by_over test second label)
+pub same_by : {L : Type 0} (test : L → L → Bool) (first second : WholeTermsOf L)
+    → ((φ : L → ℤ) → over φ first ≡ over φ second) → (label : L)
+    → coefficient_by test first label ≡ coefficient_by test second label
+same_by {L} test first second e label =
+    by_over test first label ∙ e (λ l. cond (test l label) (pos 1) (pos 0))
+    ∙ sym (by_over test second label)
 
 -- a table that has gained all that it has
-pub sums_gained : {L : Type 0} (gained new : WholeTermsOf L) → Gains [] gained new → (φ : L → ℤ) → over φ new ≡ over φ gained
+pub sums_gained : {L : Type 0} (gained new : WholeTermsOf L) → Gains [] gained new → (φ : L → ℤ)
+    → over φ new ≡ over φ gained
 sums_gained gained new a φ = let s = a.sums φ in omega (arith, ints)

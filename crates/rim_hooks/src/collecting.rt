@@ -19,10 +19,11 @@ pub(crate) fn add_signed<L: Label>(
     requires { IsSign sign }
     ensures gains { OnOk result (Gains sums.old (scaled c ((label, sign) ∷ [])) sums.new) }
     ensures table { OnOk result (IsCombination L.eq L.is_label whole sums.new) }
-    ensures large { IsErrOf result SumFault.Large → Overflows L.eq sums.old (scaled c ((label, sign) ∷ [])) }
+    ensures large { IsErrOf result SumFault.Large
+        → Overflows L.eq sums.old (scaled c ((label, sign) ∷ [])) }
 {
     let Some(signed) = c.mul(Int::new(i128::from(sign))) else {
         return Err(SumFault::Large);
     };
-    sums.add_term(label, signed)
+    sums.add_owned(label, signed)
 }

@@ -32,7 +32,8 @@ impl Reduction<Partition> for Reflections {
     ghost use Rattle.sym_model.specs.ReductionSteps.{IsFusionStep};
     ghost use Rattle.rim_hooks.specs.ReducedLists.{reduced_shape};
     ghost use Rattle.rim_hooks.specs.QuantumLaws.{rule_bounds};
-    ghost use Rattle.rim_hooks.specs.FusionLaws.{start_shape, shape_within, shape_light, shape_room, shape_made, shape_other};
+    ghost use Rattle.rim_hooks.specs.FusionLaws.{start_shape, shape_within, shape_light};
+    ghost use Rattle.rim_hooks.specs.FusionLaws.{shape_room, shape_made, shape_other};
 
     ghost is_rule = { λ rule. (1 ≤ rule.k) × (rule.k ≤ 64) × (rule.k < rule.n) × (rule.n ≤ 512) };
 
@@ -93,13 +94,14 @@ impl Reduction<Partition> for Reflections {
     ghost changed = { λ rule. shape_other rule.k rule.n };
 }
 
-/// The fusion product of the factors for partitions with at most `rows` rows at a level: the product of their Schur
-/// polynomials in `rows` variables, where each term is reflected into the alcove of that level. It is reflected after
-/// each factor. A factor with more than `rows` rows makes it 0.
+/// The fusion product of the factors for partitions with at most `rows` rows at a level: the
+/// product of their Schur polynomials in `rows` variables, where each term is reflected into the
+/// alcove of that level. It is reflected after each factor. A factor with more than `rows` rows
+/// makes it 0.
 ///
-/// It is refused as `Large` only where a weight of a step is 2^127 or more: the sum, over the terms of the product so
-/// far, of the absolute value of the coefficient times the sum of the coefficients of the product of the shape and the
-/// next factor.
+/// It is refused as `Large` only where a weight of a step is 2^127 or more: the sum, over the terms
+/// of the product so far, of the absolute value of the coefficient times the sum of the
+/// coefficients of the product of the shape and the next factor.
 pub fn fusion(
     alloc: Global,
     factors: &Factors,
@@ -108,11 +110,14 @@ pub fn fusion(
 ) -> Result<Terms<Partition, Int>, SumFault>
     requires variables { (1 ≤ rows) × (rows ≤ 64) }
     requires levels { (1 ≤ level) × (level ≤ 64) }
-    ensures meets { IfOk result (λ terms. Meets (commands.fusion rows level factors.now) (answer kinds.product (as_fractions terms))) }
+    ensures meets { IfOk result (λ terms.
+        Meets (commands.fusion rows level factors.now)
+        (answer kinds.product (as_fractions terms))) }
 
     // Each step collects the reflections of the product of the terms so far with the next factor.
     ensures steps { IfOk result (IsReflectedInSteps rows (rows + level) factors.now) }
-    ensures large { IsErrOf result SumFault.Large → IsHeavy (commands.fusion rows level factors.now) }
+    ensures large { IsErrOf result SumFault.Large
+        → IsHeavy (commands.fusion rows level factors.now) }
 {
     if has_long(factors, rows) {
         return no_terms(alloc);

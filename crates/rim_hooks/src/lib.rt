@@ -1,5 +1,5 @@
-//! Reductions of partitions by rim hooks and into the alcove, and quantum and fusion products of two to eight Schur classes, which
-//! are reduced after each factor.
+//! Reductions of partitions by rim hooks and into the alcove, and quantum and fusion products of
+//! two to eight Schur classes, which are reduced after each factor.
 //!
 //! What is proved:
 //!

@@ -1,7 +1,8 @@
 //! Factors with more rows than there are variables.
 ghost use Rattle.std.specs.Prelude.{◌≡◌, ◌+◌, ◌≤◌, false, length, drop, IsTrue};
 ghost use Rattle.partitions.specs.FactorList.{AreFactors};
-ghost use Rattle.rim_hooks.specs.FactorRows.{HasLong, AreFew};
+ghost use Rattle.rim_hooks.specs.FactorRows.{AreFew};
+ghost use Rattle.product_laws.specs.FactorSteps.{HasLong};
 
 use partitions::Factors;
 

@@ -34,7 +34,8 @@ impl Reduction<Power> for RimHooks {
     ghost use Rattle.sym_model.specs.Partition.{size};
     ghost use Rattle.sym_model.specs.ReductionSteps.{shape_of, IsQuantumStep};
     ghost use Rattle.rim_hooks.specs.ReducedLists.{reduced_power};
-    ghost use Rattle.rim_hooks.specs.QuantumLaws.{rule_bounds, start_power, power_within, power_light, power_room, power_made, power_other};
+    ghost use Rattle.rim_hooks.specs.QuantumLaws.{rule_bounds, start_power, power_within};
+    ghost use Rattle.rim_hooks.specs.QuantumLaws.{power_light, power_room, power_made, power_other};
 
     ghost is_rule = { λ rule. (1 ≤ rule.k) × (rule.k ≤ 64) × (rule.k < rule.n) × (rule.n ≤ 512) };
 
@@ -102,13 +103,14 @@ impl Reduction<Power> for RimHooks {
     ghost changed = { λ rule. power_other rule.k rule.n };
 }
 
-/// The quantum product of the factors for partitions with at most `rows` rows and `cols` columns: the product of their
-/// Schur polynomials in `rows` variables, where each term is reduced by rim hooks of `rows + cols` cells. It is reduced
-/// after each factor. A factor with more than `rows` rows makes it 0.
+/// The quantum product of the factors for partitions with at most `rows` rows and `cols` columns:
+/// the product of their Schur polynomials in `rows` variables, where each term is reduced by rim
+/// hooks of `rows + cols` cells. It is reduced after each factor. A factor with more than `rows`
+/// rows makes it 0.
 ///
-/// It is refused as `Large` only where a weight of a step is 2^127 or more: the sum, over the terms of the product so
-/// far, of the absolute value of the coefficient times the sum of the coefficients of the product of the shape and the
-/// next factor.
+/// It is refused as `Large` only where a weight of a step is 2^127 or more: the sum, over the terms
+/// of the product so far, of the absolute value of the coefficient times the sum of the
+/// coefficients of the product of the shape and the next factor.
 pub fn quantum(
     alloc: Global,
     factors: &Factors,
@@ -117,16 +119,19 @@ pub fn quantum(
 ) -> Result<Terms<Power, Int>, SumFault>
     requires variables { (1 ≤ rows) × (rows ≤ 64) }
     requires columns { (1 ≤ cols) × (cols ≤ 64) }
-    ensures meets { IfOk result (λ terms. Meets (commands.quantum rows cols factors.now) (answer kinds.powers (as_fractions terms))) }
+    ensures meets { IfOk result (λ terms.
+        Meets (commands.quantum rows cols factors.now) (answer kinds.powers (as_fractions terms))) }
 
-    // Whichever rim hooks are removed first: these are the sums of every list of reductions of the classical product.
+    // Whichever rim hooks are removed first: these are the sums of every list of reductions of the
+    // classical product.
     ensures only { IfOk result (λ terms. (reductions : List target.Reduction)
         → AreReductions rows (rows + cols) (classical_product rows factors.now) reductions
         → HaveSameSums terms (reduced_terms (classical_product rows factors.now) reductions)) }
 
     // Each step collects the reductions of the product of the terms so far with the next factor.
     ensures steps { IfOk result (IsReducedInSteps rows (rows + cols) factors.now) }
-    ensures large { IsErrOf result SumFault.Large → IsHeavy (commands.quantum rows cols factors.now) }
+    ensures large { IsErrOf result SumFault.Large
+        → IsHeavy (commands.quantum rows cols factors.now) }
 {
     if has_long(factors, rows) {
         return no_terms(alloc);

@@ -12,8 +12,8 @@ use linear_combinations::{Label, Lin};
 use partitions::Partition;
 use std::alloc::Global;
 
-/// A reduction of shapes, and the labels that it leaves: each shape of the product of a label and a factor becomes one label
-/// with a sign, or nothing.
+/// A reduction of shapes, and the labels that it leaves: each shape of the product of a label and a
+/// factor becomes one label with a sign, or nothing.
 pub(crate) trait Reduction<L: Label> {
     // The numbers of variables and of cells are within their limits.
     ghost is_rule: { Self → Type 0 };
@@ -48,8 +48,8 @@ pub(crate) trait Reduction<L: Label> {
     fn start(first: &Partition) -> Result<L, NoMemory>
         ensures { IfOk result (λ label. label ≡ start first.now) };
 
-    /// Adds what a label becomes where its product with a factor has the shape `grown` with the coefficient `d`, times `c`. It is
-    /// refused as `Large` only where that overflows.
+    /// Adds what a label becomes where its product with a factor has the shape `grown` with the
+    /// coefficient `d`, times `c`. It is refused as `Large` only where that overflows.
     fn add_reduced(
         &self,
         alloc: Global,
@@ -64,27 +64,34 @@ pub(crate) trait Reduction<L: Label> {
         requires cells { cells label.now ≤ 4096 }
         requires size { size grown.now ≤ 4096 }
         requires table { IsCombination L.eq L.is_label whole sums.old }
-        ensures gains { OnOk result (Gains sums.old (scaled (c *ℤ d) (reduced self.now label.now grown.now)) sums.new) }
+        ensures gains { OnOk result (Gains sums.old
+            (scaled (c *ℤ d) (reduced self.now label.now grown.now)) sums.new) }
         ensures table { OnOk result (IsCombination L.eq L.is_label whole sums.new) }
         ensures large { IsErrOf result SumFault.Large
             → Overflows L.eq sums.old (scaled (c *ℤ d) (reduced self.now label.now grown.now)) };
 
     ghost bounds: { (rule : Self) → is_rule rule → (1 ≤ variables rule) × (variables rule ≤ 64) };
 
-    ghost start_is: { (first : List ℕ) → (shape (start first) ≡ first) × (cells (start first) ≡ size first) };
+    ghost start_is: { (first : List ℕ)
+        → (shape (start first) ≡ first) × (cells (start first) ≡ size first) };
 
     ghost within: { (label : L) → size (shape label) ≤ cells label };
 
     ghost light: { (rule : Self) (label : L) (μ : List ℕ) → mass (reduced rule label μ) ≤ 1 };
 
-    ghost room: { (rule : Self) (label : L) (μ : List ℕ) → is_rule rule → IsPartition μ → rows μ ≤ variables rule
-        → HaveLabels (λ m. (rows (shape m) ≤ variables rule) × (cells m + size (shape label) ≤ cells label + size μ))
+    ghost room: { (rule : Self) (label : L) (μ : List ℕ) → is_rule rule → IsPartition μ
+        → rows μ ≤ variables rule
+        → HaveLabels (λ m. (rows (shape m) ≤ variables rule)
+        × (cells m + size (shape label) ≤ cells label + size μ))
         (reduced rule label μ) };
 
     ghost made: { (rule : Self) (factor : List ℕ) (terms next : List (L × ℤ)) → is_rule rule
         → IsCombination L.eq L.is_label whole next
-        → Gains [] (multiplied (variables rule) shape (reduced rule) factor terms) next → step rule factor terms next };
+        → Gains [] (multiplied (variables rule) shape (reduced rule) factor terms) next
+        → step rule factor terms next };
 
-    ghost changed: { (rule : Self) (factor : List ℕ) (terms next other : List (L × ℤ)) → IsCombination L.eq L.is_label whole other
-        → ((φ : L → ℤ) → over φ other ≡ over φ next) → step rule factor terms next → step rule factor terms other };
+    ghost changed: { (rule : Self) (factor : List ℕ) (terms next other : List (L × ℤ))
+        → IsCombination L.eq L.is_label whole other
+        → ((φ : L → ℤ) → over φ other ≡ over φ next) → step rule factor terms next
+        → step rule factor terms other };
 }

@@ -1,5 +1,6 @@
 //! The reduction of partitions into the alcove.
-ghost use Rattle.std.specs.Prelude.{◌≡◌, ◌+◌, ◌*◌, ◌<◌, ◌≤◌, false, true, length, map, IfOk, MatchOption};
+ghost use Rattle.std.specs.Prelude.{◌≡◌, ◌+◌, ◌*◌, ◌<◌, ◌≤◌, false, true, length, map, IfOk};
+ghost use Rattle.std.specs.Prelude.{MatchOption};
 ghost use Rattle.sym_model.specs.Partition.{rows, size};
 ghost use Rattle.sym_model.specs.BetaList.{beta, has_equal_entries};
 ghost use Rattle.sym_model.specs.AlcoveReduction.{alcove_reduction};
@@ -24,8 +25,8 @@ pub struct Alcove {
     pub sign: i8,
 }
 
-/// The partition with at most `k` rows to which `shape` reduces in the alcove of level `n - k`, with its sign; `None`
-/// exactly where that is 0.
+/// The partition with at most `k` rows to which `shape` reduces in the alcove of level `n - k`,
+/// with its sign; `None` exactly where that is 0.
 pub fn alcove_of(
     alloc: Global,
     shape: &Partition,
@@ -34,9 +35,11 @@ pub fn alcove_of(
 ) -> Result<Option<Alcove>, NoMemory>
     requires rows { (rows shape.now ≤ k) × (1 ≤ k) }
     requires cells { (k < n) × (n ≤ 512) }
-    ensures value { IfOk result (λ alcove. signed_partition alcove ≡ alcove_reduction k n shape.now) }
+    ensures value { IfOk result (λ alcove. signed_partition alcove
+        ≡ alcove_reduction k n shape.now) }
 
-    // It is 0 exactly where two entries of the beta list leave one remainder, and else told by these and their sum alone.
+    // It is 0 exactly where two entries of the beta list leave one remainder, and else told by
+    // these and their sum alone.
     ensures remainders { IfOk result (λ alcove. MatchOption alcove
         (has_equal_entries (remainders n (beta k shape.now)) ≡ true)
         (λ a. IsAlcoveOf k n shape.now a.shape a.sign)) }
@@ -64,7 +67,8 @@ struct Turns {
 fn turns_of(entries: &[u16], n: u16) -> Option<Turns>
     requires few { length entries.now ≤ 512 }
     requires cells { (2 ≤ n) × (n ≤ 512) }
-    ensures { MatchOption result (has_equal_entries (remainders n entries.now) ≡ true) (λ turns. IsTurned n entries.now turns) }
+    ensures { MatchOption result (has_equal_entries (remainders n entries.now) ≡ true)
+        (λ turns. IsTurned n entries.now turns) }
 {
     let mut counts = no_counts();
     let mut turns = 0;
@@ -80,13 +84,14 @@ fn turns_of(entries: &[u16], n: u16) -> Option<Turns>
     Some(Turns { counts, turns })
 }
 
-/// The first number of the window of `n` numbers into which the entries go with their sum kept; `None` exactly where two
-/// entries leave the same remainder.
+/// The first number of the window of `n` numbers into which the entries go with their sum kept;
+/// `None` exactly where two entries leave the same remainder.
 fn window_start(entries: &[u16], n: u16) -> Option<u32>
     requires few { (1 ≤ length entries.now) × (length entries.now ≤ 512) }
     requires cells { (2 ≤ n) × (n ≤ 512) }
     ensures { MatchOption result (has_equal_entries (remainders n entries.now) ≡ true)
-        (λ start. (has_equal_entries (remainders n entries.now) ≡ false) × (size (map (up n start) entries.now) ≡ size entries.now)) }
+        (λ start. (has_equal_entries (remainders n entries.now) ≡ false)
+        × (size (map (up n start) entries.now) ≡ size entries.now)) }
 {
     let Turns { counts, turns } = turns_of(entries, n)?;
     let modulus = u32::from(n);

@@ -27,16 +27,19 @@ pub struct Core {
     pub power: u32,
 }
 
-/// The partition with at most `k` rows where removing rim hooks of `n` cells from `shape` ends, with its sign and the
-/// number of removals; `None` exactly where it has more than `n - k` columns. The order of the removals plays no part.
+/// The partition with at most `k` rows where removing rim hooks of `n` cells from `shape` ends,
+/// with its sign and the number of removals; `None` exactly where it has more than `n - k` columns.
+/// The order of the removals plays no part.
 pub fn core_of(alloc: Global, shape: &Partition, k: u16, n: u16) -> Result<Option<Core>, NoMemory>
     requires rows { (rows shape.now ≤ k) × (1 ≤ k) }
     requires cells { (k < n) × (n ≤ 512) }
     ensures reduces { IfOk result (λ core. ReducesTo k n shape.now (reduction core)) }
 
     // No other order of the removals gives another answer.
-    ensures only { IfOk result (λ core. (other : Reduction) → ReducesTo k n shape.now other → other ≡ reduction core) }
-    ensures remainders { IfOk result (λ core. reduction core ≡ reduction_by_remainders k n shape.now) }
+    ensures only { IfOk result (λ core. (other : Reduction) → ReducesTo k n shape.now other
+        → other ≡ reduction core) }
+    ensures remainders { IfOk result
+        (λ core. reduction core ≡ reduction_by_remainders k n shape.now) }
 {
     let cells = shape.size();
     let entries = shape.beta(k)?;
@@ -53,7 +56,8 @@ pub fn core_of(alloc: Global, shape: &Partition, k: u16, n: u16) -> Result<Optio
     }))
 }
 
-/// Whether so many removals turn the sign, of which each has the sign of `k` + 1 and that of the exchanges that sort its entries.
+/// Whether `power` removals change the sign: each has the sign (-1)^(k + 1) and that of the
+/// exchanges that sort its entries.
 fn turns_the_sign(power: u16, k: u16) -> bool
     ensures { sign_of result ≡ minus_one_to (power * (k + 1)) }
 {

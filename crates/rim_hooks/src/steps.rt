@@ -1,5 +1,6 @@
 //! Products that are reduced after each factor.
-ghost use Rattle.std.specs.Prelude.{◌≡◌, ◌+◌, ◌*◌, ◌^◌, ◌<◌, ◌≤◌, [], ◌∷◌, nat_abs, length, slice_get, Some, IfOk, OnOk, IsErrOf};
+ghost use Rattle.std.specs.Prelude.{◌≡◌, ◌+◌, ◌*◌, ◌^◌, ◌<◌, ◌≤◌, [], ◌∷◌, nat_abs, length};
+ghost use Rattle.std.specs.Prelude.{slice_get, Some, IfOk, OnOk, IsErrOf};
 ghost use Rattle.coeff_rings.specs.Fractions.{whole};
 ghost use Rattle.partitions.specs.FactorList.{AreFactors};
 ghost use Rattle.sym_model.specs.Canonical.{is_label};
@@ -9,7 +10,8 @@ ghost use Rattle.sym_model.specs.ReductionSteps.{classical_weight, step_weight};
 ghost use Rattle.linear_combinations.specs.Entries.{IsCanonicalList, IsCombination};
 ghost use Rattle.linear_combinations.specs.Gains.{HaveLabels, Gains, Overflows, replaced, scaled};
 ghost use Rattle.rim_hooks.specs.FactorRows.{AreFew};
-ghost use Rattle.rim_hooks.specs.Reductions.{products, multiplied, HaveRoom, LeadsTo, IsHeavyFrom, OverflowsWithin};
+ghost use Rattle.rim_hooks.specs.Reductions.{products, multiplied, HaveRoom, LeadsTo, IsHeavyFrom};
+ghost use Rattle.rim_hooks.specs.Reductions.{OverflowsWithin};
 
 use crate::reduction::Reduction;
 use calc_base::SumFault;
@@ -32,9 +34,11 @@ fn add_reductions<L: Label, R: Reduction<L>>(
     requires rows { HaveLabels (λ shape. rows shape ≤ R.variables rule.now) terms.now }
     requires cells { R.cells label.now ≤ 4096 }
     requires table { IsCombination L.eq L.is_label whole sums.old }
-    ensures gains { OnOk result (Gains sums.old (scaled c (replaced (R.reduced rule.now label.now) terms.now)) sums.new) }
+    ensures gains { OnOk result (Gains sums.old
+        (scaled c (replaced (R.reduced rule.now label.now) terms.now)) sums.new) }
     ensures table { OnOk result (IsCombination L.eq L.is_label whole sums.new) }
-    ensures large { IsErrOf result SumFault.Large → Overflows L.eq sums.old (scaled c (replaced (R.reduced rule.now label.now) terms.now)) }
+    ensures large { IsErrOf result SumFault.Large
+        → Overflows L.eq sums.old (scaled c (replaced (R.reduced rule.now label.now) terms.now)) }
     ensures canonical { IsCanonicalList printed_order is_label whole terms.now }
 {
     for (shape, d) in terms.iter() {
@@ -45,7 +49,8 @@ fn add_reductions<L: Label, R: Reduction<L>>(
 
 /// Adds the product of a label and a factor, each shape reduced, times `c`.
 ///
-/// It is refused as `Large` only where `c` times the coefficients of the classical product overflow.
+/// It is refused as `Large` only where `c` times the coefficients of the classical product
+/// overflow.
 fn add_product<L: Label, R: Reduction<L>>(
     alloc: Global,
     rule: &R,
@@ -56,14 +61,17 @@ fn add_product<L: Label, R: Reduction<L>>(
 ) -> Result<(), SumFault>
     requires rule { R.is_rule rule.now }
     requires cells { R.cells label.now + size factor.now ≤ 4096 }
-    requires few { (rows (R.shape label.now) ≤ R.variables rule.now) × (rows factor.now ≤ R.variables rule.now) }
+    requires few { (rows (R.shape label.now) ≤ R.variables rule.now)
+        × (rows factor.now ≤ R.variables rule.now) }
     requires nonzero { 1 ≤ nat_abs c }
     requires table { IsCombination L.eq L.is_label whole sums.old }
     ensures gains { OnOk result (Gains sums.old
-        (scaled c (products (R.variables rule.now) R.shape (R.reduced rule.now) factor.now label.now)) sums.new) }
+        (scaled c (products (R.variables rule.now) R.shape
+        (R.reduced rule.now) factor.now label.now)) sums.new) }
     ensures table { OnOk result (IsCombination L.eq L.is_label whole sums.new) }
     ensures large { IsErrOf result SumFault.Large → OverflowsWithin L.eq sums.old
-        (nat_abs c * classical_weight (R.variables rule.now) (R.shape label.now ∷ factor.now ∷ [])) }
+        (nat_abs c * classical_weight (R.variables rule.now)
+        (R.shape label.now ∷ factor.now ∷ [])) }
 {
     let classical = mult(alloc, R::shape(label), factor, Some(rule.variables()))?;
     add_reductions(alloc, rule, label, &classical, c, sums)
@@ -79,9 +87,11 @@ fn times_factor<L: Label, R: Reduction<L>>(
     requires rule { R.is_rule rule.now }
     requires room { HaveRoom (R.variables rule.now) R.shape R.cells (size factor.now) terms.now }
     requires few { rows factor.now ≤ R.variables rule.now }
-    ensures gains { IfOk result (Gains [] (multiplied (R.variables rule.now) R.shape (R.reduced rule.now) factor.now terms.now)) }
+    ensures gains { IfOk result (Gains []
+        (multiplied (R.variables rule.now) R.shape (R.reduced rule.now) factor.now terms.now)) }
     ensures table { IfOk result (IsCombination L.eq L.is_label whole) }
-    ensures large { IsErrOf result SumFault.Large → 2 ^ 127 ≤ step_weight R.shape (R.variables rule.now) factor.now terms.now }
+    ensures large { IsErrOf result SumFault.Large
+        → 2 ^ 127 ≤ step_weight R.shape (R.variables rule.now) factor.now terms.now }
 {
     let mut sums = Lin::new(alloc);
     for (label, c) in terms.iter() {
@@ -107,7 +117,8 @@ pub(crate) fn product_in_steps<L: Label, R: Reduction<L>>(
     requires rule { R.is_rule rule.now }
     requires few { AreFew (R.variables rule.now) factors.now }
     ensures steps { IfOk result (LeadsTo (R.step rule.now) R.start factors.now) }
-    ensures large { IsErrOf result SumFault.Large → IsHeavyFrom R.shape (R.step rule.now) R.start (R.variables rule.now) factors.now }
+    ensures large { IsErrOf result SumFault.Large
+        → IsHeavyFrom R.shape (R.step rule.now) R.start (R.variables rule.now) factors.now }
 {
     let len = factors.len();
     let start = R::start(factor_at(factors, 0))?;

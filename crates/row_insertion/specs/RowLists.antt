@@ -1,4 +1,4 @@
--- Rows of letters in vectors, and the cells that come to rows and leave them (this project's own).
+-- Rows of letters in vectors, and the cells that come to rows and leave them.
 use Rattle.std.specs.Prelude.{◌-◌, slice_index_or, slice_set, ℕ, zero, suc, List, [], ◌∷◌, map, Vec}
 use Rattle.std.specs.declared.alloc.Global.{Global}
 use Rattle.sym_model.specs.Tableau.{SkewFilling, shape_of}
@@ -18,7 +18,8 @@ straight rows = record { outer = shape_of rows; inner = []; rows = rows }
 
 -- the filling with other numbers in one row, counted from 1
 abbrev pub with_row : SkewFilling → ℕ → List ℕ → SkewFilling
-with_row t row numbers = record { outer = t.outer; inner = t.inner; rows = slice_set t.rows (row - 1) numbers }
+with_row t row numbers =
+    record { outer = t.outer; inner = t.inner; rows = slice_set t.rows (row - 1) numbers }
 
 -- the rows without the last number of row i, counted from 0; a row without numbers is none
 abbrev pub without_end : ℕ → List (List ℕ) → List (List ℕ)

@@ -10,8 +10,10 @@ use std::mem;
 
 /// Inserts a letter into the rows of a tableau, and answers which row, counted from 0, has grown.
 pub(crate) fn insert(rows: &mut Vec<Vec<u16>>, letter: u16) -> Result<usize, AllocError>
-    ensures rows { IfOk result (λ at. rows_in rows.new.items ≡ inserted (rows_in rows.old.items) (Some letter)) }
-    ensures row { IfOk result (λ at. at ≡ grown (shape_of (rows_in rows.new.items)) (shape_of (rows_in rows.old.items))) }
+    ensures rows { IfOk result (λ at. rows_in rows.new.items
+        ≡ inserted (rows_in rows.old.items) (Some letter)) }
+    ensures row { IfOk result (λ at. at
+        ≡ grown (shape_of (rows_in rows.new.items)) (shape_of (rows_in rows.old.items))) }
 {
     let mut letter = letter;
     let count = rows.len();
@@ -39,11 +41,12 @@ fn put_in(row: &mut Vec<u16>, letter: u16) -> Result<Option<u16>, AllocError>
     Ok(None)
 }
 
-/// Puts a number at the end of a row, counted from 0; behind the last row it begins a new one. Want of memory is its only
-/// error.
+/// Puts a number at the end of a row, counted from 0; after the last row it begins a new one. Out
+/// of memory is its only error.
 pub fn push_at(rows: &mut Vec<Vec<u16>>, at: usize, number: u16) -> Result<(), AllocError>
     requires { at ≤ length rows.old.items }
-    ensures { IfOk result (λ done. rows_in rows.new.items ≡ with_end at number (rows_in rows.old.items)) }
+    ensures { IfOk result (λ done. rows_in rows.new.items
+        ≡ with_end at number (rows_in rows.old.items)) }
 {
     if at < rows.len() {
         rows[at].push(number)?;

@@ -1,5 +1,5 @@
-//! Row insertion: the pair of tableaux of a word, the word of a pair, and the reading word of a tableau; and standard
-//! tableaux that are built row by row.
+//! Row insertion: the pair of tableaux of a word, the word of a pair, and the reading word of a
+//! tableau; and standard tableaux that are built row by row.
 //!
 //! What is proved:
 //!

@@ -59,7 +59,7 @@ fn put_row(filled: &mut Filled, row: u16, numbers: &[u16])
     }
 }
 
-/// The standard tableau with these rows. Want of memory is its only error.
+/// The standard tableau with these rows. Out of memory is its only error.
 pub fn standard_of(alloc: Global, rows: &[Vec<u16>]) -> Result<Standard, NoMemory>
     requires standard { IsStandard (rows_in rows.now) }
     requires tableau { AreRows 1 (rows_in rows.now) }
@@ -75,7 +75,8 @@ pub fn standard_of(alloc: Global, rows: &[Vec<u16>]) -> Result<Standard, NoMemor
 /// The rows of a tableau.
 pub(crate) fn rows_of(alloc: Global, t: &Tableau) -> Result<Vec<Vec<u16>>, NoMemory>
     ensures rows { IfOk result (λ list. rows_in list.items ≡ t.now.rows) }
-    ensures lengths { IfOk result (λ list. shape_of (rows_in list.items) ≡ row_lengths t.now.outer t.now.inner) }
+    ensures lengths { IfOk result
+        (λ list. shape_of (rows_in list.items) ≡ row_lengths t.now.outer t.now.inner) }
 {
     let mut list = Vec::new(alloc);
     for at in 0..t.shape().outer().rows() {

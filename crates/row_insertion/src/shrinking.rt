@@ -1,12 +1,14 @@
 //! Rows that lose a cell, in place.
 ghost use Rattle.std.specs.Prelude.{◌≡◌, ◌<◌, length, slice_index, slice_set};
-ghost use Rattle.insertion_laws.specs.Removal.{last_of, letter_back, removed, row_back, row_ending, without_last};
+ghost use Rattle.insertion_laws.specs.Removal.{last_of, letter_back, removed, row_back, row_ending};
+ghost use Rattle.insertion_laws.specs.Removal.{without_last};
 ghost use Rattle.insertion_laws.specs.Rows.{AreRows};
 ghost use Rattle.row_insertion.specs.RowLists.{row_at, rows_in, without_end};
 
 use std::mem;
 
-/// The first row, counted from 0, that ends with the number; the number of rows where there is none.
+/// The first row, counted from 0, that ends with the number;
+/// the number of rows where there is none.
 pub(crate) fn row_ending(rows: &[Vec<u16>], number: u16) -> usize
     ensures { result ≡ row_ending number (rows_in rows.now) }
 {
@@ -28,8 +30,9 @@ fn last_of(row: &[u16]) -> u16
     *last
 }
 
-/// Takes the last letter of a row, counted from 0, out of the rows of a tableau: it goes up, in each row in place of the
-/// last smaller letter. The answer is the letter that leaves the first row.
+/// Takes the last letter of a row, counted from 0, out of the rows of a tableau: it goes up, in
+/// each row in place of the last smaller letter. The answer is the letter that leaves the first
+/// row.
 pub(crate) fn take_out(rows: &mut Vec<Vec<u16>>, at: usize) -> u16
     requires tableau { AreRows 1 (rows_in rows.old.items) }
     requires row { at < length rows.old.items }

@@ -1,6 +1,7 @@
 //! Lines of the programs that print rows of library calls.
 //!
-//! A function that prints computed values is expensive to prove, and so is one that drops several values between several `?`.
+//! A function that prints computed values is expensive to prove, and so is one that drops several
+//! values between several `?`.
 //! So the printing is done here, and a list of answers goes to one call.
 #![tactic(auto)]
 

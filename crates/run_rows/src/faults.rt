@@ -7,7 +7,8 @@ use std::alloc::{AllocError, Global};
 /// Two lines of a batch.
 const LINES: &str = "schubert 1\nschubert 1\n";
 
-/// Two lines of a batch: the block of the first one is put in one piece, and the second one has more tableaux than could be listed.
+/// Two lines of a batch: the block of the first one is put in one piece, and the second one has
+/// more tableaux than could be listed.
 const LONG_LINES: &str =
     "mult 1 - 1\ntab 30 29 28 27 26 25 24 23 22 21 20 19 18 17 16 15 14 13 12 11 10 9 8 7 6 5 4 3 2 1 / 29 28 27 26 25 24 23 22 21 20 19 18 17 16 15 14 13 12 11 10 9 8 7 6 5 4 3 2 1\n";
 
@@ -29,7 +30,8 @@ pub(crate) fn words(alloc: Global, texts: &[&str]) -> Result<Vec<String>, AllocE
     Ok(words)
 }
 
-/// Runs a command over a sink whose call 0 fails, then over one whose call 1 fails, and so on up to the first run without a fault.
+/// Runs a command over a sink whose call 0 fails, then over one whose call 1 fails, and so on up to
+/// the first run without a fault.
 fn each_call_of_the_sink(rt: &(impl Print + Alloc<A = Global>), words: &[String]) -> Result<()> {
     for call in 0..100u64 {
         print!(rt; "a sink that fails at call {call}: ")?;
@@ -47,7 +49,8 @@ fn first_call_of_the_sink(rt: &(impl Print + Alloc<A = Global>), words: &[String
     Ok(())
 }
 
-/// Runs a batch over sources whose call 0 or 1 fails, in the first line, and whose call 6 fails, in the second one.
+/// Runs a batch over sources whose call 0 or 1 fails, in the first line, and whose call 6 fails,
+/// in the second one.
 fn calls_of_the_source(rt: &(impl Print + Alloc<A = Global>), words: &[String]) -> Result<()> {
     for call in [0u64, 1, 6] {
         print!(rt; "a source that fails at call {call}: ")?;
@@ -56,8 +59,8 @@ fn calls_of_the_source(rt: &(impl Print + Alloc<A = Global>), words: &[String]) 
     Ok(())
 }
 
-/// Runs a batch over a sink that fails where the first block is handed on, and over one that fails at the line `--` in front of the
-/// second block: of that block nothing is listed.
+/// Runs a batch over a sink that fails where the first block is handed on, and over one that fails
+/// at the line `--` in front of the second block: of that block nothing is listed.
 fn between_two_blocks(rt: &(impl Print + Alloc<A = Global>), words: &[String]) -> Result<()> {
     print!(rt; "a sink that fails behind the first block: ")?;
     has_fault(rt, words, LONG_LINES, (&[], &[1]))?;
@@ -66,8 +69,8 @@ fn between_two_blocks(rt: &(impl Print + Alloc<A = Global>), words: &[String]) -
     Ok(())
 }
 
-/// Runs a command over an input that comes two bytes at a time, where these calls of the source and of the sink fail, prints
-/// how it ends, and answers whether the sink counted a fault.
+/// Runs a command over an input that comes two bytes at a time, where these calls of the source and
+/// of the sink fail, prints how it ends, and answers whether the sink counted a fault.
 fn has_fault(
     rt: &(impl Print + Alloc<A = Global>),
     words: &[String],
@@ -80,7 +83,8 @@ fn has_fault(
     Ok(sink.faults() > 0)
 }
 
-/// Runs a command, and prints its status, how many calls of the source and of the sink failed, and what was put.
+/// Runs a command, and prints its status, how many calls of the source and of the sink failed,
+/// and what was put.
 pub(crate) fn ended(
     rt: &(impl Print + Alloc<A = Global>),
     words: &[String],

@@ -29,7 +29,8 @@ impl Read for NarrowReader {
     }
 }
 
-/// Takes a byte at a time but at the fifth write, which fails, and at the seventh, which takes nothing. The second flush fails.
+/// Takes a byte at a time but at the fifth write, which fails, and at the seventh, which takes
+/// nothing. The second flush fails.
 #[derive(Drop)]
 pub struct NarrowWriter {
     taken: [u8; 8],

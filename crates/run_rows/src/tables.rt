@@ -1,4 +1,5 @@
-//! Rows of runs over inputs that come in pieces, over sinks with little room, and over sinks that fail at each call in turn.
+//! Rows of runs over inputs that come in pieces, over sinks with little room, and over sinks that
+//! fail at each call in turn.
 ghost use Rattle.std.specs.Prelude.{◌≤◌};
 
 use crate::faults::{ended, words};
@@ -46,8 +47,8 @@ fn counted(rt: &(impl Print + Alloc<A = Global>), words: &[String]) -> Result<()
     run_over(rt, words, 1, (&[], &[]), 256)
 }
 
-/// Runs a command over the five lines in pieces of this length, where these calls of the source and of the sink fail, and
-/// prints how it ends.
+/// Runs a command over the five lines in pieces of this length, where these calls of the source and
+/// of the sink fail, and prints how it ends.
 fn run_over(
     rt: &(impl Print + Alloc<A = Global>),
     words: &[String],
@@ -63,8 +64,8 @@ fn run_over(
     ended(rt, words, &mut source, &mut sink)
 }
 
-/// Runs a command over sinks whose call 0, 1, .. fails, up to the first run without a fault, and prints whether each run before
-/// it told of the fault and put a front of the text.
+/// Runs a command over sinks whose call 0, 1, .. fails, up to the first run without a fault, and
+/// prints whether each run before it told of the fault and put a front of the text.
 fn fails_in_turn(
     rt: &(impl Print + Alloc<A = Global>),
     what: &str,

@@ -17,6 +17,7 @@ use Rattle.schubert_laws.proofs.Swaps.{among_get}
 use Rattle.schubert_laws.proofs.Transition.{last_descent_is}
 use Rattle.sym_model.proofs.AfterLists.{length_after, after_among, among_after}
 use Rattle.sym_model.proofs.Numbers.{counts-not_less, counts-less}
+use Rattle.sym_model.proofs.Lists.{smaller-within}
 
 -- ---- the code of a list
 
@@ -28,16 +29,9 @@ pub length-code : (w : List ℕ) → length (code w) ≡ length w
 length-code [] = refl
 length-code (a ∷ w) = ap suc (length-code w)
 
-counts_one : (x y : ℕ) → cond {A = ℕ} (nat_lt x y) 1 0 ≤ 1
-counts_one x y = elim (cases_lt x y) [ inl l ↦ let c = counts-less x y l in omega arith | inr l ↦ let c = counts-not_less x y l in omega arith ]
-
-smaller_most : (a : ℕ) (w : List ℕ) → smaller a w ≤ length w
-smaller_most a [] = omega arith
-smaller_most a (b ∷ w) = let e = smaller_most a w in let c = counts_one b a in omega arith
-
 pub code_is_code : (w : List ℕ) → IsCode (code w)
 code_is_code [] = tt
-code_is_code (a ∷ w) = (let e = smaller_most a w in let l = length-code w in omega arith, code_is_code w)
+code_is_code (a ∷ w) = (let e = smaller-within a w in let l = length-code w in omega arith, code_is_code w)
 
 -- ---- rising lists
 
@@ -239,7 +233,7 @@ letters-code (a ∷ w) l s r =
     ]
 
     smaller_below_length : (b : ℕ) (v : List ℕ) → smaller b v < smaller (suc b) v → smaller b v < length v
-    smaller_below_length b v h = let m = smaller_most (suc b) v in omega arith
+    smaller_below_length b v h = let m = smaller-within (suc b) v in omega arith
 
 -- a permutation rearranges the places
 pub smaller_total : (x : ℕ) (w : List ℕ) → pos (smaller x w) ≡ total (λ b. pos (cond (nat_lt b x) 1 0)) w

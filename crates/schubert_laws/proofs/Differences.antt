@@ -1,7 +1,7 @@
 -- Divided differences of polynomials through their pairings with test functions.
 --     along k φ              what φ gives on ∂ of a monomial, in the two variables after the first k
 --     pair_differences       the pairing of ∂ f is that of f with `along`
---     along_square, along_braid, along_commute, along_product      the laws of divided differences, on test functions
+--     along_square, along_braid, along_commute                     the laws of divided differences, on test functions
 use Rattle.std.proofs.Common.{◌≡◌, ℕ, zero, suc, ◌+◌, ◌-◌, ◌≤◌, List, [], ◌∷◌, ◌++◌, refl, sym, ◌∙◌, ap, arith, ℤ, pos, ◌+ℤ◌, ◌*ℤ◌, neg_ℤ, inl, inr}
 use Rattle.std.proofs.lemmas.Int.{ints}
 use Rattle.std.proofs.lemmas.Bool.{cases_lt}

@@ -128,7 +128,8 @@ inversions_kept w o =
 
 -- ---- of different letters each pair rises or is an inversion
 
-pairs : ℕ → ℕ
+-- how many pairs n places have
+unfoldable pub pairs : ℕ → ℕ
 pairs zero = 0
 pairs (suc n) = n + pairs n
 

@@ -1,5 +1,5 @@
 -- The permutations on the right side of the transition rule: they are permutations, of not more letters.
-use Rattle.std.proofs.Common.{◌≡◌, ℕ, ◌+◌, ◌-◌, ◌<◌, ◌≤◌, List, ◌==◌, map, length, sym, ap, ap₂, ◌∙◌, subst, arith, length-append, eqb-true}
+use Rattle.std.proofs.Common.{◌≡◌, ℕ, ◌+◌, ◌-◌, ◌<◌, ◌≤◌, List, ◌==◌, map, length, sym, ap, subst, arith, length-append, eqb-true}
 use Rattle.sym_model.specs.Sum.{Among}
 use Rattle.sym_model.specs.Partition.{after}
 use Rattle.sym_model.specs.PlaceOrders.{inversions}
@@ -10,9 +10,7 @@ use Rattle.schubert_laws.proofs.FixedTails.{one_line_added, one_line_kept}
 use Rattle.schubert_laws.proofs.LowerPermutations.{kept_whole}
 use Rattle.schubert_laws.proofs.MonkFromOne.{one_line_swap, swap_is}
 use Rattle.schubert_laws.proofs.Swaps.{swap_at, length-swap_at}
-use Rattle.schubert_laws.proofs.TransitionFromOne.{step_of, kept_swap}
-use Rattle.schubert_laws.proofs.FixedTails.{inversions_kept, one_more_inversion}
-use Rattle.schubert_laws.proofs.Transition.{raises_by_one, strict_get, rises_chain}
+use Rattle.schubert_laws.proofs.TransitionFromOne.{step_of}
 use Rattle.schubert_laws.specs.TransitionOrder.{IsShort}
 
 pub fewer_kept : (w : List ℕ) → length (kept w) ≤ length w
@@ -59,21 +57,6 @@ short_cover n r u x s h m =
     let g0 = g.0 in
     let g1 = g.1 in
     subst (IsShort n) (sym c.2) (short_swap n u c.0 r s (omega arith) (omega arith) h)
-
--- the first permutation of the rule has fewer inversions
-pub fewer_inversions : (w : List ℕ) (r s : ℕ) → IsOneLine w → IsTransition w r s → inversions (times_swap r s w) < inversions w
-fewer_inversions w r s o t =
-    let p = step_of w r s o t in
-    let g = p.4 in
-    let order = g.order in
-    let inside = g.inside in
-    let ou = one_line_swap p.0 p.1 w (omega arith) inside o in
-    let e = one_more_inversion (swap_at p.0 p.1 w) w ou.once o.once (sym (length-swap_at p.0 p.1 w))
-    (raises_by_one p.0 p.1 0 w order inside g.falls (λ c h l. strict_get w c p.1 o.once (omega arith) inside (λ z. omega arith) (rises_chain p.0 c p.1 w g.rises h (omega arith) inside))) in
-    let k = inversions_kept (swap_at p.0 p.1 w) ou in
-    let is : times_swap r s w ≡ kept (swap_at p.0 p.1 w) = ap₂ (λ i j. times_swap i j w) p.2 p.3 ∙ kept_swap w p.0 p.1 g.order g.inside in
-    let same = ap inversions is in
-    omega arith
 
 -- and the others have as many
 pub cover_inversions : (r : ℕ) (u x : List ℕ) → Among x (covers_down r u) → inversions x ≡ inversions u + 1

@@ -5,7 +5,7 @@ use Rattle.std.proofs.Math.ListN.{get_or-append}
 use Rattle.std.proofs.lemmas.Int.{ints}
 use Rattle.std.proofs.lemmas.List.{append-nil}
 use Rattle.sym_model.specs.Sum.{total, Once}
-use Rattle.sym_model.specs.Polynomial.{Poly, Same, plus, negate, times, pair, nothing, resize, fits_in, restrict}
+use Rattle.sym_model.specs.Polynomial.{Poly, Same, plus, negate, times, pair, nothing, restrict}
 use Rattle.sym_model.specs.Partition.{after}
 use Rattle.sym_model.specs.PlaceOrders.{inversions}
 use Rattle.sym_model.specs.Alternant.{staircase}
@@ -16,7 +16,7 @@ use Rattle.sym_model.specs.Schubert.{schubert, schubert_over, schubert_in, schub
 use Rattle.sym_model.proofs.Exponents.{tests_agree}
 use Rattle.sym_model.proofs.Sums.{total_among, total_append, total_map, total_select, total_neg}
 use Rattle.sym_model.proofs.Polynomials.{pair_plus, pair_negate, pair_each, pair_restrict, pair_determined, same_from_pair, Same_refl, Same_sym, times_respects}
-use Rattle.sym_model.proofs.PolynomialLaws.{restrict-times}
+use Rattle.sym_model.proofs.PolynomialLaws.{restrict-times, restricted_test}
 use Rattle.schubert_laws.proofs.DifferenceLaws.{variable_after}
 use Rattle.schubert_laws.proofs.DifferencesFromOne.{variable_is}
 use Rattle.schubert_laws.proofs.FixedTails.{one_line_added, schubert_added, inversions_added, schubert_kept, inversions_kept, one_more_inversion, one_less_rising}
@@ -85,10 +85,6 @@ sum_split n q f h =
 
 -- ---- one term
 
--- the test function of a restriction
-abbrev pub within : ℕ → (List ℕ → ℤ) → List ℕ → ℤ
-within n φ α = cond (fits_in n α) (φ (resize n α)) (pos 0)
-
 -- w with fixed letters up to k + 1 places more
 abbrev pub longer : List ℕ → ℕ → List ℕ
 longer w k = w ++ after (length w) (k + 1)
@@ -125,19 +121,19 @@ longer_split w k m h =
 pub swap_added : (u : List ℕ) (t a b : ℕ) → a < length u → b < length u → swap_at a b (u ++ after (length u) t) ≡ swap_at a b u ++ after (length (swap_at a b u)) t
 swap_added u t a b h l = swap_at_append a b u (after (length u) t) h l ∙ ap (λ n. swap_at a b u ++ after n t) (sym (length-swap_at a b u))
 
-pair_within : (n : ℕ) (φ : List ℕ → ℤ) (a b : ℕ) (long : List ℕ) → pair (schubert_over (top_of long) (swap_at a b long)) (within n φ) ≡ pair (schubert_in (swap_at a b long) n) φ
-pair_within n φ a b long = ap (λ f. pair f (within n φ)) (over_swap a b long) ∙ sym (pair_restrict n (schubert (swap_at a b long)) φ)
+pair_within : (n : ℕ) (φ : List ℕ → ℤ) (a b : ℕ) (long : List ℕ) → pair (schubert_over (top_of long) (swap_at a b long)) (restricted_test n φ) ≡ pair (schubert_in (swap_at a b long) n) φ
+pair_within n φ a b long = ap (λ f. pair f (restricted_test n φ)) (over_swap a b long) ∙ sym (pair_restrict n (schubert (swap_at a b long)) φ)
 
 -- the term of places a and b of u with t fixed letters added is that of the kept swap of u
 term_added : (n : ℕ) (φ : List ℕ → ℤ) (w u : List ℕ) (t a b : ℕ) → IsOneLine u → a < length u → b < length u → inversions u ≡ inversions w
-    → covered (top_of (u ++ after (length u) t)) (within n φ) (u ++ after (length u) t) a b ≡ cover_value n φ w (kept (swap u a b))
+    → covered (top_of (u ++ after (length u) t)) (restricted_test n φ) (u ++ after (length u) t) a b ≡ cover_value n φ w (kept (swap u a b))
 term_added n φ w u t a b o h l e =
     let os = one_line_swap a b u h l o in
     let ou = one_line_added t u o in
     let sa = swap_added u t a b h l in
     let k : kept (swap_at a b u) ≡ kept (swap u a b) = ap kept (sym (swap_is u a b h l)) in
     let len = length-swap_at a b (u ++ after (length u) t) in
-    cover_tests n φ (top_of (u ++ after (length u) t)) (within n φ) w (u ++ after (length u) t) (swap_at a b (u ++ after (length u) t)) (kept (swap u a b))
+    cover_tests n φ (top_of (u ++ after (length u) t)) (restricted_test n φ) w (u ++ after (length u) t) (swap_at a b (u ++ after (length u) t)) (kept (swap u a b))
     ou.once
     (subst Once (sym sa) (one_line_added t (swap_at a b u) os).once)
     len
@@ -150,13 +146,13 @@ term_added n φ w u t a b o h l e =
     ∙ ap (λ v. pair (schubert_in v n) φ) k)
 
 pub cover_term : (n : ℕ) (φ : List ℕ → ℤ) (w : List ℕ) (k i j : ℕ) → IsOneLine w → 1 ≤ i → i < j → j ≤ length w + k + 1
-    → covered (top_of (longer w k)) (within n φ) (longer w k) (i - 1) (j - 1) ≡ cover_value n φ w (times_swap i j w)
+    → covered (top_of (longer w k)) (restricted_test n φ) (longer w k) (i - 1) (j - 1) ≡ cover_value n φ w (times_swap i j w)
 cover_term n φ w k i j o c h l =
     let m : ℕ = j - length w in
     let la = length-append w (after (length w) (j - length w)) in
     let lb = length_after (length w) (j - length w) in
     let s = longer_split w k (j - length w) (omega arith) in
-    subst (λ v. covered (top_of v) (within n φ) v (i - 1) (j - 1) ≡ cover_value n φ w (times_swap i j w)) (sym s)
+    subst (λ v. covered (top_of v) (restricted_test n φ) v (i - 1) (j - 1) ≡ cover_value n φ w (times_swap i j w)) (sym s)
     (term_added n φ w (w ++ after (length w) (j - length w)) (k + 1 - (j - length w)) (i - 1) (j - 1)
     (one_line_added (j - length w) w o) (omega arith) (omega arith) (inversions_added (j - length w) w o))
 
@@ -190,14 +186,14 @@ pair_covers n φ w f js =
 
 -- the left side
 pair_left : (n : ℕ) (φ : List ℕ → ℤ) (w : List ℕ) (k q : ℕ) → IsOneLine w
-    → pair (times (variable_in (suc q) n) (schubert_in w n)) φ ≡ pair (times (plus (variable_after q) nothing) (schubert (longer w k))) (within n φ)
+    → pair (times (variable_in (suc q) n) (schubert_in w n)) φ ≡ pair (times (plus (variable_after q) nothing) (schubert (longer w k))) (restricted_test n φ)
 pair_left n φ w k q o =
     pair_determined (times (variable_in (suc q) n) (schubert_in w n)) (times (variable_in (suc q) n) (schubert_in (longer w k) n)) φ
     (times_respects (variable_in (suc q) n) (variable_in (suc q) n) (schubert_in w n) (schubert_in (longer w k) n) (Same_refl (variable_in (suc q) n))
     (Same_sym (schubert_in (longer w k) n) (schubert_in w n) (schubert_added (k + 1) w n o)))
     ∙ sym (pair_determined (restrict n (times (variable (suc q)) (schubert (longer w k)))) (times (variable_in (suc q) n) (schubert_in (longer w k) n)) φ (restrict-times n (variable (suc q)) (schubert (longer w k))))
     ∙ pair_restrict n (times (variable (suc q)) (schubert (longer w k))) φ
-    ∙ ap (λ x. pair (times x (schubert (longer w k))) (within n φ)) (variable_is q (suc q) refl ∙ sym (append-nil (variable_after q)))
+    ∙ ap (λ x. pair (times x (schubert (longer w k))) (restricted_test n φ)) (variable_is q (suc q) refl ∙ sym (append-nil (variable_after q)))
 
 monk_at : (n q k : ℕ) (w : List ℕ) → IsOneLine w → k ≡ max (length w) (suc q) - length w
     → Same (times (variable_in (suc q) n) (schubert_in w n)) (plus (schuberts_in (covers_up (suc q) w) n) (negate (schuberts_in (covers_down (suc q) w) n)))
@@ -207,21 +203,21 @@ monk_at n q k w o e =
     let len = length-append w (after (length w) (k + 1)) in
     let len2 = length_after (length w) (k + 1) in
     let a = pair_left n φ w k q o in
-    let b = monk_longer w k q o (omega arith) (within n φ) in
-    let c = sum_split (length (longer w k)) q (value (top_of (longer w k)) (within n φ) (longer w k) q) (omega arith) in
-    let here = signed_same q q (covered (top_of (longer w k)) (within n φ) (longer w k) q q) refl in
-    let down = total_among (λ i. value (top_of (longer w k)) (within n φ) (longer w k) q (i - 1)) (λ i. neg_ℤ (cover_value n φ w (times_swap i (suc q) w))) (after 0 q) (λ i m.
+    let b = monk_longer w k q o (omega arith) (restricted_test n φ) in
+    let c = sum_split (length (longer w k)) q (value (top_of (longer w k)) (restricted_test n φ) (longer w k) q) (omega arith) in
+    let here = signed_same q q (covered (top_of (longer w k)) (restricted_test n φ) (longer w k) q q) refl in
+    let down = total_among (λ i. value (top_of (longer w k)) (restricted_test n φ) (longer w k) q (i - 1)) (λ i. neg_ℤ (cover_value n φ w (times_swap i (suc q) w))) (after 0 q) (λ i m.
     let r = after_among 0 q i m in let x = r.0 in let y = r.1 in
     let z : suc q - 1 ≡ q = omega arith in
-    signed_down q (i - 1) (covered (top_of (longer w k)) (within n φ) (longer w k) q (i - 1)) (omega arith)
-    ∙ ap neg_ℤ (covered_sym (top_of (longer w k)) (within n φ) (longer w k) q (i - 1)
-    ∙ ap (covered (top_of (longer w k)) (within n φ) (longer w k) (i - 1)) (sym z)
+    signed_down q (i - 1) (covered (top_of (longer w k)) (restricted_test n φ) (longer w k) q (i - 1)) (omega arith)
+    ∙ ap neg_ℤ (covered_sym (top_of (longer w k)) (restricted_test n φ) (longer w k) q (i - 1)
+    ∙ ap (covered (top_of (longer w k)) (restricted_test n φ) (longer w k) (i - 1)) (sym z)
     ∙ cover_term n φ w k i (suc q) o (omega arith) (omega arith) (omega arith))) in
-    let up = total_among (λ j. value (top_of (longer w k)) (within n φ) (longer w k) q (j - 1)) (λ j. cover_value n φ w (times_swap (suc q) j w)) (after (q + 1) (length (longer w k) - (q + 1))) (λ j m.
+    let up = total_among (λ j. value (top_of (longer w k)) (restricted_test n φ) (longer w k) q (j - 1)) (λ j. cover_value n φ w (times_swap (suc q) j w)) (after (q + 1) (length (longer w k) - (q + 1))) (λ j m.
     let r = after_among (q + 1) (length (longer w k) - (q + 1)) j m in let x = r.0 in let y = r.1 in
     let z : suc q - 1 ≡ q = omega arith in
-    signed_up q (j - 1) (covered (top_of (longer w k)) (within n φ) (longer w k) q (j - 1)) (omega arith)
-    ∙ ap (λ t. covered (top_of (longer w k)) (within n φ) (longer w k) t (j - 1)) (sym z)
+    signed_up q (j - 1) (covered (top_of (longer w k)) (restricted_test n φ) (longer w k) q (j - 1)) (omega arith)
+    ∙ ap (λ t. covered (top_of (longer w k)) (restricted_test n φ) (longer w k) t (j - 1)) (sym z)
     ∙ cover_term n φ w k (suc q) j o (omega arith) (omega arith) (omega arith)) in
     let neg = total_neg (λ i. cover_value n φ w (times_swap i (suc q) w)) (after 0 q) in
     let plus_is = pair_plus (schuberts_in (covers_up (suc q) w) n) (negate (schuberts_in (covers_down (suc q) w) n)) φ in

@@ -5,7 +5,6 @@
 --                         a cover, with sign + where b stands after r and - where it stands before
 --     IsMonk g c w r      Monk's rule for x_r, as an equation of pairings
 --     monk_step           from the exchanged list to the list
---     monk_over           hence from the lists without ascents to all
 use Rattle.std.proofs.Common.{◌≡◌, ℕ, zero, suc, ◌<◌, ◌≤◌, List, [], ◌∷◌, length, get_or, refl, sym, ◌∙◌, ap, ap₂, subst, arith, inl, inr, ◌⊎◌, cond, nat_lt, ◌==◌, Bool, true, false, ℤ, pos, ◌+ℤ◌, neg_ℤ, eq-eqb, eqb-true}
 use Rattle.std.proofs.lemmas.Int.{ints}
 use Rattle.std.proofs.lemmas.Bool.{cases_eq, cases_lt, lt-ltb, ne_eqb}

@@ -1,4 +1,4 @@
--- A permutation that the transition rule makes has a smaller number than the one that it comes of.
+-- A permutation that the transition rule makes has a smaller number than the one that it is made from.
 use Rattle.std.proofs.Common.{◌≡◌, ℕ, zero, suc, ◌+◌, ◌-◌, ◌*◌, ◌<◌, ◌≤◌, List, [], ◌∷◌, length, get_or, refl, ap, inl, inr, arith, Some, None, Option, unwrap_or}
 use Rattle.std.proofs.lemmas.Bool.{cases_lt}
 use Rattle.sym_model.specs.Sum.{Among}

@@ -1,7 +1,6 @@
 -- The transition rule, as Monk's rule at the last descent.
 --     raises_by_one     swapping a falling pair with only smaller entries between makes one more pair rise
 --     between           swapping a rising pair with an entry between in size makes three fewer rise, or less
---     transition        the rule
 use Rattle.std.proofs.Common.{◌≡◌, ℕ, zero, suc, ◌+◌, ◌-◌, ◌<◌, ◌≤◌, max, List, [], ◌∷◌, ◌++◌, length, get_or, set, refl, sym, ◌∙◌, ap, ap₂, subst, arith, inl, inr, cond, nat_lt, Bool, true, false, ℤ, pos, length-append, eq-eqb, Option, Some, None, option_map}
 use Rattle.std.specs.Option.{option_or}
 use Rattle.std.specs.List.{swap}
@@ -23,10 +22,11 @@ use Rattle.sym_model.proofs.Polynomials.{pair_plus, pair_negate, pair_determined
 use Rattle.schubert_laws.proofs.FixedTails.{schubert_kept, inversions_kept, one_more_inversion}
 use Rattle.schubert_laws.proofs.Swaps.{swap_at, length-swap_at, raises, greater_swap, swap_twice, get_swap_left, get_swap_right, among_get, once_swap}
 use Rattle.schubert_laws.proofs.MonkStep.{covered, covered_none}
-use Rattle.schubert_laws.proofs.MonkFromOne.{swap_is, one_line_swap, longer, top_of, within, cover_value, cover_term, pair_covers, monk_in}
+use Rattle.schubert_laws.proofs.MonkFromOne.{swap_is, one_line_swap, longer, top_of, cover_value, cover_term, pair_covers, monk_in}
 use Rattle.sym_model.proofs.AfterLists.{length_after, after_among, among_after, once_after}
 use Rattle.sym_model.proofs.Numbers.{counts-not_less, counts-less}
 use Rattle.sym_model.proofs.Lists.{get_or-any}
+use Rattle.sym_model.proofs.PolynomialLaws.{restricted_test}
 
 -- ---- a falling pair with only smaller entries between
 
@@ -280,8 +280,8 @@ pair_up n φ w q b o s =
         let y = r.1 in
         let i : suc q - 1 ≡ q = omega arith in
         sym (cover_term n φ (swap_at q b w) 0 (suc q) j ou (omega arith) x (omega arith))
-        ∙ ap (λ t. covered (top_of (longer (swap_at q b w) 0)) (within n φ) (longer (swap_at q b w) 0) t (j - 1)) i
-        ∙ covered_none (top_of (longer (swap_at q b w) 0)) (within n φ) (longer (swap_at q b w) 0) q (j - 1)
+        ∙ ap (λ t. covered (top_of (longer (swap_at q b w) 0)) (restricted_test n φ) (longer (swap_at q b w) 0) t (j - 1)) i
+        ∙ covered_none (top_of (longer (swap_at q b w) 0)) (restricted_test n φ) (longer (swap_at q b w) 0) q (j - 1)
         (no_other w q b (j - 1) o s (omega arith) (omega arith) (λ z. d (omega arith)))
 
 pub transition_at : (n : ℕ) (w : List ℕ) (q b : ℕ) → IsOneLine w → IsStep w q b

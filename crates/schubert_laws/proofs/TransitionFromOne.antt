@@ -1,9 +1,8 @@
 -- The transition rule as its law function states it: with places counted from 1, and permutations as they are kept.
-use Rattle.std.proofs.Common.{◌≡◌, ℕ, zero, suc, ◌+◌, ◌-◌, ◌<◌, ◌≤◌, List, [], ◌∷◌, ◌++◌, ◌==◌, map, length, get_or, refl, sym, ◌∙◌, ap, ap₂, subst, arith, inl, inr, length-append, append_assoc, Some}
+use Rattle.std.proofs.Common.{◌≡◌, ℕ, zero, suc, ◌+◌, ◌-◌, ◌<◌, ◌≤◌, List, [], ◌∷◌, ◌++◌, ◌==◌, map, length, get_or, refl, sym, ◌∙◌, ap, ap₂, subst, arith, inl, inr, length-append, append_assoc, Some, filter}
 use Rattle.std.specs.List.{swap}
 use Rattle.std.proofs.lemmas.List.{append-nil}
 use Rattle.std.proofs.lemmas.Bool.{cases_lt}
-use Rattle.sym_model.specs.Sum.{select}
 use Rattle.sym_model.specs.Polynomial.{Same, coefficient, plus, times}
 use Rattle.sym_model.specs.Partition.{after}
 use Rattle.sym_model.specs.PlaceOrders.{inversions}
@@ -73,7 +72,7 @@ pub covers_down_kept : (r : ℕ) (w : List ℕ) → IsOneLine w → covers_down 
 covers_down_kept r w o =
     ap (covers_among (kept w)) (map-among (λ i. times_swap i r (kept w)) (λ i. times_swap i r w) (after 0 (r - 1)) (λ i m.
     let a = after_among 0 (r - 1) i m in let p = a.0 in let q = a.1 in times_swap_kept w i r (omega arith) (omega arith)))
-    ∙ ap (λ n. select (λ (v : List ℕ). inversions v == n + 1) (map (λ i. times_swap i r w) (after 0 (r - 1)))) (inversions_kept w o)
+    ∙ ap (λ n. filter (λ (v : List ℕ). inversions v == n + 1) (map (λ i. times_swap i r w) (after 0 (r - 1)))) (inversions_kept w o)
 
 -- ---- the places of the rule, counted from 0
 

@@ -1,4 +1,5 @@
--- The order that the transition rule lowers, as one number, for permutations of a bounded number of letters.
+-- The order that the transition rule lowers, as one number,
+-- for permutations of a bounded number of letters.
 use Rattle.std.specs.Prelude.{ℕ, ◌+◌, ◌*◌, ◌≤◌, List, length}
 use Rattle.sym_model.specs.PlaceOrders.{inversions}
 use Rattle.sym_model.specs.Permutation.{IsOneLine, letter, last_descent_place}
@@ -8,7 +9,7 @@ pub record IsShort (n : ℕ) (w : List ℕ) : Type 0 where
   pub one_line : IsOneLine w
   pub few : length w ≤ n
 
--- the order that the rule lowers as a number to a base above the number of letters: by inversions, then by the last descent,
--- then by the letter there
+-- the order that the rule lowers as a number to a base above the number of letters: by inversions,
+-- then by the last descent, then by the letter there
 abbrev pub rank : ℕ → List ℕ → ℕ
 rank base w = (inversions w * base + last_descent_place w) * base + letter w (last_descent_place w)

@@ -1,14 +1,14 @@
 //! Laws of divided differences and of Schubert polynomials.
 //!
-//! A law function takes nothing, answers nothing and does no work when it runs: its contract is
-//! the law.
+//! A law function has an empty body: its contract is the law.
 //!
 //! What is proved:
 //!
-//! `divided_difference_law`, `path_law` (every descent gives the same Schubert polynomial, fixed
-//! letters change nothing), `monk_law` (Monk's rule and transition, in every number of variables),
-//! `transition_order_law` (the permutations of the rule are lower, the first with one inversion
-//! less; the identity alone has no descent), `kept_law`, `code_law`.
+//! `divided_difference_law`: the divided differences are linear, square to 0, commute at a
+//! distance, satisfy the braid relation and the rule of Leibniz. `path_law`: every descent gives
+//! the same Schubert polynomial, and fixed letters change nothing. `monk_law`: Monk's rule and
+//! transition, in every number of variables. `code_law`:
+//! a permutation and its code determine each other.
 #![tactic(auto)]
 
 mod code_laws;
@@ -18,5 +18,5 @@ mod path_laws;
 
 pub use code_laws::code_law;
 pub use difference_laws::divided_difference_law;
-pub use monk_laws::{kept_law, monk_law, transition_order_law};
+pub use monk_laws::monk_law;
 pub use path_laws::path_law;

@@ -1,51 +1,24 @@
--- A monomial times a Schubert polynomial (specs/Transitions).
---     acted_step        what the transition rule makes of it
+-- A monomial times a Schubert polynomial (specs/Acted).
 --     acted_identity    the identity leaves the monomial
 --     acted_start       1 times the Schubert polynomial
 --     acted_natural     it has no negative coefficients
 --     acted_at          and a monomial of it
-use Rattle.std.proofs.Common.{◌≡◌, ℕ, Bool, true, false, ◌&&◌, cond, List, [], refl, sym, ap, ◌∙◌, arith, ℤ, pos, ◌+ℤ◌, ◌≤ℤ◌}
+use Rattle.std.proofs.Common.{◌≡◌, ℕ, Bool, true, false, cond, List, [], refl, ap, ◌∙◌, arith, ℤ, pos, ◌≤ℤ◌}
 use Rattle.std.specs.Prelude.{None}
 use Rattle.std.proofs.lemmas.Int.{ints}
-use Rattle.sym_model.specs.Sum.{total}
 use Rattle.sym_model.specs.Polynomial.{Poly, same, join, pair, one, no_exponents, resize, fits_in}
-use Rattle.sym_model.specs.Permutation.{IsOneLine, IsTransition, last_descent, times_swap, covers_down}
+use Rattle.sym_model.specs.Permutation.{IsOneLine, last_descent}
 use Rattle.sym_model.specs.Schubert.{schubert, schubert_in}
-use Rattle.sym_model.proofs.Sums.{total_zero, total_not_negative}
-use Rattle.sym_model.proofs.Exponents.{same_true, same_refl, join_comm, join_assoc, join_zeros, length-resize, resize-nil, resize-join, fits_in-join, fits_in_length}
-use Rattle.sym_model.proofs.Polynomials.{pair_ext, pair_in, pair_determined, pair_one, at_only, In_restrict}
+use Rattle.sym_model.proofs.Sums.{total_not_negative}
+use Rattle.sym_model.proofs.Exponents.{same_true, same_refl, join_comm, join_zeros, length-resize, resize-nil, fits_in_length}
+use Rattle.sym_model.proofs.Polynomials.{pair_in, pair_determined, pair_one, at_only, In_restrict, at_only-nonnegative}
 use Rattle.sym_model.proofs.Integers.{cond-nonnegative}
 use Rattle.schubert_laws.proofs.LowerPermutations.{identity_is_one}
-use Rattle.sparse_polys.specs.Raised.{raised}
-use Rattle.schubert_transition.specs.Transitions.{shown, acted}
-use Rattle.schubert_transition.proofs.Monomials.{unit, pair_transition, pair_variable, HasMonomials}
-use lib.IntN.{+ℤ_idl}
+use Rattle.schubert_transition.specs.Acted.{acted}
+use Rattle.transition_walk.proofs.Monomials.{HasMonomials}
+use Rattle.sym_model.proofs.PolynomialLaws.{restricted_test}
 
-pub acted_step : (n r s : ℕ) (φ : List ℕ → ℤ) (w e : List ℕ) → IsOneLine w → IsTransition w r s
-    → acted n φ w e ≡ acted n φ (times_swap r s w) (raised r e) +ℤ total (λ (x : List ℕ). acted n φ x e) (covers_down r (times_swap r s w))
-acted_step n r s φ w e o t =
-    by (fits_in n e)
-    ∙ ap (λ b. cond b (value (resize n (raised r e))) (pos 0) +ℤ total (λ (x : List ℕ). acted n φ x e) (covers_down r (times_swap r s w))) (sym (fits_in-join n e (unit r)))
-  where
-    value : List ℕ → ℤ
-    value α = pair (schubert_in (times_swap r s w) n) (λ β. φ (join α β))
-
-    raised_value : pair (schubert_in (times_swap r s w) n) (λ β. φ (join (resize n e) (join (resize n (unit r)) β))) ≡ pair (schubert_in (times_swap r s w) n) (λ β. φ (join (resize n (raised r e)) β))
-    raised_value =
-        pair_ext (schubert_in (times_swap r s w) n) (λ β. φ (join (resize n e) (join (resize n (unit r)) β))) (λ β. φ (join (resize n (raised r e)) β))
-        (λ β. ap φ (sym (join_assoc (resize n e) (resize n (unit r)) β) ∙ ap (λ α. join α β) (sym (resize-join n e (unit r)))))
-
-    by : (b : Bool) → cond b (pair (schubert_in w n) (λ β. φ (join (resize n e) β))) (pos 0)
-        ≡ cond (b && fits_in n (unit r)) (pair (schubert_in (times_swap r s w) n) (λ β. φ (join (resize n (raised r e)) β))) (pos 0)
-        +ℤ total (λ (x : List ℕ). cond b (pair (schubert_in x n) (λ β. φ (join (resize n e) β))) (pos 0)) (covers_down r (times_swap r s w))
-    by true =
-        pair_transition n r s w (λ β. φ (join (resize n e) β)) o t
-        ∙ ap (λ z. z +ℤ total (λ (x : List ℕ). pair (schubert_in x n) (λ β. φ (join (resize n e) β))) (covers_down r (times_swap r s w)))
-        (pair_variable n r (schubert_in (times_swap r s w) n) (λ β. φ (join (resize n e) β))
-        ∙ ap (λ z. cond (fits_in n (unit r)) z (pos 0)) raised_value)
-    by false = sym (+ℤ_idl (total (λ (x : List ℕ). pos 0) (covers_down r (times_swap r s w))) ∙ total_zero (covers_down r (times_swap r s w)))
-
-pub acted_identity : (n : ℕ) (φ : List ℕ → ℤ) (w e : List ℕ) → IsOneLine w → last_descent w ≡ None → acted n φ w e ≡ shown n φ e
+pub acted_identity : (n : ℕ) (φ : List ℕ → ℤ) (w e : List ℕ) → IsOneLine w → last_descent w ≡ None → acted n φ w e ≡ restricted_test n φ e
 acted_identity n φ w e o d =
     ap (λ z. cond (fits_in n e) z (pos 0))
     (pair_determined (schubert_in w n) (one n) (λ β. φ (join (resize n e) β)) (identity_is_one w n o d)
@@ -63,7 +36,7 @@ acted_start n φ w =
 monomials_natural : (f : Poly) (φ : List ℕ → ℤ) (h : HasMonomials f) → ((α : List ℕ) → pos 0 ≤ℤ φ α) → φ h.first ≤ℤ pair f φ
 monomials_natural f φ h k = let a = h.sums φ in let b = total_not_negative φ h.others k in omega (arith, ints)
 
-pub shown_natural : (n : ℕ) (φ : List ℕ → ℤ) (e : List ℕ) → ((α : List ℕ) → pos 0 ≤ℤ φ α) → pos 0 ≤ℤ shown n φ e
+pub shown_natural : (n : ℕ) (φ : List ℕ → ℤ) (e : List ℕ) → ((α : List ℕ) → pos 0 ≤ℤ φ α) → pos 0 ≤ℤ restricted_test n φ e
 shown_natural n φ e k = cond-nonnegative (fits_in n e) (φ (resize n e)) (k (resize n e))
 
 pub acted_natural : (n : ℕ) (φ : List ℕ → ℤ) (w e : List ℕ) → HasMonomials (schubert_in w n) → ((α : List ℕ) → pos 0 ≤ℤ φ α) → pos 0 ≤ℤ acted n φ w e
@@ -71,10 +44,7 @@ acted_natural n φ w e h k =
     shown_natural n (λ α. pair (schubert_in w n) (λ β. φ (join α β))) e
     (λ α. let a = monomials_natural (schubert_in w n) (λ β. φ (join α β)) h (λ β. k (join α β)) in let b = k (join α h.first) in omega (arith, ints))
 
-pub at_only_natural : (γ α : List ℕ) → pos 0 ≤ℤ at_only γ α
-at_only_natural γ α = cond-nonnegative (same α γ) (pos 1) (omega (arith, ints))
-
-at_only_here : (γ : List ℕ) → at_only γ γ ≡ pos 1
+pub at_only_here : (γ : List ℕ) → at_only γ γ ≡ pos 1
 at_only_here γ = ap (λ b. cond b (pos 1) (pos 0)) (same_refl γ)
 
 pub acted_at : (n : ℕ) (w α e : List ℕ) (h : HasMonomials (schubert_in w n)) → fits_in n α ≡ true
@@ -82,13 +52,13 @@ pub acted_at : (n : ℕ) (w α e : List ℕ) (h : HasMonomials (schubert_in w n)
 acted_at n w α e h fits = by (same e α) refl
   where
     by : (b : Bool) → same e α ≡ b → cond b (pos 1) (pos 0) ≤ℤ acted n (at_only (join (resize n α) h.first)) w e
-    by false p = acted_natural n (at_only (join (resize n α) h.first)) w e h (at_only_natural (join (resize n α) h.first))
+    by false p = acted_natural n (at_only (join (resize n α) h.first)) w e h (at_only-nonnegative (join (resize n α) h.first))
     by true p =
         let is : e ≡ α = same_true e α p in
         let γ : List ℕ = join (resize n α) h.first in
         let shows : acted n (at_only (join (resize n α) h.first)) w e ≡ pair (schubert_in w n) (λ β. at_only (join (resize n α) h.first) (join (resize n α) β)) =
         ap (λ x. acted n (at_only (join (resize n α) h.first)) w x) is
         ∙ ap (λ b. cond b (pair (schubert_in w n) (λ β. at_only (join (resize n α) h.first) (join (resize n α) β))) (pos 0)) fits in
-        let m = monomials_natural (schubert_in w n) (λ β. at_only (join (resize n α) h.first) (join (resize n α) β)) h (λ β. at_only_natural (join (resize n α) h.first) (join (resize n α) β)) in
+        let m = monomials_natural (schubert_in w n) (λ β. at_only (join (resize n α) h.first) (join (resize n α) β)) h (λ β. at_only-nonnegative (join (resize n α) h.first) (join (resize n α) β)) in
         let one = at_only_here (join (resize n α) h.first) in
         omega (arith, ints)

@@ -1,5 +1,5 @@
-pub mod TermLists
-pub mod Transitions
-pub mod Todo
 -- The definitions that the contracts cite.
+pub mod Acted
+pub mod ActedLaws
+pub mod TermLists
 pub mod Kept

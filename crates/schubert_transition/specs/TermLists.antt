@@ -1,37 +1,40 @@
--- Polynomials as lists of terms, seen through sums over their terms.
-use Rattle.std.specs.Prelude.{ℕ, ◌^◌, ◌≤◌, ◌≤ℤ◌, ◌<ℤ◌, cond, Bool, nat_eq, ℤ, pos, List, length}
+-- Schubert polynomials as lists of monomials with whole coefficients.
+use Rattle.std.specs.Prelude.{ℕ, ◌^◌, ◌≤◌, ◌≤ℤ◌, ◌<ℤ◌, nat_eq, ℤ, pos, List, length}
 use Rattle.std.specs.Cmp.Lexicographic.{pointwise}
-use Rattle.sparse_polys.specs.Combination.{IsCombination}
-pub use Rattle.sparse_polys.specs.WholeTables.{over}
-use Rattle.sym_model.specs.Polynomial.{same}
-use Rattle.sym_model.specs.Sum.{Among}
-use Rattle.sym_model.specs.Expansion.{Fraction, Terms}
+use Rattle.coeff_rings.specs.Fractions.{whole}
+use Rattle.linear_combinations.specs.Entries.{IsCombination}
+use Rattle.sym_model.specs.Command as commands
+use Rattle.sym_model.specs.DividedDifference.{x_to_in}
+use Rattle.sym_model.specs.Expansion.{Represents}
+use Rattle.sym_model.specs.LabelLimits.{is_monomial_label}
+use Rattle.sym_model.specs.LargeAnswer.{HasPastCoefficient}
 use Rattle.sym_model.specs.Partition.{size}
+use Rattle.sym_model.specs.PlaceOrders.{inversions}
+use Rattle.sym_model.specs.Schubert.{schubert_in}
+use Rattle.sym_model.specs.Sum.{Among}
+use Rattle.sym_model.specs.WholeTerms.{WholeTerms, as_fractions}
 
--- a term in at most n variables and of at most degree d, with a coefficient that is not negative and below 2^127
-pub record IsTerm (n d : ℕ) (t : List ℕ × Fraction) : Type 0 where
+-- a term in at most n variables and of at most degree d,
+-- with a coefficient that is not negative and below 2^127
+pub record IsTerm (n d : ℕ) (t : List ℕ × ℤ) : Type 0 where
   pub few : length t.0 ≤ n
   pub small : size t.0 ≤ d
-  pub natural : pos 0 ≤ℤ t.1.0
-  pub held : t.1.0 <ℤ pos (2 ^ 127)
+  pub natural : pos 0 ≤ℤ t.1
+  pub held : t.1 <ℤ pos (2 ^ 127)
 
 -- each term is such a one
-abbrev pub AreTerms : ℕ → ℕ → Terms (List ℕ) → Type 0
-AreTerms n d terms = (t : List ℕ × Fraction) → Among t terms → IsTerm n d t
+abbrev pub AreTerms : ℕ → ℕ → WholeTerms → Type 0
+AreTerms n d terms = (t : List ℕ × ℤ) → Among t terms → IsTerm n d t
 
--- the test function that is 1 at a label and 0 elsewhere
-abbrev pub only : List ℕ → List ℕ → ℤ
-only α β = cond (same β α) (pos 1) (pos 0)
+-- each monomial is in the list once, with a coefficient that is not 0
+abbrev pub IsTable : WholeTerms → Type 0
+IsTable terms = IsCombination (pointwise nat_eq) is_monomial_label whole terms
 
--- the sum of coefficients at some label, in at most n variables, is 2^127 or more: the sum is given by what it is for each test
--- function
-abbrev pub HasLarge : ℕ → ((List ℕ → ℤ) → ℤ) → Type 0
-HasLarge n sum = (α : List ℕ) × (length α ≤ n) × (pos (2 ^ 127) ≤ℤ sum (only α))
-
--- whether two labels are the same
-abbrev pub equal : List ℕ → List ℕ → Bool
-equal = pointwise nat_eq
-
--- the list of terms is one that a table holds
-abbrev pub IsTable : (List ℕ → Bool) → Terms (List ℕ) → Type 0
-IsTable is_label terms = IsCombination equal is_label terms
+-- the list is the Schubert polynomial of the permutation, in every number of variables, with
+-- coefficients below 2^127
+pub record IsSchubertOf (w : List ℕ) (terms : WholeTerms) : Type 0 where
+  pub represents : (n : ℕ) → Represents (λ exponents. x_to_in exponents n) (as_fractions terms)
+      (schubert_in w n) 1
+  pub terms_of : AreTerms (length w) (inversions w) terms
+  pub table : IsTable terms
+  pub fits : HasPastCoefficient (commands.schubert w) → ⊥

@@ -3,29 +3,19 @@
 //! What is proved:
 //!
 //! `schubert`, `schubert_terms`: the Schubert polynomial of a permutation, in every number of
-//! variables, by transition; `Large` exactly where a coefficient is 2^127 or more.
-//! `transition_places`: the two places of the transition rule, whose exchange makes one inversion
-//! less, None exactly for the identity. `entry_at`: a permutation in the list of those that wait,
-//! put in where it is not there, whatever factor waits with it. In every loop that list is in
-//! order, so that no permutation waits twice (`AreInOrder`). `Memo`: a bounded store of Schubert
-//! polynomials over `lru`, each kept one that of its permutation, in every number of variables,
-//! with at most 4,096 terms. Its `schubert` and `schubert_terms` answer as those without a store;
-//! `kept` is None exactly where none is kept. It never keeps more than its capacity
-//! (`IsSchubertStore`, which every method that changes the store ensures). One that is kept goes
-//! first when it is asked for (`GoesFirst`); another one comes first, and the last of a full store
-//! goes (`ComesFirst`), or the store stays as it was, as it does for one of more than 4,096 terms
-//! and where `schubert` refuses.
+//! variables, by transition (`transition_walk`); `Large` exactly where a coefficient is 2^127 or
+//! more. `Memo`: a bounded store of Schubert polynomials over `lru`, each kept one that of its
+//! permutation, in every number of variables, with at most 4,096 terms. Its `schubert` and
+//! `schubert_terms` answer as those without a store; `kept` is None exactly where none is kept. It
+//! never keeps more than its capacity (`IsSchubertStore`, which every method that changes the store
+//! ensures). One that is kept goes first when it is asked for (`GoesFirst`); another one comes
+//! first, and the last of a full store goes (`ComesFirst`), or the store stays as it was, as it
+//! does for one of more than 4,096 terms and where `schubert` refuses.
 #![tactic(auto)]
 
-mod expand;
 mod memo;
-mod places;
-mod sums;
-mod todo;
-mod top;
+mod polynomial;
 
 pub use memo::Memo;
-pub use places::transition_places;
+pub use polynomial::{schubert, schubert_terms};
 pub use schubert_laws::{monk_law, path_law};
-pub use todo::{Waiting, entry_at};
-pub use top::{schubert, schubert_terms};

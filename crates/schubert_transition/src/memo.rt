@@ -1,22 +1,25 @@
 //! A bounded store of Schubert polynomials.
-ghost use Rattle.std.specs.Prelude.{◌≡◌, ◌⊎◌, ◌<◌, ◌≤◌, ◌^◌, ℕ, [], length, nat_eq, option_copied, List, IsSome, IfOk, OnOk, OnErr, IfSome, MatchOption, IsErrOf};
+ghost use Rattle.std.specs.Prelude.{◌≡◌, ◌⊎◌, ◌<◌, ◌≤◌, ◌^◌, ℕ, [], length, nat_eq, option_copied};
+ghost use Rattle.std.specs.Prelude.{List, IsSome, IfOk, OnOk, OnErr, IfSome, MatchOption, IsErrOf};
 ghost use Rattle.std.specs.Cmp.Lexicographic.{pointwise};
 ghost use Rattle.std.specs.Map.{lookup};
 ghost use Rattle.sym_model.specs.Answer.{answer};
 ghost use Rattle.sym_model.specs.Command as commands;
-ghost use Rattle.sym_model.specs.Expansion.{Terms as TermList};
 ghost use Rattle.sym_model.specs.Kind.{polynomial};
 ghost use Rattle.sym_model.specs.LargeAnswer.{HasPastCoefficient};
 ghost use Rattle.sym_model.specs.Target.{Meets};
+ghost use Rattle.sym_model.specs.WholeTerms.{WholeTerms, as_fractions};
 ghost use Rattle.lru.specs.LruCache.{lru_cache, promoted, put_entries};
-ghost use Rattle.schubert_transition.specs.Kept.{ComesFirst, GoesFirst, IsSchubertOf, IsSchubertStore, kept_for};
+ghost use Rattle.schubert_transition.specs.Kept.{ComesFirst, GoesFirst, IsSchubertStore, kept_for};
+ghost use Rattle.schubert_transition.specs.TermLists.{IsSchubertOf};
 
 use crate::schubert;
 use calc_base::{NoMemory, SumFault};
 use coeff_rings::Int;
+use linear_combinations::{Lin, Terms};
 use lru::LruCache;
 use perm_codes::Perm;
-use sparse_polys::{Monomial, Poly, Terms};
+use sparse_polys::Monomial;
 use std::alloc::Global;
 use std::marker::Model;
 use std::num::NonZeroUsize;
@@ -24,22 +27,25 @@ use std::num::NonZeroUsize;
 /// The most terms of a polynomial that is kept.
 const MOST_TERMS: usize = 4096;
 
-/// A bounded store of Schubert polynomials. When a full store takes another one, the least recently asked polynomial is
-/// dropped. A contract sees the permutations with their polynomials, the most recently asked first, and the capacity, which
-/// is never exceeded.
+/// A polynomial with whole coefficients.
+pub(crate) type Polynomial = Lin<Monomial, Int>;
+
+/// A bounded store of Schubert polynomials. When a full store takes another one, the least recently
+/// asked polynomial is dropped. A contract sees the permutations with their polynomials, the most
+/// recently asked first, and the capacity, which is never exceeded.
 #[derive(Drop)]
 pub struct Memo {
-    cache: LruCache<Perm, Poly<Int>>,
+    cache: LruCache<Perm, Polynomial>,
     alloc: Global,
 }
 
 impl Model for Memo {
     ghost use Rattle.std.specs.Prelude.{ℕ, List};
-    ghost use Rattle.sym_model.specs.Expansion.{Terms as TermList};
+    ghost use Rattle.sym_model.specs.WholeTerms.{WholeTerms};
     ghost use Rattle.lru.specs.LruCache.{LruCache as Entries};
     ghost use Rattle.schubert_transition.specs.Kept.{IsSchubertStore};
 
-    ghost Value = { Entries (List ℕ) (TermList (List ℕ)) };
+    ghost Value = { Entries (List ℕ) WholeTerms };
 
     ghost view = { λ m. m.cache };
 
@@ -59,14 +65,16 @@ impl Memo {
         Ok(Memo { cache, alloc })
     }
 
-    /// The Schubert polynomial of a permutation. If it is kept, it moves to the front. Otherwise it is computed and, with at
-    /// most 4,096 terms, put in front, and a full store drops its last one. If there is no memory for that, or it has more
-    /// terms, the store stays as it is.
+    /// The Schubert polynomial of a permutation. If it is kept, it moves to the front. Otherwise it
+    /// is computed and, with at most 4,096 terms, put in front, and a full store drops its last
+    /// one. If there is no memory for that, or it has more terms, the store stays as it is.
     ///
-    /// It is refused as `Large` exactly if a coefficient exceeds 2^127 - 1, and then the store stays as it is.
-    pub fn schubert(&mut self, w: &Perm) -> Result<Poly<Int>, SumFault>
+    /// It is refused as `Large` exactly if a coefficient exceeds 2^127 - 1,
+    /// and then the store stays as it is.
+    pub fn schubert(&mut self, w: &Perm) -> Result<Polynomial, SumFault>
         ensures is { IfOk result (IsSchubertOf w.now) }
-        ensures large { IsErrOf result SumFault.Large → HasPastCoefficient (commands.schubert w.now) }
+        ensures large { IsErrOf result SumFault.Large
+            → HasPastCoefficient (commands.schubert w.now) }
         ensures fits { OnOk result (HasPastCoefficient (commands.schubert w.now) → ⊥) }
         ensures kept { IsSchubertStore self.new }
         ensures capacity { self.new.cap ≡ self.old.cap }
@@ -87,8 +95,9 @@ impl Memo {
         }
     }
 
-    /// The polynomial that is kept for a permutation; None exactly if none is kept for it. It takes no memory.
-    pub fn kept(&self, w: &Perm) -> Option<&Poly<Int>>
+    /// The polynomial that is kept for a permutation;
+    /// None exactly if none is kept for it. It takes no memory.
+    pub fn kept(&self, w: &Perm) -> Option<&Polynomial>
         ensures value { option_copied result ≡ lookup (pointwise nat_eq w.now) self.now.entries }
         ensures is { IfSome result (λ terms. IsSchubertOf w.now terms.now) }
         ensures all { IsSchubertStore self.now }
@@ -96,12 +105,15 @@ impl Memo {
         self.cache.peek(w)
     }
 
-    /// The terms of the Schubert polynomial of a permutation, in the printed order, kept as `schubert` keeps it.
+    /// The terms of the Schubert polynomial of a permutation, in the printed order,
+    /// kept as `schubert` keeps it.
     ///
-    /// It is refused as `Large` exactly where a coefficient is past 2^127 - 1.
+    /// It is refused as `Large` exactly if a coefficient exceeds 2^127 - 1.
     pub fn schubert_terms(&mut self, w: &Perm) -> Result<Terms<Monomial, Int>, SumFault>
-        ensures meets { IfOk result (λ terms. Meets (commands.schubert w.now) (answer polynomial terms)) }
-        ensures large { IsErrOf result SumFault.Large → HasPastCoefficient (commands.schubert w.now) }
+        ensures meets { IfOk result (λ terms.
+            Meets (commands.schubert w.now) (answer polynomial (as_fractions terms))) }
+        ensures large { IsErrOf result SumFault.Large
+            → HasPastCoefficient (commands.schubert w.now) }
         ensures fits { OnOk result (HasPastCoefficient (commands.schubert w.now) → ⊥) }
         ensures kept { IsSchubertStore self.new }
         ensures capacity { self.new.cap ≡ self.old.cap }
@@ -112,20 +124,18 @@ impl Memo {
         ensures large_leaves { IsErrOf result SumFault.Large → self.new ≡ self.old }
     {
         let terms = self.schubert(w)?;
-        // This tells the proof that no label stands twice in it.
-        terms.len();
         Ok(terms.sorted_terms()?)
     }
 
     /// A copy of the polynomial that is kept for a permutation, where one is.
-    fn copy_of(&self, w: &Perm) -> Result<Option<Poly<Int>>, NoMemory>
+    fn copy_of(&self, w: &Perm) -> Result<Option<Polynomial>, NoMemory>
         ensures is { IfOk result (λ kept. IfSome kept (IsSchubertOf w.now)) }
         ensures found { IfOk result (λ kept. MatchOption kept
             (kept_for w.now self.now ≡ None) (λ _. IsSome (kept_for w.now self.now))) }
         ensures kept { IsSchubertStore self.now }
     {
         match self.kept(w) {
-            Some(kept) => Ok(Some(copy(kept)?)),
+            Some(kept) => Ok(Some(kept.copy()?)),
             None => Ok(None),
         }
     }
@@ -138,18 +148,18 @@ impl Memo {
             ≡ lru_cache (promoted (pointwise nat_eq w.now) self.old.entries) self.old.cap }
     {
         self.cache.promote(w);
-        // This tells the proof that no more are kept than may be.
-        self.cache.len();
     }
 
-    /// The Schubert polynomial of a permutation, which is made, and kept where it has at most 4,096 terms.
-    fn made(&mut self, w: &Perm) -> Result<Poly<Int>, SumFault>
+    /// The Schubert polynomial of a permutation, which is made,
+    /// and kept where it has at most 4,096 terms.
+    fn made(&mut self, w: &Perm) -> Result<Polynomial, SumFault>
         ensures is { IfOk result (IsSchubertOf w.now) }
-        ensures large { IsErrOf result SumFault.Large → HasPastCoefficient (commands.schubert w.now) }
+        ensures large { IsErrOf result SumFault.Large
+            → HasPastCoefficient (commands.schubert w.now) }
         ensures fits { OnOk result (HasPastCoefficient (commands.schubert w.now) → ⊥) }
         ensures kept { IsSchubertStore self.new }
         ensures capacity { self.new.cap ≡ self.old.cap }
-        ensures put { (self.new ≡ self.old) ⊎ ((polynomial : TermList (List ℕ)) × (self.new
+        ensures put { (self.new ≡ self.old) ⊎ ((polynomial : WholeTerms) × (self.new
             ≡ lru_cache (put_entries (pointwise nat_eq) self.old w.now polynomial) self.old.cap)) }
         ensures long { IfOk result (λ terms. 4096 < length terms → self.new ≡ self.old) }
         ensures refused { OnErr result (self.new ≡ self.old) }
@@ -162,9 +172,10 @@ impl Memo {
     }
 
     /// The Schubert polynomial of a permutation, which is made.
-    fn fresh(&self, w: &Perm) -> Result<Poly<Int>, SumFault>
+    fn fresh(&self, w: &Perm) -> Result<Polynomial, SumFault>
         ensures is { IfOk result (IsSchubertOf w.now) }
-        ensures large { IsErrOf result SumFault.Large → HasPastCoefficient (commands.schubert w.now) }
+        ensures large { IsErrOf result SumFault.Large
+            → HasPastCoefficient (commands.schubert w.now) }
         ensures fits { OnOk result (HasPastCoefficient (commands.schubert w.now) → ⊥) }
         ensures kept { IsSchubertStore self.now }
     {
@@ -172,34 +183,24 @@ impl Memo {
     }
 
     /// Keeps a copy of the polynomial, or finds no memory for that.
-    fn keep(&mut self, w: &Perm, terms: &Poly<Int>)
+    fn keep(&mut self, w: &Perm, terms: &Polynomial)
         requires is { IsSchubertOf w.now terms.now }
         requires few { length terms.now ≤ 4096 }
         ensures kept { IsSchubertStore self.new }
         ensures capacity { self.new.cap ≡ self.old.cap }
-        ensures put { (self.new ≡ self.old) ⊎ ((polynomial : TermList (List ℕ)) × (self.new
+        ensures put { (self.new ≡ self.old) ⊎ ((polynomial : WholeTerms) × (self.new
             ≡ lru_cache (put_entries (pointwise nat_eq) self.old w.now polynomial) self.old.cap)) }
     {
         if let Ok(perm) = w.copy() {
-            if let Ok(copy) = copy(terms) {
+            if let Ok(copy) = terms.copy() {
                 put(&mut self.cache, perm, copy);
             }
         }
     }
 }
 
-/// A copy of a polynomial.
-fn copy(terms: &Poly<Int>) -> Result<Poly<Int>, NoMemory>
-    ensures is { IfOk result (λ copy. (w : List ℕ) → IsSchubertOf w terms.now → IsSchubertOf w copy) }
-    ensures long { IfOk result (λ copy. length copy ≡ length terms.now) }
-{
-    // This tells the proof that no label stands twice in it.
-    terms.len();
-    terms.copy()
-}
-
 /// Puts a polynomial into the store, or finds no memory for that.
-fn put(cache: &mut LruCache<Perm, Poly<Int>>, w: Perm, terms: Poly<Int>)
+fn put(cache: &mut LruCache<Perm, Polynomial>, w: Perm, terms: Polynomial)
     requires held { IsSchubertStore cache.old }
     requires is { IsSchubertOf w terms }
     requires few { length terms ≤ 4096 }
@@ -209,6 +210,4 @@ fn put(cache: &mut LruCache<Perm, Poly<Int>>, w: Perm, terms: Poly<Int>)
         ⊎ (cache.new ≡ lru_cache (put_entries (pointwise nat_eq) cache.old w terms) cache.old.cap) }
 {
     let _ = cache.put(w, terms);
-    // This tells the proof that no more are kept than may be.
-    cache.len();
 }

@@ -1,8 +1,8 @@
 -- The coproduct of a Schur polynomial: tableaux cut at an entry, with their contents.
-use Rattle.std.proofs.Common.{◌≡◌, ℕ, zero, suc, ◌+◌, ◌-◌, ◌<◌, ◌≤◌, ◌==◌, ◌⊎◌, inl, inr, true, ◌&&◌, cond, List, [], ◌∷◌, ◌++◌, append-nil, map, length, replicate, refl, sym, ap, ap₂, ◌∙◌, arith, ℤ, pos, ◌+ℤ◌, ◌*ℤ◌}
+use Rattle.std.proofs.Common.{◌≡◌, ℕ, zero, suc, ◌+◌, ◌-◌, ◌<◌, ◌≤◌, ◌==◌, ◌⊎◌, inl, inr, true, ◌&&◌, cond, List, [], ◌∷◌, ◌++◌, append-nil, map, length, replicate, refl, sym, ap, ap₂, ◌∙◌, arith, ℤ, pos, ◌+ℤ◌, ◌*ℤ◌, filter, flat_map}
 use Rattle.std.proofs.lemmas.Bool.{ne_eqb, eq-eqb, cases_eq, lt-ltb}
 use Rattle.std.proofs.lemmas.List.{map-append}
-use Rattle.sym_model.specs.Sum.{total, each, select}
+use Rattle.sym_model.specs.Sum.{total}
 use Rattle.sym_model.specs.Partition.{IsPartition, columns, part, after, in_front, without_last_zeros}
 use Rattle.sym_model.specs.Polynomial.{Term, Same, pair}
 use Rattle.sym_model.specs.Schur.{contains, row_lengths, fillings_of, semistandard, columns_rise, times_in, letters_of, content, schur, skew_schur}
@@ -18,9 +18,9 @@ use Rattle.tableau_laws.proofs.PaddedTableaux.{columns_rise-nothing}
 use Rattle.schur_laws.specs.InnerShapes.{shapes_inside}
 use Rattle.schur_laws.proofs.RisingWords.{rising_words, raised_by, AreLetters, after_shift, rising-tells}
 use Rattle.schur_laws.proofs.CutRows.{tableaux_below, may_follow, total_straight, total_semistandard, HaveLetters, below-tells, below-same}
-use Rattle.schur_laws.proofs.CutColumns.{AreUpTo}
 use Rattle.schur_laws.proofs.CutTableaux.{glued, cut_below, total_cut}
 use Rattle.schur_laws.proofs.InnerShapeLists.{IsInside, inside-tells, same-without_last_zeros, contains-without_last_zeros}
+use Rattle.sym_model.specs.Bounded.{AreAtMost}
 use lib.IntN.{+ℤ_idr}
 
 -- ---- skew Schur polynomials as sums over rows
@@ -33,9 +33,9 @@ pair_skew_schur : (n : ℕ) (outer inner : List ℕ) (c : ℕ) (φ : List ℕ �
     → pair (skew_schur outer inner n) φ ≡ total (λ T. φ (content n (letters_of T))) (tableaux_below n outer inner c [])
 pair_skew_schur n outer inner c φ holds =
     let rows = fillings_of n (row_lengths outer inner) in
-    ap (λ t. pair (map (λ T. (content n (letters_of T), pos 1)) (cond t (select (semistandard inner) rows) [])) φ) holds
-    ∙ total_map (λ (t : Term). t.1 *ℤ φ t.0) (λ T. (content n (letters_of T), pos 1)) (select (semistandard inner) rows)
-    ∙ total_ext (λ T. pos 1 *ℤ φ (content n (letters_of T))) (λ T. φ (content n (letters_of T))) (λ T. one-product (φ (content n (letters_of T)))) (select (semistandard inner) rows)
+    ap (λ t. pair (map (λ T. (content n (letters_of T), pos 1)) (cond t (filter (semistandard inner) rows) [])) φ) holds
+    ∙ total_map (λ (t : Term). t.1 *ℤ φ t.0) (λ T. (content n (letters_of T), pos 1)) (filter (semistandard inner) rows)
+    ∙ total_ext (λ T. pos 1 *ℤ φ (content n (letters_of T))) (λ T. φ (content n (letters_of T))) (λ T. one-product (φ (content n (letters_of T)))) (filter (semistandard inner) rows)
     ∙ total_select (λ T. φ (content n (letters_of T))) (semistandard inner) rows
     ∙ total_ext (λ T. cond (semistandard inner T) (φ (content n (letters_of T))) (pos 0)) (λ T. cond (may_follow (c - part inner 1) [] T && semistandard inner T) (φ (content n (letters_of T))) (pos 0))
     (λ T. ap (λ t. cond (t && semistandard inner T) (φ (content n (letters_of T))) (pos 0)) (sym (may_follow_nothing (c - part inner 1) T))) rows
@@ -126,7 +126,7 @@ content-glued n k S T l m e =
 
 -- ---- the coproduct
 
-zeros_up_to : (n m : ℕ) → AreUpTo n (replicate m 0)
+zeros_up_to : (n m : ℕ) → AreAtMost n (replicate m 0)
 zeros_up_to n zero = tt
 zeros_up_to n (suc m) = (omega arith, zeros_up_to n m)
 
@@ -152,9 +152,9 @@ one_inside n k shape inner c m φ r =
     ∙ sym (pair_beside (schur part_of n) (skew_schur shape part_of k) φ)
 
 pub coproduct : (n k : ℕ) (shape : List ℕ) → IsPartition shape
-    → Same (schur shape (n + k)) (each (λ inner. beside (schur (without_last_zeros inner) n) (skew_schur shape (without_last_zeros inner) k)) (shapes_inside shape (columns shape)))
+    → Same (schur shape (n + k)) (flat_map (λ inner. beside (schur (without_last_zeros inner) n) (skew_schur shape (without_last_zeros inner) k)) (shapes_inside shape (columns shape)))
 coproduct n k shape p =
-    same_from_pair (schur shape (n + k)) (each (λ inner. beside (schur (without_last_zeros inner) n) (skew_schur shape (without_last_zeros inner) k)) (shapes_inside shape (columns shape))) (λ φ.
+    same_from_pair (schur shape (n + k)) (flat_map (λ inner. beside (schur (without_last_zeros inner) n) (skew_schur shape (without_last_zeros inner) k)) (shapes_inside shape (columns shape))) (λ φ.
     let c = columns shape in
     let z = length_zeros c in
     pair_skew_schur (n + k) shape [] 0 φ (contains_nothing shape)

@@ -6,13 +6,9 @@ use Rattle.sym_model.proofs.Numbers.{nat_le-suc}
 use Rattle.sym_model.proofs.Lists.{drop-none}
 use Rattle.tableau_laws.proofs.PaddedTableaux.{columns_rise-nothing}
 use Rattle.schur_laws.proofs.RisingWords.{AreLetters, raised_by}
+use Rattle.sym_model.specs.Bounded.{AreAtMost}
 
--- no letter is past n
-abbrev pub AreUpTo : ℕ → List ℕ → Type 0
-AreUpTo n [] = Unit {0}
-AreUpTo n (a ∷ w) = (a ≤ n) × AreUpTo n w
-
-pub letters_up_to : (n : ℕ) (w : List ℕ) → AreLetters n w → AreUpTo n w
+pub letters_up_to : (n : ℕ) (w : List ℕ) → AreLetters n w → AreAtMost n w
 letters_up_to n [] h = tt
 letters_up_to n (a ∷ w) h = (h.1, letters_up_to n w h.2)
 
@@ -28,7 +24,7 @@ rises-raised n [] w = refl
 rises-raised n (a ∷ p) [] = refl
 rises-raised n (a ∷ p) (b ∷ w) = ap₂ (λ s t. s && t) (raise-lt n a b) (rises-raised n p w)
 
-pub columns_cut : (m n : ℕ) (p q v w : List ℕ) → AreUpTo n p → AreUpTo n v → AreLetters m w → length v + length w ≤ length p + length q
+pub columns_cut : (m n : ℕ) (p q v w : List ℕ) → AreAtMost n p → AreAtMost n v → AreLetters m w → length v + length w ≤ length p + length q
     → columns_rise (p ++ raised_by n q) (v ++ raised_by n w) ≡ nat_le (length v) (length p) && (columns_rise p v && columns_rise q (drop (length p - length v) w))
 columns_cut m n [] q [] w f g h k =
     rises-raised n q w

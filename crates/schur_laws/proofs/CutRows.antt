@@ -1,6 +1,6 @@
 -- Semistandard tableaux row by row from the top, each row below the one above it.
-use Rattle.std.proofs.Common.{◌≡◌, ℕ, zero, suc, ◌-◌, Bool, true, false, ◌&&◌, cond, List, [], ◌∷◌, map, length, drop, get_or, refl, sym, ap, ◌∙◌, subst, inl, inr, arith, ℤ, pos}
-use Rattle.sym_model.specs.Sum.{total, each, Among}
+use Rattle.std.proofs.Common.{◌≡◌, ℕ, zero, suc, ◌-◌, Bool, true, false, ◌&&◌, cond, List, [], ◌∷◌, map, length, drop, get_or, refl, sym, ap, ◌∙◌, subst, inl, inr, arith, ℤ, pos, flat_map}
+use Rattle.sym_model.specs.Sum.{total, Among}
 use Rattle.sym_model.specs.Partition.{part}
 use Rattle.sym_model.specs.Schur.{words, row_lengths, fillings_of, row_rises, columns_rise, semistandard}
 use Rattle.sym_model.proofs.Sums.{total_ext, total_map, total_each, Among_from_each, Among_from_map, total_cond, total_cond_list as total_listed}
@@ -12,7 +12,7 @@ use Rattle.schur_laws.proofs.RisingWords.{rising_words, IsWord, AreLetters, tota
 abbrev pub tableaux_below : ℕ → List ℕ → List ℕ → ℕ → List ℕ → List (List (List ℕ))
 tableaux_below n [] inner c p = [] ∷ []
 tableaux_below n (a ∷ outer) inner c p =
-    each (λ w. cond (columns_rise p (drop (c - part inner 1) w)) (map (λ T. w ∷ T) (tableaux_below n outer (drop 1 inner) (part inner 1) w)) []) (rising_words n 0 (a - part inner 1))
+    flat_map (λ w. cond (columns_rise p (drop (c - part inner 1) w)) (map (λ T. w ∷ T) (tableaux_below n outer (drop 1 inner) (part inner 1) w)) []) (rising_words n 0 (a - part inner 1))
 
 -- whether the first row of a filling, which begins d columns before p, may stand below it
 abbrev pub may_follow : ℕ → List ℕ → List (List ℕ) → Bool

@@ -10,9 +10,10 @@ use Rattle.sym_model.proofs.Sums.{total_ext, total_among, total_zero, total_map,
 use Rattle.schur_laws.specs.InnerShapes.{up_to, shapes_inside}
 use Rattle.schur_laws.proofs.RisingWords.{rising_words, raised_by, cut_sum, total_cut_words, total_up_to, rising-tells}
 use Rattle.schur_laws.proofs.CutRows.{tableaux_below, total_straight, total_skew}
-use Rattle.schur_laws.proofs.CutColumns.{AreUpTo, letters_up_to, columns_cut}
+use Rattle.schur_laws.proofs.CutColumns.{letters_up_to, columns_cut}
+use Rattle.sym_model.specs.Bounded.{AreAtMost}
 
--- the rows of two fillings one behind the other, the letters of the second raised by n
+-- the rows of two fillings one after the other, the letters of the second raised by n
 abbrev pub glued : ℕ → List (List ℕ) → List (List ℕ) → List (List ℕ)
 glued n [] T = []
 glued n (v ∷ S) [] = []
@@ -78,7 +79,7 @@ next_falls : (a : ℕ) (outer : List ℕ) → Falls (a ∷ outer) → Falls oute
 next_falls a [] f = (tt, omega arith)
 next_falls a (b ∷ outer) f = (f.1, f.0)
 
-pub total_cut : (n k : ℕ) (outer p q : List ℕ) (h : List (List ℕ) → ℤ) → AreUpTo n p → Falls outer → columns outer ≤ length p + length q
+pub total_cut : (n k : ℕ) (outer p q : List ℕ) (h : List (List ℕ) → ℤ) → AreAtMost n p → Falls outer → columns outer ≤ length p + length q
     → total h (tableaux_below (n + k) outer [] 0 (p ++ raised_by n q)) ≡ cut_below n k outer (length p) p q (λ S T. h (glued n S T))
 total_cut n k [] p q h f g l = omega (arith, ints)
 total_cut n k (a ∷ outer) p q h f g l =
@@ -102,7 +103,7 @@ total_cut n k (a ∷ outer) p q h f g l =
     split false s z y e = refl
 
     cut_at : (b : ℕ) → b ≤ a
-        → ((v w : List ℕ) → AreUpTo n v → (length v ≡ b) → columns outer ≤ length v + length w → total (λ T. h ((v ++ raised_by n w) ∷ T)) (tableaux_below (n + k) outer [] 0 (v ++ raised_by n w)) ≡ cut_below n k outer (length v) v w (λ S T. h (glued n (v ∷ S) (w ∷ T))))
+        → ((v w : List ℕ) → AreAtMost n v → (length v ≡ b) → columns outer ≤ length v + length w → total (λ T. h ((v ++ raised_by n w) ∷ T)) (tableaux_below (n + k) outer [] 0 (v ++ raised_by n w)) ≡ cut_below n k outer (length v) v w (λ S T. h (glued n (v ∷ S) (w ∷ T))))
         → total (cut_sum n k (λ u. cond (columns_rise (p ++ raised_by n q) u) (total (λ T. h (u ∷ T)) (tableaux_below (n + k) outer [] 0 u)) (pos 0)) (a - b)) (rising_words n 0 b)
         ≡ cond (nat_le b (length p)) (total (λ v. total (λ w. cond (columns_rise p v && columns_rise q (drop (length p - b) w)) (cut_below n k outer b v w (λ S T. h (glued n (v ∷ S) (w ∷ T)))) (pos 0)) (rising_words k 0 (a - b))) (rising_words n 0 b)) (pos 0)
     cut_at b small rec =

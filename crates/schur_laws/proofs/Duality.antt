@@ -1,9 +1,9 @@
 -- As many good tableaux of a skew shape for a start come to a partition as good tableaux of the skew shape of that partition by
 -- the start come, for the inner partition of the first shape as the start, to its outer one.
-use Rattle.std.proofs.Common.{◌≡◌, ℕ, zero, suc, ◌<◌, ◌≤◌, ◌⊎◌, ◌==◌, Bool, true, false, cond, ◌&&◌, List, [], ◌∷◌, map, length, get_or, nat_le, sym, ◌∙◌, ap, subst, refl, inl, inr, arith, pos}
+use Rattle.std.proofs.Common.{◌≡◌, ℕ, zero, suc, ◌<◌, ◌≤◌, ◌⊎◌, ◌==◌, Bool, true, false, cond, ◌&&◌, List, [], ◌∷◌, map, length, get_or, nat_le, sym, ◌∙◌, ap, subst, refl, inl, inr, arith, pos, filter}
 use Rattle.std.proofs.lemmas.List.{length-map, get_or_past}
 use Rattle.std.proofs.lemmas.Bool.{and_parts, cases_lt, leb-true, eqb-true}
-use Rattle.sym_model.specs.Sum.{select, Among, Once, Within}
+use Rattle.sym_model.specs.Sum.{Among, Once, Within}
 use Rattle.sym_model.specs.Partition.{Falls, ArePositive, IsPartition, rows, without_last_zeros}
 use Rattle.sym_model.specs.Polynomial.{same, resize}
 use Rattle.sym_model.specs.Schur.{contains}
@@ -21,7 +21,7 @@ use Rattle.schur_laws.proofs.Companions.{companion, length_companion, IsCompanio
 
 -- the padded rows of the good tableaux of outer/inner for start, with entries from 1 to n, that come to a partition
 abbrev pub counted : ℕ → List ℕ → List ℕ → List ℕ → List ℕ → List (List (List ℕ))
-counted n start outer inner end = select (is_counted n start end) (fillings_over n (pattern_of outer inner))
+counted n start outer inner end = filter (is_counted n start end) (fillings_over n (pattern_of outer inner))
 
 -- ---- one shape inside another, by places
 

@@ -22,7 +22,7 @@ zeros_after [] f = refl
 zeros_after (zero ∷ α) f = ap (λ (l : List ℕ). 0 ∷ l) (zeros_after α f.1)
 zeros_after (suc a ∷ α) f = let h = f.0 in absurd (omega arith)
 
--- falling exponents that add up to at most d are their first d, with zeros behind them
+-- falling exponents that add up to at most d are their first d, with zeros after them
 pub falling_padded : (d m : ℕ) (α : List ℕ) → Falls α → length α ≡ d + m → size α ≤ d → α ≡ resize d α ++ replicate m 0
 falling_padded zero zero [] f l h = refl
 falling_padded zero (suc m) [] f l h = absurd (omega arith)
@@ -36,12 +36,12 @@ falling_padded (suc d) m (suc a ∷ α) f l h = ap (λ (r : List ℕ). suc a ∷
 
 -- ---- families
 
--- with fewer variables a coefficient is that in d variables, with zeros behind the exponents
+-- with fewer variables a coefficient is that in d variables, with zeros after the exponents
 coefficient_in_fewer : (f : ℕ → Poly) (n m : ℕ) (α : List ℕ) → IsSymmetricFamily f
     → coefficient (f n) α ≡ cond (eqb (length α) n) (coefficient (f (n + m)) (α ++ replicate m 0)) (pos 0)
 coefficient_in_fewer f n m α s = sym (s.compatible n (n + m) (omega arith) α) ∙ coefficient_restrict_padded n m (f (n + m)) α (s.variables (n + m))
 
--- with more variables the coefficient at zeros behind exponents in d variables is that in d variables
+-- with more variables the coefficient at zeros after exponents in d variables is that in d variables
 coefficient_in_more : (f : ℕ → Poly) (d m : ℕ) (α : List ℕ) → IsSymmetricFamily f → length α ≡ d
     → coefficient (f (d + m)) (α ++ replicate m 0) ≡ coefficient (f d) α
 coefficient_in_more f d m α s l =

@@ -1,8 +1,8 @@
 -- Coefficients of products as counts of lattice tableaux.
-use Rattle.std.proofs.Common.{◌≡◌, ℕ, ◌<◌, ◌≤◌, ◌⊎◌, Bool, true, false, cond, List, [], ◌∷◌, map, length, sym, ◌∙◌, ap, refl, inl, inr, arith, pos}
+use Rattle.std.proofs.Common.{◌≡◌, ℕ, ◌<◌, ◌≤◌, ◌⊎◌, Bool, true, false, cond, List, [], ◌∷◌, map, length, sym, ◌∙◌, ap, refl, inl, inr, arith, pos, filter}
 use Rattle.std.proofs.lemmas.Bool.{cases_lt, lt-leb, both_ways}
 use Rattle.std.proofs.lemmas.Int.{ints}
-use Rattle.sym_model.specs.Sum.{select, Among}
+use Rattle.sym_model.specs.Sum.{Among}
 use Rattle.sym_model.specs.Partition.{IsPartition, cells, rows, without_last_zeros}
 use Rattle.sym_model.specs.Polynomial.{same, join, resize, times}
 use Rattle.sym_model.specs.Schur.{words, content, contains, tableaux, schur}
@@ -18,7 +18,7 @@ use Rattle.alternant_laws.proofs.CountedTerms.{product_coefficients}
 use Rattle.schur_laws.proofs.GoodTableaux.{IsTableau}
 use Rattle.schur_laws.proofs.Duality.{rows_inside, counted, counted_tells, counted_by_columns, duality}
 
-none_among : (ws : List (List ℕ)) → select (λ (w : List ℕ). false) ws ≡ []
+none_among : (ws : List (List ℕ)) → filter (λ (w : List ℕ). false) ws ≡ []
 none_among [] = refl
 none_among (w ∷ ws) = none_among ws
 
@@ -27,8 +27,8 @@ pub product_count-none : (k : ℕ) (λ' μ ν : List ℕ) → k < rows λ' → p
 product_count-none k λ' μ ν h =
     let came : List ℕ → Bool = λ w. same (without_last_zeros (join λ' (content k w))) ν in
     let ws = words k (length (cells μ [])) in
-    ap (λ t. length (select came (select (λ w. is_among w (map (column_reading μ []) (cond t (select (is_good k λ' μ []) (tableaux k μ [])) []))) ws))) (lt-leb (rows λ') k h)
-    ∙ ap (λ l. length (select came l)) (none_among ws)
+    ap (λ t. length (filter came (filter (λ w. is_among w (map (column_reading μ []) (cond t (filter (is_good k λ' μ []) (tableaux k μ [])) []))) ws))) (lt-leb (rows λ') k h)
+    ∙ ap (λ l. length (filter came l)) (none_among ws)
 
 pub product_by_shape : (λ' μ ν : List ℕ) → IsPartition λ' → IsPartition μ → IsPartition ν → contains ν λ' ≡ true
     → pos (product_count (rows ν) λ' μ ν) ≡ over_columns (rows μ) (column_lines ν λ') (is_sum μ) (resize (rows μ) []) []

@@ -1,8 +1,8 @@
--- Words that rise weakly, and how they are cut at a letter n: the letters up to n, and those after it lowered by n.
-use Rattle.std.proofs.Common.{◌≡◌, ℕ, zero, suc, ◌+◌, ◌-◌, ◌<◌, ◌≤◌, ◌⊎◌, inl, inr, nat_le, Bool, true, false, ◌&&◌, cond, List, [], ◌∷◌, ◌++◌, map, length, min, refl, sym, ap, ap₂, subst, ◌∙◌, arith, ℤ, pos, ◌+ℤ◌}
+-- Words that are weakly increasing, and how they are cut at a letter n: the letters up to n, and those after it lowered by n.
+use Rattle.std.proofs.Common.{◌≡◌, ℕ, zero, suc, ◌+◌, ◌-◌, ◌<◌, ◌≤◌, ◌⊎◌, inl, inr, nat_le, Bool, true, false, ◌&&◌, cond, List, [], ◌∷◌, ◌++◌, map, length, min, refl, sym, ap, ap₂, subst, ◌∙◌, arith, ℤ, pos, ◌+ℤ◌, flat_map}
 use Rattle.std.proofs.lemmas.Bool.{cases_lt, le-leb, lt-leb}
 use Rattle.std.proofs.lemmas.Int.{ints}
-use Rattle.sym_model.specs.Sum.{total, each, Among}
+use Rattle.sym_model.specs.Sum.{total, Among}
 use Rattle.sym_model.specs.Partition.{after}
 use Rattle.sym_model.specs.Schur.{words, row_rises}
 use Rattle.sym_model.proofs.AfterLists.{after_among, after-append}
@@ -10,10 +10,10 @@ use Rattle.sym_model.proofs.Sums.{total_ext, total_among, total_append, total_no
 use Rattle.schur_laws.specs.InnerShapes.{up_to}
 use lib.IntN.{+ℤ_idl, +ℤ_idr}
 
--- the words of b letters from 1 to n that rise weakly from x on
+-- the words of b letters from 1 to n that are weakly increasing from x on
 abbrev pub rising_words : ℕ → ℕ → ℕ → List (List ℕ)
 rising_words n x zero = [] ∷ []
-rising_words n x (suc b) = each (λ y. cond (nat_le x y) (map (λ w. y ∷ w) (rising_words n y b)) []) (after 0 n)
+rising_words n x (suc b) = flat_map (λ y. cond (nat_le x y) (map (λ w. y ∷ w) (rising_words n y b)) []) (after 0 n)
 
 -- each letter is one from 1 to n
 abbrev pub AreLetters : ℕ → List ℕ → Type 0
@@ -120,7 +120,7 @@ total_next a g =
     (ap (total g) (ap (λ i. after i a) (let e : 0 + 1 ≡ 1 + 0 = omega arith in e) ∙ after_shift 1 0 a)
     ∙ total_map g (λ j. 1 + j) (after 0 a) ∙ total_ext (λ j. g (1 + j)) (λ j. g (suc j)) (λ j. ap g (let e : 1 + j ≡ suc j = omega arith in e)) (after 0 a))
 
--- of all words that rise: those that go on with letters after n, behind a word with letters up to n
+-- of all words that rise: those that go on with letters after n, after a word with letters up to n
 abbrev pub cut_sum : ℕ → ℕ → (List ℕ → ℤ) → ℕ → List ℕ → ℤ
 cut_sum n k f m v = total (λ w. f (v ++ raised_by n w)) (rising_words k 0 m)
 

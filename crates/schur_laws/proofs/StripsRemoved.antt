@@ -3,10 +3,10 @@
 --     removals            all shapes with a horizontal strip taken off, empty rows kept, and its number of cells
 --     ended_content       the content of a row with the greatest letter at its end
 --     over_rows-greatest  sums over tableaux with one letter more
-use Rattle.std.proofs.Common.{◌≡◌, ℕ, zero, suc, ◌+◌, ◌-◌, ◌<◌, ◌≤◌, Bool, true, false, cond, ◌&&◌, List, [], ◌∷◌, ◌++◌, map, length, replicate, nat_le, nat_lt, sym, ◌∙◌, ap, ap₂, refl, arith, ℤ, pos, ◌+ℤ◌, append-nil}
+use Rattle.std.proofs.Common.{◌≡◌, ℕ, zero, suc, ◌+◌, ◌-◌, ◌<◌, ◌≤◌, Bool, true, false, cond, ◌&&◌, List, [], ◌∷◌, ◌++◌, map, length, replicate, nat_le, nat_lt, sym, ◌∙◌, ap, ap₂, refl, arith, ℤ, pos, ◌+ℤ◌, append-nil, flat_map}
 use Rattle.std.proofs.lemmas.Bool.{le-leb, lt-leb, lt-ltb, ne_eqb, eq-eqb, leb-true}
 use Rattle.std.proofs.lemmas.List.{map-append, length-replicate}
-use Rattle.sym_model.specs.Sum.{total, each}
+use Rattle.sym_model.specs.Sum.{total}
 use Rattle.sym_model.specs.Partition.{Falls, part, after}
 use Rattle.sym_model.specs.Polynomial.{join}
 use Rattle.sym_model.specs.Bases.{down_from}
@@ -20,20 +20,16 @@ use Rattle.sym_model.proofs.Lists.{map-among}
 use Rattle.alternant_laws.proofs.Exchanges.{length_content}
 use Rattle.schur_laws.proofs.GreatestLetters.{over_rising, rising-ext, rising-greatest, ended, AreLetters, after_zero-last, total_down_from-ext, total_down_from-cut}
 use Rattle.schur_laws.proofs.TableauRows.{over_rows, over_rows-ext, over_rows-no_row_above}
+use Rattle.sym_model.specs.Bounded.{AreAtMost}
 use lib.IntN.{+ℤ_idr}
 
 -- the shapes that are left when a horizontal strip is taken off, with how many cells it has; empty rows are kept
 abbrev pub removals : List ℕ → List (List ℕ × ℕ)
 removals [] = ([], 0) ∷ []
 removals (a ∷ parts) =
-    each (λ (i : ℕ). map (λ (r : List ℕ × ℕ). ((a - i) ∷ r.0, i + r.1)) (removals parts)) (down_from (a - part parts 1))
+    flat_map (λ (i : ℕ). map (λ (r : List ℕ × ℕ). ((a - i) ∷ r.0, i + r.1)) (removals parts)) (down_from (a - part parts 1))
 
--- each letter is at most n
-abbrev pub AreUpTo : ℕ → List ℕ → Type 0
-AreUpTo n [] = Unit {0}
-AreUpTo n (a ∷ w) = (a ≤ n) × AreUpTo n w
-
-pub letters_up_to : (n : ℕ) (w : List ℕ) → AreLetters n w → AreUpTo n w
+pub letters_up_to : (n : ℕ) (w : List ℕ) → AreLetters n w → AreAtMost n w
 letters_up_to n [] h = tt
 letters_up_to n (a ∷ w) h = (h.0.1, letters_up_to n w h.1)
 
@@ -77,7 +73,7 @@ join-last (b ∷ β) (c ∷ γ) i j e = ap (λ l. (b + c) ∷ l) (join-last β �
 -- ---- columns
 
 -- below a row that ends with the greatest letter a row stands only as far as the smaller letters go
-columns_rise-ended : (n c i : ℕ) (upper v : List ℕ) → AreUpTo n upper → AreLetters n v → length v + i ≤ length upper + c
+columns_rise-ended : (n c i : ℕ) (upper v : List ℕ) → AreAtMost n upper → AreLetters n v → length v + i ≤ length upper + c
     → columns_rise (ended n c upper) (ended n i v) ≡ (nat_le (length v + i) (length upper) && columns_rise upper v)
 columns_rise-ended n zero zero [] [] u h l = refl
 columns_rise-ended n (suc c) zero [] [] u h l = refl
@@ -152,7 +148,7 @@ four false q s f xs = refl
 -- what is to be shown, for a shape
 abbrev LosesGreatest : ℕ → List ℕ → Type 0
 LosesGreatest n parts =
-    (c : ℕ) (upper : List ℕ) (φ : List ℕ → ℤ) → AreUpTo n upper → Falls parts → part parts 1 ≤ length upper + c
+    (c : ℕ) (upper : List ℕ) (φ : List ℕ → ℤ) → AreAtMost n upper → Falls parts → part parts 1 ≤ length upper + c
     → over_rows (suc n) (ended n c upper) parts φ
     ≡ cond (nat_le (part parts 1) (length upper)) (total (λ (r : List ℕ × ℕ). over_rows n upper r.0 (λ γ. φ (γ ++ (r.1 ∷ [])))) (removals parts)) (pos 0)
 
@@ -161,7 +157,7 @@ second_below a [] f = omega arith
 second_below a (b ∷ parts) f = f.0
 
 -- one row with i of the greatest letter, and what stands below it
-row_ended : (n c i a : ℕ) (upper v parts : List ℕ) (φ : List ℕ → ℤ) → LosesGreatest n parts → AreUpTo n upper → Falls (a ∷ parts) → a ≤ length upper + c → i ≤ a
+row_ended : (n c i a : ℕ) (upper v parts : List ℕ) (φ : List ℕ → ℤ) → LosesGreatest n parts → AreAtMost n upper → Falls (a ∷ parts) → a ≤ length upper + c → i ≤ a
     → length v ≡ a - i → AreLetters n v
     → cond (columns_rise (ended n c upper) (ended n i v)) (over_rows (suc n) (ended n i v) parts (λ γ. φ (join (content (suc n) (ended n i v)) γ))) (pos 0)
     ≡ cond (nat_le a (length upper)) (cond (nat_le (part parts 1) (a - i))
@@ -231,6 +227,6 @@ over_rows-greatest n parts φ f =
     long : length zeros ≡ part parts 1
     long = length-replicate (part parts 1) 0
 
-    zeros_up_to : (m : ℕ) → AreUpTo n (replicate m 0)
+    zeros_up_to : (m : ℕ) → AreAtMost n (replicate m 0)
     zeros_up_to zero = tt
     zeros_up_to (suc m) = (omega arith, zeros_up_to m)

@@ -1,14 +1,14 @@
--- The partitions inside a partition, as falling lists with zeros at their ends (this project's own).
-use Rattle.std.specs.Prelude.{ℕ, min, List, [], ◌∷◌, map}
-use Rattle.sym_model.specs.Sum.{each}
+-- The partitions inside a partition, as falling lists with zeros at their ends.
+use Rattle.std.specs.Prelude.{ℕ, min, List, [], ◌∷◌, map, flat_map}
 use Rattle.sym_model.specs.Partition.{after}
 
 -- the numbers from 0 to j, rising
 abbrev pub up_to : ℕ → List ℕ
 up_to j = 0 ∷ after 0 j
 
--- the lists of as many numbers as outer has, none greater than the one before it, the first at most m, and none greater than
--- that of outer at its place
+-- the lists of as many numbers as outer has, none greater than the one before it, the first at most
+-- m, and none greater than that of outer at its place
 abbrev pub shapes_inside : List ℕ → ℕ → List (List ℕ)
 shapes_inside [] m = [] ∷ []
-shapes_inside (a ∷ outer) m = each (λ b. map (λ inner. b ∷ inner) (shapes_inside outer b)) (up_to (min a m))
+shapes_inside (a ∷ outer) m =
+    flat_map (λ b. map (λ inner. b ∷ inner) (shapes_inside outer b)) (up_to (min a m))

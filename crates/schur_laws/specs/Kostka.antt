@@ -1,6 +1,7 @@
 -- Shapes with a horizontal strip taken off, and the Kostka numbers (Macdonald, I.5 and I.6).
 use Rattle.std.specs.Prelude.{ℕ, zero, suc, ◌-◌, ◌==◌, min, cond, ℤ, pos, List, [], ◌∷◌, ◌++◌, map}
-use Rattle.sym_model.specs.Sum.{total, each}
+use Rattle.std.specs.Prelude.{flat_map}
+use Rattle.sym_model.specs.Sum.{total}
 use Rattle.sym_model.specs.Polynomial.{same}
 use Rattle.sym_model.specs.Partition.{part, in_front}
 
@@ -9,14 +10,16 @@ abbrev pub below : ℕ → List ℕ
 below zero = []
 below (suc n) = below n ++ (n ∷ [])
 
--- what is left of a partition when a horizontal strip of k cells is taken off, each once: from the first row i of the cells
--- below which there is none, and from the other rows the rest of the k
+-- what is left of a partition when a horizontal strip of k cells is taken off, each once: from the
+-- first row i of the cells below which there is none, and from the other rows the rest of the k
 abbrev pub strips_off : ℕ → List ℕ → List (List ℕ)
 strips_off k [] = cond (k == 0) ([] ∷ []) []
 strips_off k (a ∷ parts) =
-    each (λ i. map (λ rest. in_front (a - i) rest) (strips_off (k - i) parts)) (below (suc (min k (a - part parts 1))))
+    flat_map (λ i. map (λ rest. in_front (a - i) rest) (strips_off (k - i) parts))
+    (below (suc (min k (a - part parts 1))))
 
--- in how many ways a partition is taken off to nothing by horizontal strips with these numbers of cells, one after another:
+-- in how many ways a partition is taken off to nothing by horizontal strips with these numbers of
+-- cells, one after another:
 -- the number of semistandard tableaux of that shape and content
 abbrev pub kostka : List ℕ → List ℕ → ℤ
 kostka parts [] = cond (same parts []) (pos 1) (pos 0)

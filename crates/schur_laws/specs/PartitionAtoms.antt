@@ -1,6 +1,7 @@
--- Expressions over partitions (this project's own).
+-- Expressions over partitions.
 use Rattle.sym_model.specs.Partition.{IsPartition}
-use Rattle.sym_model.specs.Expression.{Tree, number, fraction, atom, negation, sum, difference, product}
+use Rattle.sym_model.specs.Expression.{Tree, number, fraction, atom, negation, sum, difference}
+use Rattle.sym_model.specs.Expression.{product}
 
 -- the label of each atom of the expression is a partition
 abbrev pub HasPartitions : Tree → Type 0

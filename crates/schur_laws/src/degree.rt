@@ -1,9 +1,10 @@
-//! Symmetric polynomials in every number of variables at once, and how few variables determine them.
+//! Symmetric polynomials in every number of variables at once,
+//! and how few variables determine them.
 
-ghost use Rattle.std.specs.Prelude.{ℕ, ◌≤◌, ℤ, List};
-ghost use Rattle.sym_model.specs.Polynomial.{Poly, Same, one, plus, scale, times};
+ghost use Rattle.std.specs.Prelude.{ℕ, ◌≤◌, List};
+ghost use Rattle.sym_model.specs.Polynomial.{Poly, Same};
 ghost use Rattle.sym_model.specs.Partition.{IsPartition, size};
-ghost use Rattle.sym_model.specs.Expansion.{Basis, basis_polynomial, Terms, IsExpansionOf};
+ghost use Rattle.sym_model.specs.Expansion.{Basis, Terms, IsExpansionOf};
 ghost use Rattle.sym_model.specs.Expression.{Tree, degree, denominator, cleared_value};
 ghost use Rattle.sym_model.specs.WholeTerms.{EachLabel, numerators};
 ghost use Rattle.schur_laws.specs.SymmetricFamily.{IsSymmetricFamily, HasDegreeAtMost};
@@ -19,22 +20,9 @@ pub fn degree_law()
         → ((n : ℕ) → HasDegreeAtMost d (f n)) → ((n : ℕ) → HasDegreeAtMost d (g n))
         → Same (f d) (g d) → (n : ℕ) → Same (f n) (g n) }
     ensures expansions { (d : ℕ) (basis : Basis) (terms : Terms (List ℕ)) (e : Tree)
-        → EachLabel IsPartition (numerators terms) → EachLabel (λ label. size label ≤ d) (numerators terms)
+        → EachLabel IsPartition (numerators terms)
+        → EachLabel (λ label. size label ≤ d) (numerators terms)
         → HasPartitions e → degree e ≤ d
         → IsExpansionOf basis terms d (cleared_value e d) (denominator e)
         → (n : ℕ) → IsExpansionOf basis terms n (cleared_value e n) (denominator e) }
-{}
-
-/// The polynomials of a partition in each of the five bases are a family of symmetric polynomials, of
-/// degree at most the size of the partition; so are 1, sums, multiples and products of families, and
-/// the values of an expression over partitions, of degree at most that of the expression.
-pub fn symmetric_family_law()
-    ensures bases { (basis : Basis) (parts : List ℕ) → IsPartition parts → IsSymmetricFamily (basis_polynomial basis parts) }
-    ensures bases_degree { (basis : Basis) (parts : List ℕ) (n : ℕ) → HasDegreeAtMost (size parts) (basis_polynomial basis parts n) }
-    ensures one { IsSymmetricFamily one }
-    ensures plus { (f g : ℕ → Poly) → IsSymmetricFamily f → IsSymmetricFamily g → IsSymmetricFamily (λ n. plus (f n) (g n)) }
-    ensures scale { (c : ℤ) (f : ℕ → Poly) → IsSymmetricFamily f → IsSymmetricFamily (λ n. scale c (f n)) }
-    ensures times { (f g : ℕ → Poly) → IsSymmetricFamily f → IsSymmetricFamily g → IsSymmetricFamily (λ n. times (f n) (g n)) }
-    ensures expressions { (e : Tree) → HasPartitions e → IsSymmetricFamily (cleared_value e) }
-    ensures expressions_degree { (e : Tree) (n : ℕ) → HasDegreeAtMost (degree e) (cleared_value e n) }
 {}

@@ -1,8 +1,7 @@
-//! Laws of Schur polynomials: in the monomial basis, in two sets of variables, their products as counts of skew shapes, and how
-//! many variables determine a symmetric polynomial.
+//! Laws of Schur polynomials: in the monomial basis, in two sets of variables, their products as
+//! counts of skew shapes, and how many variables determine a symmetric polynomial.
 //!
-//! A law function takes nothing, answers nothing and does no work when it runs: its contract is
-//! the law.
+//! A law function has an empty body: its contract is the law.
 //!
 //! What is proved:
 //!
@@ -13,10 +12,8 @@
 //! products are counts of lattice tableaux of skew shapes, and the factors may change places.
 //! `degree_law`: two families of symmetric polynomials of degree at most d, one for each number of
 //! variables, that agree in d variables agree in every number of variables; so a list that expands
-//! an expression in d variables expands it in every number, where d is at least the degree of the
-//! expression and the size of each label. `symmetric_family_law`: the five bases and the values of
-//! expressions over partitions are such families, of at most their degree, and sums, multiples and
-//! products of families are families.
+//! an expression in d variables expands it in every number, if d is at least the degree of the
+//! expression and the size of each label.
 #![tactic(auto)]
 
 mod coproduct;
@@ -25,6 +22,6 @@ mod schur_expansion;
 mod skew_duality;
 
 pub use coproduct::coproduct_law;
-pub use degree::{degree_law, symmetric_family_law};
+pub use degree::degree_law;
 pub use schur_expansion::schur_in_monomials_law;
 pub use skew_duality::duality_law;

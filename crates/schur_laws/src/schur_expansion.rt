@@ -18,7 +18,8 @@ ghost use Rattle.schur_laws.specs.Kostka.{kostka};
 /// Example: two tableaux of shape (2,1) have the content (1,1,1).
 pub fn schur_in_monomials_law()
     ensures expansion { (parts : List ℕ) (terms : WholeTerms) → IsPartition parts
-        → ((κ : List ℕ) → IsPartition κ → coefficient terms κ ≡ kostka parts κ) → IsList terms (schur parts) }
+        → ((κ : List ℕ) → IsPartition κ → coefficient terms κ ≡ kostka parts κ)
+        → IsList terms (schur parts) }
     ensures numbers { (parts content : List ℕ) → IsPartition parts
         → kostka parts content ≡ coefficient (schur parts (length content)) content }
     ensures bounded { (parts content : List ℕ) → IsPartition parts

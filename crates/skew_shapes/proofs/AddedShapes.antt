@@ -1,10 +1,10 @@
 -- The rim hooks that can be put on a partition (specs/AddedHooks).
 --     ending_none, ending_one, ending_next    the rim hooks with one last row after another
 --     hooks_added                             they are the rim hooks, in falling lexicographic order
-use Rattle.std.proofs.Common.{◌≡◌, ◌⊎◌, ℕ, suc, ◌+◌, ◌-◌, ◌<◌, ◌≤◌, ◌==◌, max, nat_lt, nat_le, Bool, true, false, ◌||◌, cond, List, [], ◌∷◌, ◌++◌, map, refl, sym, ap, ◌∙◌, subst, inl, inr, arith}
+use Rattle.std.proofs.Common.{◌≡◌, ◌⊎◌, ℕ, suc, ◌+◌, ◌-◌, ◌<◌, ◌≤◌, ◌==◌, max, nat_lt, nat_le, Bool, true, false, ◌||◌, cond, List, [], ◌∷◌, ◌++◌, map, refl, sym, ap, ◌∙◌, subst, inl, inr, arith, flat_map}
 use Rattle.std.proofs.lemmas.Bool.{cases_lt, cases_eq, and_parts, and_from}
 use Rattle.std.proofs.lemmas.Bool.Decides.{nat_tests}
-use Rattle.sym_model.specs.Sum.{each, Among}
+use Rattle.sym_model.specs.Sum.{Among}
 use Rattle.sym_model.specs.Partition.{Falls, IsPartition, after, part, rows, size}
 use Rattle.sym_model.specs.PartitionList.{FallsLexicographically}
 use Rattle.sym_model.specs.PrintedOrder.{falling_lexicographic}
@@ -115,7 +115,7 @@ ending_one k inner first last f h o t =
 
 pub ending_next : (k : ℕ) (inner : List ℕ) (last : ℕ) → last < rows inner + k → hooks_ending_after k inner last ≡ hooks_ending k inner (last + 1) ++ hooks_ending_after k inner (last + 1)
 ending_next k inner last l =
-    ap (λ n. each (hooks_ending k inner) (after last n)) (let e : rows inner + k - last ≡ suc (rows inner + k - (last + 1)) = omega arith in e)
+    ap (λ n. flat_map (hooks_ending k inner) (after last n)) (let e : rows inner + k - last ≡ suc (rows inner + k - (last + 1)) = omega arith in e)
 
 pub begins_next : (k : ℕ) (inner : List ℕ) (first last : ℕ) → Falls inner → BeginsFrom k inner first last → BeginsFrom k inner first (last + 1)
 begins_next k inner first last f b = record {

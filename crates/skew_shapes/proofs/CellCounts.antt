@@ -1,16 +1,11 @@
 -- How many cells a skew shape has.
-use Rattle.std.proofs.Common.{◌≡◌, ℕ, zero, suc, ◌+◌, ◌-◌, ◌≤◌, List, [], ◌∷◌, ◌++◌, map, length, take, get_or, ◌∙◌, ap, refl, arith}
+use Rattle.std.proofs.Common.{◌≡◌, ℕ, zero, suc, ◌+◌, ◌-◌, ◌≤◌, List, [], ◌∷◌, ◌++◌, length, take, get_or, ◌∙◌, ap, refl, arith, flat_map}
 use Rattle.std.proofs.lemmas.List.{length-map, length-append, take_all}
-use Rattle.sym_model.specs.Sum.{each}
-use Rattle.sym_model.specs.Partition.{ArePositive, part, size, after, cells}
+use Rattle.sym_model.specs.Partition.{ArePositive, part, size, after, cells, row_cells}
 use Rattle.sym_model.proofs.AfterLists.{length_after, after-more}
 use Rattle.sym_model.proofs.Lists.{each-append}
 use Rattle.strip_laws.proofs.Containment.{contains-tells, Holds-get_or}
 use Rattle.skew_shapes.specs.Shapes.{IsSkew}
-
--- the cells of a row
-abbrev pub row_cells : List ℕ → List ℕ → ℕ → List (ℕ × ℕ)
-row_cells outer inner row = map (λ column. (row, column)) (after (part inner row) (part outer row - part inner row))
 
 length-row_cells : (outer inner : List ℕ) (row : ℕ) → length (row_cells outer inner row) ≡ part outer row - part inner row
 length-row_cells outer inner row =
@@ -19,14 +14,14 @@ length-row_cells outer inner row =
 
 cells_to-more :
     (outer inner : List ℕ) (k : ℕ)
-    → length (each (row_cells outer inner) (after 0 (k + 1)))
-    ≡ length (each (row_cells outer inner) (after 0 k)) + (get_or outer k 0 - get_or inner k 0)
+    → length (flat_map (row_cells outer inner) (after 0 (k + 1)))
+    ≡ length (flat_map (row_cells outer inner) (after 0 k)) + (get_or outer k 0 - get_or inner k 0)
 cells_to-more outer inner k =
     let e : 0 + k + 1 ≡ k + 1 = omega arith in
     let f : k + 1 - 1 ≡ k = omega arith in
     let last = row_cells outer inner (k + 1) in
-    let front = each (row_cells outer inner) (after 0 k) in
-    ap (λ l. length (each (row_cells outer inner) l)) (after-more 0 k ∙ ap (λ n. after 0 k ++ n ∷ []) e)
+    let front = flat_map (row_cells outer inner) (after 0 k) in
+    ap (λ l. length (flat_map (row_cells outer inner) l)) (after-more 0 k ∙ ap (λ n. after 0 k ++ n ∷ []) e)
     ∙ ap length (each-append (row_cells outer inner) (after 0 k) ((k + 1) ∷ []))
     ∙ length-append front (last ++ [])
     ∙ ap (λ n. length front + n)
@@ -41,13 +36,13 @@ size-take_one (a ∷ xs) (suc k) = omega (arith, size-take_one xs k)
 -- the cells of the first rows
 cells_in_front :
     (outer inner : List ℕ) (k : ℕ) → ((i : ℕ) → get_or inner i 0 ≤ get_or outer i 0) → k ≤ length outer → length inner ≤ length outer
-    → length (each (row_cells outer inner) (after 0 k)) + size (take k inner) ≡ size (take k outer)
+    → length (flat_map (row_cells outer inner) (after 0 k)) + size (take k inner) ≡ size (take k outer)
 cells_in_front outer inner zero h l m = refl
 cells_in_front outer inner (suc k) h l m =
     let e : suc k ≡ k + 1 = omega arith in
     omega (
       arith,
-      ap (λ n. length (each (row_cells outer inner) (after 0 n))) e,
+      ap (λ n. length (flat_map (row_cells outer inner) (after 0 n))) e,
       cells_to-more outer inner k,
       size-take_one inner k,
       size-take_one outer k,

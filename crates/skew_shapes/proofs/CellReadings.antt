@@ -1,13 +1,13 @@
 -- Column readings of fillings as functions of cells, and the filling of a word.
-use Rattle.std.proofs.Common.{◌≡◌, ◌⊎◌, ℕ, zero, suc, ◌+◌, ◌-◌, ◌<◌, ◌≤◌, Bool, true, false, ◌&&◌, ◌==◌, cond, List, [], ◌∷◌, ◌++◌, map, length, take, drop, get_or, reverse, ◌∙◌, ap, ap₂, sym, refl, subst, inl, inr, arith, nat_le, nat_lt, append-nil, append_assoc}
+use Rattle.std.proofs.Common.{◌≡◌, ◌⊎◌, ℕ, zero, suc, ◌+◌, ◌-◌, ◌<◌, ◌≤◌, Bool, true, false, ◌&&◌, ◌==◌, cond, List, [], ◌∷◌, ◌++◌, map, length, take, drop, get_or, reverse, ◌∙◌, ap, ap₂, sym, refl, inl, inr, arith, nat_le, nat_lt, append-nil, append_assoc, filter, flat_map}
 use Rattle.std.proofs.lemmas.Bool.{cases_eq, cases_lt, le-leb, lt-leb, lt-ltb, le-ltb, eq-eqb, ne_eqb}
 use Rattle.std.proofs.lemmas.List.{map-append, reverse-append, drop-drop, get_or-drop, get_or_past}
-use Rattle.sym_model.specs.Sum.{each, select, Among}
+use Rattle.sym_model.specs.Sum.{Among}
 use Rattle.sym_model.specs.Partition.{IsCell, part, columns, after}
 use Rattle.sym_model.specs.GoodTableau.{letter_in, column, column_reading}
 use Rattle.sym_model.specs.TableauList.{column_cells, reading_cells, letter_of_cell}
 use Rattle.skew_shapes.specs.Rows.{row_by, rows_by, reaches, cells_right_of, cells_above, number_in, place_of, HoldsLetters, HasPlaces}
-use Rattle.sym_model.proofs.Sums.{Among_from_append, Among_from_map, Among_from_each, Among_from_select}
+use Rattle.sym_model.proofs.Sums.{Among_from_append, Among_from_map, Among_from_each, Among_from_select, among_reverse}
 use Rattle.sym_model.proofs.AfterLists.{after_among, after-more}
 use Rattle.sym_model.proofs.Lists.{each-append}
 use Rattle.skew_shapes.proofs.KeptRows.{is_cell-tells, number_in-set, number_in-set_here}
@@ -53,7 +53,7 @@ letter_in-by g c o j = elim (cases_lt c j) [
 
 column-by :
     (f : ℕ → ℕ → ℕ) (outer inner : List ℕ) (j a k : ℕ)
-    → column (drop a inner) (map (row_by f outer inner) (after a k)) j ≡ map (λ i. f i j) (select (reaches outer inner j) (after a k))
+    → column (drop a inner) (map (row_by f outer inner) (after a k)) j ≡ map (λ i. f i j) (filter (reaches outer inner j) (after a k))
 column-by f outer inner j a zero = refl
 column-by f outer inner j a (suc k) =
     let p : part (drop a inner) 1 ≡ part inner (a + 1) =
@@ -63,7 +63,7 @@ column-by f outer inner j a (suc k) =
     ap₂ (λ x y. x ++ y)
     (ap (λ c. letter_in c (row_by f outer inner (a + 1)) j) p ∙ letter_in-by (f (a + 1)) (part inner (a + 1)) o j)
     (ap (λ l. column l (map (row_by f outer inner) (after (a + 1) k)) j) rest ∙ column-by f outer inner j (a + 1) k)
-    ∙ by (reaches outer inner j (a + 1)) (select (reaches outer inner j) (after (a + 1) k))
+    ∙ by (reaches outer inner j (a + 1)) (filter (reaches outer inner j) (after (a + 1) k))
   where
     by : (b : Bool) (xs : List ℕ)
         → cond b (f (a + 1) j ∷ []) [] ++ map (λ i. f i j) xs ≡ map (λ i. f i j) (cond b ((a + 1) ∷ xs) xs)
@@ -79,15 +79,15 @@ pub column-rows_by :
     (f : ℕ → ℕ → ℕ) (outer inner : List ℕ) (j : ℕ)
     → column inner (rows_by f outer inner) j ≡ map (λ (c : ℕ × ℕ). f c.0 c.1) (column_cells outer inner j)
 column-rows_by f outer inner j =
-    column-by f outer inner j 0 (length outer) ∙ map_cells f j (select (reaches outer inner j) (after 0 (length outer)))
+    column-by f outer inner j 0 (length outer) ∙ map_cells f j (filter (reaches outer inner j) (after 0 (length outer)))
 
 pub each-cells :
     (f : ℕ → ℕ → ℕ) (outer inner : List ℕ) (js : List ℕ)
-    → each (column inner (rows_by f outer inner)) js ≡ map (λ (c : ℕ × ℕ). f c.0 c.1) (each (column_cells outer inner) js)
+    → flat_map (column inner (rows_by f outer inner)) js ≡ map (λ (c : ℕ × ℕ). f c.0 c.1) (flat_map (column_cells outer inner) js)
 each-cells f outer inner [] = refl
 each-cells f outer inner (j ∷ js) =
     ap₂ (λ x y. x ++ y) (column-rows_by f outer inner j) (each-cells f outer inner js)
-    ∙ sym (map-append (λ (c : ℕ × ℕ). f c.0 c.1) (column_cells outer inner j) (each (column_cells outer inner) js))
+    ∙ sym (map-append (λ (c : ℕ × ℕ). f c.0 c.1) (column_cells outer inner j) (flat_map (column_cells outer inner) js))
 
 -- the column reading has the numbers of the cells in the order of the reading
 pub reading-rows_by :
@@ -95,7 +95,7 @@ pub reading-rows_by :
     → column_reading outer inner (rows_by f outer inner) ≡ map (λ (c : ℕ × ℕ). f c.0 c.1) (reading_cells outer inner)
 reading-rows_by f outer inner =
     let e : columns outer - 0 ≡ columns outer = omega arith in
-    ap (λ n. each (column inner (rows_by f outer inner)) (reverse (after 0 n))) e
+    ap (λ n. flat_map (column inner (rows_by f outer inner)) (reverse (after 0 n))) e
     ∙ each-cells f outer inner (reverse (after 0 (columns outer)))
 
 -- ---- the letters of a word in the cells, one by one
@@ -139,12 +139,12 @@ letter-absent i j (c ∷ done) (a ∷ w) h =
 
 -- ---- the cells in the order of the reading, one by one
 
-select-push : (test : ℕ → Bool) (xs : List ℕ) (x : ℕ) → select test (xs ++ x ∷ []) ≡ select test xs ++ cond (test x) (x ∷ []) []
+select-push : (test : ℕ → Bool) (xs : List ℕ) (x : ℕ) → filter test (xs ++ x ∷ []) ≡ filter test xs ++ cond (test x) (x ∷ []) []
 select-push test [] x = refl
 select-push test (y ∷ xs) x = by (test y) (select-push test xs x)
   where
-    by : (b : Bool) → select test (xs ++ x ∷ []) ≡ select test xs ++ cond (test x) (x ∷ []) []
-        → cond b (y ∷ select test (xs ++ x ∷ [])) (select test (xs ++ x ∷ [])) ≡ cond b (y ∷ select test xs) (select test xs) ++ cond (test x) (x ∷ []) []
+    by : (b : Bool) → filter test (xs ++ x ∷ []) ≡ filter test xs ++ cond (test x) (x ∷ []) []
+        → cond b (y ∷ filter test (xs ++ x ∷ [])) (filter test (xs ++ x ∷ [])) ≡ cond b (y ∷ filter test xs) (filter test xs) ++ cond (test x) (x ∷ []) []
     by true e = ap (λ l. y ∷ l) e
     by false e = e
 
@@ -154,9 +154,9 @@ above-more :
 above-more outer inner j k =
     let e : 0 + k + 1 ≡ k + 1 = omega arith in
     let test = reaches outer inner j in
-    ap (λ l. map {B = ℕ × ℕ} (λ row. (row, j)) (select test l)) (after-more 0 k ∙ ap (λ n. after 0 k ++ n ∷ []) e)
+    ap (λ l. map {B = ℕ × ℕ} (λ row. (row, j)) (filter test l)) (after-more 0 k ∙ ap (λ n. after 0 k ++ n ∷ []) e)
     ∙ ap (map {B = ℕ × ℕ} (λ row. (row, j))) (select-push test (after 0 k) (k + 1))
-    ∙ map-append (λ row. (row, j)) (select test (after 0 k)) (cond (test (k + 1)) ((k + 1) ∷ []) [])
+    ∙ map-append (λ row. (row, j)) (filter test (after 0 k)) (cond (test (k + 1)) ((k + 1) ∷ []) [])
 
 pub above-reached :
     (outer inner : List ℕ) (j k : ℕ) → reaches outer inner j (k + 1) ≡ true
@@ -183,20 +183,11 @@ right-more outer inner (suc i) h l =
     let f : i + 1 ≡ suc i = omega arith in
     let k = columns outer - suc i in
     ap (cells_right_of outer inner) e
-    ∙ ap (λ m. each (column_cells outer inner) (reverse (after i m))) n
-    ∙ ap (each (column_cells outer inner)) (reverse-append ((i + 1) ∷ []) (after (i + 1) k))
-    ∙ ap (λ x. each (column_cells outer inner) (reverse (after x k) ++ x ∷ [])) f
+    ∙ ap (λ m. flat_map (column_cells outer inner) (reverse (after i m))) n
+    ∙ ap (flat_map (column_cells outer inner)) (reverse-append ((i + 1) ∷ []) (after (i + 1) k))
+    ∙ ap (λ x. flat_map (column_cells outer inner) (reverse (after x k) ++ x ∷ [])) f
     ∙ each-append (column_cells outer inner) (reverse (after (suc i) k)) (suc i ∷ [])
-    ∙ ap (λ l. each (column_cells outer inner) (reverse (after (suc i) k)) ++ l) (append-nil (column_cells outer inner (suc i)))
-
-pub Among-reverse : (x : ℕ) (xs : List ℕ) → Among x (reverse xs) → Among x xs
-Among-reverse x [] m = m
-Among-reverse x (y ∷ xs) m = by (Among_from_append x (reverse xs) (y ∷ []) (subst (Among x) (reverse-append (y ∷ []) xs) m)) (λ m. Among-reverse x xs m)
-  where
-    by : Among x (reverse xs) ⊎ Among x (y ∷ []) → (Among x (reverse xs) → Among x xs) → Among x (y ∷ xs)
-    by (inl n) r = inr (r n)
-    by (inr (inl e)) r = inl e
-    by (inr (inr n)) r = absurd n
+    ∙ ap (λ l. flat_map (column_cells outer inner) (reverse (after (suc i) k)) ++ l) (append-nil (column_cells outer inner (suc i)))
 
 -- a cell is not among those before it
 pub not_before :
@@ -206,12 +197,12 @@ not_before outer inner j k m = by (Among_from_append (k + 1, j) (cells_right_of 
     by : Among (k + 1, j) (cells_right_of outer inner j) ⊎ Among (k + 1, j) (cells_above outer inner j k) → ⊥
     by (inl n) =
         let found = Among_from_each (column_cells outer inner) (k + 1, j) (reverse (after j (columns outer - j))) n in
-        let past = after_among j (columns outer - j) found.0 (Among-reverse found.0 (after j (columns outer - j)) found.1) in
-        let here = Among_from_map {B = ℕ × ℕ} (λ row. (row, found.0)) (k + 1, j) (select (reaches outer inner found.0) (after 0 (length outer))) found.2 in
+        let past = after_among j (columns outer - j) found.0 (among_reverse found.0 (after j (columns outer - j)) found.1) in
+        let here = Among_from_map {B = ℕ × ℕ} (λ row. (row, found.0)) (k + 1, j) (filter (reaches outer inner found.0) (after 0 (length outer))) found.2 in
         let same : j ≡ found.0 = ap (λ (c : ℕ × ℕ). c.1) here.2 in
         omega (arith, past.0)
     by (inr n) =
-        let here = Among_from_map {B = ℕ × ℕ} (λ row. (row, j)) (k + 1, j) (select (reaches outer inner j) (after 0 k)) n in
+        let here = Among_from_map {B = ℕ × ℕ} (λ row. (row, j)) (k + 1, j) (filter (reaches outer inner j) (after 0 k)) n in
         let row = (Among_from_select (reaches outer inner j) here.0 (after 0 k) here.1).0 in
         let same : k + 1 ≡ here.0 = ap (λ (c : ℕ × ℕ). c.0) here.2 in
         omega (arith, (after_among 0 k here.0 row).1)

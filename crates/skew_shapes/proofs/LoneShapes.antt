@@ -5,14 +5,14 @@
 --     same_rows                                           a partition is known by its rows
 --     part_within                                         no row is longer than the partition is great
 --     rows_at, rows_fall, rows_next                       a list of rows that are a function of the row
-use Rattle.std.proofs.Common.{◌≡◌, ◌⊎◌, ℕ, zero, suc, ◌+◌, ◌-◌, ◌<◌, ◌≤◌, Bool, true, false, cond, List, [], ◌∷◌, ◌++◌, map, get_or, refl, sym, ap, ap₂, ◌∙◌, subst, inl, inr, arith}
+use Rattle.std.proofs.Common.{◌≡◌, ◌⊎◌, ℕ, zero, suc, ◌+◌, ◌-◌, ◌<◌, ◌≤◌, Bool, true, false, cond, List, [], ◌∷◌, ◌++◌, map, get_or, refl, sym, ap, ap₂, ◌∙◌, subst, inl, inr, arith, flat_map}
 use Rattle.std.proofs.lemmas.Bool.{cases_lt, false_from_ne_true as not_true}
 use Rattle.std.proofs.lemmas.Cmp.{nat_cmp_total, tied_itself}
 use Rattle.std.proofs.lemmas.List.{length-map}
 use Rattle.std.specs.Cmp.{nat_cmp_is}
 use Rattle.std.specs.Ordering.{nat_cmp, ordering_then}
 use Rattle.std.specs.declared.cmp.Ordering.TheVariants.{Less}
-use Rattle.sym_model.specs.Sum.{each, Among, Once}
+use Rattle.sym_model.specs.Sum.{Among, Once}
 use Rattle.sym_model.specs.Partition.{Falls, ArePositive, after, part, size, without_last_zeros}
 use Rattle.sym_model.specs.PartitionList.{FallsLexicographically}
 use Rattle.sym_model.specs.PrintedOrder.{falling_lexicographic}
@@ -25,7 +25,7 @@ use Rattle.skew_shapes.proofs.CellRows.{map_after-at}
 -- ---- the shapes at the numbers that pass a test
 
 abbrev pub fitting : (ℕ → Bool) → (ℕ → List ℕ) → List ℕ → List (List ℕ)
-fitting test shape xs = each (λ i. cond (test i) (shape i ∷ []) []) xs
+fitting test shape xs = flat_map (λ i. cond (test i) (shape i ∷ []) []) xs
 
 pub none_fits : (test : ℕ → Bool) (shape : ℕ → List ℕ) (xs : List ℕ) → ((i : ℕ) → Among i xs → test i ≡ false) → fitting test shape xs ≡ []
 none_fits test shape [] h = refl
@@ -65,10 +65,10 @@ from_fitting test shape ν xs m =
 
 pub fall_after : (f : ℕ → List (List ℕ)) (a n : ℕ) → ((i : ℕ) → a < i → i ≤ a + n → FallsLexicographically (f i))
     → ((i j : ℕ) (x y : List ℕ) → a < i → i < j → j ≤ a + n → Among x (f i) → Among y (f j) → falling_lexicographic x y ≡ Less)
-    → FallsLexicographically (each f (after a n))
+    → FallsLexicographically (flat_map f (after a n))
 fall_after f a zero h c = tt
 fall_after f a (suc n) h c =
-    FallsLexicographically-append (f (a + 1)) (each f (after (a + 1) n)) (h (a + 1) (omega arith) (omega arith))
+    FallsLexicographically-append (f (a + 1)) (flat_map f (after (a + 1) n)) (h (a + 1) (omega arith) (omega arith))
     (fall_after f (a + 1) n (λ i l m. h i (omega arith) (omega arith)) (λ i j x y l m o. c i j x y (omega arith) m (omega arith)))
     (λ x y m o.
     let r = Among_from_each f y (after (a + 1) n) o in

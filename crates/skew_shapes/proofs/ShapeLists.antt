@@ -2,10 +2,10 @@
 --     vertical_on-tell, Among-vertical_on    they are those whose rows have at most one cell more, and fall
 --     vertical_on-fall                       they stand in falling lexicographic order
 --     vertical_strips                        they are the vertical strips
-use Rattle.std.proofs.Common.{◌≡◌, ℕ, zero, suc, ◌+◌, ◌-◌, ◌<◌, ◌≤◌, min, List, [], ◌∷◌, ◌++◌, map, get_or, refl, sym, ap, ap₂, ◌∙◌, subst, inl, inr, arith}
+use Rattle.std.proofs.Common.{◌≡◌, ℕ, zero, suc, ◌+◌, ◌-◌, ◌<◌, ◌≤◌, min, List, [], ◌∷◌, ◌++◌, map, get_or, refl, sym, ap, ap₂, ◌∙◌, subst, inl, inr, arith, flat_map}
 use Rattle.std.specs.Prelude.{replicate}
 use Rattle.std.proofs.lemmas.List.{length-replicate}
-use Rattle.sym_model.specs.Sum.{each, Among}
+use Rattle.sym_model.specs.Sum.{Among}
 use Rattle.sym_model.specs.Partition.{IsPartition, Falls, ArePositive, part, size, rows}
 use Rattle.sym_model.specs.PartitionList.{FallsLexicographically}
 use Rattle.sym_model.proofs.Sums.{Among-map, Among_from_map, Among-each, Among_from_each}
@@ -186,8 +186,8 @@ listed_further most left a row n inner rest h e m =
 
 -- the shapes with all first rows are all of them
 pub widened_all : (most left a n : ℕ) (below rows inner : List ℕ) (before cur : List (List ℕ)) → a ∷ below ≡ inner → n ≡ min most (a + min left 1) + 1 - a
-    → cur ≡ before ++ map (λ rest. rows ++ rest) (each (λ row. map (λ rest. row ∷ rest) (vertical_on row (left + a - row) below)) (counting_down (min most (a + min left 1)) n))
+    → cur ≡ before ++ map (λ rest. rows ++ rest) (flat_map (λ row. map (λ rest. row ∷ rest) (vertical_on row (left + a - row) below)) (counting_down (min most (a + min left 1)) n))
     → cur ≡ before ++ map (λ rest. rows ++ rest) (vertical_on most left inner)
 widened_all most left a n below rows inner before cur split e c =
-    c ∙ ap (λ k. before ++ map (λ rest. rows ++ rest) (each (λ row. map (λ rest. row ∷ rest) (vertical_on row (left + a - row) below)) (counting_down (min most (a + min left 1)) k))) e
+    c ∙ ap (λ k. before ++ map (λ rest. rows ++ rest) (flat_map (λ row. map (λ rest. row ∷ rest) (vertical_on row (left + a - row) below)) (counting_down (min most (a + min left 1)) k))) e
     ∙ ap (λ l. before ++ map (λ rest. rows ++ rest) (vertical_on most left l)) split

@@ -2,12 +2,12 @@
 --     strips_on-tell, Among-strips_on    they are those with rows between the old ones
 --     strips_on-fall                     they stand in falling lexicographic order
 --     horizontal_strips                  they are the horizontal strips
-use Rattle.std.proofs.Common.{◌≡◌, ℕ, zero, suc, ◌+◌, ◌-◌, ◌<◌, ◌≤◌, ◌==◌, min, max, Bool, true, false, cond, List, [], ◌∷◌, ◌++◌, map, length, get_or, drop, refl, sym, ap, ap₂, ◌∙◌, subst, inl, inr, arith, append_assoc, eqb-true, add-one}
+use Rattle.std.proofs.Common.{◌≡◌, ℕ, zero, suc, ◌+◌, ◌-◌, ◌<◌, ◌≤◌, ◌==◌, min, max, Bool, true, false, cond, List, [], ◌∷◌, ◌++◌, map, length, get_or, drop, refl, sym, ap, ap₂, ◌∙◌, subst, inl, inr, arith, append_assoc, eqb-true, add-one, flat_map}
 use Rattle.std.specs.Prelude.{Option, Some, None, IsSome, slice_get}
 use Rattle.std.specs.Option.{option_to_list}
 use Rattle.std.proofs.lemmas.Bool.{cases_eq}
 use Rattle.std.specs.declared.cmp.Ordering.TheVariants.{Less}
-use Rattle.sym_model.specs.Sum.{each, Among}
+use Rattle.sym_model.specs.Sum.{Among}
 use Rattle.sym_model.specs.Partition.{IsPartition, Falls, ArePositive, part, size, rows}
 use Rattle.sym_model.specs.PartitionList.{FallsLexicographically}
 use Rattle.sym_model.specs.PrintedOrder.{falling_lexicographic}
@@ -17,6 +17,7 @@ use Rattle.sym_model.proofs.PartitionLists.{FallsLexicographically-append, Falls
 use Rattle.strip_laws.proofs.Strips.{horizontal_from_rows, horizontal_rows}
 use Rattle.partitions.specs.Limits.{IsWithinLimits}
 use Rattle.skew_shapes.specs.HorizontalStrips.{counting_down, strips_on, last_of, AreHorizontalStrips}
+use Rattle.std.proofs.lemmas.Grind.{flat_map-append}
 
 -- ---- numbers that count down
 
@@ -123,10 +124,10 @@ Among-strips_on most left (a ∷ inner) (b ∷ outer) f o s =
 -- ---- the order
 
 pub fall-each : (rest : ℕ → List (List ℕ)) (high n : ℕ) → n ≤ high + 1 → ((a : ℕ) → Among a (counting_down high n) → FallsLexicographically (rest a))
-    → FallsLexicographically (each (λ a. map (λ x. a ∷ x) (rest a)) (counting_down high n))
+    → FallsLexicographically (flat_map (λ a. map (λ x. a ∷ x) (rest a)) (counting_down high n))
 fall-each rest high zero h f = tt
 fall-each rest high (suc n) h f =
-    FallsLexicographically-append (map (λ x. high ∷ x) (rest high)) (each (λ a. map (λ x. a ∷ x) (rest a)) (counting_down (high - 1) n))
+    FallsLexicographically-append (map (λ x. high ∷ x) (rest high)) (flat_map (λ a. map (λ x. a ∷ x) (rest a)) (counting_down (high - 1) n))
     (FallsLexicographically-map high (rest high) (f high (inl refl)))
     (fall-each rest (high - 1) n (omega arith) (λ a m. f a (inr m)))
     (λ x y m p.
@@ -232,10 +233,6 @@ horizontal_strips inner k p = record {
 
 -- ---- a list of shapes, one first row after another
 
-each_append : (f : ℕ → List (List ℕ)) (xs ys : List ℕ) → each f (xs ++ ys) ≡ each f xs ++ each f ys
-each_append f [] ys = refl
-each_append f (x ∷ xs) ys = ap (λ l. f x ++ l) (each_append f xs ys) ∙ sym (append_assoc (f x) (each f xs) (each f ys))
-
 pub map_append : (g : List ℕ → List ℕ) (xs ys : List (List ℕ)) → map g (xs ++ ys) ≡ map g xs ++ map g ys
 map_append g [] ys = refl
 map_append g (x ∷ xs) ys = ap (λ l. g x ∷ l) (map_append g xs ys)
@@ -253,20 +250,20 @@ abbrev pub grown : ℕ → ℕ → List ℕ → ℕ → List (List ℕ)
 grown a left inner row = map (λ rest. row ∷ rest) (strips_on a (left + a - row) inner)
 
 pub each-next : (later : ℕ → List (List ℕ)) (high n : ℕ) (rows longer : List ℕ) (before cur new : List (List ℕ))
-    → cur ≡ before ++ map (λ rest. rows ++ rest) (each (λ row. map (λ rest. row ∷ rest) (later row)) (counting_down high n))
+    → cur ≡ before ++ map (λ rest. rows ++ rest) (flat_map (λ row. map (λ rest. row ∷ rest) (later row)) (counting_down high n))
     → longer ≡ rows ++ ((high - n) ∷ []) → new ≡ cur ++ map (λ rest. longer ++ rest) (later (high - n))
-    → new ≡ before ++ map (λ rest. rows ++ rest) (each (λ row. map (λ rest. row ∷ rest) (later row)) (counting_down high (n + 1)))
+    → new ≡ before ++ map (λ rest. rows ++ rest) (flat_map (λ row. map (λ rest. row ∷ rest) (later row)) (counting_down high (n + 1)))
 each-next later high n rows longer before cur new c l e =
     e
     ∙ ap₂ (λ (x : List (List ℕ)) (y : List ℕ). x ++ map (λ rest. y ++ rest) (later (high - n))) c l
-    ∙ ap (λ x. (before ++ map (λ rest. rows ++ rest) (each (λ row. map (λ rest. row ∷ rest) (later row)) (counting_down high n))) ++ x) (prefix_longer rows (high - n) (later (high - n)))
-    ∙ append_assoc before (map (λ rest. rows ++ rest) (each (λ row. map (λ rest. row ∷ rest) (later row)) (counting_down high n))) (map (λ rest. rows ++ rest) (map (λ rest. (high - n) ∷ rest) (later (high - n))))
+    ∙ ap (λ x. (before ++ map (λ rest. rows ++ rest) (flat_map (λ row. map (λ rest. row ∷ rest) (later row)) (counting_down high n))) ++ x) (prefix_longer rows (high - n) (later (high - n)))
+    ∙ append_assoc before (map (λ rest. rows ++ rest) (flat_map (λ row. map (λ rest. row ∷ rest) (later row)) (counting_down high n))) (map (λ rest. rows ++ rest) (map (λ rest. (high - n) ∷ rest) (later (high - n))))
     ∙ ap (λ x. before ++ x)
-    (sym (map_append (λ rest. rows ++ rest) (each (λ row. map (λ rest. row ∷ rest) (later row)) (counting_down high n)) (map (λ rest. (high - n) ∷ rest) (later (high - n))))
+    (sym (map_append (λ rest. rows ++ rest) (flat_map (λ row. map (λ rest. row ∷ rest) (later row)) (counting_down high n)) (map (λ rest. (high - n) ∷ rest) (later (high - n))))
     ∙ ap (map (λ rest. rows ++ rest))
-    (ap (λ x. each (λ row. map (λ rest. row ∷ rest) (later row)) (counting_down high n) ++ x) (sym (append_none (map (λ rest. (high - n) ∷ rest) (later (high - n)))))
-    ∙ sym (each_append (λ row. map (λ rest. row ∷ rest) (later row)) (counting_down high n) ((high - n) ∷ []))
-    ∙ ap (each (λ row. map (λ rest. row ∷ rest) (later row))) (sym (down-next high n))))
+    (ap (λ x. flat_map (λ row. map (λ rest. row ∷ rest) (later row)) (counting_down high n) ++ x) (sym (append_none (map (λ rest. (high - n) ∷ rest) (later (high - n)))))
+    ∙ sym (flat_map-append (λ row. map (λ rest. row ∷ rest) (later row)) (counting_down high n) ((high - n) ∷ []))
+    ∙ ap (flat_map (λ row. map (λ rest. row ∷ rest) (later row))) (sym (down-next high n))))
 
 -- a shape with a further row is one of those that are listed
 pub listed_further : (most left a row n : ℕ) (inner rest : List ℕ) → n < min most (a + left) + 1 - max left a → row ≡ min most (a + left) - n → Among rest (strips_on a (left + a - row) inner)
@@ -289,7 +286,7 @@ grown_limits inner k p cells few rest m =
     let b = g.few in
     record { partition = over-falls (part inner 1 + k) inner rest p.positive g.over; few = omega arith; small = omega arith }
 
--- behind the last row
+-- after the last row
 pub last_empty : (left : ℕ) → left ≡ 0 → strips_on left left [] ≡ [] ∷ []
 last_empty left e = ap (λ n. strips_on n n []) e
 
@@ -302,9 +299,9 @@ last_row left h = by (left == 0) refl
 
 -- the shapes with all first rows are all of them
 pub grown_all : (most left a n : ℕ) (below rows inner : List ℕ) (before cur : List (List ℕ)) → a ∷ below ≡ inner → n ≡ min most (a + left) + 1 - max left a
-    → cur ≡ before ++ map (λ rest. rows ++ rest) (each (grown a left below) (counting_down (min most (a + left)) n)) → cur ≡ before ++ map (λ rest. rows ++ rest) (strips_on most left inner)
+    → cur ≡ before ++ map (λ rest. rows ++ rest) (flat_map (grown a left below) (counting_down (min most (a + left)) n)) → cur ≡ before ++ map (λ rest. rows ++ rest) (strips_on most left inner)
 grown_all most left a n below rows inner before cur split e c =
-    c ∙ ap (λ k. before ++ map (λ rest. rows ++ rest) (each (grown a left below) (counting_down (min most (a + left)) k))) e
+    c ∙ ap (λ k. before ++ map (λ rest. rows ++ rest) (flat_map (grown a left below) (counting_down (min most (a + left)) k))) e
     ∙ ap (λ l. before ++ map (λ rest. rows ++ rest) (strips_on most left l)) split
 
 -- ---- a list as it comes

@@ -1,11 +1,14 @@
--- How the rim hooks that can be put on a partition are listed: by their last rows (this project's own). Rows are counted from 1.
-use Rattle.std.specs.Prelude.{◌≡◌, ℕ, ◌+◌, ◌-◌, ◌<◌, ◌≤◌, ◌==◌, nat_lt, nat_le, max, Bool, true, IsTrue, ◌&&◌, ◌||◌, cond, List, [], ◌∷◌, map, take, length, Some, None}
-use Rattle.sym_model.specs.Sum.{each}
+-- How the rim hooks that can be put on a partition are listed:
+-- by their last rows. Rows are counted from 1.
+use Rattle.std.specs.Prelude.{◌≡◌, ℕ, ◌+◌, ◌-◌, ◌<◌, ◌≤◌, ◌==◌, nat_lt, nat_le, max, Bool, true}
+use Rattle.std.specs.Prelude.{IsTrue, ◌&&◌, ◌||◌, cond, List, [], ◌∷◌, map, take, length, Some}
+use Rattle.std.specs.Prelude.{None, flat_map}
 use Rattle.sym_model.specs.Partition.{Falls, after, part, rows, size, without_last_zeros}
 use Rattle.skew_shapes.specs.HookLists.{HooksListed}
 
--- whether a rim hook of k cells can be put on inner in the rows first, .., last: each of them but the first grows to the length
--- of the row above plus 1, and what is left of the cells makes the first longer, and no longer than the row above it
+-- whether a rim hook of k cells can be put on inner in the rows first, .., last: each of them but
+-- the first grows to the length of the row above plus 1, and what is left of the cells makes the
+-- first longer, and no longer than the row above it
 abbrev pub can_add : ℕ → List ℕ → ℕ → ℕ → Bool
 can_add k inner first last =
     nat_lt (part inner first + (last - first)) (part inner last + k)
@@ -19,16 +22,19 @@ added_row k inner first last row =
 
 -- the partition with that rim hook
 abbrev pub with_hook : ℕ → List ℕ → ℕ → ℕ → List ℕ
-with_hook k inner first last = without_last_zeros (map (added_row k inner first last) (after 0 (max (rows inner) last)))
+with_hook k inner first last =
+    without_last_zeros (map (added_row k inner first last) (after 0 (max (rows inner) last)))
 
 -- the partitions that come of rim hooks with this last row: at most one
 abbrev pub hooks_ending : ℕ → List ℕ → ℕ → List (List ℕ)
 hooks_ending k inner last =
-    each (λ first. cond (can_add k inner first last) (with_hook k inner first last ∷ []) []) (after 0 last)
+    flat_map (λ first. cond (can_add k inner first last) (with_hook k inner first last ∷ []) [])
+    (after 0 last)
 
 -- those that come of rim hooks with a last row after this one
 abbrev pub hooks_ending_after : ℕ → List ℕ → ℕ → List (List ℕ)
-hooks_ending_after k inner last = each (hooks_ending k inner) (after last (rows inner + k - last))
+hooks_ending_after k inner last =
+    flat_map (hooks_ending k inner) (after last (rows inner + k - last))
 
 -- no rim hook of k cells with this last row, or with one after it, begins in a row before `first`
 pub record BeginsFrom (k : ℕ) (inner : List ℕ) (first last : ℕ) : Type 0 where
@@ -36,14 +42,17 @@ pub record BeginsFrom (k : ℕ) (inner : List ℕ) (first last : ℕ) : Type 0 w
   pub ordered : first ≤ last + 1
   pub passed : (row : ℕ) → 1 ≤ row → row < first → part inner last + k + row ≤ part inner row + last
 
--- the rows first, .., last are those of the current rim hook, and the buffer has the lengths of the rows
+-- the rows first, .., last are those of the current rim hook,
+-- and the buffer has the lengths of the rows
 pub record IsAddedIn (buffer : List ℕ) (k : ℕ) (inner : List ℕ) (first last : ℕ) : Type 0 where
   pub ordered : first ≤ last
   pub fits : can_add k inner first last ≡ true
-  pub rows_are : take (max (rows inner) last) buffer ≡ map (added_row k inner first last) (after 0 (max (rows inner) last))
+  pub rows_are : take (max (rows inner) last) buffer
+      ≡ map (added_row k inner first last) (after 0 (max (rows inner) last))
 
 -- what a lister of added rim hooks keeps
-pub record IsAdding (inner : List ℕ) (k : ℕ) (buffer : List ℕ) (first last : ℕ) (listed : Bool) : Type 0 where
+pub record IsAdding (inner : List ℕ) (k : ℕ) (buffer : List ℕ) (first last : ℕ)
+    (listed : Bool) : Type 0 where
   pub falls : Falls inner
   pub cells : size inner + k ≤ 4096
   pub few : rows inner + k ≤ 512
@@ -52,7 +61,11 @@ pub record IsAdding (inner : List ℕ) (k : ℕ) (buffer : List ℕ) (first last
   pub begins : BeginsFrom k inner first last
   pub current : IsTrue listed → IsAddedIn buffer k inner first last
 
--- the hooks still to come behind the one from first to last, and that one where it is listed
+-- the hooks still to come after the one from first to last, and that one where it is listed
 abbrev pub adding_at : List ℕ → ℕ → ℕ → ℕ → Bool → HooksListed
 adding_at inner k first last listed =
-    record { rest = hooks_ending_after k inner last; item = cond listed (Some (with_hook k inner first last)) None; base = inner }
+    record {
+      rest = hooks_ending_after k inner last;
+      item = cond listed (Some (with_hook k inner first last)) None;
+      base = inner;
+    }

@@ -1,5 +1,8 @@
--- Fillings of skew shapes, cell by cell: what stands in a cell, and one cell changed, added or dropped (this project's own).
-use Rattle.std.specs.Prelude.{◌≡◌, ℕ, ◌+◌, ◌-◌, nat_le, nat_lt, Bool, ◌&&◌, cond, List, [], ◌∷◌, map, length, take, slice_index, slice_index_or, slice_set, Option, Some, None}
+-- Fillings of skew shapes, cell by cell: what stands in a cell, and one cell changed,
+-- added or dropped.
+use Rattle.std.specs.Prelude.{◌≡◌, ℕ, ◌+◌, ◌-◌, nat_le, nat_lt, Bool, ◌&&◌, cond, List, [], ◌∷◌}
+use Rattle.std.specs.Prelude.{map, length, take, slice_index, slice_index_or, slice_set, Option}
+use Rattle.std.specs.Prelude.{Some, None}
 use Rattle.sym_model.specs.Partition.{part, without_last_zeros}
 use Rattle.sym_model.specs.Schur.{row_lengths, semistandard, letters_of}
 use Rattle.sym_model.specs.Slide.{lowered_at}
@@ -35,7 +38,8 @@ place_in_row inner row column = column - (part inner row + 1)
 
 -- whether (row, column) is a cell of outer/inner
 abbrev pub is_cell : List ℕ → List ℕ → ℕ → ℕ → Bool
-is_cell outer inner row column = nat_le 1 row && (nat_lt (part inner row) column && nat_le column (part outer row))
+is_cell outer inner row column =
+    nat_le 1 row && (nat_lt (part inner row) column && nat_le column (part outer row))
 
 -- the number in the cell (row, column), where that is one
 abbrev pub entry_at : SkewFilling → ℕ → ℕ → Option ℕ
@@ -62,7 +66,8 @@ with_inner_cell t row =
       rows = slice_set t.rows (row - 1) (0 ∷ row_of t.rows row);
     }
 
--- the filling without the last cell of a row; a row without cells at the end of the outer partition is none
+-- the filling without the last cell of a row;
+-- a row without cells at the end of the outer partition is none
 abbrev pub without_outer_cell : SkewFilling → ℕ → SkewFilling
 without_outer_cell t row =
     let outer = without_last_zeros (lowered_at row t.outer) in

@@ -1,28 +1,33 @@
--- Lists of the shapes that a horizontal strip makes of a partition (this project's own).
-use Rattle.std.specs.Prelude.{◌≡◌, ◌↔◌, ℕ, zero, suc, ◌+◌, ◌-◌, ◌==◌, min, max, cond, List, [], ◌∷◌, map, Option, None, slice_get}
-use Rattle.sym_model.specs.Sum.{each, Among}
+-- Lists of the shapes that a horizontal strip makes of a partition.
+use Rattle.std.specs.Prelude.{◌≡◌, ◌↔◌, ℕ, zero, suc, ◌+◌, ◌-◌, ◌==◌, min, max, cond, List, [], ◌∷◌}
+use Rattle.std.specs.Prelude.{map, Option, None, slice_get, flat_map}
+use Rattle.sym_model.specs.Sum.{Among}
 use Rattle.sym_model.specs.Partition.{IsPartition, size}
 use Rattle.sym_model.specs.PartitionList.{FallsLexicographically}
 use Rattle.sym_model.specs.Strip.{IsHorizontalStrip}
 
--- the list has exactly the partitions ν for which ν/inner is a horizontal strip of k cells, in falling lexicographic order
+-- the list has exactly the partitions ν for which ν/inner is a horizontal strip of k cells, in
+-- falling lexicographic order
 pub record AreHorizontalStrips (inner : List ℕ) (k : ℕ) (list : List (List ℕ)) : Type 0 where
   pub falls : FallsLexicographically list
-  pub members : (ν : List ℕ) → Among ν list ↔ (IsPartition ν × (size ν ≡ size inner + k) × IsHorizontalStrip ν inner)
+  pub members : (ν : List ℕ) → Among ν list
+      ↔ (IsPartition ν × (size ν ≡ size inner + k) × IsHorizontalStrip ν inner)
 
 -- so many numbers, from `high` down
 abbrev pub counting_down : ℕ → ℕ → List ℕ
 counting_down high zero = []
 counting_down high (suc n) = high ∷ counting_down (high - 1) n
 
--- the shapes that a strip of `left` cells makes of the rows of a partition, with no first row longer than `most`: the first
--- row runs down from the longest to the shortest that leaves no more cells than the rows below it can take, each of which
--- grows at most as long as the row above it was
+-- the shapes that a strip of `left` cells makes of the rows of a partition, with no first row
+-- longer than `most`: the first row runs down from the longest to the shortest that leaves no more
+-- cells than the rows below it can take, each of which grows at most as long as the row above it
+-- was
 abbrev pub strips_on : ℕ → ℕ → List ℕ → List (List ℕ)
 strips_on most left [] = cond (left == 0) ([] ∷ []) ((left ∷ []) ∷ [])
 strips_on most left (a ∷ inner) =
     let longest = min most (a + left) in
-    each (λ row. map (λ rest. row ∷ rest) (strips_on a (left + a - row) inner)) (counting_down longest (longest + 1 - max left a))
+    flat_map (λ row. map (λ rest. row ∷ rest) (strips_on a (left + a - row) inner))
+    (counting_down longest (longest + 1 - max left a))
 
 -- the shape that came last where so many have come
 abbrev pub last_of : ℕ → List (List ℕ) → Option (List ℕ)

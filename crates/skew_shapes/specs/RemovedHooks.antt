@@ -1,12 +1,15 @@
--- How the rim hooks that can be taken from a partition are listed: by their first rows, the lowest first (this project's own).
+-- How the rim hooks that can be taken from a partition are listed: by their first rows,
+-- the lowest first.
 -- Rows are counted from 1.
-use Rattle.std.specs.Prelude.{◌≡◌, ℕ, zero, suc, ◌+◌, ◌-◌, ◌<◌, ◌≤◌, ◌==◌, nat_lt, nat_le, Bool, true, IsTrue, ◌&&◌, ◌||◌, cond, List, [], ◌∷◌, ◌++◌, map, length, Some, None}
-use Rattle.sym_model.specs.Sum.{each}
+use Rattle.std.specs.Prelude.{◌≡◌, ℕ, zero, suc, ◌+◌, ◌-◌, ◌<◌, ◌≤◌, ◌==◌, nat_lt, nat_le, Bool}
+use Rattle.std.specs.Prelude.{true, IsTrue, ◌&&◌, ◌||◌, cond, List, [], ◌∷◌, ◌++◌, map, length}
+use Rattle.std.specs.Prelude.{Some, None, flat_map}
 use Rattle.sym_model.specs.Partition.{Falls, after, part, rows, without_last_zeros}
 use Rattle.skew_shapes.specs.HookLists.{HooksListed}
 
--- whether a rim hook of k cells can be taken from outer in the rows first, .., last: each of them but the last shrinks to the length
--- of the row below less 1, and what is left of the cells makes the last shorter, and no shorter than the row below it
+-- whether a rim hook of k cells can be taken from outer in the rows first, .., last: each of them
+-- but the last shrinks to the length of the row below less 1, and what is left of the cells makes
+-- the last shorter, and no shorter than the row below it
 abbrev pub can_remove : ℕ → List ℕ → ℕ → ℕ → Bool
 can_remove k outer first last =
     nat_le (part outer (last + 1) + k) (part outer first + (last - first))
@@ -20,40 +23,51 @@ left_row k outer first last row =
 
 -- the partition without that rim hook
 abbrev pub without_hook : ℕ → List ℕ → ℕ → ℕ → List ℕ
-without_hook k outer first last = without_last_zeros (map (left_row k outer first last) (after 0 (rows outer)))
+without_hook k outer first last =
+    without_last_zeros (map (left_row k outer first last) (after 0 (rows outer)))
 
 -- the partitions that are left by rim hooks with this first row: at most one
 abbrev pub hooks_beginning : ℕ → List ℕ → ℕ → List (List ℕ)
 hooks_beginning k outer first =
-    each (λ last. cond (can_remove k outer first last) (without_hook k outer first last ∷ []) []) (after (first - 1) (rows outer + 1 - first))
+    flat_map (λ last. cond (can_remove k outer first last)
+    (without_hook k outer first last ∷ []) []) (after (first - 1) (rows outer + 1 - first))
 
 -- those that are left by rim hooks with a first row among the upper rows, so many
 abbrev pub hooks_beginning_within : ℕ → List ℕ → ℕ → List (List ℕ)
 hooks_beginning_within k outer zero = []
-hooks_beginning_within k outer (suc above) = hooks_beginning k outer (suc above) ++ hooks_beginning_within k outer above
+hooks_beginning_within k outer (suc above) =
+    hooks_beginning k outer (suc above) ++ hooks_beginning_within k outer above
 
 -- no rim hook of k cells with this first row, or with one before it, ends in a row after `last`
 pub record EndsUpTo (k : ℕ) (outer : List ℕ) (first last : ℕ) : Type 0 where
   pub counts : 1 ≤ first
   pub ordered : first ≤ last + 1
   pub within : last ≤ rows outer
-  pub passed : (row : ℕ) → last < row → row ≤ rows outer → part outer row + first + k ≤ part outer first + row
+  pub passed : (row : ℕ) → last < row → row ≤ rows outer
+      → part outer row + first + k ≤ part outer first + row
 
--- the rows first, .., last are those of the current rim hook, and the buffer has the lengths of the rows
+-- the rows first, .., last are those of the current rim hook,
+-- and the buffer has the lengths of the rows
 pub record IsLeftIn (buffer : List ℕ) (k : ℕ) (outer : List ℕ) (first last : ℕ) : Type 0 where
   pub ordered : first ≤ last
   pub fits : can_remove k outer first last ≡ true
   pub rows_are : buffer ≡ map (left_row k outer first last) (after 0 (rows outer))
 
 -- what a lister of rim hooks to be removed keeps
-pub record IsRemoving (outer : List ℕ) (k : ℕ) (buffer : List ℕ) (first last : ℕ) (listed : Bool) : Type 0 where
+pub record IsRemoving (outer : List ℕ) (k : ℕ) (buffer : List ℕ) (first last : ℕ)
+    (listed : Bool) : Type 0 where
   pub falls : Falls outer
   pub few : rows outer ≤ 512
   pub room : length buffer ≡ rows outer
   pub ends : EndsUpTo k outer first last
   pub current : IsTrue listed → IsLeftIn buffer k outer first last
 
--- the hooks still to be removed behind the one from first to last, and what that one leaves where it is listed
+-- the hooks still to be removed after the one from first to last,
+-- and what that one leaves where it is listed
 abbrev pub removing_at : List ℕ → ℕ → ℕ → ℕ → Bool → HooksListed
 removing_at outer k first last listed =
-    record { rest = hooks_beginning_within k outer (first - 1); item = cond listed (Some (without_hook k outer first last)) None; base = outer }
+    record {
+      rest = hooks_beginning_within k outer (first - 1);
+      item = cond listed (Some (without_hook k outer first last)) None;
+      base = outer;
+    }

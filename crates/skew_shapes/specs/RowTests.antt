@@ -1,4 +1,4 @@
--- The tests of a tableau, row by row (this project's own).
+-- The tests of a tableau, row by row.
 use Rattle.std.specs.Prelude.{ℕ, ◌+◌, ◌-◌, nat_lt, Bool, true, ◌&&◌, cond, List, length, drop}
 use Rattle.sym_model.specs.Partition.{part}
 use Rattle.sym_model.specs.Schur.{row_rises, columns_rise}
@@ -8,10 +8,13 @@ use Rattle.skew_shapes.specs.CellFillings.{row_of}
 -- whether the letters of a row are greater than those above them in the row before
 abbrev pub stands_below : List ℕ → List (List ℕ) → ℕ → Bool
 stands_below inner rows row =
-    columns_rise (row_of rows row) (drop (part inner row - part inner (row + 1)) (row_of rows (row + 1)))
+    columns_rise (row_of rows row)
+    (drop (part inner row - part inner (row + 1)) (row_of rows (row + 1)))
 
--- whether the letters of a row, counted from 1, are positive and rise, and are smaller than those below them
+-- whether the letters of a row, counted from 1, are positive and rise,
+-- and are smaller than those below them
 abbrev pub row_passes : List ℕ → List (List ℕ) → ℕ → Bool
 row_passes inner rows row =
     are_letters (row_of rows row)
-    && (row_rises (row_of rows row) && cond (nat_lt row (length rows)) (stands_below inner rows row) true)
+    && (row_rises (row_of rows row)
+    && cond (nat_lt row (length rows)) (stands_below inner rows row) true)

@@ -1,6 +1,6 @@
--- Fillings as functions of cells, and those that are kept in one list of numbers, row by row (this project's own).
-use Rattle.std.specs.Prelude.{◌≡◌, ℕ, ◌+◌, ◌-◌, ◌<◌, ◌≤◌, nat_le, nat_lt, Bool, ◌&&◌, List, map, length, reverse, slice_index}
-use Rattle.sym_model.specs.Sum.{each, select}
+-- Fillings as functions of cells, and those that are kept in one list of numbers, row by row.
+use Rattle.std.specs.Prelude.{◌≡◌, ℕ, ◌+◌, ◌-◌, ◌<◌, ◌≤◌, nat_le, nat_lt, Bool, ◌&&◌, List, map}
+use Rattle.std.specs.Prelude.{length, reverse, slice_index, filter, flat_map}
 use Rattle.sym_model.specs.Partition.{IsCell, part, rows, columns, after}
 use Rattle.sym_model.specs.TableauList.{column_cells, letter_of_cell}
 use Rattle.sym_model.specs.Tableau.{SkewFilling}
@@ -34,7 +34,8 @@ filling_in shape starts numbers =
 -- no two cells of a partition have one place
 pub record HasPlaces (starts outer : List ℕ) (places : ℕ) : Type 0 where
   pub rows : length outer ≤ length starts
-  pub apart : (i k : ℕ) → i < k → k < length outer → slice_index starts i + slice_index outer i ≤ slice_index starts k
+  pub apart : (i k : ℕ) → i < k → k < length outer
+      → slice_index starts i + slice_index outer i ≤ slice_index starts k
   pub within : (i : ℕ) → i < length outer → slice_index starts i + slice_index outer i ≤ places
 
 -- a skew shape with a place for each cell of its outer partition
@@ -48,14 +49,16 @@ reaches outer inner j row = nat_lt (part inner row) j && nat_le j (part outer ro
 
 -- the cells in the columns right of column j, in the order of the column reading
 abbrev pub cells_right_of : List ℕ → List ℕ → ℕ → List (ℕ × ℕ)
-cells_right_of outer inner j = each (column_cells outer inner) (reverse (after j (columns outer - j)))
+cells_right_of outer inner j =
+    flat_map (column_cells outer inner) (reverse (after j (columns outer - j)))
 
 -- the cells of column j in the first k rows, from top to bottom
 abbrev pub cells_above : List ℕ → List ℕ → ℕ → ℕ → List (ℕ × ℕ)
-cells_above outer inner j k = map (λ row. (row, j)) (select (reaches outer inner j) (after 0 k))
+cells_above outer inner j k = map (λ row. (row, j)) (filter (reaches outer inner j) (after 0 k))
 
--- each cell of outer/inner has the letter that it gets where the letters of the word are put into the listed cells, and 0
--- where it is not listed
+-- each cell of outer/inner has the letter that it gets where the letters of the word are put into
+-- the listed cells, and 0 where it is not listed
 abbrev pub HoldsLetters : List ℕ → List ℕ → List ℕ → List ℕ → List (ℕ × ℕ) → List ℕ → Type 0
 HoldsLetters starts numbers outer inner cells w =
-    (row column : ℕ) → IsCell outer inner row column → number_in starts numbers row column ≡ letter_of_cell row column cells w
+    (row column : ℕ) → IsCell outer inner row column
+    → number_in starts numbers row column ≡ letter_of_cell row column cells w

@@ -1,9 +1,12 @@
 //! Skew shapes with a number in each cell.
-ghost use Rattle.std.specs.Prelude.{◌≡◌, ◌<◌, ◌≤◌, ◌↔◌, nat_lt, length, true, if◌then◌else◌, IsOk, IfOk, IfErr};
+ghost use Rattle.std.specs.Prelude.{◌≡◌, ◌<◌, ◌≤◌, ◌↔◌, nat_lt, length, true, if◌then◌else◌, IsOk};
+ghost use Rattle.std.specs.Prelude.{IfOk, IfErr};
 ghost use Rattle.sym_model.specs.Partition.{IsCell, part, rows};
 ghost use Rattle.sym_model.specs.Slide.{HasInnerCorner};
 ghost use Rattle.sym_model.specs.GoodTableau.{column_reading};
-ghost use Rattle.skew_shapes.specs.CellFillings.{IsFilling, entry_at, filled_with, is_tableau, row_of, with_entry, with_inner_cell, without_outer_cell};
+ghost use Rattle.skew_shapes.specs.CellFillings.{IsFilling, entry_at, filled_with, is_tableau};
+ghost use Rattle.skew_shapes.specs.CellFillings.{row_of, with_entry, with_inner_cell};
+ghost use Rattle.skew_shapes.specs.CellFillings.{without_outer_cell};
 ghost use Rattle.skew_shapes.specs.RowTests.{row_passes, stands_below};
 
 use crate::order::{all_positive, rises, stands_on};
@@ -15,8 +18,9 @@ use calc_base::NoMemory;
 use std::alloc::Global;
 use std::marker::Model;
 
-/// A skew shape with a number in each of its cells, with no rule among these numbers. Its places are taken when it is
-/// made, one for each cell of its outer partition, and no public call of it takes memory.
+/// A skew shape with a number in each of its cells, with no rule among these numbers. Its places
+/// are taken when it is made, one for each cell of its outer partition,
+/// and no public call of it takes memory.
 #[derive(Debug, Drop)]
 pub struct Filled {
     shape: Skew,
@@ -50,7 +54,8 @@ impl Filled {
 
     /// The column reading.
     pub(crate) fn column_reading(&self) -> Result<Word, NoMemory>
-        ensures { IfOk result (λ w. w ≡ column_reading self.now.outer self.now.inner self.now.rows) }
+        ensures { IfOk result (λ w. w
+            ≡ column_reading self.now.outer self.now.inner self.now.rows) }
     {
         let mut letters = Vec::new(*self.numbers.allocator());
         push_columns(
@@ -81,7 +86,8 @@ impl Filled {
         between(&self.numbers, from, to)
     }
 
-    /// The number in the cell of this row and this column, both counted from 1; None where that is no cell of the shape.
+    /// The number in the cell of this row and this column, both counted from 1;
+    /// None where that is no cell of the shape.
     pub fn entry(&self, row: u16, column: u16) -> Option<u16>
         ensures { result ≡ entry_at self.now row column }
     {
@@ -100,7 +106,8 @@ impl Filled {
         self.numbers[place] = value;
     }
 
-    /// Makes the last inner cell of this row, counted from 1, a cell of the shape with the number 0; all else stays.
+    /// Makes the last inner cell of this row, counted from 1,
+    /// a cell of the shape with the number 0; all else stays.
     /// That row of the inner partition is longer than the next one.
     pub fn add_inner_cell(&mut self, row: u16)
         requires { HasInnerCorner row self.old.inner }
@@ -111,8 +118,8 @@ impl Filled {
         self.shape.remove_inner_corner(row);
     }
 
-    /// Puts the letters of a column reading into the cells. Letters past the last cell are left out, and cells past the
-    /// last letter get the number 0.
+    /// Puts the letters of a column reading into the cells. Letters past the last cell are left
+    /// out, and cells past the last letter get the number 0.
     pub fn fill(&mut self, reading: &[u16])
         ensures { self.new ≡ filled_with self.old.outer self.old.inner reading.now }
     {
@@ -125,8 +132,8 @@ impl Filled {
         );
     }
 
-    /// Drops the last cell of this row, counted from 1; all else stays. That row of the outer partition is longer than
-    /// the next one, and than the same row of the inner partition.
+    /// Drops the last cell of this row, counted from 1; all else stays. That row of the outer
+    /// partition is longer than the next one, and than the same row of the inner partition.
     pub fn drop_outer_cell(&mut self, row: u16)
         requires corner { HasInnerCorner row self.old.outer }
         requires cell { part self.old.inner row < part self.old.outer row }
@@ -135,7 +142,8 @@ impl Filled {
         self.shape.remove_outer_corner(row);
     }
 
-    /// The tableau with these entries. The filling comes back where it is not semistandard with entries at least 1.
+    /// The tableau with these entries. The filling comes back where it is not semistandard with
+    /// entries at least 1.
     pub fn into_tableau(self) -> Result<Tableau, Filled>
         ensures tableau { IsOk result ↔ (is_tableau self ≡ true) }
         ensures ok { IfOk result (λ t. t ≡ self) }
@@ -173,7 +181,8 @@ impl Filled {
     /// Whether the numbers below those of this row are greater; so it is for the last row.
     fn stands_on_next(&self, row: u16) -> bool
         requires { (1 ≤ row) × (row ≤ rows self.now.outer) }
-        ensures { result ≡ (if nat_lt row (length self.now.rows) then stands_below self.now.inner self.now.rows row else true) }
+        ensures { result ≡ (if nat_lt row
+            (length self.now.rows) then stands_below self.now.inner self.now.rows row else true) }
     {
         if row == self.shape.outer().rows() {
             return true;
@@ -190,8 +199,8 @@ impl Filled {
     }
 }
 
-/// The filling of a shape with this column reading: letters past the last cell are left out, and cells past the last
-/// letter have the number 0.
+/// The filling of a shape with this column reading: letters past the last cell are left out, and
+/// cells past the last letter have the number 0.
 pub fn filling_with_reading(alloc: Global, shape: Skew, reading: &[u16]) -> Result<Filled, NoMemory>
     ensures { IfOk result (λ f. f ≡ filled_with shape.0 shape.1 reading.now) }
 {

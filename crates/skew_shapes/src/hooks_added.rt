@@ -1,10 +1,12 @@
 //! The partitions that a rim hook put on a partition makes.
-ghost use Rattle.std.specs.Prelude.{◌≡◌, ◌+◌, ◌-◌, ◌<◌, ◌≤◌, ◌↔◌, ◌∷◌, ◌++◌, [], true, max, map, take, length, None, IfOk, IfSome, IsSome, IsTrue};
+ghost use Rattle.std.specs.Prelude.{◌≡◌, ◌+◌, ◌-◌, ◌<◌, ◌≤◌, ◌↔◌, ◌∷◌, ◌++◌, [], true, max, map};
+ghost use Rattle.std.specs.Prelude.{take, length, None, IfOk, IfSome, IsSome, IsTrue};
 ghost use Rattle.std.specs.Bool.{OnTrue, OnFalse};
 ghost use Rattle.std.specs.Option.{option_to_list};
 ghost use Rattle.sym_model.specs.Partition.{Falls, after, part, rows, size};
 ghost use Rattle.sym_model.specs.Strip.{height};
-ghost use Rattle.skew_shapes.specs.AddedHooks.{added_row, can_add, hooks_ending_after, with_hook, BeginsFrom};
+ghost use Rattle.skew_shapes.specs.AddedHooks.{added_row, can_add, hooks_ending_after, with_hook};
+ghost use Rattle.skew_shapes.specs.AddedHooks.{BeginsFrom};
 ghost use Rattle.skew_shapes.specs.HookLists.{AreHooksAdded};
 
 use crate::lengths::{HookRows, before_zeros, length_of};
@@ -13,8 +15,8 @@ use partitions::Partition;
 use std::alloc::Global;
 use std::marker::Model;
 
-/// The partitions ν for which ν/inner is a rim hook of k cells, in falling lexicographic order, each once: a `Lister` that
-/// works in one buffer.
+/// The partitions ν for which ν/inner is a rim hook of k cells, in falling lexicographic order,
+/// each once: a `Lister` that works in one buffer.
 #[derive(Drop)]
 pub struct HooksAdded {
     base: Partition,
@@ -40,12 +42,14 @@ impl Model for HooksAdded {
 }
 
 impl HooksAdded {
-    /// The partitions that a rim hook of `k` cells put on `inner` makes, none of them current. The cells and k together are
-    /// at most 4,096, and the rows and k at most 512. For k = 0 there is none.
+    /// The partitions that a rim hook of `k` cells put on `inner` makes, none of them current. The
+    /// cells and k together are at most 4,096, and the rows and k at most 512. For k = 0 there is
+    /// none.
     pub fn new(alloc: Global, inner: &Partition, k: u16) -> Result<HooksAdded, NoMemory>
         requires cells { size inner.now + k ≤ 4096 }
         requires rows { rows inner.now + k ≤ 512 }
-        ensures hooks { IfOk result (λ l. AreHooksAdded inner.now k (⟦<HooksAdded as Lister>⟧.rest l)) }
+        ensures hooks { IfOk result (λ l.
+            AreHooksAdded inner.now k (⟦<HooksAdded as Lister>⟧.rest l)) }
         ensures item { IfOk result (λ l. ⟦<HooksAdded as Lister>⟧.item l ≡ None) }
         ensures base { IfOk result (λ l. l.base ≡ inner.now) }
     {
@@ -105,7 +109,8 @@ fn find_next(inner: &[u16], k: u16, most: u16, hook: &mut HookRows) -> bool
     ensures begins { BeginsFrom k inner.now hook.new.first hook.new.last }
     ensures within { hook.new.last ≤ most }
     ensures found { OnTrue result (hooks_ending_after k inner.now hook.old.last
-        ≡ with_hook k inner.now hook.new.first hook.new.last ∷ hooks_ending_after k inner.now hook.new.last) }
+        ≡ with_hook k inner.now hook.new.first hook.new.last
+        ∷ hooks_ending_after k inner.now hook.new.last) }
     ensures fits { OnTrue result (can_add k inner.now hook.new.first hook.new.last ≡ true) }
     ensures ordered { OnTrue result (hook.new.first ≤ hook.new.last) }
     ensures none { OnFalse result (hooks_ending_after k inner.now hook.old.last ≡ []) }
@@ -127,7 +132,8 @@ fn first_passed(inner: &[u16], k: u16, hook: HookRows) -> u16
     requires begins { BeginsFrom k inner.now hook.first hook.last }
     ensures begins { BeginsFrom k inner.now result hook.last }
     ensures within { result ≤ hook.last }
-    ensures longer { result < hook.last → part inner.now result + hook.last < part inner.now hook.last + k + result }
+    ensures longer { result < hook.last
+        → part inner.now result + hook.last < part inner.now hook.last + k + result }
 {
     let raised = u32::from(length_of(inner, hook.last)) + u32::from(k);
     let mut first = hook.first;

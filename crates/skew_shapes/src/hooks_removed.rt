@@ -1,12 +1,14 @@
 //! The partitions that are left where a rim hook is taken from a partition.
-ghost use Rattle.std.specs.Prelude.{◌≡◌, ◌+◌, ◌-◌, ◌<◌, ◌≤◌, ◌↔◌, ◌∷◌, ◌++◌, [], true, map, length, None, IfOk, IfSome, IsSome, IsTrue};
+ghost use Rattle.std.specs.Prelude.{◌≡◌, ◌+◌, ◌-◌, ◌<◌, ◌≤◌, ◌↔◌, ◌∷◌, ◌++◌, [], true, map, length};
+ghost use Rattle.std.specs.Prelude.{None, IfOk, IfSome, IsSome, IsTrue};
 ghost use Rattle.std.specs.Bool.{OnTrue, OnFalse};
 ghost use Rattle.std.specs.Option.{option_to_list};
 ghost use Rattle.sym_model.specs.Partition.{Falls, after, part, rows};
 ghost use Rattle.sym_model.specs.Strip.{height};
 ghost use Rattle.partitions.specs.Limits.{IsWithinLimits};
 ghost use Rattle.skew_shapes.specs.HookLists.{AreHooksRemoved};
-ghost use Rattle.skew_shapes.specs.RemovedHooks.{can_remove, hooks_beginning_within, left_row, without_hook, EndsUpTo};
+ghost use Rattle.skew_shapes.specs.RemovedHooks.{can_remove, hooks_beginning_within, left_row};
+ghost use Rattle.skew_shapes.specs.RemovedHooks.{without_hook, EndsUpTo};
 
 use crate::lengths::{HookRows, before_zeros, length_of};
 use calc_base::{Lister, NoMemory};
@@ -14,8 +16,8 @@ use partitions::Partition;
 use std::alloc::Global;
 use std::marker::Model;
 
-/// The partitions ν for which outer/ν is a rim hook of k cells, in falling lexicographic order, each once: a `Lister` that
-/// works in one buffer.
+/// The partitions ν for which outer/ν is a rim hook of k cells, in falling lexicographic order,
+/// each once: a `Lister` that works in one buffer.
 #[derive(Drop)]
 pub struct HooksRemoved {
     base: Partition,
@@ -41,10 +43,11 @@ impl Model for HooksRemoved {
 }
 
 impl HooksRemoved {
-    /// The partitions that are left where a rim hook of `k` cells is taken from `outer`, none of them current. For k = 0 there
-    /// is none.
+    /// The partitions that are left where a rim hook of `k` cells is taken from `outer`, none of
+    /// them current. For k = 0 there is none.
     pub fn new(alloc: Global, outer: &Partition, k: u16) -> Result<HooksRemoved, NoMemory>
-        ensures hooks { IfOk result (λ l. AreHooksRemoved outer.now k (⟦<HooksRemoved as Lister>⟧.rest l)) }
+        ensures hooks { IfOk result (λ l.
+            AreHooksRemoved outer.now k (⟦<HooksRemoved as Lister>⟧.rest l)) }
         ensures item { IfOk result (λ l. ⟦<HooksRemoved as Lister>⟧.item l ≡ None) }
         ensures base { IfOk result (λ l. l.base ≡ outer.now) }
     {
@@ -61,7 +64,8 @@ impl HooksRemoved {
         })
     }
 
-    /// The height of the rim hook whose removal leaves the current partition: the number of its rows.
+    /// The height of the rim hook whose removal leaves the current partition:
+    /// the number of its rows.
     pub fn height(&self) -> u16
         requires { IsSome self.now.item }
         ensures { IfSome self.now.item (λ ν. result ≡ height self.now.base ν) }
@@ -103,7 +107,8 @@ fn find_next(outer: &[u16], k: u16, hook: &mut HookRows) -> bool
     requires ends { EndsUpTo k outer.now hook.old.first hook.old.last }
     ensures ends { EndsUpTo k outer.now hook.new.first hook.new.last }
     ensures found { OnTrue result (hooks_beginning_within k outer.now (hook.old.first - 1)
-        ≡ without_hook k outer.now hook.new.first hook.new.last ∷ hooks_beginning_within k outer.now (hook.new.first - 1)) }
+        ≡ without_hook k outer.now hook.new.first hook.new.last
+        ∷ hooks_beginning_within k outer.now (hook.new.first - 1)) }
     ensures fits { OnTrue result (can_remove k outer.now hook.new.first hook.new.last ≡ true) }
     ensures ordered { OnTrue result (hook.new.first ≤ hook.new.last) }
     ensures none { OnFalse result (hooks_beginning_within k outer.now (hook.old.first - 1) ≡ []) }
@@ -126,7 +131,8 @@ fn last_passed(outer: &[u16], k: u16, hook: HookRows) -> u16
     requires ends { EndsUpTo k outer.now hook.first hook.last }
     ensures ends { EndsUpTo k outer.now hook.first result }
     ensures within { hook.first ≤ result }
-    ensures longer { hook.first < result → part outer.now hook.first + result < part outer.now result + hook.first + k }
+    ensures longer { hook.first < result
+        → part outer.now hook.first + result < part outer.now result + hook.first + k }
 {
     let lowered = u32::from(hook.first) + u32::from(k);
     let start = u32::from(length_of(outer, hook.first));
@@ -159,7 +165,8 @@ fn write_rows(outer: &[u16], k: u16, hook: HookRows, buffer: &mut [u16])
     requires limits { IsWithinLimits outer.now }
     requires fits { can_remove k outer.now hook.first hook.last ≡ true }
     requires room { length buffer.old ≡ rows outer.now }
-    ensures rows { buffer.new ≡ map (left_row k outer.now hook.first hook.last) (after 0 (rows outer.now)) }
+    ensures rows { buffer.new ≡ map (left_row k outer.now hook.first hook.last)
+        (after 0 (rows outer.now)) }
 {
     for above in 0..outer.len() as u16 {
         buffer[usize::from(above)] = row_without_hook(outer, k, hook, above + 1);

@@ -1,5 +1,6 @@
 //! The shapes that a horizontal strip makes of a partition, as a list and one at a time.
-ghost use Rattle.std.specs.Prelude.{◌≡◌, ◌+◌, ◌^◌, ◌<◌, ◌≤◌, ◌∷◌, ◌++◌, [], None, ℕ, List, map, IfOk, OnOk};
+ghost use Rattle.std.specs.Prelude.{◌≡◌, ◌+◌, ◌^◌, ◌<◌, ◌≤◌, ◌∷◌, ◌++◌, [], None, ℕ, List, map};
+ghost use Rattle.std.specs.Prelude.{IfOk, OnOk};
 ghost use Rattle.sym_model.specs.Partition.{Falls, rows, size};
 ghost use Rattle.sym_model.specs.Sum.{Among};
 ghost use Rattle.partitions.specs.Limits.{IsWithinLimits};
@@ -10,7 +11,8 @@ use partitions::Partition;
 use std::alloc::Global;
 use std::marker::Model;
 
-/// The partitions ν for which ν/inner is a horizontal strip of k cells, in falling lexicographic order, each once: a
+/// The partitions ν for which ν/inner is a horizontal strip of k cells,
+/// in falling lexicographic order, each once: a
 /// `Lister` of shapes that are made at once.
 #[derive(Drop)]
 pub struct HorizontalStrips {
@@ -30,12 +32,14 @@ impl Model for HorizontalStrips {
 }
 
 impl HorizontalStrips {
-    /// The shapes that a strip of `k` cells makes of `inner`, none of them current. The cells and k together are at most
-    /// 4,096, and the rows and k at most 512. For k = 0 there is `inner` alone.
+    /// The shapes that a strip of `k` cells makes of `inner`, none of them current. The cells and k
+    /// together are at most 4,096, and the rows and k at most 512. For k = 0 there is `inner`
+    /// alone.
     pub fn new(alloc: Global, inner: &Partition, k: u16) -> Result<HorizontalStrips, NoMemory>
         requires cells { size inner.now + k ≤ 4096 }
         requires rows { rows inner.now + k ≤ 512 }
-        ensures strips { IfOk result (λ l. AreHorizontalStrips inner.now k (⟦<HorizontalStrips as Lister>⟧.rest l)) }
+        ensures strips { IfOk result (λ l.
+            AreHorizontalStrips inner.now k (⟦<HorizontalStrips as Lister>⟧.rest l)) }
         ensures item { IfOk result (λ l. ⟦<HorizontalStrips as Lister>⟧.item l ≡ None) }
     {
         Ok(HorizontalStrips {
@@ -64,8 +68,10 @@ impl Lister for HorizontalStrips {
     }
 }
 
-/// The partitions ν for which ν/inner is a horizontal strip of k cells, in falling lexicographic order, each once. The cells of
-/// `inner` and k together are at most 4,096, and its rows and k at most 512. For k = 0 there is `inner` alone.
+/// The partitions ν for which ν/inner is a horizontal strip of k cells, in falling lexicographic
+/// order, each once. The cells of
+/// `inner` and k together are at most 4,096, and its rows and k at most 512. For k = 0 there is
+/// `inner` alone.
 pub fn with_horizontal_strip(
     alloc: Global,
     inner: &Partition,
@@ -88,8 +94,9 @@ pub fn with_horizontal_strip(
     Ok(shapes)
 }
 
-/// Adds the shapes that begin with the rows of `above`, which stay as they are, and go on with what a strip of `left` cells makes
-/// of the rows of a partition, where no first row is longer than `most`.
+/// Adds the shapes that begin with the rows of `above`, which stay as they are, and go on with what
+/// a strip of `left` cells makes of the rows of a partition,
+/// where no first row is longer than `most`.
 fn add_strips(
     alloc: Global,
     most: u16,
@@ -101,10 +108,12 @@ fn add_strips(
     requires falls { Falls (most ∷ inner.now) }
     requires room { left ≤ most }
     requires small { most < 2 ^ 15 }
-    requires limits { (rest : List ℕ) → Among rest (strips_on most left inner.now) → IsWithinLimits (above.old.items ++ rest) }
+    requires limits { (rest : List ℕ) → Among rest (strips_on most left inner.now)
+        → IsWithinLimits (above.old.items ++ rest) }
     ensures same { OnOk result (above.new.items ≡ above.old.items) }
     ensures shapes { OnOk result (shapes.new.items
-        ≡ shapes.old.items ++ map (λ rest. above.old.items ++ rest) (strips_on most left inner.now)) }
+        ≡ shapes.old.items ++ map (λ rest. above.old.items ++ rest)
+        (strips_on most left inner.now)) }
 {
     let [first, below @ ..] = inner else {
         return add_last(alloc, left, above, shapes);
@@ -121,14 +130,16 @@ fn add_strips(
     Ok(())
 }
 
-/// Adds the shape of the rows of `above`, which stay as they are, and of a last row of `left` cells where that is not 0.
+/// Adds the shape of the rows of `above`, which stay as they are,
+/// and of a last row of `left` cells where that is not 0.
 fn add_last(
     alloc: Global,
     left: u16,
     above: &mut Vec<u16>,
     shapes: &mut Vec<Partition>,
 ) -> Result<(), NoMemory>
-    requires { (rest : List ℕ) → Among rest (strips_on left left []) → IsWithinLimits (above.old.items ++ rest) }
+    requires { (rest : List ℕ) → Among rest (strips_on left left [])
+        → IsWithinLimits (above.old.items ++ rest) }
     ensures same { OnOk result (above.new.items ≡ above.old.items) }
     ensures shapes { OnOk result (shapes.new.items
         ≡ shapes.old.items ++ map (λ rest. above.old.items ++ rest) (strips_on left left [])) }

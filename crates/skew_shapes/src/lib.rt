@@ -1,5 +1,6 @@
-//! Skew shapes, and fillings of them: semistandard tableaux, standard tableaux, and numbers in cells with no rule among
-//! them; and the shapes that a strip or a rim hook makes of a partition, one at a time, those of a strip also as a list.
+//! Skew shapes, and fillings of them: semistandard tableaux, standard tableaux, and numbers in
+//! cells with no rule among them; and the shapes that a strip or a rim hook makes of a partition,
+//! one at a time, those of a strip also as a list.
 //!
 //! What is proved:
 //!

@@ -1,8 +1,10 @@
 //! Numbers of cells in one list, row by row.
-ghost use Rattle.std.specs.Prelude.{◌≡◌, ℕ, ◌+◌, ◌-◌, ◌<◌, ◌≤◌, [], ◌++◌, map, length, take, drop, slice_index, IfOk, OnOk};
+ghost use Rattle.std.specs.Prelude.{◌≡◌, ℕ, ◌+◌, ◌-◌, ◌<◌, ◌≤◌, [], ◌++◌, map, length, take, drop};
+ghost use Rattle.std.specs.Prelude.{slice_index, IfOk, OnOk};
 ghost use Rattle.sym_model.specs.Partition.{columns, size};
 ghost use Rattle.sym_model.specs.TableauList.{column_cells, reading_cells};
-ghost use Rattle.skew_shapes.specs.Rows.{HasPlaces, HoldsLetters, cells_above, cells_right_of, number_in, place_of, reaches};
+ghost use Rattle.skew_shapes.specs.Rows.{HasPlaces, HoldsLetters, cells_above, cells_right_of};
+ghost use Rattle.skew_shapes.specs.Rows.{number_in, place_of, reaches};
 
 use std::alloc::{AllocError, Global};
 
@@ -48,7 +50,8 @@ pub(crate) fn put_columns(
     requires few { length outer.now ≤ 512 }
     requires places { HasPlaces starts.now outer.now (length numbers.old) }
     requires empty { HoldsLetters starts.now numbers.old outer.now inner.now [] word.now }
-    ensures { HoldsLetters starts.now numbers.new outer.now inner.now (reading_cells outer.now inner.now) word.now }
+    ensures { HoldsLetters starts.now numbers.new outer.now inner.now
+        (reading_cells outer.now inner.now) word.now }
 {
     let mut rest = word;
     let mut column = outer.first().copied().unwrap_or(0);
@@ -58,7 +61,8 @@ pub(crate) fn put_columns(
     }
 }
 
-/// Puts the letters of a word into the cells of outer/inner in place of all numbers that were there.
+/// Puts the letters of a word into the cells of outer/inner in place of all numbers that were
+/// there.
 pub(crate) fn replace_columns(
     numbers: &mut [u16],
     starts: &[u16],
@@ -68,13 +72,15 @@ pub(crate) fn replace_columns(
 )
     requires few { length outer.now ≤ 512 }
     requires places { HasPlaces starts.now outer.now (length numbers.old) }
-    ensures { HoldsLetters starts.now numbers.new outer.now inner.now (reading_cells outer.now inner.now) word.now }
+    ensures { HoldsLetters starts.now numbers.new outer.now inner.now
+        (reading_cells outer.now inner.now) word.now }
 {
     clear(numbers);
     put_columns(numbers, starts, outer, inner, word);
 }
 
-/// Puts the letters into the cells of one column. `rest` has those of the word that are left, and so has the answer.
+/// Puts the letters into the cells of one column. `rest` has those of the word that are left,
+/// and so has the answer.
 fn put_column<'a>(
     numbers: &mut [u16],
     starts: &[u16],
@@ -88,9 +94,12 @@ fn put_column<'a>(
     requires places { HasPlaces starts.now outer.now (length numbers.old) }
     requires column { (1 ≤ column) × (column ≤ columns outer.now) }
     requires rest { rest.now ≡ drop (length (cells_right_of outer.now inner.now column)) word.now }
-    requires letters { HoldsLetters starts.now numbers.old outer.now inner.now (cells_right_of outer.now inner.now column) word.now }
-    ensures rest { result.now ≡ drop (length (cells_right_of outer.now inner.now (column - 1))) word.now }
-    ensures letters { HoldsLetters starts.now numbers.new outer.now inner.now (cells_right_of outer.now inner.now (column - 1)) word.now }
+    requires letters { HoldsLetters starts.now numbers.old outer.now inner.now
+        (cells_right_of outer.now inner.now column) word.now }
+    ensures rest { result.now ≡ drop
+        (length (cells_right_of outer.now inner.now (column - 1))) word.now }
+    ensures letters { HoldsLetters starts.now numbers.new outer.now inner.now
+        (cells_right_of outer.now inner.now (column - 1)) word.now }
 {
     let mut rest = rest;
     for row in 0..outer.len() {
@@ -106,7 +115,8 @@ fn put_column<'a>(
     rest
 }
 
-/// Puts the numbers of the cells of outer/inner at the end of a list, in the order of the column reading.
+/// Puts the numbers of the cells of outer/inner at the end of a list,
+/// in the order of the column reading.
 pub(crate) fn push_columns(
     letters: &mut Vec<u16>,
     starts: &[u16],
@@ -117,7 +127,8 @@ pub(crate) fn push_columns(
     requires few { length outer.now ≤ 512 }
     requires places { HasPlaces starts.now outer.now (length numbers.now) }
     ensures { OnOk result (letters.new.items
-        ≡ letters.old.items ++ map (λ (c : ℕ × ℕ). number_in starts.now numbers.now c.0 c.1) (reading_cells outer.now inner.now)) }
+        ≡ letters.old.items ++ map (λ (c : ℕ × ℕ). number_in starts.now numbers.now c.0 c.1)
+        (reading_cells outer.now inner.now)) }
 {
     let mut column = outer.first().copied().unwrap_or(0);
     while column > 0 {
@@ -139,7 +150,8 @@ fn push_column(
     requires places { HasPlaces starts.now outer.now (length numbers.now) }
     requires column { 1 ≤ column }
     ensures { OnOk result (letters.new.items
-        ≡ letters.old.items ++ map (λ (c : ℕ × ℕ). number_in starts.now numbers.now c.0 c.1) (column_cells outer.now inner.now column)) }
+        ≡ letters.old.items ++ map (λ (c : ℕ × ℕ). number_in starts.now numbers.now c.0 c.1)
+        (column_cells outer.now inner.now column)) }
 {
     for row in 0..outer.len() {
         if !has_cell(outer, inner, row, column) {
@@ -150,7 +162,7 @@ fn push_column(
     Ok(())
 }
 
-/// The numbers without so many at the front.
+/// The numbers without the first `count`.
 pub(crate) fn without_first(numbers: &[u16], count: usize) -> &[u16]
     ensures { result.now ≡ drop count numbers.now }
 {

@@ -1,5 +1,6 @@
 //! The type of a skew shape.
-ghost use Rattle.std.specs.Prelude.{◌≡◌, ◌+◌, ◌<◌, ◌≤◌, ◌↔◌, ℕ, List, length, nat_lt, nat_le, IsTrue, IsSome, IfOk, IfSome};
+ghost use Rattle.std.specs.Prelude.{◌≡◌, ◌+◌, ◌<◌, ◌≤◌, ◌↔◌, ℕ, List, length, nat_lt, nat_le};
+ghost use Rattle.std.specs.Prelude.{IsTrue, IsSome, IfOk, IfSome};
 ghost use Rattle.sym_model.specs.Partition.{Holds, cells, columns, part, size, without_last_zeros};
 ghost use Rattle.sym_model.specs.Slide.{HasInnerCorner, lowered_at};
 ghost use Rattle.skew_shapes.specs.CellFillings.{is_cell};
@@ -9,7 +10,8 @@ use calc_base::NoMemory;
 use partitions::Partition;
 use std::marker::Model;
 
-/// A skew shape: the cells of an outer partition that are not cells of an inner one, which lies inside it.
+/// A skew shape: the cells of an outer partition that are not cells of an inner one,
+/// which lies inside it.
 #[derive(Debug, Drop)]
 pub struct Skew {
     outer: Partition,
@@ -28,7 +30,8 @@ impl Model for Skew {
 }
 
 impl Skew {
-    /// The shape of the cells of `outer` that are not cells of `inner`; None where `inner` is not contained in `outer`.
+    /// The shape of the cells of `outer` that are not cells of `inner`;
+    /// None where `inner` is not contained in `outer`.
     pub fn new(outer: Partition, inner: Partition) -> Option<Skew>
         ensures some { IsSome result ↔ Holds outer inner }
         ensures value { IfSome result (λ s. s ≡ (outer, inner)) }
@@ -80,7 +83,8 @@ impl Skew {
         row >= 1 && self.inner.part(row) < column && column <= self.outer.part(row)
     }
 
-    /// Takes the last cell of a row of the inner partition away from it, so that it is a cell of the shape.
+    /// Takes the last cell of a row of the inner partition away from it,
+    /// so that it is a cell of the shape.
     pub(crate) fn remove_inner_corner(&mut self, row: u16)
         requires { HasInnerCorner row self.old.1 }
         ensures { self.new ≡ (self.old.0, without_last_zeros (lowered_at row self.old.1)) }

@@ -8,7 +8,8 @@ ghost use Rattle.sym_model.specs.StandardTableau.{IsStandard};
 use crate::Tableau;
 use std::marker::Model;
 
-/// A standard tableau: one of a straight shape in which each number from 1 to the number of its cells stands once.
+/// A standard tableau: one of a straight shape in which each number from 1 to the number of its
+/// cells stands once.
 #[derive(Debug, Drop)]
 pub struct Standard {
     tableau: Tableau,
@@ -27,8 +28,8 @@ impl Model for Standard {
 }
 
 impl Standard {
-    /// The same tableau, where it is standard. It comes back where its inner partition is not empty, or its entries are
-    /// not the numbers from 1 to the number of its cells, each once.
+    /// The same tableau, where it is standard. It comes back where its inner partition is not
+    /// empty, or its entries are not the numbers from 1 to the number of its cells, each once.
     pub fn new(t: Tableau) -> Result<Standard, Tableau>
         ensures standard { IsOk result ↔ ((t.inner ≡ []) × IsStandard t.rows) }
         ensures ok { IfOk result (λ s. s ≡ t) }
@@ -55,7 +56,8 @@ impl Standard {
 /// Whether each number from 1 to the number of cells stands once in a tableau of a straight shape.
 fn has_each_once(t: &Tableau) -> bool
     requires { t.now.inner ≡ [] }
-    ensures { result ≡ every (λ k. times_in k (letters_of t.now.rows) == 1) (after 0 (length (letters_of t.now.rows))) }
+    ensures { result ≡ every (λ k. times_in k (letters_of t.now.rows) == 1)
+        (after 0 (length (letters_of t.now.rows))) }
 {
     for number in 0..t.shape().cells() {
         if times(t, number + 1) != 1 {

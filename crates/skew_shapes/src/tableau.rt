@@ -2,15 +2,16 @@
 ghost use Rattle.std.specs.Prelude.{◌≡◌, ◌≢◌, ◌≤◌, ◌↔◌, false, length, IfOk, OnOk, IsErrOf, ◌⊎◌};
 ghost use Rattle.sym_model.specs.GoodTableau.{column_reading};
 ghost use Rattle.sym_model.specs.Partition.{cells, rows};
-ghost use Rattle.skew_shapes.specs.CellFillings.{IsTableauWithin, entry_at, filled_with, is_tableau, row_of};
+ghost use Rattle.skew_shapes.specs.CellFillings.{IsTableauWithin, entry_at, filled_with};
+ghost use Rattle.skew_shapes.specs.CellFillings.{is_tableau, row_of};
 
 use crate::{Filled, Skew, TableauFault, Word, filling_with_reading};
 use calc_base::NoMemory;
 use std::alloc::Global;
 use std::marker::Model;
 
-/// A semistandard tableau of a skew shape, with entries at least 1. When it is made it takes one place for each cell of
-/// its outer partition.
+/// A semistandard tableau of a skew shape, with entries at least 1. When it is made it takes one
+/// place for each cell of its outer partition.
 #[derive(Debug, Drop)]
 pub struct Tableau {
     filled: Filled,
@@ -28,11 +29,12 @@ impl Model for Tableau {
 }
 
 impl Tableau {
-    /// The tableau of a shape with this column reading: the columns from the rightmost to the leftmost, each from top to
-    /// bottom.
+    /// The tableau of a shape with this column reading: the columns from the rightmost to the
+    /// leftmost, each from top to bottom.
     ///
-    /// It is refused as `Length` exactly where the number of entries is not that of the cells, else, where there is memory
-    /// for the filling, as `Order` exactly where that is not semistandard with entries at least 1.
+    /// It is refused as `Length` exactly where the number of entries is not that of the cells,
+    /// else, where there is memory for the filling, as `Order` exactly where that is not
+    /// semistandard with entries at least 1.
     pub fn from_reading(
         alloc: Global,
         shape: Skew,
@@ -40,10 +42,13 @@ impl Tableau {
     ) -> Result<Tableau, TableauFault>
         ensures ok { IfOk result (λ t. t ≡ filled_with shape.0 shape.1 reading.now) }
         ensures tableau { OnOk result (IsTableauWithin (filled_with shape.0 shape.1 reading.now)) }
-        ensures length { IsErrOf result TableauFault.Length ↔ (length reading.now ≢ length (cells shape.0 shape.1)) }
+        ensures length { IsErrOf result TableauFault.Length
+            ↔ (length reading.now ≢ length (cells shape.0 shape.1)) }
         ensures order_only_there { IsErrOf result TableauFault.Order
-            → (length reading.now ≡ length (cells shape.0 shape.1)) × (is_tableau (filled_with shape.0 shape.1 reading.now) ≡ false) }
-        ensures order { (length reading.now ≡ length (cells shape.0 shape.1)) → is_tableau (filled_with shape.0 shape.1 reading.now) ≡ false
+            → (length reading.now ≡ length (cells shape.0 shape.1))
+            × (is_tableau (filled_with shape.0 shape.1 reading.now) ≡ false) }
+        ensures order { (length reading.now ≡ length (cells shape.0 shape.1))
+            → is_tableau (filled_with shape.0 shape.1 reading.now) ≡ false
             → IsErrOf result TableauFault.Order ⊎ IsErrOf result TableauFault.NoMemory }
     {
         if reading.len() != usize::from(shape.cells()) {
@@ -80,7 +85,8 @@ impl Tableau {
         self.filled.row(row)
     }
 
-    /// The entry in this row and this column, both counted from 1; None where that is no cell of the shape.
+    /// The entry in this row and this column, both counted from 1;
+    /// None where that is no cell of the shape.
     pub fn entry(&self, row: u16, column: u16) -> Option<u16>
         ensures { result ≡ entry_at self.now row column }
     {
@@ -98,7 +104,8 @@ impl Tableau {
 
     /// The column reading: the columns from the rightmost to the leftmost, each from top to bottom.
     pub fn column_reading(&self) -> Result<Word, NoMemory>
-        ensures { IfOk result (λ w. w ≡ column_reading self.now.outer self.now.inner self.now.rows) }
+        ensures { IfOk result (λ w. w
+            ≡ column_reading self.now.outer self.now.inner self.now.rows) }
     {
         self.filled.column_reading()
     }

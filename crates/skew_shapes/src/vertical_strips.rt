@@ -1,5 +1,6 @@
 //! The shapes that a vertical strip makes of a partition, as a list and one at a time.
-ghost use Rattle.std.specs.Prelude.{◌≡◌, ◌+◌, ◌^◌, ◌<◌, ◌≤◌, ◌∷◌, ◌++◌, [], None, ℕ, List, map, replicate, IfOk, OnOk};
+ghost use Rattle.std.specs.Prelude.{◌≡◌, ◌+◌, ◌^◌, ◌<◌, ◌≤◌, ◌∷◌, ◌++◌, [], None, ℕ, List, map};
+ghost use Rattle.std.specs.Prelude.{replicate, IfOk, OnOk};
 ghost use Rattle.sym_model.specs.Partition.{Falls, rows, size};
 ghost use Rattle.sym_model.specs.Sum.{Among};
 ghost use Rattle.partitions.specs.Limits.{IsWithinLimits};
@@ -10,8 +11,8 @@ use partitions::Partition;
 use std::alloc::Global;
 use std::marker::Model;
 
-/// The partitions ν for which ν/inner is a vertical strip of k cells, in falling lexicographic order, each once: a `Lister`
-/// of shapes that are made at once.
+/// The partitions ν for which ν/inner is a vertical strip of k cells, in falling lexicographic
+/// order, each once: a `Lister` of shapes that are made at once.
 #[derive(Drop)]
 pub struct VerticalStrips {
     shapes: Vec<Partition>,
@@ -30,12 +31,14 @@ impl Model for VerticalStrips {
 }
 
 impl VerticalStrips {
-    /// The shapes that a strip of `k` cells makes of `inner`, none of them current. The cells and k together are at most
-    /// 4,096, and the rows and k at most 512. For k = 0 there is `inner` alone.
+    /// The shapes that a strip of `k` cells makes of `inner`, none of them current. The cells and k
+    /// together are at most 4,096, and the rows and k at most 512. For k = 0 there is `inner`
+    /// alone.
     pub fn new(alloc: Global, inner: &Partition, k: u16) -> Result<VerticalStrips, NoMemory>
         requires cells { size inner.now + k ≤ 4096 }
         requires rows { rows inner.now + k ≤ 512 }
-        ensures strips { IfOk result (λ l. AreVerticalStrips inner.now k (⟦<VerticalStrips as Lister>⟧.rest l)) }
+        ensures strips { IfOk result (λ l.
+            AreVerticalStrips inner.now k (⟦<VerticalStrips as Lister>⟧.rest l)) }
         ensures item { IfOk result (λ l. ⟦<VerticalStrips as Lister>⟧.item l ≡ None) }
     {
         Ok(VerticalStrips {
@@ -64,8 +67,10 @@ impl Lister for VerticalStrips {
     }
 }
 
-/// The partitions ν for which ν/inner is a vertical strip of k cells, in falling lexicographic order, each once. The cells of
-/// `inner` and k together are at most 4,096, and its rows and k at most 512. For k = 0 there is `inner` alone.
+/// The partitions ν for which ν/inner is a vertical strip of k cells, in falling lexicographic
+/// order, each once. The cells of
+/// `inner` and k together are at most 4,096, and its rows and k at most 512. For k = 0 there is
+/// `inner` alone.
 pub fn with_vertical_strip(
     alloc: Global,
     inner: &Partition,
@@ -88,8 +93,9 @@ pub fn with_vertical_strip(
     Ok(shapes)
 }
 
-/// Adds the shapes that begin with the rows of `above`, which stay as they are, and go on with what a strip of `left` cells makes
-/// of the rows of a partition, where no first row is longer than `most`.
+/// Adds the shapes that begin with the rows of `above`, which stay as they are, and go on with what
+/// a strip of `left` cells makes of the rows of a partition,
+/// where no first row is longer than `most`.
 fn add_strips(
     alloc: Global,
     most: u16,
@@ -100,10 +106,12 @@ fn add_strips(
 ) -> Result<(), NoMemory>
     requires falls { Falls (most ∷ inner.now) }
     requires small { most + left < 2 ^ 14 }
-    requires limits { (rest : List ℕ) → Among rest (vertical_on most left inner.now) → IsWithinLimits (above.old.items ++ rest) }
+    requires limits { (rest : List ℕ) → Among rest (vertical_on most left inner.now)
+        → IsWithinLimits (above.old.items ++ rest) }
     ensures same { OnOk result (above.new.items ≡ above.old.items) }
     ensures shapes { OnOk result (shapes.new.items
-        ≡ shapes.old.items ++ map (λ rest. above.old.items ++ rest) (vertical_on most left inner.now)) }
+        ≡ shapes.old.items ++ map (λ rest. above.old.items ++ rest)
+        (vertical_on most left inner.now)) }
 {
     let [first, below @ ..] = inner else {
         return add_ones(alloc, left, above, shapes);
@@ -119,7 +127,8 @@ fn add_strips(
     Ok(())
 }
 
-/// Adds the shape of the rows of `above`, which stay as they are, and of `left` rows of one cell behind them.
+/// Adds the shape of the rows of `above`, which stay as they are,
+/// and of `left` rows of one cell after them.
 fn add_ones(
     alloc: Global,
     left: u16,
@@ -128,7 +137,8 @@ fn add_ones(
 ) -> Result<(), NoMemory>
     requires limits { IsWithinLimits (above.old.items ++ replicate left 1) }
     ensures same { OnOk result (above.new.items ≡ above.old.items) }
-    ensures shapes { OnOk result (shapes.new.items ≡ shapes.old.items ++ ((above.old.items ++ replicate left 1) ∷ [])) }
+    ensures shapes { OnOk result (shapes.new.items
+        ≡ shapes.old.items ++ ((above.old.items ++ replicate left 1) ∷ [])) }
 {
     let len = above.len();
     above.resize(len + usize::from(left), 1)?;

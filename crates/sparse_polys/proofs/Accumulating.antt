@@ -1,5 +1,5 @@
 -- Lists to which products are added one after another (specs/Products).
-use Rattle.std.proofs.Common.{◌≡◌, ◌⊎◌, ℕ, zero, suc, ◌+◌, ◌*◌, ◌/◌, ◌^◌, ◌<◌, ◌≤◌, Bool, true, false, cond, List, [], sym, ◌∙◌, ap, ap₂, subst, refl, inl, inr, arith, ℤ, pos, ◌+ℤ◌, ◌*ℤ◌, unsigned_abs}
+use Rattle.std.proofs.Common.{◌≡◌, ◌⊎◌, ℕ, zero, suc, ◌+◌, ◌*◌, ◌/◌, ◌^◌, ◌<◌, ◌≤◌, Bool, true, false, cond, List, sym, ◌∙◌, ap, ap₂, subst, refl, inl, inr, arith, ℤ, pos, ◌+ℤ◌, ◌*ℤ◌, unsigned_abs}
 use Rattle.std.specs.Prelude.{nat_eq, Option, Some, None, IsSome, IfSome}
 use Rattle.std.specs.Int.{◌∣◌}
 use Rattle.std.specs.Cmp.Lexicographic.{pointwise, nat_list_eq_equiv}
@@ -25,8 +25,9 @@ use Rattle.sparse_polys.specs.Refusal.{IsRefused}
 use Rattle.sparse_polys.proofs.Tables.{lowest-coefficient}
 use Rattle.sym_model.proofs.Exponents.{same_from, same_apart}
 use Rattle.sym_model.proofs.Ring.{ring, product_assoc}
-use Rattle.sparse_polys.specs.MonomialProducts.{coefficient_at, AreDenominators, AreCleared, Adds, Overflows}
+use Rattle.sparse_polys.specs.MonomialProducts.{Adds, Overflows}
 use Rattle.sparse_polys.proofs.Coefficients.{nat_abs-is}
+use Rattle.sparse_polys.specs.Products.{AreDenominators, coefficient_at, AreCleared}
 use native.Mathlib.Nat.{mul-le-mul_left, mul-pos, dvd-mul_left}
 use lib.IntN.{+ℤ_idr, *ℤ-zero, zero-*ℤ}
 
@@ -114,10 +115,11 @@ more_at old new label c h ν = by (pointwise nat_eq label ν) refl (h ν)
     by true e f = let i : label ≡ ν = same_partition label ν e in inl (i, f ∙ ap (λ l. fraction_sum (coefficient_at old l) c) i)
     by false e f = inr (λ i. (let t : pointwise nat_eq label ν ≡ true = ap (pointwise nat_eq label) (sym i) ∙ at_same label in cc), f)
 
-pub Adds-term : (q n : ℕ) (z : ℤ) (old new : Terms (List ℕ)) (label : List ℕ) (c : Fraction) → IsCombination (pointwise nat_eq) is_label old → InLowestTerms c
+pub Adds-term : (q n : ℕ) (z : ℤ) (old new : Terms (List ℕ)) (label : List ℕ) (c : Fraction) → IsCombination (pointwise nat_eq) is_label old → IsCombination (pointwise nat_eq) is_label new → InLowestTerms c
     → 0 < q → c.1 ∣ q → scaled q c ≡ z *ℤ pos n → AreCleared q old → HasMoreAt (pointwise nat_eq) old label c new
     → Adds q old (λ ν. z *ℤ pos (cond (same label ν) n 0)) new
-Adds-term q n z old new label c is lc some cd e cleared more = record {
+Adds-term q n z old new label c is also lc some cd e cleared more = record {
+  table = λ was. also;
   cleared = λ ν. (at ν).0;
   sums = λ ν p. (at ν).1;
 }
@@ -139,6 +141,7 @@ Adds-term q n z old new label c is lc some cd e cleared more = record {
 
 pub Adds-nothing : (q n : ℕ) (z : ℤ) (old : Terms (List ℕ)) (label : List ℕ) → n ≡ 0 → AreCleared q old → Adds q old (λ ν. z *ℤ pos (cond (same label ν) n 0)) old
 Adds-nothing q n z old label e cleared = record {
+  table = λ is. is;
   cleared = cleared;
   sums = λ ν p. sym (+ℤ_idr (scaled q (coefficient_at old ν))) ∙ ap (λ x. scaled q (coefficient_at old ν) +ℤ x) (sym (*ℤ-zero z) ∙ ap (λ k. z *ℤ pos k) (sym (none (same label ν))));
 }
@@ -184,6 +187,7 @@ triangle x y = omega (arith, ints)
 pub Adds-then : (q : ℕ) (first second third : Terms (List ℕ)) (φ ψ χ : List ℕ → ℤ) → ((ν : List ℕ) → IsPartition ν → φ ν +ℤ ψ ν ≡ χ ν)
     → Adds q first φ second → Adds q second ψ third → Adds q first χ third
 Adds-then q first second third φ ψ χ e a b = record {
+  table = λ is. b.table (a.table is);
   cleared = b.cleared;
   sums =
       λ ν p.
@@ -212,7 +216,7 @@ Overflows-then q first second φ Φ Ψ X small within a o bound h =
     (r.0, r.1, omega arith)
 
 pub Adds-none : (q : ℕ) (old : Terms (List ℕ)) (φ : List ℕ → ℤ) → ((ν : List ℕ) → φ ν ≡ pos 0) → AreCleared q old → Adds q old φ old
-Adds-none q old φ e cleared = record { cleared = cleared; sums = λ ν p. sym (+ℤ_idr (scaled q (coefficient_at old ν))) ∙ ap (λ x. scaled q (coefficient_at old ν) +ℤ x) (sym (e ν)) }
+Adds-none q old φ e cleared = record { table = λ is. is; cleared = cleared; sums = λ ν p. sym (+ℤ_idr (scaled q (coefficient_at old ν))) ∙ ap (λ x. scaled q (coefficient_at old ν) +ℤ x) (sym (e ν)) }
 
 pub product-size : (d e n : ℕ) (a b c : Fraction) → scaled (d * e) c ≡ scaled d a *ℤ scaled e b *ℤ pos n → magnitude (d * e) c ≡ magnitude d a * magnitude e b * n
 product-size d e n a b c h =
@@ -257,7 +261,7 @@ product-within d e n a b =
     omega arith
 
 pub Adds-same : (q : ℕ) (first second : Terms (List ℕ)) (φ χ : List ℕ → ℤ) → ((ν : List ℕ) → IsPartition ν → φ ν ≡ χ ν) → Adds q first φ second → Adds q first χ second
-Adds-same q first second φ χ e a = record { cleared = a.cleared; sums = λ ν p. a.sums ν p ∙ ap (λ x. scaled q (coefficient_at first ν) +ℤ x) (e ν p) }
+Adds-same q first second φ χ e a = record { table = a.table; cleared = a.cleared; sums = λ ν p. a.sums ν p ∙ ap (λ x. scaled q (coefficient_at first ν) +ℤ x) (e ν p) }
 
 -- a term is not 0
 pub magnitude-positive : (q : ℕ) (terms : Terms (List ℕ)) (t : List ℕ × Fraction) → IsCombination (pointwise nat_eq) is_label terms → Among t terms
@@ -270,9 +274,6 @@ magnitude-positive q terms t is m some h =
     mul-pos (let u : 0 < unsigned_abs t.1.0 = omega arith in u) b
 
 -- ---- the empty list
-
-pub AreCleared-nothing : (q : ℕ) → AreCleared q []
-AreCleared-nothing q ν = subst (λ n. 1 ∣ n) (let e : q * 1 ≡ q = omega arith in e) (dvd-mul_left 1 q)
 
 pub scaled-nothing : (q : ℕ) → scaled q (whole (pos 0)) ≡ pos 0
 scaled-nothing q = zero-*ℤ (pos (q / 1))

@@ -5,7 +5,7 @@ use Rattle.std.specs.Option.{option_map, unwrap_or}
 use Rattle.std.specs.Map.{lookup, keys_of}
 use Rattle.sym_model.specs.Expansion.{Fraction}
 use Rattle.coeff_rings.specs.Fractions.{whole}
-pub use Rattle.linear_combinations.proofs.LowestTerms.{nat_abs-is, is_reduced-lowest, lowest-is_reduced, not_zero-is_reduced, product-zero}
+pub use Rattle.linear_combinations.proofs.LowestTerms.{nat_abs-is, lowest-is_reduced, product-zero}
 pub use Rattle.linear_combinations.proofs.Steps.{if_answered}
 use Rattle.sym_model.specs.WholeTerms.{WholeTerms, numerators}
 use Rattle.sparse_polys.specs.Combination.{terms_of, coefficient}

@@ -1,7 +1,7 @@
 -- What a list of terms is when its coefficients at all labels are known (specs/Products).
 --     coefficient-over      the coefficients of the list times q
 --     expansion_product     a list with the coefficients of a product is the product, in every number of variables
-use Rattle.std.proofs.Common.{◌≡◌, ◌⊎◌, ℕ, ◌+◌, ◌*◌, ◌/◌, ◌<◌, Bool, true, false, cond, List, [], ◌∷◌, sym, ◌∙◌, ap, ap₂, subst, refl, inl, inr, arith, ℤ, pos, ◌+ℤ◌, ◌*ℤ◌, unsigned_abs}
+use Rattle.std.proofs.Common.{◌≡◌, ◌⊎◌, ℕ, ◌+◌, ◌*◌, ◌/◌, ◌<◌, Bool, true, false, cond, List, [], ◌∷◌, length, sym, ◌∙◌, ap, ap₂, subst, refl, inl, inr, arith, ℤ, pos, ◌+ℤ◌, ◌*ℤ◌, unsigned_abs}
 use Rattle.std.specs.Prelude.{nat_eq, nat_abs, Option, Some, None}
 use Rattle.std.specs.Option.{unwrap_or}
 use Rattle.std.specs.Int.{◌∣◌}
@@ -14,7 +14,7 @@ use Rattle.std.proofs.lemmas.Map.Entries.{none_past_head}
 use Rattle.std.proofs.lemmas.Slice.Eq.{bytes_eq-Decides}
 use Rattle.std.proofs.Math.Nat.{div-mul_cancel}
 use Rattle.sym_model.specs.Sum.{Among, Once}
-use Rattle.sym_model.specs.Polynomial.{Poly, same, coefficient, times}
+use Rattle.sym_model.specs.Polynomial.{Poly, same, coefficient, scale, times}
 use Rattle.sym_model.specs.Partition.{IsPartition, size}
 use Rattle.sym_model.specs.Expansion.{Basis, Fraction, Terms, denominators, value, IsExpansionOf}
 use Rattle.sym_model.specs.Canonical.{is_label}
@@ -22,7 +22,7 @@ use Rattle.sym_model.proofs.Ring.{product_assoc, one-product}
 use Rattle.sym_model.proofs.Sums.{Among-map}
 use Rattle.sym_model.specs.Expression.{lcm}
 use Rattle.sym_model.specs.ListWeight.{common_denominator}
-use Rattle.sym_model.specs.WholeTerms.{WholeTerms, AreWhole, numerators}
+use Rattle.sym_model.specs.WholeTerms.{WholeTerms, AreWhole}
 use Rattle.monomial_laws.proofs.WeightBounds.{lcm-left, lcm-right, lcm-positive}
 use Rattle.std.proofs.lemmas.Nat.Gcd.{dvd_trans}
 use Rattle.sym_model.proofs.Exponents.{same_from, same_apart}
@@ -37,13 +37,17 @@ use Rattle.monomial_laws.specs.ExpressionTerms.{IsList, over}
 use Rattle.monomial_laws.proofs.Arrangements.{arrangements-sizes}
 use Rattle.monomial_laws.proofs.ExpressionTerms.{list-product}
 use Rattle.monomial_laws.proofs.DividedTerms.{labels_of, over-missing, over-there, divides-denominators, cleared-over, expansion_divided}
-use Rattle.sparse_polys.specs.MonomialProducts.{coefficient_at, IsCommonDenominator, AreSums, row, rows}
+use Rattle.sparse_polys.specs.MonomialProducts.{AreSums, Adds, row, rows}
+use Rattle.sparse_polys.proofs.Steps.{IsCombination-empty}
+use Rattle.sparse_polys.proofs.Coefficients.{numerators-terms}
+use Rattle.sparse_polys.proofs.ValueLists.{among_values}
 use Rattle.sparse_polys.proofs.Accumulating.{scaled-nothing, magnitude-positive}
 use Rattle.sparse_polys.proofs.Rows.{rows-product}
+use Rattle.sparse_polys.specs.Products.{IsCommonDenominator, coefficient_at}
 use native.Mathlib.Nat.{mul-pos, dvd-mul_left}
 use lib.IntN.{+ℤ_idl, +ℤ_idr, *ℤ-zero, *ℤ_comm}
 
-abbrev IsTable : Terms (List ℕ) → Type 0
+abbrev pub IsTable : Terms (List ℕ) → Type 0
 IsTable terms = IsCombination (pointwise nat_eq) is_label terms
 
 table_tail : (t : List ℕ × Fraction) (terms : Terms (List ℕ)) → IsTable (t ∷ terms) → IsTable terms
@@ -113,6 +117,16 @@ common-denominators terms is = record {
   multiple = divides-denominators terms;
 }
 
+partition_at : (terms : Terms (List ℕ)) → IsTable terms → (t : List ℕ × Fraction) → Among t terms → IsPartition t.0
+partition_at terms is t m = (is_label-tells t.0 (and_parts _ _ (each_term-among _ terms is.proper t m)).1).partition
+
+-- what divides at each partition divides each term
+pub divides_terms : (q : ℕ) (product : Terms (List ℕ)) → IsTable product → ((ν : List ℕ) → IsPartition ν → (coefficient_at product ν).1 ∣ q)
+    → (t : List ℕ × Fraction) → Among t product → t.1.1 ∣ q
+divides_terms q product ip h t m =
+    subst (λ (c : Fraction). c.1 ∣ q) (found_at product ip t m)
+    (h t.0 (partition_at product ip t m))
+
 -- ---- the product
 
 value-list : (terms : Terms (List ℕ)) → IsList (over (denominators terms) terms) (λ n. value Basis.monomials terms n)
@@ -121,26 +135,53 @@ value-list terms n α = ap (λ (f : Poly). coefficient f α) (sym (cleared-over 
 cancel : (num : ℤ) (D den r : ℕ) → r * den ≡ D → num *ℤ pos D ≡ num *ℤ pos r *ℤ pos den
 cancel num D den r e = ap (λ n. num *ℤ pos n) (sym e) ∙ sym (product_assoc num (pos r) (pos den))
 
-pub expansion_product : (left right product : Terms (List ℕ)) → IsTable left → IsTable right → IsTable product
-    → ((t : List ℕ × Fraction) → Among t product → t.1.1 ∣ (denominators left * denominators right))
-    → ((ν : List ℕ) → IsPartition ν → scaled (denominators left * denominators right) (coefficient_at product ν)
-    ≡ product_coefficient (over (denominators left) left) (over (denominators right) right) ν)
-    → (n : ℕ) → IsExpansionOf Basis.monomials product n (times (value Basis.monomials left n) (value Basis.monomials right n)) (denominators left * denominators right)
-expansion_product left right product il ir ip divides sums =
+-- a list to which the product was added term by term, with the fractions cleared by any common denominators
+abbrev pub IsClearedProduct : Terms (List ℕ) → Terms (List ℕ) → Terms (List ℕ) → Type 0
+IsClearedProduct left right product =
+    (d e : ℕ) → IsCommonDenominator d left → IsCommonDenominator e right
+    → Adds (d * e) [] (product_coefficient (over d left) (over e right)) product
+
+sums_from : (q : ℕ) (f : List ℕ → ℤ) (product : Terms (List ℕ)) → Adds q [] f product
+    → (ν : List ℕ) → IsPartition ν → scaled q (coefficient_at product ν) ≡ f ν
+sums_from q f product a ν p = a.sums ν p ∙ ap (λ z. z +ℤ f ν) (scaled-nothing q) ∙ +ℤ_idl (f ν)
+
+table_from : (q : ℕ) (f : List ℕ → ℤ) (product : Terms (List ℕ)) → Adds q [] f product → IsTable product
+table_from q f product a = a.table (IsCombination-empty (pointwise nat_eq) is_label)
+
+pub expansion_product : (left right product : Terms (List ℕ)) → IsTable left → IsTable right → IsClearedProduct left right product → (n : ℕ)
+    → IsExpansionOf Basis.monomials product n (times (value Basis.monomials left n) (value Basis.monomials right n)) (denominators left * denominators right)
+expansion_product left right product il ir cleared =
     let D = denominators left * denominators right in
+    let f = product_coefficient (over (denominators left) left) (over (denominators right) right) in
+    let adds : Adds D [] f product = cleared (denominators left) (denominators right) (common-denominators left il) (common-denominators right ir) in
+    let ip : IsTable product = table_from D f product adds in
     expansion_divided D (over D product) product (λ n. times (value Basis.monomials left n) (value Basis.monomials right n))
     (record {
       once = once_labels product ip;
       positive = denominators-positive product (λ t m. (reduced_at product ip t m).0);
       there =
           λ t m.
-          cancel t.1.0 D t.1.1 (D / t.1.1) (div-mul_cancel t.1.1 (divides t m))
+          cancel t.1.0 D t.1.1 (D / t.1.1) (div-mul_cancel t.1.1 (divides_terms D product ip (λ ν p. adds.cleared ν) t m))
           ∙ ap (λ z. z *ℤ pos t.1.1) (sym (over-there D product (once_labels product ip) t m));
       missing = λ label none. over-missing D product label none;
     })
     (list-product (over (denominators left) left) (over (denominators right) right) (over D product)
     (λ n. value Basis.monomials left n) (λ n. value Basis.monomials right n) (value-list left) (value-list right)
-    (λ ν p. coefficient-over D product ip ν ∙ sums ν p))
+    (λ ν p. coefficient-over D product ip ν ∙ sums_from D f product adds ν p))
+
+-- the product with the empty list
+pub expansion_nothing : (left right product : Terms (List ℕ)) (n d : ℕ) → product ≡ [] → length right ≡ 0
+    → IsExpansionOf Basis.monomials product n (times (value Basis.monomials left n) (value Basis.monomials right n)) d
+expansion_nothing left (t ∷ right) product n d e h = absurd (omega arith)
+expansion_nothing left [] product n d e h =
+    let f = value Basis.monomials left n in
+    let none : IsExpansionOf Basis.monomials [] n (times f []) d =
+    record { positive = omega arith; equal = λ α. sym (ap (λ g. coefficient (scale (pos 1) g) α) (times_nothing f)) } in
+    subst (λ (l : Terms (List ℕ)). IsExpansionOf Basis.monomials l n (times f []) d) (sym e) none
+  where
+    times_nothing : (f : Poly) → times f [] ≡ []
+    times_nothing [] = refl
+    times_nothing (s ∷ f) = times_nothing f
 
 -- ---- the sizes of its labels
 
@@ -169,30 +210,27 @@ rows_or_none d (t ∷ left) e right ν = by (row_or_none t.0 e right ν) (rows_o
     by (inl z) (inr s) = inr (s.0, s.1, inr s.2, s.3, s.4)
     by (inl z) (inl y) = inl (ap₂ (λ (a b : ℤ). scaled d t.1 *ℤ a +ℤ b) z y ∙ ap (λ a. a +ℤ pos 0) (*ℤ-zero (scaled d t.1)))
 
-partition_at : (terms : Terms (List ℕ)) → IsTable terms → (t : List ℕ × Fraction) → Among t terms → IsPartition t.0
-partition_at terms is t m = (is_label-tells t.0 (and_parts _ _ (each_term-among _ terms is.proper t m)).1).partition
-
 -- the size of each label is the sum of two sizes
-pub sums_of_sizes : (d e : ℕ) (left right product : Terms (List ℕ)) → IsTable product → 0 < d * e → ((t : List ℕ × Fraction) → Among t product → t.1.1 ∣ (d * e))
-    → ((ν : List ℕ) → IsPartition ν → scaled (d * e) (coefficient_at product ν) ≡ product_coefficient (over d left) (over e right) ν) → AreSums left right product
-sums_of_sizes d e left right product ip some divides sums t m = by (rows_or_none d left e right t.0)
+pub sums_of_sizes : (d e : ℕ) (left right product : Terms (List ℕ)) → 0 < d * e
+    → Adds (d * e) [] (product_coefficient (over d left) (over e right)) product → AreSums left right product
+sums_of_sizes d e left right product some adds t m = by (rows_or_none d left e right t.0)
   where
+    f : List ℕ → ℤ
+    f = product_coefficient (over d left) (over e right)
+
+    ip : IsTable product
+    ip = table_from (d * e) f product adds
+
     by : (rows d left e right t.0 ≡ pos 0) ⊎ ((l r : List ℕ × Fraction) × Among l left × Among r right × (size l.0 + size r.0 ≡ size t.0))
         → (l r : List ℕ × Fraction) × Among l left × Among r right × (size l.0 + size r.0 ≡ size t.0)
     by (inl z) =
         let zero : scaled (d * e) t.1 ≡ pos 0 =
-        sym (ap (scaled (d * e)) (found_at product ip t m)) ∙ sums t.0 (partition_at product ip t m) ∙ sym (rows-product d left e right t.0) ∙ z in
-        let p = magnitude-positive (d * e) product t ip m some (divides t m) in
+        sym (ap (scaled (d * e)) (found_at product ip t m)) ∙ sums_from (d * e) f product adds t.0 (partition_at product ip t m)
+        ∙ sym (rows-product d left e right t.0) ∙ z in
+        let p = magnitude-positive (d * e) product t ip m some (divides_terms (d * e) product ip (λ ν p. adds.cleared ν) t m) in
         let n = sym (unsigned_abs-scaled (d * e) t.1) ∙ ap unsigned_abs zero in
         absurd (omega arith)
     by (inr u) = u
-
--- what divides at each partition divides each term
-pub divides_terms : (q : ℕ) (product : Terms (List ℕ)) → IsTable product → ((ν : List ℕ) → IsPartition ν → (coefficient_at product ν).1 ∣ q)
-    → (t : List ℕ × Fraction) → Among t product → t.1.1 ∣ q
-divides_terms q product ip h t m =
-    subst (λ (c : Fraction). c.1 ∣ q) (found_at product ip t m)
-    (h t.0 (partition_at product ip t m))
 
 -- ---- least common denominators
 
@@ -218,30 +256,39 @@ least-denominators terms is = record {
 
 -- ---- whole coefficients
 
-pub whole-denominators : (terms : Terms (List ℕ)) → AreWhole terms → IsCommonDenominator 1 terms
-whole-denominators terms h = record { positive = omega arith; multiple = divides terms h }
+pub whole-denominators : (terms : WholeTerms) → IsCommonDenominator 1 (terms_of whole terms)
+whole-denominators terms = record { positive = omega arith; multiple = divides terms }
   where
-    divides : (terms : Terms (List ℕ)) → AreWhole terms → (t : List ℕ × Fraction) → Among t terms → t.1.1 ∣ 1
-    divides [] h t m = absurd m
-    divides (u ∷ terms) h t (inl e) = subst (λ n. n ∣ 1) (sym (ap (λ (v : List ℕ × Fraction). v.1.1) e ∙ h.0)) (dvd-mul_left 1 1)
-    divides (u ∷ terms) h t (inr m) = divides terms h.1 t m
+    divides : (terms : WholeTerms) (t : List ℕ × Fraction) → Among t (terms_of whole terms) → t.1.1 ∣ 1
+    divides [] t m = absurd m
+    divides (u ∷ terms) t (inl e) = subst (λ n. n ∣ 1) (sym (ap (λ (v : List ℕ × Fraction). v.1.1) e)) (dvd-mul_left 1 1)
+    divides (u ∷ terms) t (inr m) = divides terms t m
 
-pub over-one : (terms : Terms (List ℕ)) → AreWhole terms → over 1 terms ≡ numerators terms
-over-one [] h = refl
-over-one (t ∷ terms) h =
-    ap₂ (λ (z : ℤ) (l : List (List ℕ × ℤ)). (t.0, z) ∷ l) (ap (λ n. t.1.0 *ℤ pos (1 / n)) h.0 ∙ times-one t.1.0) (over-one terms h.1)
-  where
-    times-one : (z : ℤ) → z *ℤ pos 1 ≡ z
-    times-one z = *ℤ_comm z (pos 1) ∙ one-product z
+pub over-one : (terms : WholeTerms) → over 1 (terms_of whole terms) ≡ terms
+over-one [] = refl
+over-one (t ∷ terms) = ap₂ (λ (z : ℤ) (l : WholeTerms). (t.0, z) ∷ l) (*ℤ_comm t.1 (pos 1) ∙ one-product t.1) (over-one terms)
 
 pub AreWhole-terms_of : (pairs : List (List ℕ × ℤ)) → AreWhole (terms_of whole pairs)
 AreWhole-terms_of [] = tt
 AreWhole-terms_of (p ∷ pairs) = (refl, AreWhole-terms_of pairs)
 
-pub whole_product : (left right product : Terms (List ℕ)) → AreWhole left → AreWhole right → AreWhole product → IsTable product
-    → (ν : List ℕ) → scaled 1 (coefficient_at product ν) ≡ product_coefficient (over 1 left) (over 1 right) ν
-    → coefficient (numerators product) ν ≡ product_coefficient (numerators left) (numerators right) ν
-whole_product left right product wl wr wp ip ν e =
-    ap (λ (l : WholeTerms). coefficient l ν) (sym (over-one product wp))
-    ∙ coefficient-over 1 product ip ν ∙ e
-    ∙ ap₂ (λ (l r : WholeTerms). product_coefficient l r ν) (over-one left wl) (over-one right wr)
+pub whole_product : (left right product : WholeTerms)
+    → Adds 1 [] (product_coefficient (over 1 (terms_of whole left)) (over 1 (terms_of whole right))) (terms_of whole product)
+    → (ν : List ℕ) → IsPartition ν → coefficient product ν ≡ product_coefficient left right ν
+whole_product left right product adds ν p =
+    let f = product_coefficient (over 1 (terms_of whole left)) (over 1 (terms_of whole right)) in
+    ap (λ (l : WholeTerms). coefficient l ν) (sym (over-one product))
+    ∙ coefficient-over 1 (terms_of whole product) (table_from 1 f (terms_of whole product) adds) ν
+    ∙ sums_from 1 f (terms_of whole product) adds ν p
+    ∙ ap₂ (λ (l r : WholeTerms). product_coefficient l r ν) (over-one left) (over-one right)
+
+-- the sizes of labels, seen with whole coefficients
+pub whole_sums : (left right product : WholeTerms) → AreSums (terms_of whole left) (terms_of whole right) (terms_of whole product) → AreSums left right product
+whole_sums left right product h t m =
+    let s = h (t.0, whole t.1) (among_values whole t product m) in
+    ((s.0.0, s.0.1.0), (s.1.0, s.1.1.0), among left s.0 s.2, among right s.1 s.3, s.4)
+  where
+    among : (terms : WholeTerms) (u : List ℕ × Fraction) → Among u (terms_of whole terms) → Among (u.0, u.1.0) terms
+    among terms u m =
+        subst (λ (l : WholeTerms). Among (u.0, u.1.0) l) (numerators-terms terms)
+        (Among-map (λ (v : List ℕ × Fraction). (v.0, v.1.0)) u (terms_of whole terms) m)

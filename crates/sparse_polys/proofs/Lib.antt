@@ -3,7 +3,6 @@ pub mod ValueLists
 pub mod Tables
 pub mod Steps
 pub mod Totals
-pub mod WholeTables
 pub mod Values
 pub mod ExponentOrder
 pub mod Labels

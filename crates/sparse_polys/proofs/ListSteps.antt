@@ -1,5 +1,5 @@
 -- The terms of a list, one after another.
-use Rattle.std.proofs.Common.{◌≡◌, ℕ, ◌+◌, ◌*◌, ◌^◌, ◌≤◌, List, [], ◌∷◌, ◌++◌, append_assoc, sym, ap, ◌∙◌, subst, arith, ℤ, ◌+ℤ◌, ◌*ℤ◌}
+use Rattle.std.proofs.Common.{◌≡◌, ℕ, ◌+◌, ◌*◌, ◌^◌, ◌≤◌, List, [], ◌∷◌, ◌++◌, sym, ap, ◌∙◌, subst, arith, ℤ, ◌+ℤ◌, ◌*ℤ◌}
 use Rattle.std.proofs.lemmas.Int.{ints}
 use Rattle.sym_model.specs.Sum.{Among}
 use Rattle.sym_model.specs.Expansion.{Fraction, Terms}
@@ -7,6 +7,7 @@ use Rattle.sym_model.specs.ListWeight.{absolute_sum}
 use Rattle.coeff_rings.specs.Fractions.{scaled}
 use Rattle.coeff_rings.specs.Room.{magnitude}
 use Rattle.sparse_polys.specs.Combination.{terms_of}
+pub use Rattle.linear_combinations.proofs.Gains.{so_far_next}
 use Rattle.sparse_polys.proofs.Steps.{among-next}
 use Rattle.sparse_polys.specs.Products.{cleared_sum}
 use Rattle.sparse_polys.proofs.ClearedSums.{size-here}
@@ -31,10 +32,6 @@ module _ {R : Type 0} (value : R → Fraction) where
   -- this one is a term of the list
   pub list_among : (done rest : List (List ℕ × R)) (k : List ℕ) (v : R) (terms : Terms (List ℕ)) → terms_of value (done ++ (k, v) ∷ rest) ≡ terms → Among (k, value v) terms
   list_among done rest k v terms e = subst (λ (l : Terms (List ℕ)). Among (k, value v) l) e (among-next value done k v rest)
-
-pub so_far_next : {A : Type 0} (done rest left begun next : List A) (x : A) → done ++ x ∷ [] ≡ next → left ≡ x ∷ rest → done ++ left ≡ begun → next ++ rest ≡ begun
-so_far_next done rest left begun next x pushed steps so_far =
-    ap (λ es. es ++ rest) (sym pushed) ∙ append_assoc done (x ∷ []) rest ∙ ap (λ es. done ++ es) (sym steps) ∙ so_far
 
 -- ---- sums and sizes with a factor
 

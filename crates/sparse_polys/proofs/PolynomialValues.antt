@@ -34,15 +34,12 @@ use Rattle.sparse_polys.proofs.Expansions.{denominators-positive, least-positive
 use native.Mathlib.Nat.{mul-pos, mul-le-mul_left}
 use lib.IntN.{+ℤ_idr, *ℤ-zero, *ℤ_comm}
 use Rattle.monomial_laws.proofs.DividedTerms.{divides-denominators}
+use Rattle.sym_model.proofs.PolynomialLaws.{restricted_test}
 
--- the value of a test function at a monomial in n variables; 0 where a later variable is in it
-abbrev pub shown : ℕ → (List ℕ → ℤ) → List ℕ → ℤ
-shown n φ e = cond (fits_in n e) (φ (resize n e)) (pos 0)
+pub pair_x_to_in : (n : ℕ) (e : List ℕ) (φ : List ℕ → ℤ) → pair (x_to_in e n) φ ≡ restricted_test n φ e
+pair_x_to_in n e φ = pair_restrict n (x_to e) φ ∙ +ℤ_idr (pos 1 *ℤ restricted_test n φ e) ∙ one-product (restricted_test n φ e)
 
-pair_x_to_in : (n : ℕ) (e : List ℕ) (φ : List ℕ → ℤ) → pair (x_to_in e n) φ ≡ shown n φ e
-pair_x_to_in n e φ = pair_restrict n (x_to e) φ ∙ +ℤ_idr (pos 1 *ℤ shown n φ e) ∙ one-product (shown n φ e)
-
-pair_cleared : (n q : ℕ) (terms : Terms (List ℕ)) (φ : List ℕ → ℤ) → pair (cleared (λ e. x_to_in e n) q terms) φ ≡ cleared_sum q (shown n φ) terms
+pair_cleared : (n q : ℕ) (terms : Terms (List ℕ)) (φ : List ℕ → ℤ) → pair (cleared (λ e. x_to_in e n) q terms) φ ≡ cleared_sum q (restricted_test n φ) terms
 pair_cleared n q [] φ = refl
 pair_cleared n q (t ∷ terms) φ =
     pair_plus (scale (scaled q t.1) (x_to_in t.0 n)) (cleared (λ e. x_to_in e n) q terms) φ
@@ -136,7 +133,7 @@ two_denominators d q ψ terms h k =
     ∙ product_assoc (pos q) (scaled d t.1) (ψ t.0))
     ∙ total_scale (pos q) (λ (t : List ℕ × Fraction). scaled d t.1 *ℤ ψ t.0) terms
 
-pub represents : (terms : Terms (List ℕ)) (d n : ℕ) (f : Poly) → IsTable terms → AreCleared d terms → ((φ : List ℕ → ℤ) → cleared_sum d (shown n φ) terms ≡ pair f φ)
+pub represents : (terms : Terms (List ℕ)) (d n : ℕ) (f : Poly) → IsTable terms → AreCleared d terms → ((φ : List ℕ → ℤ) → cleared_sum d (restricted_test n φ) terms ≡ pair f φ)
     → Represents (λ e. x_to_in e n) terms f d
 represents terms d n f is clear sums =
     let q = denominators terms in
@@ -147,7 +144,7 @@ represents terms d n f is clear sums =
           same_from_pair (scale (pos d) (value_in terms n)) (scale (pos q) f) (λ φ.
           pair_scale (pos d) (value_in terms n) φ
           ∙ ap (λ z. pos d *ℤ z) (pair_cleared n q terms φ)
-          ∙ two_denominators d q (shown n φ) terms (λ t m. subst (λ (c : Fraction). c.1 ∣ d) (found_at terms is t m) (clear t.0)) common.multiple
+          ∙ two_denominators d q (restricted_test n φ) terms (λ t m. subst (λ (c : Fraction). c.1 ∣ d) (found_at terms is t m) (clear t.0)) common.multiple
           ∙ ap (λ z. pos q *ℤ z) (sums φ)
           ∙ sym (pair_scale (pos q) f φ));
     }
@@ -156,7 +153,7 @@ represents terms d n f is clear sums =
 
 -- one monomial times a polynomial
 row_value : (n : ℕ) (terms : Terms (List ℕ)) (φ : List ℕ → ℤ) (e : List ℕ)
-    → shown n (λ α. pair (value_in terms n) (λ β. φ (join α β))) e ≡ cleared_sum (denominators terms) (λ β. shown n φ (join e β)) terms
+    → restricted_test n (λ α. pair (value_in terms n) (λ β. φ (join α β))) e ≡ cleared_sum (denominators terms) (λ β. restricted_test n φ (join e β)) terms
 row_value n terms φ e = by (fits_in n e) refl
   where
     q : ℕ
@@ -165,36 +162,36 @@ row_value n terms φ e = by (fits_in n e) refl
     at : (b c : Bool) (u : List ℕ) → (b && c) ≡ c → cond c (φ (join (resize n e) (resize n u))) (pos 0) ≡ cond (b && c) (φ (resize n (join e u))) (pos 0)
     at b c u h = ap (λ x. cond c (φ x) (pos 0)) (sym (resize-join n e u)) ∙ ap (λ x. cond x (φ (resize n (join e u))) (pos 0)) (sym h)
 
-    by : (b : Bool) → fits_in n e ≡ b → cond b (pair (value_in terms n) (λ β. φ (join (resize n e) β))) (pos 0) ≡ cleared_sum (denominators terms) (λ β. shown n φ (join e β)) terms
+    by : (b : Bool) → fits_in n e ≡ b → cond b (pair (value_in terms n) (λ β. φ (join (resize n e) β))) (pos 0) ≡ cleared_sum (denominators terms) (λ β. restricted_test n φ (join e β)) terms
     by true f =
         pair_cleared n (denominators terms) terms (λ β. φ (join (resize n e) β))
-        ∙ total_ext (λ (t : List ℕ × Fraction). scaled (denominators terms) t.1 *ℤ shown n (λ β. φ (join (resize n e) β)) t.0) (λ (t : List ℕ × Fraction). scaled (denominators terms) t.1 *ℤ shown n φ (join e t.0))
+        ∙ total_ext (λ (t : List ℕ × Fraction). scaled (denominators terms) t.1 *ℤ restricted_test n (λ β. φ (join (resize n e) β)) t.0) (λ (t : List ℕ × Fraction). scaled (denominators terms) t.1 *ℤ restricted_test n φ (join e t.0))
         (λ t. ap (λ z. scaled (denominators terms) t.1 *ℤ z)
         (at (fits_in n e) (fits_in n t.0) t.0 (ap (λ b. b && fits_in n t.0) f) ∙ ap (λ b. cond b (φ (resize n (join e t.0))) (pos 0)) (sym (fits_in-join n e t.0))))
         terms
     by false f =
         sym (total_zero terms)
-        ∙ total_ext (λ (t : List ℕ × Fraction). pos 0) (λ (t : List ℕ × Fraction). scaled (denominators terms) t.1 *ℤ shown n φ (join e t.0))
+        ∙ total_ext (λ (t : List ℕ × Fraction). pos 0) (λ (t : List ℕ × Fraction). scaled (denominators terms) t.1 *ℤ restricted_test n φ (join e t.0))
         (λ t. sym (*ℤ-zero (scaled (denominators terms) t.1))
         ∙ ap (λ b. scaled (denominators terms) t.1 *ℤ cond b (φ (resize n (join e t.0))) (pos 0)) (sym (fits_in-join n e t.0 ∙ ap (λ b. b && fits_in n t.0) f)))
         terms
 
 pub product_value : (n : ℕ) (left right : Terms (List ℕ)) (φ : List ℕ → ℤ)
-    → cleared_sum (denominators left) (λ α. cleared_sum (denominators right) (λ β. shown n φ (join α β)) right) left ≡ pair (times (value_in left n) (value_in right n)) φ
+    → cleared_sum (denominators left) (λ α. cleared_sum (denominators right) (λ β. restricted_test n φ (join α β)) right) left ≡ pair (times (value_in left n) (value_in right n)) φ
 product_value n left right φ =
     sym
     (pair_times (value_in left n) (value_in right n) φ
     ∙ pair_cleared n (denominators left) left (λ α. pair (value_in right n) (λ β. φ (join α β)))
-    ∙ total_ext (λ (t : List ℕ × Fraction). scaled (denominators left) t.1 *ℤ shown n (λ α. pair (value_in right n) (λ β. φ (join α β))) t.0)
-    (λ (t : List ℕ × Fraction). scaled (denominators left) t.1 *ℤ cleared_sum (denominators right) (λ β. shown n φ (join t.0 β)) right)
+    ∙ total_ext (λ (t : List ℕ × Fraction). scaled (denominators left) t.1 *ℤ restricted_test n (λ α. pair (value_in right n) (λ β. φ (join α β))) t.0)
+    (λ (t : List ℕ × Fraction). scaled (denominators left) t.1 *ℤ cleared_sum (denominators right) (λ β. restricted_test n φ (join t.0 β)) right)
     (λ t. ap (λ z. scaled (denominators left) t.1 *ℤ z) (row_value n right φ t.0)) left)
 
 pub variable_value : (n r : ℕ) (terms : Terms (List ℕ)) (φ : List ℕ → ℤ)
-    → cleared_sum (denominators terms) (λ e. shown n φ (raised r e)) terms ≡ pair (times (variable_in r n) (value_in terms n)) φ
+    → cleared_sum (denominators terms) (λ e. restricted_test n φ (raised r e)) terms ≡ pair (times (variable_in r n) (value_in terms n)) φ
 variable_value n r terms φ =
     sym
     (pair_times (variable_in r n) (value_in terms n) φ
     ∙ pair_x_to_in n (replicate (r - 1) 0 ++ (1 ∷ [])) (λ α. pair (value_in terms n) (λ β. φ (join α β)))
     ∙ row_value n terms φ (replicate (r - 1) 0 ++ (1 ∷ []))
-    ∙ total_ext (λ (t : List ℕ × Fraction). scaled (denominators terms) t.1 *ℤ shown n φ (join (replicate (r - 1) 0 ++ (1 ∷ [])) t.0)) (λ (t : List ℕ × Fraction). scaled (denominators terms) t.1 *ℤ shown n φ (raised r t.0))
-    (λ t. ap (λ e. scaled (denominators terms) t.1 *ℤ shown n φ e) (join_comm (replicate (r - 1) 0 ++ (1 ∷ [])) t.0)) terms)
+    ∙ total_ext (λ (t : List ℕ × Fraction). scaled (denominators terms) t.1 *ℤ restricted_test n φ (join (replicate (r - 1) 0 ++ (1 ∷ [])) t.0)) (λ (t : List ℕ × Fraction). scaled (denominators terms) t.1 *ℤ restricted_test n φ (raised r t.0))
+    (λ t. ap (λ e. scaled (denominators terms) t.1 *ℤ restricted_test n φ e) (join_comm (replicate (r - 1) 0 ++ (1 ∷ [])) t.0)) terms)

@@ -2,10 +2,9 @@
 --     set-raised          the exponents with zeros behind them and 1 more at a place
 --     HasDegree-raised    they lie within the limits
 use Rattle.std.proofs.Common.{◌≡◌, ◌⊎◌, ℕ, zero, suc, ◌+◌, ◌-◌, ◌<◌, ◌≤◌, max, List, [], ◌∷◌, ◌++◌, length, get_or, set, take, drop, refl, sym, ap, ap₂, ◌∙◌, subst, inl, inr, arith, add-one, add-zero, append-nil, length-append, take_all}
-use Rattle.std.specs.Prelude.{replicate}
 use Rattle.std.specs.List.{refill}
 use Rattle.std.proofs.lemmas.List.{length-replicate, take-append-le}
-use Rattle.sym_model.specs.Polynomial.{join}
+use Rattle.sym_model.specs.Polynomial.{join, no_exponents}
 use Rattle.sym_model.specs.Partition.{size, in_front, without_last_zeros}
 use Rattle.sym_model.proofs.Exponents.{join-nil, join_zeros, length-join, size-join}
 use Rattle.sym_model.proofs.Parts.{in_front-more}
@@ -13,15 +12,11 @@ use Rattle.sparse_polys.specs.Limits.{HasDegree}
 use Rattle.sparse_polys.specs.Raised.{raised}
 use Rattle.sparse_polys.proofs.ExponentOrder.{front_tail}
 
--- k zeros
-abbrev pub zeros : ℕ → List ℕ
-zeros k = replicate k 0
-
 -- the exponents of the variable after the first k
 abbrev unit : ℕ → List ℕ
-unit k = zeros k ++ (1 ∷ [])
+unit k = no_exponents k ++ (1 ∷ [])
 
-length-zeros : (k : ℕ) → length (zeros k) ≡ k
+length-zeros : (k : ℕ) → length (no_exponents k) ≡ k
 length-zeros k = length-replicate k (let z : ℕ = 0 in z)
 
 pub length-then : (x y : List ℕ) → length (x ++ y) ≡ length x + length y
@@ -33,22 +28,22 @@ set-unit zero (a ∷ x) h = ap (λ y. (a + 1) ∷ y) (sym (join-nil x))
 set-unit (suc at) (a ∷ x) h = ap₂ ◌∷◌ (sym (add-zero a)) (set-unit at x (omega arith))
 
 length-unit : (k : ℕ) → length (unit k) ≡ k + 1
-length-unit k = omega (arith, length-then (zeros k) (1 ∷ []), length-zeros k)
+length-unit k = omega (arith, length-then (no_exponents k) (1 ∷ []), length-zeros k)
 
-join-padded : (k at : ℕ) (e : List ℕ) → length (e ++ zeros k) ≤ at + 1 → join (e ++ zeros k) (unit at) ≡ join e (unit at)
+join-padded : (k at : ℕ) (e : List ℕ) → length (e ++ no_exponents k) ≤ at + 1 → join (e ++ no_exponents k) (unit at) ≡ join e (unit at)
 join-padded k at [] h = join_zeros k (unit at) (omega (arith, length-unit at, length-zeros k))
 join-padded zero zero (a ∷ e) h = ap (λ y. join (a ∷ y) (unit 0)) (append-nil e)
-join-padded (suc k) zero (a ∷ e) h = absurd (omega (arith, length-then e (zeros (suc k)), length-zeros (suc k)))
+join-padded (suc k) zero (a ∷ e) h = absurd (omega (arith, length-then e (no_exponents (suc k)), length-zeros (suc k)))
 join-padded k (suc at) (a ∷ e) h = ap (λ y. (a + 0) ∷ y) (join-padded k at e (omega arith))
 
-pub set-raised : (k at : ℕ) (old x : List ℕ) → x ≡ old ++ zeros k → (k ≡ 0) ⊎ (length x ≤ at + 1) → at < length x
+pub set-raised : (k at : ℕ) (old x : List ℕ) → x ≡ old ++ no_exponents k → (k ≡ 0) ⊎ (length x ≤ at + 1) → at < length x
     → set x at (get_or x at 0 + 1) ≡ raised (at + 1) old
 set-raised k at old x e p h =
     set-unit at x h ∙ ap (λ y. join y (unit at)) e ∙ padded p
     ∙ ap (λ j. join old (unit j)) (let s : at ≡ (at + 1) - 1 = omega arith in s)
   where
-    padded : (k ≡ 0) ⊎ (length x ≤ at + 1) → join (old ++ zeros k) (unit at) ≡ join old (unit at)
-    padded (inl z) = ap (λ j. join (old ++ zeros j) (unit at)) z ∙ ap (λ y. join y (unit at)) (append-nil old)
+    padded : (k ≡ 0) ⊎ (length x ≤ at + 1) → join (old ++ no_exponents k) (unit at) ≡ join old (unit at)
+    padded (inl z) = ap (λ j. join (old ++ no_exponents j) (unit at)) z ∙ ap (λ y. join y (unit at)) (append-nil old)
     padded (inr l) = join-padded k at old (subst (λ y. length y ≤ at + 1) e l)
 
 -- a list that is not empty
@@ -102,7 +97,7 @@ HasDegree-raised r e d h a b c = record {
   degree_is = let s = size-raised r e in let g = h.degree_is in omega arith;
 }
 
-pub size-padded : (e : List ℕ) (k : ℕ) → size (e ++ zeros k) ≡ size e
+pub size-padded : (e : List ℕ) (k : ℕ) → size (e ++ no_exponents k) ≡ size e
 size-padded [] zero = refl
 size-padded [] (suc k) = let h = size-padded [] k in omega arith
 size-padded (a ∷ e) k = ap (λ n. a + n) (size-padded e k)

@@ -1,6 +1,6 @@
 -- Products of lists, term by term (specs/Products).
 use Rattle.std.proofs.Common.{◌≡◌, ℕ, suc, ◌+◌, ◌*◌, ◌/◌, ◌<◌, ◌≤◌, List, [], ◌∷◌, ◌++◌, length, get_or, take, drop, drop-cons, add-one, sym, ◌∙◌, ap, ap₂, subst, refl, inl, inr, arith, ℤ, pos, ◌+ℤ◌, ◌*ℤ◌, unsigned_abs}
-use Rattle.std.specs.Prelude.{nat_abs}
+use Rattle.std.specs.Prelude.{max, nat_abs}
 use Rattle.std.proofs.lemmas.Int.{ints, unsigned_abs-mul}
 use Rattle.std.proofs.lemmas.List.{take-append-drop}
 use Rattle.sym_model.specs.Sum.{Among}
@@ -126,10 +126,14 @@ absolute_rows-product d left e right ν = absolute_rows-pair d left e right ν �
 
 -- ---- the terms of a list
 
-pub greatest_size-among : (terms : Terms (List ℕ)) (t : List ℕ × Fraction) → Among t terms → size t.0 ≤ greatest_size terms
+pub greatest_size-among : {R : Type 0} (terms : List (List ℕ × R)) (t : List ℕ × R) → Among t terms → size t.0 ≤ greatest_size terms
 greatest_size-among [] t m = absurd m
-greatest_size-among (u ∷ terms) t (inl e) = let s = ap (λ (v : List ℕ × Fraction). size v.0) e in omega arith
+greatest_size-among {R} (u ∷ terms) t (inl e) = let s = ap (λ (v : List ℕ × R). size v.0) e in omega arith
 greatest_size-among (u ∷ terms) t (inr m) = let s = greatest_size-among terms t m in omega arith
+
+pub greatest_size-values : {R : Type 0} (value : R → Fraction) (pairs : List (List ℕ × R)) → greatest_size (terms_of value pairs) ≡ greatest_size pairs
+greatest_size-values value [] = refl
+greatest_size-values value (p ∷ pairs) = ap (λ n. max (size p.0) n) (greatest_size-values value pairs)
 
 pub scaled-within : (d : ℕ) (r : Fraction) → unsigned_abs (scaled d r) ≤ magnitude d r
 scaled-within d r = let s = unsigned_abs-scaled d r in omega arith

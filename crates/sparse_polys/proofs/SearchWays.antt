@@ -4,12 +4,14 @@ use Rattle.std.proofs.lemmas.Bool.{eq-eqb, ne_eqb, le-leb, lt-leb, leb-true, cas
 use Rattle.sym_model.specs.Polynomial.{same}
 use Rattle.sym_model.specs.Partition.{IsPartition, Falls, ArePositive, size}
 use Rattle.sym_model.proofs.PartitionLists.{no_part}
-use Rattle.monomial_laws.specs.MonomialProduct.{arrangements, AreBelow}
+use Rattle.monomial_laws.specs.MonomialProduct.{arrangements}
 use Rattle.sparse_polys.specs.declared.states.State.{State}
 use Rattle.sparse_polys.specs.declared.search.Counted.{Counted}
 use Rattle.sparse_polys.specs.Ways.{capped, ways, IsRest, AreStates}
 use Rattle.sparse_polys.specs.Search.{count_at, AreCounted, falls_from, after_prefix, found_behind, found, IsChosen, Counts, HaveCounts}
 use Rattle.monomial_laws.proofs.Arrangements.{arrangements-sizes}
+use Rattle.sym_model.proofs.Numbers.{below_more}
+use Rattle.sym_model.specs.Bounded.{AreBelow}
 
 -- ---- states of one size
 
@@ -61,17 +63,13 @@ after_prefix-append (a ∷ prefix) x (b ∷ ν) = by (eqb a b) (after_prefix-app
     by true e = e
     by false e = refl
 
-pub AreBelow-weaker : (k m : ℕ) (ν : List ℕ) → k ≤ m → AreBelow k ν → AreBelow m ν
-AreBelow-weaker k m [] h b = tt
-AreBelow-weaker k m (x ∷ ν) h b = (omega (arith, b.0), AreBelow-weaker k m ν h b.1)
-
 pub falls_from-below : (m : ℕ) (rest : List ℕ) → falls_from m rest ≡ true → AreBelow (m + 1) rest
 falls_from-below m [] e = tt
 falls_from-below m (x ∷ rest) e =
     let p = and_parts (ltb 0 x && leb x m) (falls_from x rest) e in
     let q = and_parts (ltb 0 x) (leb x m) p.0 in
     let l = leb-true x m q.1 in
-    (omega arith, AreBelow-weaker (x + 1) (m + 1) rest (omega arith) (falls_from-below x rest p.1))
+    (omega arith, below_more (x + 1) (m + 1) rest (omega arith) (falls_from-below x rest p.1))
 
 -- ---- from one greatest part to the next
 

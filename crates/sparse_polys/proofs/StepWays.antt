@@ -3,20 +3,16 @@ use Rattle.std.proofs.Common.{◌≡◌, ◌⊎◌, ℕ, zero, suc, ◌+◌, ◌
 use Rattle.std.proofs.lemmas.Int.{ints}
 use Rattle.std.proofs.lemmas.Bool.{eq-eqb, le-leb, cases_lt, both_ways, and_parts, leb-true, or_right}
 use Rattle.sym_model.specs.Sum.{total}
-use Rattle.sym_model.specs.Partition.{IsPartition, size}
+use Rattle.sym_model.specs.Partition.{IsPartition}
 use Rattle.sym_model.specs.Bases.{has}
 use Rattle.sym_model.specs.RaisedPart.{without_one, distinct}
-use Rattle.monomial_laws.specs.MonomialProduct.{arrangements, AreBelow}
+use Rattle.monomial_laws.specs.MonomialProduct.{arrangements}
 use Rattle.sparse_polys.specs.Ways.{capped, taken, is_choice_at, IsRest, HasPartAbove}
-use Rattle.sparse_polys.proofs.SearchWays.{AreBelow-weaker}
-use Rattle.sym_model.proofs.SortedParts.{IsPartition-without_one, size-without_one, without_one-zero, has_past, has-zero}
+use Rattle.sym_model.proofs.SortedParts.{IsPartition-without_one, has-zero, size-taken}
 use Rattle.sym_model.proofs.Lists.{drop-next}
 use Rattle.monomial_laws.proofs.Arrangements.{arrangements-cons, arrangements-lacking, arrangements-comm}
-
--- what is left of a partition when a part, or nothing, is taken out
-pub size-taken : (a : ℕ) (l : List ℕ) → IsPartition l → has a (0 ∷ l) ≡ true → a + size (without_one a l) ≡ size l
-size-taken zero l p h = omega (arith, ap size (without_one-zero l p.positive))
-size-taken (suc a) l p h = size-without_one (suc a) l (sym (has_past (suc a) 0 l (λ e. omega arith)) ∙ h)
+use Rattle.sym_model.proofs.Numbers.{below_more}
+use Rattle.sym_model.specs.Bounded.{AreBelow}
 
 pub IsRest-taken : (a b left : ℕ) (l r : List ℕ) → IsRest (a + b + left) l r → has a (0 ∷ l) ≡ true → has b (0 ∷ r) ≡ true → IsRest left (without_one a l) (without_one b r)
 IsRest-taken a b left l r s h k = record {
@@ -30,7 +26,7 @@ pub taken-above_left : (a b left : ℕ) (l r ν : List ℕ) → IsRest left l r 
 taken-above_left a b left l r ν s below (k, m, h) = by (has b (0 ∷ r))
   where
     by : (t : Bool) → cond t (arrangements (without_one a l) (without_one b r) ν) 0 ≡ 0
-    by true = arrangements-lacking k ν (without_one a l) (without_one b r) (IsPartition-without_one a l s.first) (IsPartition-without_one b r s.second) m (AreBelow-weaker (a + b + 1) k ν (omega arith) below)
+    by true = arrangements-lacking k ν (without_one a l) (without_one b r) (IsPartition-without_one a l s.first) (IsPartition-without_one b r s.second) m (below_more (a + b + 1) k ν (omega arith) below)
     by false = refl
 
 pub taken-above_right : (a b left : ℕ) (l r ν : List ℕ) → IsRest left l r → AreBelow (a + b + 1) ν → HasPartAbove (a + b) (without_one b r) → taken l r a b ν ≡ 0
@@ -39,7 +35,7 @@ taken-above_right a b left l r ν s below (k, m, h) = by (has b (0 ∷ r))
     by : (t : Bool) → cond t (arrangements (without_one a l) (without_one b r) ν) 0 ≡ 0
     by true =
         arrangements-comm (without_one a l) (without_one b r) ν
-        ∙ arrangements-lacking k ν (without_one b r) (without_one a l) (IsPartition-without_one b r s.second) (IsPartition-without_one a l s.first) m (AreBelow-weaker (a + b + 1) k ν (omega arith) below)
+        ∙ arrangements-lacking k ν (without_one b r) (without_one a l) (IsPartition-without_one b r s.second) (IsPartition-without_one a l s.first) m (below_more (a + b + 1) k ν (omega arith) below)
     by false = refl
 
 -- ---- the sum over the parts of the left label

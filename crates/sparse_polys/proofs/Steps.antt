@@ -8,7 +8,7 @@ use Rattle.sym_model.specs.Sum.{Among}
 use Rattle.sym_model.specs.Expansion.{Fraction}
 use Rattle.sparse_polys.specs.Combination.{terms_of, IsCombination}
 use Rattle.sparse_polys.specs.Refusal.{IsRefused}
-pub use Rattle.linear_combinations.proofs.Steps.{absent_before, found_next, error_is, all_done}
+pub use Rattle.linear_combinations.proofs.Steps.{absent_before, error_is, all_done}
 
 -- the sum with 0 is not refused
 module _ {R : Type 0} {is_held : R → Type 0} {value : R → Fraction} {checked : R → R → Option R} (answers : (a b : R) → is_held a → is_held b → AnswersSum value a b (checked a b)) where

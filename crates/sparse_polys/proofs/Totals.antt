@@ -1,5 +1,5 @@
 -- Sums over the terms of a combination: they follow from its coefficients, whatever the order of the terms.
-use Rattle.std.proofs.Common.{◌≡◌, ◌≤◌, Bool, true, length, ℤ, pos, ◌+ℤ◌, refl}
+use Rattle.std.proofs.Common.{◌≡◌, Bool, true, ℤ, pos, ◌+ℤ◌, refl}
 use Rattle.std.specs.Cmp.{IsEquivalence}
 use Rattle.coeff_rings.specs.Fractions.{whole, fraction_sum}
 use Rattle.sym_model.specs.Sum.{total, Among}
@@ -20,11 +20,7 @@ module _ {L : Type 0} {eq : L → L → Bool} (laws : IsEquivalence eq) (same : 
       pub total_same : (f : L × Fraction → ℤ) → HasSameCoefficients eq first second → total f first ≡ total f second
       total_same =
           Totals.total_same laws same (whole (pos 0)) (λ (r : Fraction). r) refl first second (combination-fractions is_label eq first is) (combination-fractions is_label eq second also)
-
       -- and not fewer terms
-      pub length_same : HasSameCoefficients eq first second → length first ≤ length second
-      length_same =
-          Totals.length_same laws same (whole (pos 0)) (λ (r : Fraction). r) refl first second (combination-fractions is_label eq first is) (combination-fractions is_label eq second also)
 
   -- a sum over a list with more at a label: what it has more is what the label has more
   pub total-more : (f : L → Fraction → ℤ) → ((l : L) → f l (whole (pos 0)) ≡ pos 0) → (k : L) → {is_label : L → Bool} (old new : Terms L)

@@ -43,6 +43,12 @@ module _ {L R : Type 0} (value : R → Fraction) where
     proper = are_terms_values is_label es ∙ is.proper;
   }
 
+  pub values_combination : (eq : L → L → Bool) (is_label : L → Bool) (es : List (L × R)) → IsCombination eq is_label (terms_of value es) → Entries.IsCombination eq is_label value es
+  values_combination eq is_label es is = record {
+    distinct = subst (IsDistinct eq) (keys-terms_of value es) is.distinct;
+    proper = sym (are_terms_values is_label es) ∙ is.proper;
+  }
+
   pub canonical_values : (order : L → L → Ordering) (is_label : L → Bool) (es : List (L × R)) → is_canonical_list order is_label (terms_of value es) ≡ Entries.is_canonical_list order is_label value es
   canonical_values order is_label es = ap₂ (λ a b. a && b) (is_ordered_values order es) (are_terms_values is_label es)
 

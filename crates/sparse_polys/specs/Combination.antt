@@ -1,5 +1,5 @@
--- Finite linear combinations of labels, as lists of terms: which coefficient a label has, and when a list is
--- one of them.
+-- Finite linear combinations of labels, as lists of terms: which coefficient a label has, and when
+-- a list is one of them.
 use Rattle.std.specs.Prelude.{◌≡◌, pos, Bool, ◌&&◌, List, map, if◌then◌else◌, IsTrue}
 use Rattle.std.specs.List.{IsDistinct}
 use Rattle.std.specs.Map.{lookup, keys_of}
@@ -19,15 +19,17 @@ coefficient eq terms label = unwrap_or (lookup (eq label) terms) (pos 0, 1)
 
 -- whether each coefficient is in lowest terms and not 0, and each label one of its type
 abbrev pub are_terms : {L : Type 0} → (L → Bool) → Terms L → Bool
-are_terms {L} is_label terms = each_term (λ (t : L × Fraction). is_reduced t.1 && is_label t.0) terms
+are_terms {L} is_label terms =
+    each_term (λ (t : L × Fraction). is_reduced t.1 && is_label t.0) terms
 
 -- a finite linear combination: each label stands once, with a coefficient that is not 0
-pub record IsCombination {L : Type 0} (eq : L → L → Bool) (is_label : L → Bool) (terms : Terms L) : Type 0 where
+pub record IsCombination {L : Type 0} (eq : L → L → Bool) (is_label : L → Bool)
+    (terms : Terms L) : Type 0 where
   pub distinct : IsDistinct eq (keys_of terms)
   pub proper : IsTrue (are_terms is_label terms)
 
--- whether a list of terms is canonical: each label once, in the printed order, with a coefficient that is not 0
--- and in lowest terms
+-- whether a list of terms is canonical: each label once, in the printed order, with a coefficient
+-- that is not 0 and in lowest terms
 abbrev pub is_canonical_list : {L : Type 0} → (L → L → Ordering) → (L → Bool) → Terms L → Bool
 is_canonical_list order is_label terms = is_ordered order terms && are_terms is_label terms
 
@@ -38,12 +40,14 @@ IsCanonicalList order is_label terms = IsTrue (is_canonical_list order is_label 
 -- the new list has the value c more at the label, and at every other label what the old one has
 abbrev pub HasMoreAt : {L : Type 0} → (L → L → Bool) → Terms L → L → Fraction → Terms L → Type 0
 HasMoreAt {L} eq old label c new = (other : L) → coefficient eq new other
-    ≡ (if eq label other then fraction_sum (coefficient eq old label) c else coefficient eq old other)
+    ≡ (if eq label other then fraction_sum
+    (coefficient eq old label) c else coefficient eq old other)
 
 -- the list has at every label the sum of what the two others have
 abbrev pub IsSumOf : {L : Type 0} → (L → L → Bool) → Terms L → Terms L → Terms L → Type 0
 IsSumOf {L} eq first second sum =
-    (label : L) → coefficient eq sum label ≡ fraction_sum (coefficient eq first label) (coefficient eq second label)
+    (label : L) → coefficient eq sum label
+    ≡ fraction_sum (coefficient eq first label) (coefficient eq second label)
 
 -- the list has at every label what the other has, times c
 abbrev pub IsMultipleOf : {L : Type 0} → (L → L → Bool) → Terms L → Fraction → Terms L → Type 0

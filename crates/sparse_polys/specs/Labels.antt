@@ -1,4 +1,5 @@
--- What the labels' impls cite: equal labels are the same, and only those tie in the printed order, which is total.
+-- What the labels' impls cite: equal labels are the same,
+-- and only those tie in the printed order, which is total.
 use Rattle.std.proofs.Common.{◌≡◌, ℕ, true, List, ◌&&◌, ap₂}
 use Rattle.std.specs.Prelude.{nat_eq, IsTrue}
 use Rattle.std.specs.Cmp.{IsTotalOrder}
@@ -11,7 +12,8 @@ use Rattle.sym_model.specs.PrintedOrder.{pair_order, power_order}
 pub use Rattle.linear_combinations.specs.Labels.{same_partition}
 use Rattle.printing_laws.proofs.LabelOrders.{label_order-total, label_order-ties}
 
-pub same_pair : (a b : List ℕ × List ℕ) → (pointwise nat_eq a.0 b.0 && pointwise nat_eq a.1 b.1) ≡ true → a ≡ b
+pub same_pair : (a b : List ℕ × List ℕ)
+    → (pointwise nat_eq a.0 b.0 && pointwise nat_eq a.1 b.1) ≡ true → a ≡ b
 same_pair a b h =
     let p = and_parts _ _ h in
     ap₂ (λ x y. (x, y)) (same_partition a.0 b.0 p.0) (same_partition a.1 b.1 p.1)
@@ -20,7 +22,8 @@ pub pair_order_is_total : IsTotalOrder pair_order
 pair_order_is_total = label_order-total pairs
 
 pub pair_order_equal :
-    (a b : List ℕ × List ℕ) → IsTrue (is_pair_label a) → IsTrue (is_pair_label b) → pair_order a b ≡ Equal → a ≡ b
+    (a b : List ℕ × List ℕ) → IsTrue (is_pair_label a) → IsTrue (is_pair_label b)
+    → pair_order a b ≡ Equal → a ≡ b
 pair_order_equal a b h k e = label_order-ties pairs a b h k e
 
 pub same_power : (a b : ℕ × List ℕ) → (nat_eq a.0 b.0 && pointwise nat_eq a.1 b.1) ≡ true → a ≡ b
@@ -32,5 +35,6 @@ pub power_order_is_total : IsTotalOrder power_order
 power_order_is_total = label_order-total powers
 
 pub power_order_equal :
-    (a b : ℕ × List ℕ) → IsTrue (is_power_label a) → IsTrue (is_power_label b) → power_order a b ≡ Equal → a ≡ b
+    (a b : ℕ × List ℕ) → IsTrue (is_power_label a) → IsTrue (is_power_label b)
+    → power_order a b ≡ Equal → a ≡ b
 power_order_equal a b h k e = label_order-ties powers a b h k e

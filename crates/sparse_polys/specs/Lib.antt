@@ -1,5 +1,4 @@
 pub mod Combination
-pub mod WholeTables
 pub mod Refusal
 pub mod Labels
 pub mod Limits

@@ -1,4 +1,5 @@
--- Products of polynomials that are given as lists of terms, with their fractions cleared (this project's own).
+-- Products of polynomials that are given as lists of terms,
+-- with their fractions cleared (this project's own).
 use Rattle.std.specs.Prelude.{◌≡◌, ℕ, ◌+◌, ◌<◌, ◌≤◌, nat_eq, ℤ, ◌+ℤ◌, ◌*ℤ◌, List}
 use Rattle.std.specs.Int.{◌∣◌}
 use Rattle.std.specs.Cmp.Lexicographic.{pointwise}
@@ -16,7 +17,8 @@ use Rattle.sparse_polys.specs.Raised.{raised}
 abbrev pub value_in : Terms (List ℕ) → ℕ → Poly
 value_in terms n = value_by (λ e. x_to_in e n) terms
 
--- each product of a monomial of the first list and one of the second stays within the limits of a monomial
+-- each product of a monomial of the first list and one of the second stays within the limits of a
+-- monomial
 abbrev pub FitTogether : Terms (List ℕ) → Terms (List ℕ) → Type 0
 FitTogether first second =
     (s t : List ℕ × Fraction) → Among s first → Among t second → IsWithinLimits (join s.0 t.0)
@@ -45,12 +47,15 @@ pub record AreDenominators (d e : ℕ) (a b : Fraction) : Type 0 where
   pub left : a.1 ∣ d
   pub right : b.1 ∣ e
 
--- the sum over the terms of the coefficient times q times the value of a test function at the monomial
+-- the sum over the terms of the coefficient times q times the value of a test function at the
+-- monomial
 abbrev pub cleared_sum : ℕ → (List ℕ → ℤ) → Terms (List ℕ) → ℤ
 cleared_sum q φ terms = total (λ (t : List ℕ × Fraction). scaled q t.1 *ℤ φ t.0) terms
 
--- the new list has, times q, the sums of the old one and those that are added, and absolute values of at most so much more
-pub record Adds (q : ℕ) (old : Terms (List ℕ)) (added : (List ℕ → ℤ) → ℤ) (most : ℕ) (new : Terms (List ℕ)) : Type 0 where
+-- the new list has, times q, the sums of the old one and those that are added,
+-- and absolute values of at most so much more
+pub record Adds (q : ℕ) (old : Terms (List ℕ)) (added : (List ℕ → ℤ) → ℤ) (most : ℕ)
+    (new : Terms (List ℕ)) : Type 0 where
   pub cleared : AreCleared q new
   pub sums : (φ : List ℕ → ℤ) → cleared_sum q φ new ≡ cleared_sum q φ old +ℤ added φ
   pub grows : absolute_sum q new ≤ absolute_sum q old + most

@@ -1,5 +1,6 @@
 -- The search for the partitions of a product, from the greatest part down (this project's own).
-use Rattle.std.specs.Prelude.{◌≡◌, ℕ, ◌+◌, ◌==◌, nat_le, nat_lt, Bool, true, ◌&&◌, cond, Option, Some, None, List, [], ◌∷◌, ◌++◌, All}
+use Rattle.std.specs.Prelude.{◌≡◌, ℕ, ◌+◌, ◌==◌, nat_le, nat_lt, Bool, true, ◌&&◌, cond, Option}
+use Rattle.std.specs.Prelude.{Some, None, List, [], ◌∷◌, ◌++◌, All}
 use Rattle.sym_model.specs.Polynomial.{same}
 use Rattle.sym_model.specs.Partition.{IsPartition, Falls, ArePositive, size}
 use Rattle.sparse_polys.specs.declared.states.State.{State}
@@ -13,7 +14,8 @@ count_at (t ∷ terms) ν = cond (same t.parts.items ν) t.count 0 + count_at te
 
 -- each entry is a partition of the size
 abbrev pub AreCounted : ℕ → List Counted → Type 0
-AreCounted total terms = All (λ (t : Counted). IsPartition t.parts.items × (size t.parts.items ≡ total)) terms
+AreCounted total terms =
+    All (λ (t : Counted). IsPartition t.parts.items × (size t.parts.items ≡ total)) terms
 
 -- whether the parts are positive and fall on from m
 abbrev pub falls_from : ℕ → List ℕ → Bool
@@ -40,10 +42,12 @@ pub record IsChosen (m : ℕ) (prefix : List ℕ) : Type 0 where
   pub falls : Falls (prefix ++ (m ∷ []))
   pub positive : ArePositive prefix
 
--- f gives of each list of parts that begins with the chosen ones, and goes on with parts that fall on from m, the ways to go on
+-- f gives of each list of parts that begins with the chosen ones, and goes on with parts that fall
+-- on from m, the ways to go on
 abbrev pub Counts : (List ℕ → ℕ) → List ℕ → ℕ → List State → Type 0
 Counts f prefix m states =
-    (ν rest : List ℕ) → after_prefix prefix ν ≡ Some rest → falls_from m rest ≡ true → capped (ways states rest) ≡ f ν
+    (ν rest : List ℕ) → after_prefix prefix ν ≡ Some rest → falls_from m rest ≡ true
+    → capped (ways states rest) ≡ f ν
 
 -- each entry has the count that f gives of its partition
 abbrev pub HaveCounts : (List ℕ → ℕ) → List Counted → Type 0

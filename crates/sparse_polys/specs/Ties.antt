@@ -9,12 +9,14 @@ use Rattle.sym_model.specs.PrintedOrder.{printed_order, shifted_order}
 use Rattle.printing_laws.proofs.LabelOrders.{label_order-total, label_order-ties}
 
 pub monomial_order_equal :
-    (a b : List ℕ) → IsTrue (is_monomial_label a) → IsTrue (is_monomial_label b) → printed_order a b ≡ Equal → a ≡ b
+    (a b : List ℕ) → IsTrue (is_monomial_label a) → IsTrue (is_monomial_label b)
+    → printed_order a b ≡ Equal → a ≡ b
 monomial_order_equal a b h k e = label_order-ties polynomial a b h k e
 
 pub shifted_order_is_total : IsTotalOrder shifted_order
 shifted_order_is_total = label_order-total shifts
 
 pub shifted_order_equal :
-    (a b : List ℕ × List ℕ) → IsTrue (is_shifted_label a) → IsTrue (is_shifted_label b) → shifted_order a b ≡ Equal → a ≡ b
+    (a b : List ℕ × List ℕ) → IsTrue (is_shifted_label a) → IsTrue (is_shifted_label b)
+    → shifted_order a b ≡ Equal → a ≡ b
 shifted_order_equal a b h k e = label_order-ties shifts a b h k e

@@ -1,6 +1,7 @@
--- What is left of two labels while a partition is put together part by part, with the number of ways that led there
--- (this project's own).
-use Rattle.std.specs.Prelude.{◌≡◌, ℕ, Bool, ◌&&◌, not, nat_le, slice_index, drop, ◌+◌, ◌-◌, ◌*◌, ◌^◌, ◌<◌, true, cond, min, List, [], ◌∷◌, map, All}
+-- What is left of two labels while a partition is put together part by part, with the number of
+-- ways that led there (this project's own).
+use Rattle.std.specs.Prelude.{◌≡◌, ℕ, Bool, ◌&&◌, not, nat_le, slice_index, drop, ◌+◌, ◌-◌, ◌*◌}
+use Rattle.std.specs.Prelude.{◌^◌, ◌<◌, true, cond, min, List, [], ◌∷◌, map, All}
 use Rattle.sym_model.specs.Partition.{IsPartition, size}
 use Rattle.sym_model.specs.Bases.{has}
 use Rattle.sym_model.specs.Sum.{Once}
@@ -35,10 +36,11 @@ AreStates left states = All (λ (s : State). IsRest left s.left.items s.right.it
 abbrev pub LeaveOnce : List State → Type 0
 LeaveOnce states = Once (map labels_left states)
 
--- in how many ways ν is made of what is left when a is taken from one label and b from the other, b being one of its
--- parts or 0
+-- in how many ways ν is made of what is left when a is taken from one label and b from the other, b
+-- being one of its parts or 0
 abbrev pub taken : List ℕ → List ℕ → ℕ → ℕ → List ℕ → ℕ
-taken one other a b ν = cond (has b (0 ∷ other)) (arrangements (without_one a one) (without_one b other) ν) 0
+taken one other a b ν =
+    cond (has b (0 ∷ other)) (arrangements (without_one a one) (without_one b other) ν) 0
 
 -- some part is greater than the number
 abbrev pub HasPartAbove : ℕ → List ℕ → Type 0
@@ -46,4 +48,5 @@ HasPartAbove part parts = (k : ℕ) × (has k parts ≡ true) × (part < k)
 
 -- whether the part at place i is at most the given one and does not stand behind it again
 abbrev pub is_choice_at : List ℕ → ℕ → ℕ → Bool
-is_choice_at parts i part = nat_le (slice_index parts i) part && not (has (slice_index parts i) (drop (i + 1) parts))
+is_choice_at parts i part =
+    nat_le (slice_index parts i) part && not (has (slice_index parts i) (drop (i + 1) parts))

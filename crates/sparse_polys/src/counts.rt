@@ -22,7 +22,8 @@ fn too_large(terms: &[Counted]) -> bool
     false
 }
 
-/// The partitions in the product of two labels, each with the number of its ways, where all are below 2^127.
+/// The partitions in the product of two labels, each with the number of its ways,
+/// where all are below 2^127.
 pub(crate) fn exact_product(
     alloc: Global,
     left: &[u16],
@@ -33,7 +34,8 @@ pub(crate) fn exact_product(
     requires sizes { size left.now + size right.now < 2 ^ 16 }
     ensures counts { IfOk result (λ terms. (ν : List ℕ) → IsPartition ν
         → count_at terms.items ν ≡ arrangements left.now right.now ν) }
-    ensures labels { IfOk result (λ terms. AreCounted (size left.now + size right.now) terms.items) }
+    ensures labels { IfOk result (λ terms.
+        AreCounted (size left.now + size right.now) terms.items) }
     ensures small { IfOk result (λ terms. AreSmall terms.items) }
     ensures large { IsErrOf result SumFault.Large
         → (ν : List ℕ) × IsPartition ν × (2 ^ 127 ≤ arrangements left.now right.now ν) }

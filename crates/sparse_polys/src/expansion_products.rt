@@ -1,5 +1,6 @@
 //! Products of lists of terms in m.
-ghost use Rattle.std.specs.Prelude.{◌≡◌, ℕ, ◌+◌, ◌*◌, ◌^◌, ◌<◌, ◌≤◌, ◌≤ℤ◌, ◌*ℤ◌, ℤ, pos, None, List, IfOk, IfSome, OnOk, IsErrOf};
+ghost use Rattle.std.specs.Prelude.{◌≡◌, ℕ, ◌+◌, ◌*◌, ◌^◌, ◌<◌, ◌≤◌, ◌≤ℤ◌, ◌*ℤ◌, ℤ, pos, None};
+ghost use Rattle.std.specs.Prelude.{List, [], IfOk, IfSome, OnOk, IsErrOf};
 ghost use Rattle.std.specs.Int.{◌∣◌};
 ghost use Rattle.std.specs.Prelude.{nat_eq};
 ghost use Rattle.std.specs.Cmp.Lexicographic.{pointwise};
@@ -7,30 +8,38 @@ ghost use Rattle.sym_model.specs.Polynomial.{coefficient, times};
 ghost use Rattle.sym_model.specs.Canonical.{is_label};
 ghost use Rattle.sym_model.specs.Expansion.{denominators, value, IsExpansionOf};
 ghost use Rattle.sym_model.specs.Expansion.Basis.{monomials};
-ghost use Rattle.sym_model.specs.WholeTerms.{AreWhole, numerators};
-ghost use Rattle.sparse_polys.specs.Combination.{IsCombination};
+ghost use Rattle.linear_combinations.specs.Entries.{IsCombination};
+ghost use Rattle.sparse_polys.specs.Combination.{terms_of};
 ghost use Rattle.sym_model.specs.Partition.{IsPartition, size};
-ghost use Rattle.coeff_rings.specs.Fractions.{scaled};
+ghost use Rattle.coeff_rings.specs.Fractions.{scaled, whole};
 ghost use Rattle.coeff_rings.specs.Room.{magnitude};
 ghost use Rattle.partitions.specs.Limits.{IsWithinLimits};
 ghost use Rattle.monomial_laws.specs.MonomialProduct.{arrangements, product_coefficient};
 ghost use Rattle.monomial_laws.specs.ExpressionTerms.{over, absolute};
-ghost use Rattle.sparse_polys.specs.MonomialProducts.{coefficient_at, greatest_size, row, absolute_row, count_of, IsCommonDenominator, AreDenominators, AreCleared, AreSums, IsTooLarge, Adds, Overflows};
+ghost use Rattle.sparse_polys.specs.MonomialProducts.{greatest_size, row, absolute_row, count_of};
+ghost use Rattle.sparse_polys.specs.MonomialProducts.{AreSums, IsTooLarge, Adds, Overflows};
+ghost use Rattle.sparse_polys.specs.Products.{AreDenominators, IsCommonDenominator, coefficient_at};
+ghost use Rattle.sparse_polys.specs.Products.{AreCleared};
 
 use crate::Lin;
 use crate::counts::exact_product;
 use crate::search::Counted;
 use calc_base::SumFault;
 use coeff_rings::{Int, Ring};
+use linear_combinations::Lin as Table;
 use partitions::Partition;
 use std::alloc::Global;
 
 /// The product of two scalars and a count, or `None` where it is too large.
 fn times_count<R: Ring>(left: R, right: R, count: u128) -> Option<R>
     requires { count < 2 ^ 127 }
-    ensures value { IfSome result (λ c. (d e : ℕ) → AreDenominators d e (R.value left) (R.value right)
-        → ((R.value c).1 ∣ (d * e)) × (scaled (d * e) (R.value c) ≡ scaled d (R.value left) *ℤ scaled e (R.value right) *ℤ pos count)) }
-    ensures none { result ≡ None → (d e : ℕ) → AreDenominators d e (R.value left) (R.value right) → d * e < 2 ^ 127
+    ensures value { IfSome result
+        (λ c. (d e : ℕ) → AreDenominators d e (R.value left) (R.value right)
+        → ((R.value c).1 ∣ (d * e))
+        × (scaled (d * e) (R.value c)
+        ≡ scaled d (R.value left) *ℤ scaled e (R.value right) *ℤ pos count)) }
+    ensures none { result ≡ None → (d e : ℕ) → AreDenominators d e (R.value left) (R.value right)
+        → d * e < 2 ^ 127
         → 0 < count → 2 ^ 127 ≤ magnitude d (R.value left) * magnitude e (R.value right) * count }
     ensures held { IfSome result R.is_held }
 {
@@ -48,11 +57,15 @@ fn add_count<R: Ring>(
 ) -> Result<(), SumFault>
     requires limits { IsWithinLimits term.now.parts.items }
     requires small { term.now.count < 2 ^ 127 }
-    ensures ok { OnOk result ((d e : ℕ) → AreDenominators d e (R.value left) (R.value right) → AreCleared (d * e) sum.old
-        → Adds (d * e) sum.old (λ ν. scaled d (R.value left) *ℤ scaled e (R.value right) *ℤ pos (count_of term.now ν)) sum.new) }
-    ensures large { IsErrOf result SumFault.Large → (d e : ℕ) → AreDenominators d e (R.value left) (R.value right)
+    ensures ok { OnOk result ((d e : ℕ) → AreDenominators d e (R.value left) (R.value right)
+        → AreCleared (d * e) sum.old
+        → Adds (d * e) sum.old (λ ν. scaled d (R.value left) *ℤ scaled e (R.value right)
+        *ℤ pos (count_of term.now ν)) sum.new) }
+    ensures large { IsErrOf result SumFault.Large → (d e : ℕ)
+        → AreDenominators d e (R.value left) (R.value right)
         → d * e < 2 ^ 127 → AreCleared (d * e) sum.old
-        → Overflows (d * e) sum.old (λ ν. magnitude d (R.value left) * magnitude e (R.value right) * count_of term.now ν) }
+        → Overflows (d * e) sum.old
+        (λ ν. magnitude d (R.value left) * magnitude e (R.value right) * count_of term.now ν) }
 {
     if term.count == 0 {
         return Ok(());
@@ -74,13 +87,18 @@ fn add_pair<R: Ring>(
     sum: &mut Lin<Partition, R>,
 ) -> Result<(), SumFault>
     requires sizes { size label.now + size other.now ≤ 512 }
-    ensures ok { OnOk result ((d e : ℕ) → AreDenominators d e (R.value left) (R.value right) → AreCleared (d * e) sum.old
+    ensures ok { OnOk result ((d e : ℕ) → AreDenominators d e (R.value left) (R.value right)
+        → AreCleared (d * e) sum.old
         → Adds (d * e) sum.old
-        (λ ν. scaled d (R.value left) *ℤ scaled e (R.value right) *ℤ pos (arrangements label.now other.now ν)) sum.new) }
-    ensures large { IsErrOf result SumFault.Large → (d e : ℕ) → AreDenominators d e (R.value left) (R.value right)
-        → d * e < 2 ^ 127 → 0 < magnitude d (R.value left) → 0 < magnitude e (R.value right) → AreCleared (d * e) sum.old
+        (λ ν. scaled d (R.value left) *ℤ scaled e (R.value right)
+        *ℤ pos (arrangements label.now other.now ν)) sum.new) }
+    ensures large { IsErrOf result SumFault.Large → (d e : ℕ)
+        → AreDenominators d e (R.value left) (R.value right)
+        → d * e < 2 ^ 127 → 0 < magnitude d (R.value left) → 0 < magnitude e (R.value right)
+        → AreCleared (d * e) sum.old
         → Overflows (d * e) sum.old
-        (λ ν. magnitude d (R.value left) * magnitude e (R.value right) * arrangements label.now other.now ν) }
+        (λ ν. magnitude d (R.value left) * magnitude e (R.value right)
+        * arrangements label.now other.now ν) }
 {
     let terms = exact_product(alloc, label.parts(), other.parts())?;
     let entries = terms.as_slice();
@@ -95,15 +113,21 @@ fn add_row<R: Ring>(
     alloc: Global,
     label: &Partition,
     left: R,
-    right: &Lin<Partition, R>,
+    right: &Table<Partition, R>,
     sum: &mut Lin<Partition, R>,
 ) -> Result<(), SumFault>
     requires sizes { size label.now + greatest_size right.now ≤ 512 }
-    ensures ok { OnOk result ((d e : ℕ) → 0 < d → (R.value left).1 ∣ d → IsCommonDenominator e right.now → AreCleared (d * e) sum.old
-        → Adds (d * e) sum.old (λ ν. scaled d (R.value left) *ℤ row label.now e right.now ν) sum.new) }
-    ensures large { IsErrOf result SumFault.Large → (d e : ℕ) → 0 < d → (R.value left).1 ∣ d → IsCommonDenominator e right.now
+    ensures ok { OnOk result ((d e : ℕ) → 0 < d → (R.value left).1 ∣ d
+        → IsCommonDenominator e (terms_of R.value right.now)
+        → AreCleared (d * e) sum.old
+        → Adds (d * e) sum.old (λ ν. scaled d (R.value left)
+        *ℤ row label.now e (terms_of R.value right.now) ν) sum.new) }
+    ensures large { IsErrOf result SumFault.Large → (d e : ℕ) → 0 < d → (R.value left).1 ∣ d
+        → IsCommonDenominator e (terms_of R.value right.now)
         → d * e < 2 ^ 127 → 0 < magnitude d (R.value left) → AreCleared (d * e) sum.old
-        → Overflows (d * e) sum.old (λ ν. magnitude d (R.value left) * absolute_row label.now e right.now ν) }
+        → Overflows (d * e) sum.old
+        (λ ν. magnitude d (R.value left)
+        * absolute_row label.now e (terms_of R.value right.now) ν) }
 {
     for (other, c) in right.iter() {
         add_pair(alloc, label, other, left, *c, sum)?;
@@ -114,16 +138,22 @@ fn add_row<R: Ring>(
 /// The product of two lists, its coefficients times any common denominators of the two.
 fn cleared_product<R: Ring>(
     alloc: Global,
-    left: &Lin<Partition, R>,
-    right: &Lin<Partition, R>,
+    left: &Table<Partition, R>,
+    right: &Table<Partition, R>,
 ) -> Result<Lin<Partition, R>, SumFault>
     requires sizes { greatest_size left.now + greatest_size right.now ≤ 512 }
-    ensures cleared { IfOk result (λ product. (d e : ℕ) → IsCommonDenominator d left.now → IsCommonDenominator e right.now
-        → (ν : List ℕ) → IsPartition ν → ((coefficient_at product ν).1 ∣ (d * e))
-        × (scaled (d * e) (coefficient_at product ν) ≡ product_coefficient (over d left.now) (over e right.now) ν)) }
-    ensures large { IsErrOf result SumFault.Large → (d e : ℕ) → IsCommonDenominator d left.now → IsCommonDenominator e right.now
-        → d * e < 2 ^ 127
-        → (ν : List ℕ) × IsPartition ν × (pos (2 ^ 127) ≤ℤ product_coefficient (absolute (over d left.now)) (absolute (over e right.now)) ν) }
+    ensures cleared { IfOk result (λ product. (d e : ℕ)
+        → IsCommonDenominator d (terms_of R.value left.now)
+        → IsCommonDenominator e (terms_of R.value right.now)
+        → Adds (d * e) [] (product_coefficient (over d (terms_of R.value left.now))
+        (over e (terms_of R.value right.now))) product) }
+    ensures large { IsErrOf result SumFault.Large → (d e : ℕ)
+        → IsCommonDenominator d (terms_of R.value left.now)
+        → IsCommonDenominator e (terms_of R.value right.now)
+        → d * e < 2 ^ 127 → (ν : List ℕ) × IsPartition ν × (pos (2 ^ 127) ≤ℤ product_coefficient
+        (absolute (over d (terms_of R.value left.now)))
+        (absolute (over e (terms_of R.value right.now))) ν) }
+    ensures table { IsCombination (pointwise nat_eq) is_label R.value left.now }
 {
     let mut sum = Lin::new(alloc);
     for (label, c) in left.iter() {
@@ -132,25 +162,11 @@ fn cleared_product<R: Ring>(
     Ok(sum)
 }
 
-/// Does nothing when it runs: it tells a proof what a list is.
-fn is_table<R: Ring>(list: &Lin<Partition, R>)
-    ensures { IsCombination (pointwise nat_eq) is_label list.now }
-{
-    let _ = list.len();
-}
-
-/// Does nothing when it runs: it tells a proof that coefficients of `Int` are whole.
-fn is_whole(list: &Lin<Partition, Int>)
-    ensures { AreWhole list.now }
-{
-    let _ = list.iter();
-}
-
 /// The product of two expansions in m, in every number of variables. The greatest sizes of their
 /// labels add up to at most 512.
 ///
-/// It is refused as `Large` only where the product of the least common denominators of both lists is
-/// 2^127 or more, or that product times some coefficient of the product of the lists with the
+/// It is refused as `Large` only where the product of the least common denominators of both lists
+/// is 2^127 or more, or that product times some coefficient of the product of the lists with the
 /// absolute values as coefficients is.
 pub fn times_in_m<R: Ring>(
     alloc: Global,
@@ -159,37 +175,34 @@ pub fn times_in_m<R: Ring>(
 ) -> Result<Lin<Partition, R>, SumFault>
     requires sizes { greatest_size left.now + greatest_size right.now ≤ 512 }
     ensures value { IfOk result (λ product. (n : ℕ) → IsExpansionOf monomials product n
-        (times (value monomials left.now n) (value monomials right.now n)) (denominators left.now * denominators right.now)) }
+        (times (value monomials left.now n) (value monomials right.now n))
+        (denominators left.now * denominators right.now)) }
     ensures labels { IfOk result (AreSums left.now right.now) }
     ensures large { IsErrOf result SumFault.Large → IsTooLarge left.now right.now }
 {
-    is_table(left);
-    is_table(right);
-    let product = cleared_product(alloc, left, right)?;
-    is_table(&product);
-    Ok(product)
+    if right.len() == 0 {
+        return Ok(Lin::new(alloc));
+    }
+    cleared_product(alloc, left.as_table(), right.as_table())
 }
 
 /// The product of two expansions in m with whole coefficients: what `times_in_m` gives.
 ///
-/// It is refused as `Large` only where some coefficient of the product of the lists with the absolute
-/// values as coefficients is 2^127 or more.
+/// It is refused as `Large` only where some coefficient of the product of the lists with the
+/// absolute values as coefficients is 2^127 or more.
 pub fn times_whole_in_m(
     alloc: Global,
-    left: &Lin<Partition, Int>,
-    right: &Lin<Partition, Int>,
-) -> Result<Lin<Partition, Int>, SumFault>
+    left: &Table<Partition, Int>,
+    right: &Table<Partition, Int>,
+) -> Result<Table<Partition, Int>, SumFault>
     requires sizes { greatest_size left.now + greatest_size right.now ≤ 512 }
     ensures coefficients { IfOk result (λ product. (ν : List ℕ) → IsPartition ν
-        → coefficient (numerators product) ν ≡ product_coefficient (numerators left.now) (numerators right.now) ν) }
+        → coefficient product ν ≡ product_coefficient left.now right.now ν) }
     ensures labels { IfOk result (AreSums left.now right.now) }
+    ensures table { IfOk result (IsCombination (pointwise nat_eq) is_label whole) }
     ensures large { IsErrOf result SumFault.Large → (ν : List ℕ) × IsPartition ν
-        × (pos (2 ^ 127) ≤ℤ product_coefficient (absolute (numerators left.now)) (absolute (numerators right.now)) ν) }
+        × (pos (2 ^ 127) ≤ℤ product_coefficient (absolute left.now) (absolute right.now) ν) }
 {
-    is_whole(left);
-    is_whole(right);
     let product = cleared_product(alloc, left, right)?;
-    is_whole(&product);
-    is_table(&product);
-    Ok(product)
+    Ok(product.into_table())
 }

@@ -1,11 +1,13 @@
-//! Tables of terms: finite maps from labels to coefficients, and their lists in the printed order; products of polynomials and of
-//! expansions in the monomial basis.
+//! Tables of terms: finite maps from labels to coefficients, and their lists in the printed order;
+//! products of polynomials and of expansions in the monomial basis.
 //!
-//! A label is a partition, a pair of partitions, a partition with a power of q, a permutation, or a monomial.
+//! A label is a partition, a pair of partitions, a partition with a power of q, a permutation,
+//! or a monomial.
 //!
-//! The product of two monomial symmetric polynomials has each partition with the number of ways in which it is an arrangement of the
-//! one label plus an arrangement of the other. Equal parts are not told apart: a search for the partition, from its greatest part
-//! down, keeps what is left of both labels with the number of ways that led there.
+//! The product of two monomial symmetric polynomials has each partition with the number of ways in
+//! which it is an arrangement of the one label plus an arrangement of the other. Equal parts are
+//! not told apart: a search for the partition, from its greatest part down, keeps what is left of
+//! both labels with the number of ways that led there.
 //!
 //! What is proved:
 //!

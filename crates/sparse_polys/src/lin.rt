@@ -1,7 +1,9 @@
 //! Finite linear combinations of labels, seen as lists of fractions.
 ghost use Rattle.std.specs.Prelude.{◌≡◌, ◌↔◌, [], length, IsTrue, IfOk, OnOk, OnErr, IsErrOf};
 ghost use Rattle.std.specs.Map.Iter.{ShowsInOrder, deref_pair};
-ghost use Rattle.sparse_polys.specs.Combination.{coefficient, terms_of, HasMoreAt, HasSameCoefficients, IsCanonicalList, IsCombination, IsMultipleOf, IsSumOf};
+ghost use Rattle.sparse_polys.specs.Combination.{coefficient, terms_of, HasMoreAt};
+ghost use Rattle.sparse_polys.specs.Combination.{HasSameCoefficients, IsCanonicalList};
+ghost use Rattle.sparse_polys.specs.Combination.{IsCombination, IsMultipleOf, IsSumOf};
 ghost use Rattle.sparse_polys.specs.Refusal.{IsRefused, RefusesSomeProduct, RefusesSomeSum};
 
 use crate::terms::Terms;
@@ -12,7 +14,8 @@ use linear_combinations::{Label, Lin as Table};
 use std::alloc::Global;
 use std::marker::Model;
 
-/// A finite map from labels to coefficients that are not 0. A contract sees it as a list of terms in no stated order:
+/// A finite map from labels to coefficients that are not 0. A contract sees it as a list of terms
+/// in no stated order:
 /// each label once, with the value of its coefficient, a fraction whatever the ring is.
 #[derive(Drop)]
 pub struct Lin<L: Label, R: Scalar> {
@@ -85,11 +88,13 @@ impl<L: Label, R: Scalar> Lin<L, R> {
 
     /// Adds `c` to the label's coefficient, and takes the label out where the sum is 0.
     ///
-    /// It is refused as `Large` exactly where the ring refuses that sum. After a refusal the map is as it was.
+    /// It is refused as `Large` exactly where the ring refuses that sum. After a refusal the map is
+    /// as it was.
     pub fn add_term(&mut self, label: L, c: R) -> Result<(), SumFault>
         ensures ok { OnOk result (HasMoreAt L.eq self.old label (R.value c) self.new) }
         ensures large { IsErrOf result SumFault.Large
-            ↔ IsRefused R.is_held R.value R.checked_sum (coefficient L.eq self.old label) (R.value c) }
+            ↔ IsRefused R.is_held R.value R.checked_sum (coefficient L.eq self.old label)
+            (R.value c) }
         ensures err { OnErr result (self.new ≡ self.old) }
         ensures was { IsCombination L.eq L.is_label self.old }
         ensures combination { IsCombination L.eq L.is_label self.new }
@@ -108,14 +113,15 @@ impl<L: Label, R: Scalar> Lin<L, R> {
 
     /// The sum of this map and another.
     ///
-    /// It is refused as `Large` only where at some label the ring refuses the sum of the two coefficients, and then
-    /// there is no sum.
+    /// It is refused as `Large` only where at some label the ring refuses the sum of the two
+    /// coefficients, and then there is no sum.
     pub fn add_all(self, other: &Lin<L, R>) -> Result<Lin<L, R>, SumFault>
         ensures sum { IfOk result (IsSumOf L.eq self other.now) }
         ensures combination { IfOk result (IsCombination L.eq L.is_label) }
         ensures large { IsErrOf result SumFault.Large
             → RefusesSomeSum L.eq R.is_held R.value R.checked_sum self other.now }
-        ensures fits { OnOk result (¬ RefusesSomeSum L.eq R.is_held R.value R.checked_sum self other.now) }
+        ensures fits { OnOk result (¬ RefusesSomeSum L.eq R.is_held R.value R.checked_sum self
+            other.now) }
     {
         let Lin { table } = self;
         let table = table.add_all(&other.table)?;
@@ -124,7 +130,8 @@ impl<L: Label, R: Scalar> Lin<L, R> {
 
     /// The map with each coefficient times `c`. It takes no memory.
     ///
-    /// It is refused as `Large` exactly where the ring refuses the product of some coefficient and `c`.
+    /// It is refused as `Large` exactly where the ring refuses the product of some coefficient and
+    /// `c`.
     pub fn scale(self, c: R) -> Result<Lin<L, R>, SumFault>
     where
         R: Ring,

@@ -1,9 +1,10 @@
 //! The type of a monomial.
-ghost use Rattle.std.specs.Prelude.{◌≡◌, ℕ, ◌+◌, ◌^◌, ◌<◌, ◌≤◌, ◌↔◌, [], length, slice_index, slice_index_or, slice_set, nat_eq, IsOk, IfOk, OnOk, IsErrOf};
+ghost use Rattle.std.specs.Prelude.{◌≡◌, ℕ, ◌+◌, ◌^◌, ◌<◌, ◌≤◌, ◌↔◌, [], length, slice_index};
+ghost use Rattle.std.specs.Prelude.{slice_index_or, slice_set, nat_eq, IsOk, IfOk, OnOk, IsErrOf};
 ghost use Rattle.std.specs.Cmp.{partial_equiv_from_equiv};
 ghost use Rattle.std.specs.Cmp.Lexicographic.{pointwise, nat_list_eq_equiv};
-ghost use Rattle.std.specs.Cmp.Rules.{hashing};
 ghost use Rattle.std.specs.Hash as fed;
+ghost use Rattle.std.specs.Cmp.Rules.{hashing};
 ghost use Rattle.std.proofs.Common.{rules};
 ghost use Rattle.sym_model.specs.Partition.{size, without_last_zeros};
 ghost use Rattle.sym_model.specs.Polynomial.{join};
@@ -27,8 +28,8 @@ const MAX_DEGREE: u32 = 32385;
 /// The exponents of a monomial. Up to 16 are kept with no memory taken.
 type Exponents = SmallVec<u16, 16>;
 
-/// A monomial: its exponents without the zeros at their end. It has at most 255 exponents and a degree of at most
-/// 32,385. Up to 16 exponents are kept with no memory taken.
+/// A monomial: its exponents without the zeros at their end. It has at most 255 exponents and a
+/// degree of at most 32,385. Up to 16 exponents are kept with no memory taken.
 #[derive(Debug, Drop)]
 pub struct Monomial {
     exponents: Exponents,
@@ -50,8 +51,8 @@ impl Model for Monomial {
 impl Monomial {
     /// The monomial with these exponents, where zeros at the end are dropped.
     ///
-    /// It is refused as `TooMany` where more than 255 exponents are left, else as `TooBig` where their sum is past
-    /// 32,385. At most 16 exponents take no memory.
+    /// It is refused as `TooMany` where more than 255 exponents are left, else as `TooBig` where
+    /// their sum is past 32,385. At most 16 exponents take no memory.
     pub fn from_exponents(alloc: Global, exponents: &[u16]) -> Result<Monomial, MonoFault>
         ensures ok { IfOk result (λ m. m ≡ without_last_zeros exponents.now) }
         ensures limits { OnOk result (IsWithinLimits (without_last_zeros exponents.now)) }
@@ -60,7 +61,8 @@ impl Monomial {
         ensures too_big { IsErrOf result MonoFault.TooBig
             ↔ ((length (without_last_zeros exponents.now) ≤ 255)
             × (32385 < size (without_last_zeros exponents.now))) }
-        ensures inline { length (without_last_zeros exponents.now) ≤ 16 → ¬ IsErrOf result MonoFault.NoMemory }
+        ensures inline { length (without_last_zeros exponents.now) ≤ 16
+            → ¬ IsErrOf result MonoFault.NoMemory }
     {
         let exponents = numbers_before_zeros(exponents);
         if exponents.len() > MAX_EXPONENTS {
@@ -73,8 +75,8 @@ impl Monomial {
         Ok(with_degree(alloc, exponents, degree as u16)?)
     }
 
-    /// The monomial with these exponents, of which the caller knows that they lie within the limits but for zeros at
-    /// their end, which are dropped. At most 16 exponents take no memory.
+    /// The monomial with these exponents, of which the caller knows that they lie within the limits
+    /// but for zeros at their end, which are dropped. At most 16 exponents take no memory.
     pub fn from_valid_exponents(alloc: Global, exponents: &[u16]) -> Result<Monomial, NoMemory>
         requires { IsWithinLimits (without_last_zeros exponents.now) }
         ensures ok { IfOk result (λ m. m ≡ without_last_zeros exponents.now) }
@@ -94,8 +96,8 @@ impl Monomial {
         }
     }
 
-    /// The product with the variable x_r, for r from 1 to 255 and a degree below 32,385. At most 16 exponents take no
-    /// memory.
+    /// The product with the variable x_r, for r from 1 to 255 and a degree below 32,385. At most 16
+    /// exponents take no memory.
     pub fn times_var(&self, r: u16) -> Result<Monomial, NoMemory>
         requires first { 1 ≤ r }
         requires last { r ≤ 255 }
@@ -110,7 +112,8 @@ impl Monomial {
         })
     }
 
-    /// The product with another monomial, where it stays within the limits. At most 16 exponents take no memory.
+    /// The product with another monomial, where it stays within the limits. At most 16 exponents
+    /// take no memory.
     pub fn times(&self, other: &Monomial) -> Result<Monomial, NoMemory>
         requires { IsWithinLimits (join self.now other.now) }
         ensures { IfOk result (λ m. m ≡ join self.now other.now) }
@@ -138,8 +141,8 @@ impl Monomial {
         self.degree
     }
 
-    /// How this monomial and `other` stand in print: the greater degree first, then falling lexicographic order of the
-    /// exponents. `Equal` only for equal monomials.
+    /// How this monomial and `other` stand in print: the greater degree first, then falling
+    /// lexicographic order of the exponents. `Equal` only for equal monomials.
     pub fn cmp_printed(&self, other: &Monomial) -> Ordering
         ensures value { result ≡ printed_order self.now other.now }
         ensures equal { result ≡ Ordering.Equal → self.now ≡ other.now }

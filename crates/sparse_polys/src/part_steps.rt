@@ -1,8 +1,11 @@
 //! One part of the partition taken from the labels in all ways.
-ghost use Rattle.std.specs.Prelude.{◌≡◌, ℕ, ◌+◌, ◌*◌, ◌^◌, ◌<◌, ◌≤◌, ◌∷◌, [], true, false, List, length, IfOk, OnOk};
+ghost use Rattle.std.specs.Prelude.{◌≡◌, ℕ, ◌+◌, ◌*◌, ◌^◌, ◌<◌, ◌≤◌, ◌∷◌, [], true, false, List};
+ghost use Rattle.std.specs.Prelude.{length, IfOk, OnOk};
 ghost use Rattle.sym_model.specs.Bases.{has};
-ghost use Rattle.monomial_laws.specs.MonomialProduct.{arrangements, AreBelow};
-ghost use Rattle.sparse_polys.specs.Ways.{capped, ways, taken, is_choice_at, IsRest, AreStates, LeaveOnce, HasPartAbove};
+ghost use Rattle.monomial_laws.specs.MonomialProduct.{arrangements};
+ghost use Rattle.sparse_polys.specs.Ways.{capped, ways, taken, is_choice_at, IsRest, AreStates};
+ghost use Rattle.sparse_polys.specs.Ways.{LeaveOnce, HasPartAbove};
+ghost use Rattle.sym_model.specs.Bounded.{AreBelow};
 
 use crate::parts::{has_part, without_part};
 use crate::states::{State, add_state};
@@ -25,8 +28,8 @@ fn can_give(parts: &[u16], part: u16) -> bool
     part == 0 || has_part(parts, part)
 }
 
-/// Takes a from the left label and b from the right one, where b is one of its parts or 0, and leaves out what no parts up
-/// to a + b can use up.
+/// Takes a from the left label and b from the right one, where b is one of its parts or 0, and
+/// leaves out what no parts up to a + b can use up.
 fn take_both(
     alloc: Global,
     state: &State,
@@ -38,8 +41,10 @@ fn take_both(
     ensures ways { OnOk result ((ν : List ℕ) (size : ℕ) → AreBelow (a + b + 1) ν
         → IsRest size state.now.left.items state.now.right.items
         → capped (ways next.new.items ν)
-        ≡ capped (ways next.old.items ν + state.now.count * taken state.now.left.items state.now.right.items a b ν)) }
-    ensures states { OnOk result ((size : ℕ) → IsRest (a + b + size) state.now.left.items state.now.right.items
+        ≡ capped (ways next.old.items ν + state.now.count
+        * taken state.now.left.items state.now.right.items a b ν)) }
+    ensures states { OnOk result ((size : ℕ)
+        → IsRest (a + b + size) state.now.left.items state.now.right.items
         → has a (0 ∷ state.now.left.items) ≡ true
         → AreStates size next.old.items → AreStates size next.new.items) }
     ensures once { OnOk result (LeaveOnce next.old.items → LeaveOnce next.new.items) }
@@ -58,7 +63,8 @@ fn take_both(
     add_state(next, left, right, state.count)
 }
 
-/// Whether the part at a place can be taken from the left label, and does not stand behind it again.
+/// Whether the part at a place can be taken from the left label,
+/// and does not stand behind it again.
 fn is_choice(parts: &[u16], i: usize, part: u16) -> bool
     requires { i < length parts.now }
     ensures { result ≡ is_choice_at parts.now i part }
@@ -78,7 +84,8 @@ fn take_part(
         → IsRest size state.now.left.items state.now.right.items
         → capped (ways next.new.items ν) ≡ capped (ways next.old.items ν
         + state.now.count * arrangements state.now.left.items state.now.right.items (part ∷ ν))) }
-    ensures states { OnOk result ((size : ℕ) → IsRest (part + size) state.now.left.items state.now.right.items
+    ensures states { OnOk result ((size : ℕ)
+        → IsRest (part + size) state.now.left.items state.now.right.items
         → AreStates size next.old.items → AreStates size next.new.items) }
     ensures once { OnOk result (LeaveOnce next.old.items → LeaveOnce next.new.items) }
 {
@@ -94,9 +101,11 @@ fn take_part(
 
 /// Takes the part from all states in all ways. No two of the states that it gives leave the same.
 pub(crate) fn step(alloc: Global, states: &[State], part: u16) -> Result<Vec<State>, AllocError>
-    ensures ways { IfOk result (λ next. (ν : List ℕ) (size : ℕ) → AreBelow (part + 1) ν → AreStates size states.now
+    ensures ways { IfOk result (λ next. (ν : List ℕ) (size : ℕ) → AreBelow (part + 1) ν
+        → AreStates size states.now
         → capped (ways next.items ν) ≡ capped (ways states.now (part ∷ ν))) }
-    ensures states { IfOk result (λ next. (size : ℕ) → AreStates (part + size) states.now → AreStates size next.items) }
+    ensures states { IfOk result (λ next. (size : ℕ) → AreStates (part + size) states.now
+        → AreStates size next.items) }
     ensures once { IfOk result (λ next. LeaveOnce next.items) }
 {
     let mut next = Vec::new(alloc);

@@ -10,8 +10,8 @@ use partitions::Partition;
 use std::cmp::Ordering;
 use std::marker::Model;
 
-/// A power of q and a partition, the label of a term of a quantum product. In print the lesser power stands first, then
-/// they stand by the partition.
+/// A power of q and a partition, the label of a term of a quantum product. In print the lesser
+/// power stands first, then they stand by the partition.
 #[derive(Debug, PartialEq, Eq, Hash, Drop)]
 pub struct Power {
     /// The exponent of q.
@@ -31,7 +31,8 @@ impl Model for Power {
 }
 
 impl Label for Power {
-    ghost use Rattle.sparse_polys.specs.Labels.{same_power, power_order_is_total, power_order_equal};
+    ghost use Rattle.sparse_polys.specs.Labels.{same_power, power_order_is_total};
+    ghost use Rattle.sparse_polys.specs.Labels.{power_order_equal};
 
     ghost is_label = { is_power_label };
 

@@ -1,5 +1,6 @@
 //! Products of polynomials.
-ghost use Rattle.std.specs.Prelude.{◌≡◌, ℕ, ◌+◌, ◌*◌, ◌^◌, ◌<◌, ◌≤◌, ◌*ℤ◌, pos, nat_eq, List, IfOk, OnOk, IsErrOf};
+ghost use Rattle.std.specs.Prelude.{◌≡◌, ℕ, ◌+◌, ◌*◌, ◌^◌, ◌<◌, ◌≤◌, ◌*ℤ◌, pos, nat_eq, List, IfOk};
+ghost use Rattle.std.specs.Prelude.{OnOk, IsErrOf};
 ghost use Rattle.std.specs.Int.{◌∣◌};
 ghost use Rattle.std.specs.Cmp.Lexicographic.{pointwise};
 ghost use Rattle.sym_model.specs.DividedDifference.{variable_in, x_to_in};
@@ -12,7 +13,9 @@ ghost use Rattle.coeff_rings.specs.Fractions.{scaled, whole, InLowestTerms};
 ghost use Rattle.coeff_rings.specs.Room.{magnitude};
 ghost use Rattle.sparse_polys.specs.Combination.{HasMoreAt, IsCombination};
 ghost use Rattle.sparse_polys.specs.Limits.{IsWithinLimits};
-ghost use Rattle.sparse_polys.specs.Products.{value_in, coefficient_at, FitTogether, HasRoom, AreCleared, IsCommonDenominator, AreDenominators, cleared_sum, Adds};
+ghost use Rattle.sparse_polys.specs.Products.{value_in, coefficient_at, FitTogether, HasRoom};
+ghost use Rattle.sparse_polys.specs.Products.{AreCleared, IsCommonDenominator, AreDenominators};
+ghost use Rattle.sparse_polys.specs.Products.{cleared_sum, Adds};
 
 use crate::poly::Poly;
 use crate::{Lin, Monomial};
@@ -29,12 +32,16 @@ fn add_product<R: Ring>(
     b: R,
 ) -> Result<(), SumFault>
     requires { IsWithinLimits (join left.now right.now) }
-    ensures ok { OnOk result ((d e : ℕ) → AreDenominators d e (R.value a) (R.value b) → AreCleared (d * e) sum.old
-        → Adds (d * e) sum.old (λ φ. scaled d (R.value a) *ℤ scaled e (R.value b) *ℤ φ (join left.now right.now))
+    ensures ok { OnOk result ((d e : ℕ) → AreDenominators d e (R.value a) (R.value b)
+        → AreCleared (d * e) sum.old
+        → Adds (d * e) sum.old (λ φ. scaled d (R.value a) *ℤ scaled e (R.value b)
+        *ℤ φ (join left.now right.now))
         (magnitude d (R.value a) * magnitude e (R.value b)) sum.new) }
-    ensures large { IsErrOf result SumFault.Large → (d e : ℕ) → AreDenominators d e (R.value a) (R.value b)
+    ensures large { IsErrOf result SumFault.Large → (d e : ℕ)
+        → AreDenominators d e (R.value a) (R.value b)
         → d * e < 2 ^ 127 → AreCleared (d * e) sum.old
-        → 2 ^ 127 ≤ absolute_sum (d * e) sum.old + magnitude d (R.value a) * magnitude e (R.value b) }
+        → 2 ^ 127 ≤ absolute_sum (d * e) sum.old + magnitude d (R.value a)
+        * magnitude e (R.value b) }
 {
     let Some(c) = a.mul(b) else {
         return Err(SumFault::Large);
@@ -50,12 +57,16 @@ fn add_row<R: Ring>(
     right: &Poly<R>,
 ) -> Result<(), SumFault>
     requires { (t : List ℕ × Fraction) → Among t right.now → IsWithinLimits (join left.now t.0) }
-    ensures ok { OnOk result ((d e : ℕ) → 0 < d → (R.value a).1 ∣ d → IsCommonDenominator e right.now → AreCleared (d * e) sum.old
-        → Adds (d * e) sum.old (λ φ. scaled d (R.value a) *ℤ cleared_sum e (λ β. φ (join left.now β)) right.now)
+    ensures ok { OnOk result ((d e : ℕ) → 0 < d → (R.value a).1 ∣ d
+        → IsCommonDenominator e right.now → AreCleared (d * e) sum.old
+        → Adds (d * e) sum.old (λ φ. scaled d (R.value a)
+        *ℤ cleared_sum e (λ β. φ (join left.now β)) right.now)
         (magnitude d (R.value a) * absolute_sum e right.now) sum.new) }
-    ensures large { IsErrOf result SumFault.Large → (d e : ℕ) → 0 < d → (R.value a).1 ∣ d → IsCommonDenominator e right.now
+    ensures large { IsErrOf result SumFault.Large → (d e : ℕ) → 0 < d → (R.value a).1 ∣ d
+        → IsCommonDenominator e right.now
         → d * e < 2 ^ 127 → AreCleared (d * e) sum.old
-        → 2 ^ 127 ≤ absolute_sum (d * e) sum.old + magnitude d (R.value a) * absolute_sum e right.now }
+        → 2 ^ 127 ≤ absolute_sum (d * e) sum.old + magnitude d (R.value a)
+        * absolute_sum e right.now }
 {
     for (monomial, b) in right.iter() {
         add_product(sum, left, a, monomial, *b)?;
@@ -63,15 +74,19 @@ fn add_row<R: Ring>(
     Ok(())
 }
 
-/// The product of two polynomials, in every number of variables. Each product of a monomial of the one and a monomial of
-/// the other stays within the limits of a monomial: its degree is at most 32,385.
+/// The product of two polynomials, in every number of variables. Each product of a monomial of the
+/// one and a monomial of the other stays within the limits of a monomial:
+/// its degree is at most 32,385.
 ///
-/// It is refused as `Large` only where the weights of the two lists have a product of 2^127 or more.
+/// It is refused as `Large` only where the weights of the two lists have a product of 2^127 or
+/// more.
 pub fn times<R: Ring>(alloc: Global, left: &Poly<R>, right: &Poly<R>) -> Result<Poly<R>, SumFault>
     requires { FitTogether left.now right.now }
     ensures value { IfOk result (λ product. (n : ℕ) → Represents (λ e. x_to_in e n) product
-        (times (value_in left.now n) (value_in right.now n)) (denominators left.now * denominators right.now)) }
-    ensures large { IsErrOf result SumFault.Large → 2 ^ 127 ≤ list_weight left.now * list_weight right.now }
+        (times (value_in left.now n) (value_in right.now n))
+        (denominators left.now * denominators right.now)) }
+    ensures large { IsErrOf result SumFault.Large
+        → 2 ^ 127 ≤ list_weight left.now * list_weight right.now }
 {
     is_table(right);
     let mut sum = Lin::new(alloc);
@@ -82,8 +97,9 @@ pub fn times<R: Ring>(alloc: Global, left: &Poly<R>, right: &Poly<R>) -> Result<
     Ok(sum)
 }
 
-/// The product of a polynomial and the variable x_r, in every number of variables. The place r is from 1 to 255, and each
-/// product of a monomial and x_r stays within the limits of a monomial. No coefficient changes, so memory alone is wanted.
+/// The product of a polynomial and the variable x_r, in every number of variables. The place r is
+/// from 1 to 255, and each product of a monomial and x_r stays within the limits of a monomial. No
+/// coefficient changes, so memory alone is wanted.
 pub fn times_var<R: Ring>(alloc: Global, list: Poly<R>, r: u16) -> Result<Poly<R>, NoMemory>
     requires first { 1 ≤ r }
     requires last { r ≤ 255 }

@@ -3,7 +3,8 @@ ghost use Rattle.std.specs.Prelude.{◌≡◌, ℕ, ◌+◌, ◌^◌, ◌<◌, [
 ghost use Rattle.sym_model.specs.Partition.{IsPartition, size};
 ghost use Rattle.monomial_laws.specs.MonomialProduct.{arrangements};
 ghost use Rattle.sparse_polys.specs.Ways.{capped, ways, AreStates};
-ghost use Rattle.sparse_polys.specs.Search.{count_at, found, AreCounted, IsChosen, Counts, HaveCounts};
+ghost use Rattle.sparse_polys.specs.Search.{count_at, found, AreCounted, IsChosen, Counts};
+ghost use Rattle.sparse_polys.specs.Search.{HaveCounts};
 
 use crate::part_steps::step;
 use crate::parts::size_of;
@@ -40,7 +41,8 @@ fn ways_to_end(states: &[State]) -> u128
     total
 }
 
-/// Puts behind `out` each partition that has the chosen parts first and goes on from the states with parts up to
+/// Puts behind `out` each partition that has the chosen parts first and goes on from the states
+/// with parts up to
 /// `largest`, `left` being the size that is still to come.
 fn extend(
     alloc: Global,
@@ -53,7 +55,8 @@ fn extend(
     requires states { AreStates left states.now }
     ensures found { OnOk result ((ν : List ℕ) → count_at out.new.items ν
         ≡ count_at out.old.items ν + found chosen.now largest states.now ν) }
-    ensures counted { OnOk result ((total : ℕ) → size chosen.now + left ≡ total → IsChosen largest chosen.now
+    ensures counted { OnOk result
+        ((total : ℕ) → size chosen.now + left ≡ total → IsChosen largest chosen.now
         → AreCounted total out.old.items → AreCounted total out.new.items) }
     ensures counts { OnOk result ((f : List ℕ → ℕ) → Counts f chosen.now largest states.now
         → HaveCounts f out.old.items → HaveCounts f out.new.items) }
@@ -83,9 +86,9 @@ fn extend(
     Ok(())
 }
 
-/// The partitions in the product of two monomial symmetric polynomials, each with the number of ways
-/// in which it is an arrangement of the one label plus an arrangement of the other. A partition that
-/// is not there has no way.
+/// The partitions in the product of two monomial symmetric polynomials, each with the number of
+/// ways in which it is an arrangement of the one label plus an arrangement of the other. A
+/// partition that is not there has no way.
 pub(crate) fn label_product(
     alloc: Global,
     left: &[u16],
@@ -96,8 +99,10 @@ pub(crate) fn label_product(
     requires sizes { size left.now + size right.now < 2 ^ 16 }
     ensures counts { IfOk result (λ terms. (ν : List ℕ) → IsPartition ν
         → count_at terms.items ν ≡ capped (arrangements left.now right.now ν)) }
-    ensures labels { IfOk result (λ terms. AreCounted (size left.now + size right.now) terms.items) }
-    ensures each { IfOk result (λ terms. HaveCounts (λ ν. capped (arrangements left.now right.now ν)) terms.items) }
+    ensures labels { IfOk result (λ terms.
+        AreCounted (size left.now + size right.now) terms.items) }
+    ensures each { IfOk result (λ terms.
+        HaveCounts (λ ν. capped (arrangements left.now right.now ν)) terms.items) }
 {
     let total = size_of(left) + size_of(right);
     let start = State {

@@ -9,8 +9,8 @@ use perm_codes::Perm;
 use std::cmp::Ordering;
 use std::marker::Model;
 
-/// A permutation and a monomial in the variables y, the label of a term y^e·S_w of a product of double Schubert
-/// polynomials. In print labels stand by the permutation, then by the monomial.
+/// A permutation and a monomial in the variables y, the label of a term y^e·S_w of a product of
+/// double Schubert polynomials. In print labels stand by the permutation, then by the monomial.
 #[derive(Debug, PartialEq, Eq, Hash, Drop)]
 pub struct Shifted {
     /// The permutation.

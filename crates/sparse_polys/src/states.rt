@@ -1,5 +1,6 @@
 //! What is left of two labels, and in how many ways it came to be left.
-ghost use Rattle.std.specs.Prelude.{◌≡◌, ℕ, ◌+◌, ◌*◌, ◌<◌, ◌↔◌, List, length, map, IfOk, OnOk, IfSome, IsTrue, MatchOption, slice_get};
+ghost use Rattle.std.specs.Prelude.{◌≡◌, ℕ, ◌+◌, ◌*◌, ◌<◌, ◌↔◌, List, length, map, IfOk, OnOk};
+ghost use Rattle.std.specs.Prelude.{IfSome, IsTrue, MatchOption, slice_get};
 ghost use Rattle.sym_model.specs.Sum.{Among};
 ghost use Rattle.monomial_laws.specs.MonomialProduct.{arrangements};
 ghost use Rattle.sparse_polys.specs.Ways.{capped, labels_left, ways, IsRest, AreStates, LeaveOnce};
@@ -24,7 +25,8 @@ fn is_left(state: &State, left: &[u16], right: &[u16]) -> bool
 /// The place of the state with what is left; None exactly where no state leaves that.
 fn place_of(states: &[State], left: &[u16], right: &[u16]) -> Option<usize>
     ensures { MatchOption result (Among (left.now, right.now) (map labels_left states.now) → ⊥)
-        (λ i. (i < length states.now) × IfSome (slice_get states.now i) (λ s. labels_left s ≡ (left.now, right.now))) }
+        (λ i. (i < length states.now)
+        × IfSome (slice_get states.now i) (λ s. labels_left s ≡ (left.now, right.now))) }
 {
     for (i, state) in states.iter().enumerate() {
         if is_left(state, left, right) {

@@ -10,8 +10,8 @@ use linear_combinations::{Label, Terms as List};
 use std::marker::Model;
 use std::{slice, vec};
 
-/// The terms of a finite map, strictly in the order in which labels are printed. A contract sees the list of labels
-/// with the values of their coefficients, fractions whatever the ring is.
+/// The terms of a finite map, strictly in the order in which labels are printed. A contract sees
+/// the list of labels with the values of their coefficients, fractions whatever the ring is.
 #[derive(Drop)]
 pub struct Terms<L: Label, R: Scalar> {
     list: List<L, R>,
@@ -27,10 +27,11 @@ impl<L: Label, R: Scalar> Model for Terms<L, R> {
 }
 
 impl<L: Label, R: Scalar> Terms<L, R> {
-    /// The list of these pairs, or `None` exactly where they do not stand strictly in the printed order, or a
-    /// coefficient is 0.
+    /// The list of these pairs, or `None` exactly where they do not stand strictly in the printed
+    /// order, or a coefficient is 0.
     pub fn from_pairs(pairs: Vec<(L, R)>) -> Option<Terms<L, R>>
-        ensures { SomeIff result (IsCanonicalList L.order L.is_label (terms_of R.value pairs.items)) (terms_of R.value pairs.items) }
+        ensures { SomeIff result (IsCanonicalList L.order L.is_label (terms_of R.value pairs.items))
+            (terms_of R.value pairs.items) }
     {
         let list = List::from_pairs(pairs)?;
         Some(Terms { list })

@@ -1,9 +1,9 @@
 -- The signs of the special rim hooks whose rests a shape covers by a horizontal strip: they cancel unless that is the shape of the hooks.
-use Rattle.std.proofs.Common.{◌≡◌, ℕ, suc, ◌+◌, ◌-◌, ◌<◌, ◌≤◌, Bool, true, false, ◌&&◌, not, cond, nat_le, List, [], ◌∷◌, map, length, refl, sym, ◌∙◌, ap, ap₂, inl, inr, arith, ℤ, pos, ◌+ℤ◌, ◌*ℤ◌, neg_ℤ}
+use Rattle.std.proofs.Common.{◌≡◌, ℕ, suc, ◌+◌, ◌-◌, ◌<◌, ◌≤◌, Bool, true, false, ◌&&◌, not, cond, nat_le, List, [], ◌∷◌, map, length, refl, sym, ◌∙◌, ap, ap₂, inl, inr, arith, ℤ, pos, ◌+ℤ◌, ◌*ℤ◌, neg_ℤ, filter}
 use Rattle.std.proofs.lemmas.Int.{ints}
 use Rattle.std.proofs.lemmas.Bool.{true≢false, false≢true, not-true, and_parts, and_from, le-leb, lt-leb, leb-true, leb-false, cases_lt}
 use Rattle.std.proofs.lemmas.List.{length-map}
-use Rattle.sym_model.specs.Sum.{total, select, Once}
+use Rattle.sym_model.specs.Sum.{total, Once}
 use Rattle.sym_model.specs.Partition.{Falls, ArePositive, IsPartition, size, rows, without_last_zeros}
 use Rattle.sym_model.specs.PartitionList.{partitions_of}
 use Rattle.sym_model.specs.Polynomial.{resize}
@@ -211,10 +211,10 @@ factor_out s false z = simp ring (omega (arith, ints))
 
 -- what is summed with these signs over the shapes that cover each hook's rest is what the shape itself gives
 pub signed_sum : (F : List ℕ → ℤ) (a : ℕ) (bs : List ℕ) → IsPartition (a ∷ bs)
-    → total (λ (h : SpecialHook). h.sign *ℤ total F (select (λ ν. covers (length bs) ν h.rest) (partitions_of (size (a ∷ bs))))) (special_hooks (a ∷ bs))
+    → total (λ (h : SpecialHook). h.sign *ℤ total F (filter (λ ν. covers (length bs) ν h.rest) (partitions_of (size (a ∷ bs))))) (special_hooks (a ∷ bs))
     ≡ F (a ∷ bs)
 signed_sum F a bs p =
-    total_ext (λ (h : SpecialHook). h.sign *ℤ total F (select (λ ν. covers (length bs) ν h.rest) shapes))
+    total_ext (λ (h : SpecialHook). h.sign *ℤ total F (filter (λ ν. covers (length bs) ν h.rest) shapes))
     (λ (h : SpecialHook). total (λ (ν : List ℕ). F ν *ℤ (h.sign *ℤ indicator (covers (length bs) ν h.rest))) shapes)
     (λ h.
     ap (λ z. h.sign *ℤ z) (total_select F (λ ν. covers (length bs) ν h.rest) shapes)

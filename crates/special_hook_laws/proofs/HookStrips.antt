@@ -1,7 +1,7 @@
 -- The shapes that cover a hook's rest are those that add a horizontal strip to it.
-use Rattle.std.proofs.Common.{◌≡◌, ℕ, zero, suc, ◌+◌, ◌-◌, ◌≤◌, true, ◌&&◌, nat_le, List, [], ◌∷◌, length, get_or, refl, sym, ◌∙◌, ap, inl, inr, arith}
+use Rattle.std.proofs.Common.{◌≡◌, ℕ, zero, suc, ◌+◌, ◌-◌, ◌≤◌, true, ◌&&◌, nat_le, List, [], ◌∷◌, length, get_or, refl, sym, ◌∙◌, ap, inl, inr, arith, filter}
 use Rattle.std.proofs.lemmas.Bool.{and_parts, and_from, le-leb, leb-true, cases_lt}
-use Rattle.sym_model.specs.Sum.{select, Among}
+use Rattle.sym_model.specs.Sum.{Among}
 use Rattle.sym_model.specs.Partition.{Falls, IsPartition, part, size, rows}
 use Rattle.sym_model.specs.PartitionList.{partitions_of}
 use Rattle.sym_model.specs.Polynomial.{resize}
@@ -117,7 +117,7 @@ covers_from m outer inner p q few s =
 
 -- the shapes that cover what a hook of a ∷ bs leaves, among all shapes of the size
 abbrev pub covering : ℕ → List ℕ → SpecialHook → List (List ℕ)
-covering a bs h = select (λ ν. covers (length bs) ν h.rest) (partitions_of (size (a ∷ bs)))
+covering a bs h = filter (λ ν. covers (length bs) ν h.rest) (partitions_of (size (a ∷ bs)))
 
 pub covering_listed : (a : ℕ) (bs : List ℕ) (h : SpecialHook) → IsPartition (a ∷ bs) → Among h (special_hooks (a ∷ bs))
     → ListsEach (AddsHorizontalStrip h.cells h.rest) (covering a bs h)

@@ -1,6 +1,6 @@
 -- A Schur polynomial as the sum over the special rim hooks of its shape.
-use Rattle.std.proofs.Common.{ℕ, ◌≤◌, List, [], ◌∷◌, map, sym, ◌∙◌, ap, arith, ◌*ℤ◌}
-use Rattle.sym_model.specs.Sum.{total, each, Among}
+use Rattle.std.proofs.Common.{ℕ, ◌≤◌, List, [], ◌∷◌, map, sym, ◌∙◌, ap, arith, ◌*ℤ◌, flat_map}
+use Rattle.sym_model.specs.Sum.{total, Among}
 use Rattle.sym_model.specs.Partition.{IsPartition, rows}
 use Rattle.sym_model.specs.Conjugate.{conjugate}
 use Rattle.sym_model.specs.Polynomial.{Poly, Same, pair, times, scale}
@@ -19,32 +19,32 @@ use Rattle.special_hook_laws.proofs.ConjugateStrips.{conjugate_listed}
 
 -- products that are sums over the shapes that cover each hook's rest add up to what the shape itself gives
 summed : (Z : List ℕ → Poly) (product : SpecialHook → Poly) (a : ℕ) (bs : List ℕ) → IsPartition (a ∷ bs)
-    → ((h : SpecialHook) → Among h (special_hooks (a ∷ bs)) → Same (product h) (each Z (covering a bs h)))
-    → Same (Z (a ∷ bs)) (each (λ (h : SpecialHook). scale h.sign (product h)) (special_hooks (a ∷ bs)))
+    → ((h : SpecialHook) → Among h (special_hooks (a ∷ bs)) → Same (product h) (flat_map Z (covering a bs h)))
+    → Same (Z (a ∷ bs)) (flat_map (λ (h : SpecialHook). scale h.sign (product h)) (special_hooks (a ∷ bs)))
 summed Z product a bs p e =
-    same_from_pair (Z (a ∷ bs)) (each (λ (h : SpecialHook). scale h.sign (product h)) (special_hooks (a ∷ bs)))
+    same_from_pair (Z (a ∷ bs)) (flat_map (λ (h : SpecialHook). scale h.sign (product h)) (special_hooks (a ∷ bs)))
     (λ φ. sym (
     pair_each (λ (h : SpecialHook). scale h.sign (product h)) (special_hooks (a ∷ bs)) φ
     ∙ total_among (λ (h : SpecialHook). pair (scale h.sign (product h)) φ) (λ (h : SpecialHook). h.sign *ℤ total (λ (ν : List ℕ). pair (Z ν) φ) (covering a bs h)) (special_hooks (a ∷ bs))
     (λ h m.
     pair_scale h.sign (product h) φ
-    ∙ ap (λ z. h.sign *ℤ z) (pair_determined (product h) (each Z (covering a bs h)) φ (e h m) ∙ pair_each Z (covering a bs h) φ))
+    ∙ ap (λ z. h.sign *ℤ z) (pair_determined (product h) (flat_map Z (covering a bs h)) φ (e h m) ∙ pair_each Z (covering a bs h) φ))
     ∙ signed_sum (λ (ν : List ℕ). pair (Z ν) φ) a bs p))
 
 pub complete_sum : (n : ℕ) (parts : List ℕ) → IsPartition parts → 1 ≤ rows parts
-    → Same (schur parts n) (each (λ (h : SpecialHook). scale h.sign (times (complete_of h.cells n) (schur h.rest n))) (special_hooks parts))
+    → Same (schur parts n) (flat_map (λ (h : SpecialHook). scale h.sign (times (complete_of h.cells n) (schur h.rest n))) (special_hooks parts))
 complete_sum n [] p o = absurd (omega arith)
 complete_sum n (a ∷ bs) p o =
     summed (λ ν. schur ν n) (λ h. times (complete_of h.cells n) (schur h.rest n)) a bs p
     (λ h m. horizontal n h.cells h.rest (covering a bs h) (hook_rest (a ∷ bs) h p m).partition (covering_listed a bs h p m))
 
 pub elementary_sum : (n : ℕ) (parts : List ℕ) → IsPartition parts → 1 ≤ rows parts
-    → Same (schur (conjugate parts) n) (each (λ (h : SpecialHook). scale h.sign (times (elementary_of h.cells n) (schur (conjugate h.rest) n))) (special_hooks parts))
+    → Same (schur (conjugate parts) n) (flat_map (λ (h : SpecialHook). scale h.sign (times (elementary_of h.cells n) (schur (conjugate h.rest) n))) (special_hooks parts))
 elementary_sum n [] p o = absurd (omega arith)
 elementary_sum n (a ∷ bs) p o =
     summed (λ ν. schur (conjugate ν) n) (λ h. times (elementary_of h.cells n) (schur (conjugate h.rest) n)) a bs p
     (λ h m.
     let q = (hook_rest (a ∷ bs) h p m).partition in
-    Same_trans (times (elementary_of h.cells n) (schur (conjugate h.rest) n)) (each (λ ν. schur ν n) (map conjugate (covering a bs h))) (each (λ ν. schur (conjugate ν) n) (covering a bs h))
+    Same_trans (times (elementary_of h.cells n) (schur (conjugate h.rest) n)) (flat_map (λ ν. schur ν n) (map conjugate (covering a bs h))) (flat_map (λ ν. schur (conjugate ν) n) (covering a bs h))
     (vertical n h.cells (conjugate h.rest) (map conjugate (covering a bs h)) (IsPartition-conjugate h.rest q.falls) (conjugate_listed h.cells h.rest (covering a bs h) q (covering_listed a bs h p m)))
-    (same_of_equal (each (λ ν. schur ν n) (map conjugate (covering a bs h))) (each (λ ν. schur (conjugate ν) n) (covering a bs h)) (each_map (λ ν. schur ν n) conjugate (covering a bs h))))
+    (same_of_equal (flat_map (λ ν. schur ν n) (map conjugate (covering a bs h))) (flat_map (λ ν. schur (conjugate ν) n) (covering a bs h)) (each_map (λ ν. schur ν n) conjugate (covering a bs h))))

@@ -1,15 +1,18 @@
--- Special rim hooks: the rim hooks of a shape that have the first cell of its last row (Egecioglu and Remmel).
+-- Special rim hooks: the rim hooks of a shape that have the first cell of its last row (Egecioglu
+-- and Remmel).
 use Rattle.std.specs.Prelude.{ℕ, ◌+◌, ◌-◌, ℤ, List, [], ◌∷◌, map}
 use Rattle.sym_model.specs.Partition.{rows, without_last_zeros}
 use Rattle.sym_model.specs.PlaceOrders.{minus_one_to}
 
--- a special rim hook of a shape: the sign (-1)^(height - 1), how many cells the hook has, and what is left of the shape
+-- a special rim hook of a shape: the sign (-1)^(height - 1), how many cells the hook has,
+-- and what is left of the shape
 pub record SpecialHook : Type 0 where
   pub sign : ℤ
   pub cells : ℕ
   pub rest : List ℕ
 
--- each row one cell shorter, without the rows that are then empty: what is left where the first column is taken off
+-- each row one cell shorter, without the rows that are then empty:
+-- what is left where the first column is taken off
 abbrev pub shortened : List ℕ → List ℕ
 shortened parts = without_last_zeros (map (λ a. a - 1) parts)
 
@@ -17,8 +20,9 @@ shortened parts = without_last_zeros (map (λ a. a - 1) parts)
 abbrev pub below_row : ℕ → SpecialHook → SpecialHook
 below_row a h = record { sign = h.sign; cells = h.cells; rest = a ∷ h.rest }
 
--- the special rim hooks of a shape, one for each row in which the hook can end, from the first row down. The one that ends in the
--- first row has as many cells as that row and one more for each row below, and leaves these rows, each one cell shorter
+-- the special rim hooks of a shape, one for each row in which the hook can end, from the first row
+-- down. The one that ends in the first row has as many cells as that row and one more for each row
+-- below, and leaves these rows, each one cell shorter
 abbrev pub special_hooks : List ℕ → List SpecialHook
 special_hooks [] = []
 special_hooks (a ∷ parts) =

@@ -1,7 +1,8 @@
-//! A Schur polynomial by products of one h_k or e_k with Schur polynomials of fewer rows or columns.
+//! A Schur polynomial by products of one h_k or e_k with Schur polynomials of fewer rows or
+//! columns.
 
-ghost use Rattle.std.specs.Prelude.{◌≡◌, ℕ, ◌+◌, ◌-◌, ◌<◌, ◌≤◌, List, length};
-ghost use Rattle.sym_model.specs.Sum.{each, Among};
+ghost use Rattle.std.specs.Prelude.{◌≡◌, ℕ, ◌+◌, ◌-◌, ◌<◌, ◌≤◌, List, length, flat_map};
+ghost use Rattle.sym_model.specs.Sum.{Among};
 ghost use Rattle.sym_model.specs.Partition.{IsPartition, size, rows};
 ghost use Rattle.sym_model.specs.Conjugate.{conjugate};
 ghost use Rattle.sym_model.specs.Polynomial.{Same, times, scale};
@@ -11,24 +12,31 @@ ghost use Rattle.sym_model.specs.PlaceOrders.{minus_one_to};
 ghost use Rattle.sym_model.specs.Strip.{IsRimHook, height};
 ghost use Rattle.special_hook_laws.specs.SpecialHooks.{SpecialHook, special_hooks};
 
-/// In every number n of variables, for a partition λ with at least one row: s_λ is the sum of ±h_k·s_μ over the special rim
-/// hooks of λ, where the hook has k cells and leaves μ, and the sign is (-1)^(height - 1) (Jacobi and Trudi's determinant along
-/// its last column; Egecioglu and Remmel). With e in place of h and each shape conjugated, the sum is that of the conjugate of λ.
-/// What a hook leaves is a partition, and the hook has the other cells, at least one. It is a rim hook with the whole last row,
-/// and there are as many hooks as rows.
+/// In every number n of variables, for a partition λ with at least one row: s_λ is the sum of
+/// ±h_k·s_μ over the special rim hooks of λ, where the hook has k cells and leaves μ, and the sign
+/// is (-1)^(height - 1) (Jacobi and Trudi's determinant along its last column; Egecioglu and
+/// Remmel). With e in place of h and each shape conjugated, the sum is that of the conjugate of λ.
+/// What a hook leaves is a partition, and the hook has the other cells, at least one. It is a rim
+/// hook with the whole last row, and there are as many hooks as rows.
 ///
-/// Example: the hooks of (2,1) have 3 cells, which leave nothing, and 1 cell, which leaves (2): s_(2,1) = -h_3 + h_1·s_(2).
+/// Example: the hooks of (2,1) have 3 cells, which leave nothing, and 1 cell, which leaves (2):
+/// s_(2,1) = -h_3 + h_1·s_(2).
 pub fn special_hooks_law()
     ensures complete { (n : ℕ) (parts : List ℕ) → IsPartition parts → 1 ≤ rows parts
         → Same (schur parts n)
-        (each (λ (h : SpecialHook). scale h.sign (times (complete_of h.cells n) (schur h.rest n))) (special_hooks parts)) }
+        (flat_map (λ (h : SpecialHook). scale h.sign
+        (times (complete_of h.cells n) (schur h.rest n))) (special_hooks parts)) }
     ensures elementary { (n : ℕ) (parts : List ℕ) → IsPartition parts → 1 ≤ rows parts
         → Same (schur (conjugate parts) n)
-        (each (λ (h : SpecialHook). scale h.sign (times (elementary_of h.cells n) (schur (conjugate h.rest) n)))
+        (flat_map (λ (h : SpecialHook). scale h.sign
+        (times (elementary_of h.cells n) (schur (conjugate h.rest) n)))
         (special_hooks parts)) }
-    ensures shapes { (parts : List ℕ) (h : SpecialHook) → IsPartition parts → Among h (special_hooks parts)
+    ensures shapes { (parts : List ℕ) (h : SpecialHook) → IsPartition parts
+        → Among h (special_hooks parts)
         → IsPartition h.rest × (1 ≤ h.cells) × (size h.rest + h.cells ≡ size parts) }
-    ensures rim_hooks { (parts : List ℕ) (h : SpecialHook) → IsPartition parts → Among h (special_hooks parts)
-        → IsRimHook parts h.rest × (rows h.rest < rows parts) × (h.sign ≡ minus_one_to (height parts h.rest - 1)) }
+    ensures rim_hooks { (parts : List ℕ) (h : SpecialHook) → IsPartition parts
+        → Among h (special_hooks parts)
+        → IsRimHook parts h.rest × (rows h.rest < rows parts)
+        × (h.sign ≡ minus_one_to (height parts h.rest - 1)) }
     ensures number { (parts : List ℕ) → length (special_hooks parts) ≡ rows parts }
 {}

@@ -1,7 +1,7 @@
-//! Schur polynomials by special rim hooks: the determinant of Jacobi and Trudi, expanded along its last column.
+//! Schur polynomials by special rim hooks: the determinant of Jacobi and Trudi,
+//! expanded along its last column.
 //!
-//! A law function takes nothing, answers nothing and does no work when it runs: its contract is
-//! the law.
+//! A law function has an empty body: its contract is the law.
 //!
 //! What is proved:
 //!

@@ -3,8 +3,9 @@
 --     labels_within     the labels of a list with the same coefficients have no more rows
 --     past_from         a Schur coefficient past the limit, and
 --     none_past         that there is none
-use Rattle.std.proofs.Common.{◌≡◌, ℕ, ◌^◌, ◌≤◌, List, [], refl, sym, ◌∙◌, ap, subst, arith, ℤ, pos, ◌*ℤ◌, ◌≤ℤ◌}
-use Rattle.std.specs.Cmp.Lexicographic.{nat_list_eq_equiv}
+use Rattle.std.proofs.Common.{◌≡◌, ℕ, ◌^◌, ◌≤◌, List, [], refl, sym, ◌∙◌, ap, subst, arith, ℤ, pos, ◌≤ℤ◌}
+use Rattle.std.specs.Prelude.{nat_eq}
+use Rattle.std.specs.Cmp.Lexicographic.{pointwise, nat_list_eq_equiv}
 use Rattle.std.proofs.lemmas.Int.{ints}
 use Rattle.sym_model.specs.Sum.{Among}
 use Rattle.sym_model.specs.Polynomial.{pair}
@@ -14,23 +15,24 @@ use Rattle.sym_model.specs.Alternant.{schur_coefficient}
 use Rattle.sym_model.specs.Schur.{schur}
 use Rattle.sym_model.specs.Schubert.{schubert_in}
 use Rattle.sym_model.specs.Stanley.{behind, stanley_in}
-use Rattle.sym_model.specs.Expansion.{Fraction, Terms, IsExpansionOf, schurs}
-use Rattle.sym_model.specs.WholeTerms.{AreWhole, combined, numerators}
-use Rattle.sym_model.specs.LabelLimits.{is_label}
+use Rattle.sym_model.specs.Expansion.{Fraction, IsExpansionOf, schurs}
+use Rattle.sym_model.specs.WholeTerms.{WholeTerms, as_fractions}
 use Rattle.sym_model.specs.Command.{stanley}
 use Rattle.sym_model.specs.LargeAnswer.{HasPastCoefficient}
-use Rattle.sym_model.proofs.Sums.{total_map}
-use Rattle.sym_model.proofs.WholeTerms.{pair_of_combined, represents-whole}
-use Rattle.sym_model.proofs.Polynomials.{pair_determined, same_from_pair}
+use Rattle.sym_model.proofs.Sums.{Among_from_map}
+use Rattle.sym_model.proofs.Polynomials.{pair_determined}
 use Rattle.sym_model.proofs.Integers.{is_past-tells, is_past-from}
-use Rattle.sparse_polys.specs.Combination.{HasSameCoefficients}
-use Rattle.sparse_polys.proofs.Totals.{carried}
-use Rattle.schubert_transition.specs.TermLists.{over, only, equal, AreTerms, IsTable}
-use Rattle.schubert_transition.proofs.TermSums.{equal_tells, over_at, found_small}
+use Rattle.coeff_rings.specs.Fractions.{whole}
+use Rattle.linear_combinations.specs.Entries.{HasSameCoefficients}
+use Rattle.linear_combinations.specs.Gains.{over, only}
+use Rattle.linear_combinations.specs.Labels.{same_partition}
+use Rattle.linear_combinations.proofs.Gains.{over_at}
+use Rattle.linear_combinations.proofs.Masses.{represents_sums}
+use Rattle.linear_combinations.proofs.Totals.{carried}
 use Rattle.stanley_laws.specs.SchurPositive.{schur_test}
 use Rattle.stanley_laws.proofs.Behind.{schubert_behind}
 use Rattle.stanley_laws.proofs.SchurPositive.{schur_coefficient_is}
-use Rattle.stanley_expand.specs.Walk.{walked, HasLargeShape}
+use Rattle.stanley_expand.specs.Walk.{AreShapes, IsTable, walked, HasLargeShape}
 use Rattle.stanley_expand.proofs.Steps.{over_schurs}
 use lib.IntN.{+ℤ_idr}
 
@@ -48,30 +50,28 @@ module _ (m : ℕ) (w start : List ℕ) (o : IsOneLine w) (e : start ≡ kept (b
         is_past-from (schur_coefficient m κ (stanley_in w m)) (subst (λ z. pos (2 ^ 127) ≤ℤ z) is large),
       )
 
-  module _ (sum : Terms (List ℕ)) (value : (φ : List ℕ → ℤ) → walked m φ sum [] ≡ pair (schubert_in start m) φ) where
+  module _ (sum : WholeTerms) (value : (φ : List ℕ → ℤ) → walked m φ sum [] ≡ pair (schubert_in start m) φ) where
     sum_pairs : (φ : List ℕ → ℤ) → over (λ κ. pair (schur κ m) φ) sum ≡ pair (stanley_in w m) φ
     sum_pairs φ = sym (+ℤ_idr (over (λ κ. pair (schur κ m) φ) sum)) ∙ value φ ∙ start_pairs m w start φ o e
 
-    pub sum_represents : AreWhole sum → IsExpansionOf schurs sum m (stanley_in w m) 1
-    sum_represents whole =
-        represents-whole (λ κ. schur κ m) sum (stanley_in w m) whole
-        (same_from_pair (combined (λ κ. schur κ m) (numerators sum)) (stanley_in w m)
-        (λ φ.
-        pair_of_combined (λ κ. schur κ m) (numerators sum) φ
-        ∙ total_map (λ (t : List ℕ × ℤ). t.1 *ℤ pair (schur t.0 m) φ) (λ (t : List ℕ × Fraction). (t.0, t.1.0)) sum
-        ∙ sum_pairs φ))
+    pub sum_represents : IsExpansionOf schurs (as_fractions sum) m (stanley_in w m) 1
+    sum_represents = represents_sums (λ κ. schur κ m) sum (stanley_in w m) sum_pairs
 
     -- no Schur coefficient is past the limit
-    pub none_past : IsTable is_label sum → AreTerms m 4096 sum → HasPastCoefficient (stanley m w) → ⊥
-    none_past is bounded (c, d, large) =
-        let a : c ≡ over (only d.parts) sum =
-        d.is ∙ schur_coefficient_is m d.parts (stanley_in w m) ∙ sym (sum_pairs (schur_test m d.parts)) ∙ over_schurs m d.parts sum is d.partition d.within in
-        let f = over_at sum is.distinct d.parts in
-        let g = found_small sum d.parts (λ t i. (bounded t i).held) in
+    pub none_past : AreShapes m sum → HasPastCoefficient (stanley m w) → ⊥
+    none_past is (c, d, large) =
+        let a : c ≡ over (only (pointwise nat_eq) d.parts) sum =
+        d.is ∙ schur_coefficient_is m d.parts (stanley_in w m) ∙ sym (sum_pairs (schur_test m d.parts)) ∙ over_schurs m d.parts sum is.table d.partition d.within in
+        let f = over_at nat_list_eq_equiv same_partition sum is.table.distinct d.parts in
+        let g = is.held.at_label d.parts in
         let p = is_past-tells c large in
         absurd (omega (arith, ints))
 
 -- the labels of a list with the same coefficients
-pub labels_within : (m d : ℕ) (sum terms : Terms (List ℕ)) → IsTable is_label sum → IsTable is_label terms → HasSameCoefficients equal sum terms → AreTerms m d sum
-    → (t : List ℕ × Fraction) → Among t terms → rows t.0 ≤ m
-labels_within m d sum terms is also same bounded t k = (bounded t (carried nat_list_eq_equiv equal_tells terms sum also t k (sym (same t.0)))).few
+pub labels_within : (m : ℕ) (sum terms : WholeTerms) → AreShapes m sum → IsTable terms → HasSameCoefficients (pointwise nat_eq) (pos 0) sum terms
+    → (t : List ℕ × Fraction) → Among t (as_fractions terms) → rows t.0 ≤ m
+labels_within m sum terms is also same t k =
+    let c = Among_from_map (λ (u : List ℕ × ℤ). (u.0, (u.1, 1))) t terms k in
+    let few = is.few c.0 (carried nat_list_eq_equiv same_partition (pos 0) whole refl terms sum also c.0 c.1 (sym (same (c.0).0))) in
+    let e = ap (λ (u : List ℕ × Fraction). rows u.0) c.2 in
+    omega arith

@@ -4,11 +4,11 @@ use Rattle.std.proofs.lemmas.Int.{ints}
 use Rattle.sym_model.specs.Sum.{total, Among}
 use Rattle.sym_model.specs.Polynomial.{pair}
 use Rattle.sym_model.specs.Schubert.{schubert_in}
-use Rattle.sym_model.specs.Expansion.{Terms}
+use Rattle.sym_model.specs.WholeTerms.{WholeTerms}
 use Rattle.sym_model.proofs.Sums.{total_append, Among-append_left, Among-append_right}
-use Rattle.schubert_transition.specs.Todo.{weigh}
-use Rattle.schubert_transition.specs.Transitions.{weight}
-use Rattle.schubert_transition.proofs.Weights.{weigh_append}
+use Rattle.transition_walk.specs.Todo.{weigh}
+use Rattle.transition_walk.specs.Transitions.{weight}
+use Rattle.transition_walk.proofs.Weights.{weigh_append}
 use Rattle.stanley_laws.specs.Grassmannian.{IsRising}
 use Rattle.stanley_laws.specs.SchurPositive.{schur_test}
 use Rattle.stanley_expand.specs.Walk.{AreRising, walked, HasLargeShape}
@@ -23,7 +23,7 @@ module _ (todo rest : List (List ℕ)) (p : List ℕ) (e : todo ≡ rest ++ (p �
   pub popped_weights : weigh weight todo ≡ weigh weight rest + weight p
   popped_weights = let a = ap (weigh weight) e ∙ weigh_append weight rest (p ∷ []) in omega arith
 
-  pub popped_walked : (m : ℕ) (φ : List ℕ → ℤ) (sum : Terms (List ℕ)) → walked m φ sum rest +ℤ pair (schubert_in p m) φ ≡ walked m φ sum todo
+  pub popped_walked : (m : ℕ) (φ : List ℕ → ℤ) (sum : WholeTerms) → walked m φ sum rest +ℤ pair (schubert_in p m) φ ≡ walked m φ sum todo
   popped_walked m φ sum = let a = ap (total (λ x. pair (schubert_in x m) φ)) e ∙ total_append (λ x. pair (schubert_in x m) φ) rest (p ∷ []) in omega (arith, ints)
 
 pub large_as : (m : ℕ) (f g : (List ℕ → ℤ) → ℤ) → ((φ : List ℕ → ℤ) → f φ ≡ g φ) → HasLargeShape m f → HasLargeShape m g

@@ -1,5 +1,6 @@
 //! Permutations behind fixed letters.
-ghost use Rattle.std.specs.Prelude.{◌≡◌, ◌≤◌, length, IfOk};
+ghost use Rattle.std.specs.Prelude.{◌≡◌, ◌≤◌, length, IfOk, OnOk};
+ghost use Rattle.perm_codes.specs.Limits.{IsWithinLimits};
 ghost use Rattle.sym_model.specs.Partition.{after};
 ghost use Rattle.sym_model.specs.Permutation.{kept};
 ghost use Rattle.sym_model.specs.Stanley.{behind};
@@ -12,7 +13,8 @@ use std::alloc::Global;
 pub(crate) fn behind_fixed(alloc: Global, w: &Perm, fixed: u16) -> Result<Perm, NoMemory>
     requires fixed { fixed ≤ 64 }
     requires letters { length w.now ≤ 16 }
-    ensures { IfOk result (λ perm. perm ≡ kept (behind fixed w.now)) }
+    ensures perm { IfOk result (λ perm. perm ≡ kept (behind fixed w.now)) }
+    ensures limits { OnOk result (IsWithinLimits w.now) }
 {
     let mut letters = first_letters(alloc, fixed)?;
     for letter in w.letters() {

@@ -5,34 +5,35 @@ ghost use Rattle.sym_model.specs.Command as commands;
 ghost use Rattle.sym_model.specs.Kind.{product};
 ghost use Rattle.sym_model.specs.LargeAnswer.{HasPastCoefficient};
 ghost use Rattle.sym_model.specs.Target.{Meets};
+ghost use Rattle.sym_model.specs.WholeTerms.{as_fractions};
 
 use crate::behind::behind_fixed;
-use crate::walk::{in_schurs, is_whole};
+use crate::walk::in_schurs;
 use calc_base::SumFault;
 use coeff_rings::Int;
+use linear_combinations::Terms;
 use partitions::Partition;
 use perm_codes::Perm;
-use sparse_polys::Terms;
 use std::alloc::Global;
 
-/// The Stanley polynomial of a permutation of at most 16 letters, in as many variables as `rows` says, in Schur
-/// polynomials, with no label of more rows. `rows` is from 1 to 64.
+/// The Stanley polynomial of a permutation of at most 16 letters, in as many variables as `rows`
+/// says, in Schur polynomials, with no label of more rows. `rows` is from 1 to 64.
 ///
-/// It is refused as `Large` exactly where a coefficient is past 2^127 - 1.
+/// It is refused as `Large` exactly if a coefficient exceeds 2^127 - 1.
 ///
-/// The permutation stands behind `rows` fixed letters, and the transition rule of Lascoux and Schützenberger lowers it
-/// without the terms of variables after the last one, until Grassmannian permutations are left, whose polynomials are
-/// Schur polynomials (Macdonald, Notes on Schubert polynomials, IV and VII).
+/// The permutation stands behind `rows` fixed letters, and the transition rule of Lascoux and
+/// Schützenberger lowers it without the terms of variables after the last one, until Grassmannian
+/// permutations are left, whose polynomials are Schur polynomials (Macdonald, Notes on Schubert
+/// polynomials, IV and VII).
 pub fn stanley(alloc: Global, w: &Perm, rows: u16) -> Result<Terms<Partition, Int>, SumFault>
     requires variables { (1 ≤ rows) × (rows ≤ 64) }
     requires letters { length w.now ≤ 16 }
-    ensures meets { IfOk result (λ terms. Meets (commands.stanley rows w.now) (answer product terms)) }
-    ensures large { IsErrOf result SumFault.Large → HasPastCoefficient (commands.stanley rows w.now) }
+    ensures meets { IfOk result (λ terms.
+        Meets (commands.stanley rows w.now) (answer product (as_fractions terms))) }
+    ensures large { IsErrOf result SumFault.Large
+        → HasPastCoefficient (commands.stanley rows w.now) }
     ensures fits { OnOk result (HasPastCoefficient (commands.stanley rows w.now) → ⊥) }
 {
-    // This tells the proof that the letters are those of a permutation.
-    w.len();
     let sum = in_schurs(alloc, behind_fixed(alloc, w, rows)?, rows)?;
-    is_whole(&sum);
     Ok(sum.sorted_terms()?)
 }

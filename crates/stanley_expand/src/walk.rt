@@ -1,39 +1,42 @@
 //! The transition rule without the terms of variables that are 0, depth first.
-ghost use Rattle.std.specs.Prelude.{◌≡◌, ℕ, ◌+◌, ◌^◌, ◌<◌, ◌≤◌, ◌+ℤ◌, ◌≤ℤ◌, ℤ, pos, ◌++◌, List, [], IfOk, OnOk, IsErrOf};
-ghost use Rattle.sym_model.specs.LabelLimits.{is_label};
+ghost use Rattle.std.specs.Prelude.{◌≡◌, ℕ, ◌+◌, ◌<◌, ◌≤◌, ◌+ℤ◌, ℤ, pos, ◌++◌, List, [], ◌∷◌};
+ghost use Rattle.std.specs.Prelude.{nat_eq, IfOk, OnOk, IsErrOf};
+ghost use Rattle.std.specs.Cmp.Lexicographic.{pointwise};
 ghost use Rattle.sym_model.specs.Permutation.{IsTransition, times_swap, covers_down};
 ghost use Rattle.sym_model.specs.Polynomial.{pair};
 ghost use Rattle.sym_model.specs.Schubert.{schubert_in};
-ghost use Rattle.sym_model.specs.WholeTerms.{AreWhole};
 ghost use Rattle.partitions.specs.Limits.{IsWithinLimits};
-ghost use Rattle.schubert_transition.specs.TermLists.{over, only, AreTerms, IsTable};
-ghost use Rattle.schubert_transition.specs.Todo.{weigh};
-ghost use Rattle.schubert_transition.specs.Transitions.{IsShort, weight};
+ghost use Rattle.linear_combinations.specs.Gains.{Gains, Overflows};
+ghost use Rattle.transition_walk.specs.Todo.{weigh};
+ghost use Rattle.transition_walk.specs.Transitions.{IsShort, weight};
 ghost use Rattle.stanley_laws.specs.Grassmannian.{IsRising, front_beta, front_shape};
-ghost use Rattle.stanley_expand.specs.Walk.{AreRising, walked, HasLargeShape};
+ghost use Rattle.stanley_expand.specs.Walk.{AreRising, AreShapes, IsHeld, IsTable, walked};
+ghost use Rattle.stanley_expand.specs.Walk.{HasLargeShape};
 
 use crate::letters::has_more_before;
 use calc_base::{NoMemory, SumFault};
 use coeff_rings::{Int, Scalar};
+use linear_combinations::Lin;
 use partitions::Partition;
 use perm_codes::Perm;
-use schubert_transition::transition_places;
-use sparse_polys::Lin;
 use std::alloc::Global;
+use transition_walk::transition_places;
 
 /// A sum of Schur polynomials.
 pub(crate) type Schurs = Lin<Partition, Int>;
 
-/// The Schubert polynomial of a permutation that rises at the places from 1 to `rows`, in so many variables, as a sum of
-/// Schur polynomials.
+/// The Schubert polynomial of a permutation that rises at the places from 1 to `rows`, in so many
+/// variables, as a sum of Schur polynomials.
 ///
 /// What still waits is worked off from its end, so that few permutations wait at a time.
 pub(crate) fn in_schurs(alloc: Global, start: Perm, rows: u16) -> Result<Schurs, SumFault>
     requires few { rows ≤ 64 }
     requires rising { IsRising rows (rows + 16) start }
-    ensures value { IfOk result (λ sum. (φ : List ℕ → ℤ) → walked rows φ sum [] ≡ pair (schubert_in start rows) φ) }
-    ensures terms { IfOk result (λ sum. AreTerms rows 4096 sum) }
-    ensures large { IsErrOf result SumFault.Large → HasLargeShape rows (λ φ. pair (schubert_in start rows) φ) }
+    ensures value { IfOk result (λ sum. (φ : List ℕ → ℤ)
+        → walked rows φ sum [] ≡ pair (schubert_in start rows) φ) }
+    ensures shapes { IfOk result (AreShapes rows) }
+    ensures large { IsErrOf result SumFault.Large
+        → HasLargeShape rows (λ φ. pair (schubert_in start rows) φ) }
 {
     let mut todo = Vec::new(alloc);
     todo.push(start)?;
@@ -44,7 +47,8 @@ pub(crate) fn in_schurs(alloc: Global, start: Perm, rows: u16) -> Result<Schurs,
     Ok(sum)
 }
 
-/// Works off a permutation: nothing is left of one in which more than `rows` greater letters stand in front of some letter.
+/// Works off a permutation: nothing is left of one in which more than `rows` greater letters stand
+/// in front of some letter.
 fn work_off(
     alloc: Global,
     todo: &mut Vec<Perm>,
@@ -56,11 +60,15 @@ fn work_off(
     requires rising { IsRising rows (rows + 16) perm.now }
     ensures value { OnOk result ((φ : List ℕ → ℤ) → walked rows φ sum.new todo.new.items
         ≡ walked rows φ sum.old todo.old.items +ℤ pair (schubert_in perm.now rows) φ) }
-    ensures rising { OnOk result (AreRising rows (rows + 16) todo.old.items → AreRising rows (rows + 16) todo.new.items) }
-    ensures terms { OnOk result (AreTerms rows 4096 sum.old → AreTerms rows 4096 sum.new) }
-    ensures weight { OnOk result (weigh weight todo.new.items < weigh weight todo.old.items + weight perm.now) }
-    ensures large { IsErrOf result SumFault.Large → AreRising rows (rows + 16) todo.old.items → AreTerms rows 4096 sum.old
-        → HasLargeShape rows (λ φ. walked rows φ sum.old todo.old.items +ℤ pair (schubert_in perm.now rows) φ) }
+    ensures rising { OnOk result (AreRising rows (rows + 16) todo.old.items
+        → AreRising rows (rows + 16) todo.new.items) }
+    ensures shapes { OnOk result (AreShapes rows sum.old → AreShapes rows sum.new) }
+    ensures weight { OnOk result (weigh weight todo.new.items
+        < weigh weight todo.old.items + weight perm.now) }
+    ensures large { IsErrOf result SumFault.Large → AreRising rows (rows + 16) todo.old.items
+        → AreShapes rows sum.old
+        → HasLargeShape rows (λ φ. walked rows φ sum.old todo.old.items
+        +ℤ pair (schubert_in perm.now rows) φ) }
 {
     if has_more_before(perm, rows) {
         return Ok(());
@@ -68,7 +76,8 @@ fn work_off(
     replace(alloc, todo, perm, rows, sum)
 }
 
-/// Puts in the place of a permutation those that the transition rule makes of it; one without a descent past the place
+/// Puts in the place of a permutation those that the transition rule makes of it;
+/// one without a descent after the place
 /// `rows` is Grassmannian, and its Schur polynomial is added to the sum.
 fn replace(
     alloc: Global,
@@ -81,11 +90,15 @@ fn replace(
     requires rising { IsRising rows (rows + 16) perm.now }
     ensures value { OnOk result ((φ : List ℕ → ℤ) → walked rows φ sum.new todo.new.items
         ≡ walked rows φ sum.old todo.old.items +ℤ pair (schubert_in perm.now rows) φ) }
-    ensures rising { OnOk result (AreRising rows (rows + 16) todo.old.items → AreRising rows (rows + 16) todo.new.items) }
-    ensures terms { OnOk result (AreTerms rows 4096 sum.old → AreTerms rows 4096 sum.new) }
-    ensures weight { OnOk result (weigh weight todo.new.items < weigh weight todo.old.items + weight perm.now) }
-    ensures large { IsErrOf result SumFault.Large → AreRising rows (rows + 16) todo.old.items → AreTerms rows 4096 sum.old
-        → HasLargeShape rows (λ φ. walked rows φ sum.old todo.old.items +ℤ pair (schubert_in perm.now rows) φ) }
+    ensures rising { OnOk result (AreRising rows (rows + 16) todo.old.items
+        → AreRising rows (rows + 16) todo.new.items) }
+    ensures shapes { OnOk result (AreShapes rows sum.old → AreShapes rows sum.new) }
+    ensures weight { OnOk result (weigh weight todo.new.items
+        < weigh weight todo.old.items + weight perm.now) }
+    ensures large { IsErrOf result SumFault.Large → AreRising rows (rows + 16) todo.old.items
+        → AreShapes rows sum.old
+        → HasLargeShape rows (λ φ. walked rows φ sum.old todo.old.items
+        +ℤ pair (schubert_in perm.now rows) φ) }
 {
     match transition_places(perm) {
         Some((r, s)) => {
@@ -96,27 +109,28 @@ fn replace(
         }
         None => {}
     }
-    is_whole(sum);
     add_shape(alloc, sum, perm, rows)
 }
 
-/// Puts the permutations at the end that the transition rule makes, but for the one that is multiplied by a variable.
+/// Puts the permutations at the end that the transition rule makes, but for the one that is
+/// multiplied by a variable.
 fn expand(todo: &mut Vec<Perm>, perm: &Perm, r: u16, s: u16) -> Result<(), NoMemory>
     requires short { IsShort 254 perm.now }
     requires places { IsTransition perm.now r s }
-    ensures { OnOk result (todo.new.items ≡ todo.old.items ++ covers_down r (times_swap r s perm.now)) }
+    ensures { OnOk result (todo.new.items
+        ≡ todo.old.items ++ covers_down r (times_swap r s perm.now)) }
 {
     let lower = perm.times_swap(r, s)?;
     let covers = lower.covers_down(r)?;
-    push_all(todo, covers.as_slice())
+    push_all(todo, covers)
 }
 
-/// Puts copies of some permutations at the end.
-fn push_all(todo: &mut Vec<Perm>, perms: &[Perm]) -> Result<(), NoMemory>
-    ensures { OnOk result (todo.new.items ≡ todo.old.items ++ perms.now) }
+/// Puts some permutations at the end.
+fn push_all(todo: &mut Vec<Perm>, perms: Vec<Perm>) -> Result<(), NoMemory>
+    ensures { OnOk result (todo.new.items ≡ todo.old.items ++ perms.items) }
 {
     for perm in perms {
-        todo.push(perm.copy()?)?;
+        todo.push(perm)?;
     }
     Ok(())
 }
@@ -125,15 +139,15 @@ fn push_all(todo: &mut Vec<Perm>, perms: &[Perm]) -> Result<(), NoMemory>
 fn add_shape(alloc: Global, sum: &mut Schurs, perm: &Perm, rows: u16) -> Result<(), SumFault>
     requires few { rows ≤ 64 }
     requires limits { IsWithinLimits (front_shape rows perm.now) }
-    ensures value { OnOk result ((φ : List ℕ → ℤ) → over φ sum.new ≡ over φ sum.old +ℤ φ (front_shape rows perm.now)) }
-    ensures terms { OnOk result (AreTerms rows 4096 sum.old → AreTerms rows 4096 sum.new) }
-    ensures large { IsErrOf result SumFault.Large → AreTerms rows 4096 sum.old
-        → pos (2 ^ 127) ≤ℤ (over (only (front_shape rows perm.now)) sum.old +ℤ pos 1) }
+    ensures gains { OnOk result (Gains sum.old ((front_shape rows perm.now, pos 1) ∷ []) sum.new) }
+    ensures table { OnOk result (IsTable sum.new) }
+    ensures held { OnOk result (IsHeld sum.new) }
+    ensures large { IsErrOf result SumFault.Large
+        → Overflows (pointwise nat_eq) sum.old ((front_shape rows perm.now, pos 1) ∷ []) }
 {
     let beta = front(alloc, perm, rows)?;
     let shape = Partition::from_beta(alloc, beta.as_slice())?;
-    is_whole(sum);
-    sum.add_term(shape, Int::one())
+    sum.add_at_label(&shape, Int::one())
 }
 
 /// The letters at the places from `rows` down to 1, each less by 1.
@@ -148,12 +162,4 @@ fn front(alloc: Global, perm: &Perm, rows: u16) -> Result<Vec<u16>, NoMemory>
         i -= 1;
     }
     Ok(list)
-}
-
-/// Does nothing when it runs: it tells a proof what a table with coefficients of `Int` is.
-pub(crate) fn is_whole(sum: &Schurs)
-    ensures whole { AreWhole sum.now }
-    ensures table { IsTable is_label sum.now }
-{
-    let _ = sum.iter();
 }

@@ -17,7 +17,7 @@ use Rattle.sym_model.specs.BetaList.{greater, put_falling, sorted_falling, from_
 use Rattle.sym_model.specs.Permutation.{code}
 use Rattle.sym_model.specs.DividedDifference.{x_to}
 use Rattle.sym_model.specs.Schubert.{schubert, schubert_in}
-use Rattle.sym_model.proofs.Sums.{Among_from_append}
+use Rattle.sym_model.proofs.Sums.{among_reverse}
 use Rattle.sym_model.proofs.Exponents.{tests_agree, same_true, same_from}
 use Rattle.sym_model.proofs.Polynomials.{In_restrict, at_only, coefficient_pair, coefficient_outside, pair_ext, pair_in, pair_restrict, pair_determined, same_from_pair}
 use Rattle.sym_model.proofs.Numbers.{counts-less, counts-not_less}
@@ -28,7 +28,6 @@ use Rattle.schubert_laws.proofs.Exchanges.{exchange_at, Rises, exchange_twice, l
 use Rattle.schubert_laws.proofs.Dominant.{over_exchange}
 use Rattle.schubert_laws.proofs.FixedLetters.{In_schubert}
 use Rattle.schubert_laws.proofs.MonkStep.{pair_ascent}
-use Rattle.schubert_laws.proofs.MonkFromOne.{within}
 use Rattle.beta_list_laws.specs.StrictFall.{FallsStrictly}
 use Rattle.beta_list_laws.proofs.BetaLists.{from_beta_partition, rows-from_beta}
 use Rattle.alternant_laws.proofs.Alternating.{alternating}
@@ -39,6 +38,7 @@ use Rattle.alternant_laws.proofs.GoodAlternants.{In-skew_schur}
 use Rattle.alternant_laws.proofs.SchurProducts.{bialternant}
 use Rattle.alternant_laws.proofs.SortedAlternants.{from_beta-join}
 use Rattle.stanley_laws.proofs.SortingPaths.{alternates, along_within, rising_code, rises_front, IsFront, pred, grassmannian_path}
+use Rattle.sym_model.proofs.PolynomialLaws.{restricted_test}
 
 -- ---- rising letters
 
@@ -76,14 +76,6 @@ put_last a (b ∷ l) h =
     let e : nat_le b a ≡ false = grind (arith, nat_tests) in
     ap (λ t. cond t (a ∷ b ∷ l) (b ∷ put_falling a l)) e ∙ ap (λ v. b ∷ v) (put_last a l (λ x m. h x (inr m)))
 
-among_reverse : (x : ℕ) (w : List ℕ) → Among x (reverse w) → Among x w
-among_reverse x [] m = m
-among_reverse x (a ∷ w) m = elim (Among_from_append x (reverse w) (a ∷ []) (subst (λ l. Among x l) (reverse-append (a ∷ []) w) m)) [
-  | inl i ↦ inr (among_reverse x w i)
-  | inr (inl e) ↦ inl e
-  | inr (inr e) ↦ absurd e
-]
-
 sorted_rising : (w : List ℕ) → AllRise w → sorted_falling w ≡ reverse w
 sorted_rising [] r = refl
 sorted_rising (a ∷ w) r =
@@ -117,15 +109,15 @@ along_exchanged (suc k) φ (a ∷ α) = along_exchanged k (λ β. φ (a ∷ β))
 pair_front_exchanged : (k n : ℕ) (u : List ℕ) (φ : List ℕ → ℤ) → suc k < n → suc k < length u → Rises k u → pair (schubert_in u n) (λ α. φ (exchange_at k α)) ≡ pair (schubert_in u n) φ
 pair_front_exchanged k n u φ h l r =
     pair_restrict n (schubert u) (λ α. φ (exchange_at k α))
-    ∙ pair_ascent (x_to (staircase (length u))) u k (within n (λ α. φ (exchange_at k α))) r
-    ∙ ap (λ p. pair p (along k (within n (λ α. φ (exchange_at k α))))) (over_exchange u k)
-    ∙ pair_in (length (exchange_at k u)) (schubert (exchange_at k u)) (along k (within n (λ α. φ (exchange_at k α)))) (along k (within n φ)) (In_schubert (exchange_at k u)) (λ α e.
+    ∙ pair_ascent (x_to (staircase (length u))) u k (restricted_test n (λ α. φ (exchange_at k α))) r
+    ∙ ap (λ p. pair p (along k (restricted_test n (λ α. φ (exchange_at k α))))) (over_exchange u k)
+    ∙ pair_in (length (exchange_at k u)) (schubert (exchange_at k u)) (along k (restricted_test n (λ α. φ (exchange_at k α)))) (along k (restricted_test n φ)) (In_schubert (exchange_at k u)) (λ α e.
     let i = length-exchange_at k u in
     along_within k n (λ γ. φ (exchange_at k γ)) α h (omega arith)
     ∙ ap (λ x. cond (fits_in n α) x (pos 0)) (along_exchanged k φ (resize n α))
     ∙ sym (along_within k n φ α h (omega arith)))
-    ∙ ap (λ p. pair p (along k (within n φ))) (sym (over_exchange u k))
-    ∙ sym (pair_restrict n (schubert u) φ ∙ pair_ascent (x_to (staircase (length u))) u k (within n φ) r)
+    ∙ ap (λ p. pair p (along k (restricted_test n φ))) (sym (over_exchange u k))
+    ∙ sym (pair_restrict n (schubert u) φ ∙ pair_ascent (x_to (staircase (length u))) u k (restricted_test n φ) r)
 
 exchanged_there : (left : List ℕ) (a b : ℕ) (right : List ℕ) → exchange_at (length left) (left ++ (a ∷ b ∷ right)) ≡ left ++ (b ∷ a ∷ right)
 exchanged_there [] a b right = refl

@@ -2,10 +2,10 @@
 --     rising_covers    the permutations that the transition rule makes rise at the first places too
 --     schur_positive   so by its order each is a sum of Schur polynomials
 --     natural          and no Schur coefficient is negative
-use Rattle.std.proofs.Common.{◌≡◌, ℕ, zero, suc, ◌+◌, ◌<◌, ◌≤◌, List, [], ◌∷◌, ◌++◌, length, refl, sym, ◌∙◌, ap, ap₂, subst, arith, inl, inr, cond, Bool, true, false, pos, ◌+ℤ◌, ◌≤ℤ◌, Some, None, Option, unwrap_or}
+use Rattle.std.proofs.Common.{◌≡◌, ℕ, zero, suc, ◌+◌, ◌<◌, ◌≤◌, List, [], ◌∷◌, ◌++◌, length, refl, sym, ◌∙◌, ap, ap₂, subst, arith, inl, inr, cond, Bool, true, false, pos, ◌+ℤ◌, ◌≤ℤ◌, Some, None, Option, unwrap_or, flat_map}
 use Rattle.std.proofs.lemmas.Int.{ints}
 use Rattle.std.proofs.lemmas.Bool.{cases_lt}
-use Rattle.sym_model.specs.Sum.{total, each, Among}
+use Rattle.sym_model.specs.Sum.{total, Among}
 use Rattle.sym_model.specs.Polynomial.{Poly, Same, same, nothing, plus, pair, join, times}
 use Rattle.sym_model.specs.Partition.{IsPartition, rows}
 use Rattle.sym_model.specs.Alternant.{alternant, staircase, schur_coefficient}
@@ -62,7 +62,7 @@ rising_covers m n r s w x i t h mem =
 -- ---- sums of Schur polynomials
 
 positive_same : (m : ℕ) (f g : Poly) → Same f g → IsSchurPositive m g → IsSchurPositive m f
-positive_same m f g e p = record { shapes = p.shapes; partitions = p.partitions; sum = Same_trans f g (each (λ κ. schur κ m) p.shapes) e p.sum }
+positive_same m f g e p = record { shapes = p.shapes; partitions = p.partitions; sum = Same_trans f g (flat_map (λ κ. schur κ m) p.shapes) e p.sum }
 
 positive_schur : (m : ℕ) (κ : List ℕ) → IsPartition κ → rows κ ≤ m → IsSchurPositive m (schur κ m)
 positive_schur m κ p h = record {
@@ -71,7 +71,7 @@ positive_schur m κ p h = record {
   sum = same_of_equal (schur κ m) (schur κ m ++ []) (sym (append-nil (schur κ m)));
 }
 
-positive_each : (m : ℕ) (f : List ℕ → Poly) (xs : List (List ℕ)) → ((x : List ℕ) → Among x xs → IsSchurPositive m (f x)) → IsSchurPositive m (each f xs)
+positive_each : (m : ℕ) (f : List ℕ → Poly) (xs : List (List ℕ)) → ((x : List ℕ) → Among x xs → IsSchurPositive m (f x)) → IsSchurPositive m (flat_map f xs)
 positive_each m f [] h = record { shapes = []; partitions = λ ν i. absurd i; sum = Same_refl nothing }
 positive_each m f (x ∷ xs) h =
     let p = h x (inl refl) in
@@ -79,10 +79,10 @@ positive_each m f (x ∷ xs) h =
     record {
       shapes = p.shapes ++ q.shapes;
       partitions = λ ν i. elim (Among_from_append ν p.shapes q.shapes i) [ inl a ↦ p.partitions ν a | inr a ↦ q.partitions ν a ];
-      sum = same_from_pair (plus (f x) (each f xs)) (each (λ κ. schur κ m) (p.shapes ++ q.shapes)) (λ φ.
-          pair_plus (f x) (each f xs) φ
-          ∙ ap₂ ◌+ℤ◌ (pair_determined (f x) (each (λ κ. schur κ m) p.shapes) φ p.sum ∙ pair_each (λ κ. schur κ m) p.shapes φ)
-          (pair_determined (each f xs) (each (λ κ. schur κ m) q.shapes) φ q.sum ∙ pair_each (λ κ. schur κ m) q.shapes φ)
+      sum = same_from_pair (plus (f x) (flat_map f xs)) (flat_map (λ κ. schur κ m) (p.shapes ++ q.shapes)) (λ φ.
+          pair_plus (f x) (flat_map f xs) φ
+          ∙ ap₂ ◌+ℤ◌ (pair_determined (f x) (flat_map (λ κ. schur κ m) p.shapes) φ p.sum ∙ pair_each (λ κ. schur κ m) p.shapes φ)
+          (pair_determined (flat_map f xs) (flat_map (λ κ. schur κ m) q.shapes) φ q.sum ∙ pair_each (λ κ. schur κ m) q.shapes φ)
           ∙ sym (pair_each (λ κ. schur κ m) (p.shapes ++ q.shapes) φ ∙ total_append (λ κ. pair (schur κ m) φ) p.shapes q.shapes));
     }
 
@@ -143,7 +143,7 @@ counts_natural m κ p h (ν ∷ shapes) g =
 
 pub natural : (m : ℕ) (f : Poly) (κ : List ℕ) → IsSchurPositive m f → IsPartition κ → rows κ ≤ m → pos 0 ≤ℤ pair f (schur_test m κ)
 natural m f κ s p h =
-    subst (λ z. pos 0 ≤ℤ z) (sym (pair_determined f (each (λ ν. schur ν m) s.shapes) (schur_test m κ) s.sum ∙ pair_each (λ ν. schur ν m) s.shapes (schur_test m κ)))
+    subst (λ z. pos 0 ≤ℤ z) (sym (pair_determined f (flat_map (λ ν. schur ν m) s.shapes) (schur_test m κ) s.sum ∙ pair_each (λ ν. schur ν m) s.shapes (schur_test m κ)))
     (counts_natural m κ p h s.shapes s.partitions)
 
 pub schur_coefficient_natural : (m : ℕ) (f : Poly) (κ : List ℕ) → IsSchurPositive m f → IsPartition κ → rows κ ≤ m → pos 0 ≤ℤ schur_coefficient m κ f

@@ -28,9 +28,9 @@ use Rattle.schubert_laws.proofs.Dominant.{IsOneUp, one_up, falls_exchange, over_
 use Rattle.schubert_laws.proofs.FixedLetters.{In_schubert}
 use Rattle.schubert_laws.proofs.MonkStep.{pair_ascent, jump_first}
 use Rattle.schubert_laws.proofs.MonkRule.{HasNoAscent, pair_dominant, greater_of_none}
-use Rattle.schubert_laws.proofs.MonkFromOne.{within}
 use Rattle.beta_list_laws.proofs.NeighbourExchanges.{sorted-exchange, sorted-falling}
 use Rattle.alternant_laws.proofs.Alternating.{inserting, alternating, alternating_swap}
+use Rattle.sym_model.proofs.PolynomialLaws.{restricted_test}
 
 -- ---- divided differences of alternating functions
 
@@ -71,7 +71,7 @@ across_if : (t : Bool) (φ : ℕ → ℕ → ℤ) (a b : ℕ) → across (λ c d
 across_if true φ a b = refl
 across_if false φ a b = along_zero 0 (a ∷ b ∷ [])
 
-pub along_within : (k n : ℕ) (φ : List ℕ → ℤ) (α : List ℕ) → suc k < n → suc k < length α → along k (within n φ) α ≡ within n (along k φ) α
+pub along_within : (k n : ℕ) (φ : List ℕ → ℤ) (α : List ℕ) → suc k < n → suc k < length α → along k (restricted_test n φ) α ≡ restricted_test n (along k φ) α
 along_within k n φ [] h l = absurd (omega arith)
 along_within k zero φ (a ∷ α) h l = absurd (omega arith)
 along_within zero (suc zero) φ (a ∷ α) h l = absurd (omega arith)
@@ -176,13 +176,13 @@ rising_code_falling (a ∷ w) o n =
 -- ---- along the path that sorts the first letters
 
 grassmannian_within : (n : ℕ) (w z : List ℕ) (A : List ℕ → ℤ) → rising_pairs w < n → Alternates A → IsFront w z → Falls (code w)
-    → pair (schubert (w ++ z)) (within (length w) (λ α. A (join (rising_code w) α))) ≡ A (map pred (sorted_falling w))
+    → pair (schubert (w ++ z)) (restricted_test (length w) (λ α. A (join (rising_code w) α))) ≡ A (map pred (sorted_falling w))
 grassmannian_within zero w z A b h i f = absurd (omega arith)
 grassmannian_within (suc n) w z A b h i f = by (first_ascent_cases w) (λ v c j g. grassmannian_within n v z A c h j g)
   where
     by : ((j : ℕ) × IsFirstAscent w j) ⊎ ((first_ascent w ≡ None) × HasNoAscent w)
-        → ((v : List ℕ) → rising_pairs v < n → IsFront v z → Falls (code v) → pair (schubert (v ++ z)) (within (length v) (λ α. A (join (rising_code v) α))) ≡ A (map pred (sorted_falling v)))
-        → pair (schubert (w ++ z)) (within (length w) (λ α. A (join (rising_code w) α))) ≡ A (map pred (sorted_falling w))
+        → ((v : List ℕ) → rising_pairs v < n → IsFront v z → Falls (code v) → pair (schubert (v ++ z)) (restricted_test (length v) (λ α. A (join (rising_code v) α))) ≡ A (map pred (sorted_falling v)))
+        → pair (schubert (w ++ z)) (restricted_test (length w) (λ α. A (join (rising_code w) α))) ≡ A (map pred (sorted_falling w))
     by (inl found) rec =
         let k : ℕ = found.0 in
         let r = found.1.rises in
@@ -191,14 +191,14 @@ grassmannian_within (suc n) w z A b h i f = by (first_ascent_cases w) (λ v c j 
         let m = rises_within k w r in
         let o = once_front w z i.once in
         let all = length-append (exchange_at k w) z in
-        pair_ascent (x_to (staircase (length (w ++ z)))) (w ++ z) k (within (length w) (λ α. A (join (rising_code w) α))) (rises_front k w z r)
-        ∙ ap (λ p. pair p (along k (within (length w) (λ α. A (join (rising_code w) α))))) (over_exchange (w ++ z) k ∙ ap schubert (exchange_front k w z r))
-        ∙ pair_in (length (exchange_at k w ++ z)) (schubert (exchange_at k w ++ z)) (along k (within (length w) (λ α. A (join (rising_code w) α))))
-        (within (length w) (λ α. A (join (rising_code (exchange_at k w)) α))) (In_schubert (exchange_at k w ++ z)) (λ α t.
+        pair_ascent (x_to (staircase (length (w ++ z)))) (w ++ z) k (restricted_test (length w) (λ α. A (join (rising_code w) α))) (rises_front k w z r)
+        ∙ ap (λ p. pair p (along k (restricted_test (length w) (λ α. A (join (rising_code w) α))))) (over_exchange (w ++ z) k ∙ ap schubert (exchange_front k w z r))
+        ∙ pair_in (length (exchange_at k w ++ z)) (schubert (exchange_at k w ++ z)) (along k (restricted_test (length w) (λ α. A (join (rising_code w) α))))
+        (restricted_test (length w) (λ α. A (join (rising_code (exchange_at k w)) α))) (In_schubert (exchange_at k w ++ z)) (λ α t.
         along_within k (length w) (λ γ. A (join (rising_code w) γ)) α m (omega arith)
         ∙ ap (λ x. cond (fits_in (length w) α) x (pos 0)) (along_lowered k (rising_code (exchange_at k w)) (rising_code w) (resize (length w) α) A (rising_up k w o f r) h
         (length-resize (length w) α ∙ sym (length-rising_code (exchange_at k w) ∙ l))))
-        ∙ ap (λ x. pair (schubert (exchange_at k w ++ z)) (within x (λ α. A (join (rising_code (exchange_at k w)) α)))) (sym l)
+        ∙ ap (λ x. pair (schubert (exchange_at k w ++ z)) (restricted_test x (λ α. A (join (rising_code (exchange_at k w)) α)))) (sym l)
         ∙ rec (exchange_at k w) (omega arith) (front_exchange k w z r i) (falls_exchange k w o f r found.1.first)
         ∙ ap (λ x. A (map pred x)) (sorted_exchange_at k w)
     by (inr none) rec =
@@ -206,13 +206,13 @@ grassmannian_within (suc n) w z A b h i f = by (first_ascent_cases w) (λ v c j 
         let falls = falls_without_ascent w none.1 in
         let c = code_front w z o none.1 i.smaller_ones ∙ ap (λ x. map pred w ++ x) i.rest in
         let long = length-map w pred in
-        pair_dominant (w ++ z) (within (length w) (λ α. A (join (rising_code w) α))) i.once (subst Falls (sym c) (falls_front w (length z) falls))
-        ∙ ap (within (length w) (λ α. A (join (rising_code w) α))) c
+        pair_dominant (w ++ z) (restricted_test (length w) (λ α. A (join (rising_code w) α))) i.once (subst Falls (sym c) (falls_front w (length z) falls))
+        ∙ ap (restricted_test (length w) (λ α. A (join (rising_code w) α))) c
         ∙ ap₂ (λ b x. cond b (A (join (rising_code w) x)) (pos 0)) (fits_front w (length z)) (resize_front w (replicate (length z) 0))
         ∙ ap (λ x. A (join x (map pred w))) (rising_code_falling w o none.1)
         ∙ ap A (join_zeros (length w) (map pred w) (omega arith))
         ∙ ap (λ x. A (map pred x)) (sym (sorted-falling w falls))
 
 pub grassmannian_path : (w z : List ℕ) (A : List ℕ → ℤ) → Alternates A → IsFront w z → Falls (code w)
-    → pair (schubert (w ++ z)) (within (length w) (λ α. A (join (rising_code w) α))) ≡ A (map pred (sorted_falling w))
+    → pair (schubert (w ++ z)) (restricted_test (length w) (λ α. A (join (rising_code w) α))) ≡ A (map pred (sorted_falling w))
 grassmannian_path w z A h i f = grassmannian_within (suc (rising_pairs w)) w z A (omega arith) h i f

@@ -1,4 +1,5 @@
--- Grassmannian permutations and their partitions (Macdonald, Notes on Schubert polynomials, I and IV).
+-- Grassmannian permutations and their partitions (Macdonald, Notes on Schubert polynomials,
+-- I and IV).
 use Rattle.std.specs.Prelude.{ℕ, zero, suc, ◌+◌, ◌-◌, ◌<◌, ◌≤◌, List, [], ◌∷◌}
 use Rattle.sym_model.specs.BetaList.{from_beta}
 use Rattle.sym_model.specs.Permutation.{IsOneLine, letter, last_descent_place}

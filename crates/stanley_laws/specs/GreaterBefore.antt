@@ -1,4 +1,4 @@
--- Greater letters in front of a letter of a permutation (this project's own).
+-- Greater letters in front of a letter of a permutation.
 use Rattle.std.specs.Prelude.{ℕ, ◌-◌, ◌<◌, ◌≤◌, List, take}
 use Rattle.sym_model.specs.BetaList.{greater}
 use Rattle.sym_model.specs.Permutation.{letter}

@@ -7,11 +7,12 @@ ghost use Rattle.sym_model.specs.Schubert.{schubert_in};
 ghost use Rattle.sym_model.specs.Schur.{schur};
 ghost use Rattle.stanley_laws.specs.Grassmannian.{IsGrassmannian, front_shape};
 
-/// The Schubert polynomial of a permutation u without a descent but at place m, in m variables, is the Schur polynomial
-/// of the partition of the parts u(i) - i for i from m down to 1 (Macdonald, Notes on Schubert polynomials, IV).
+/// The Schubert polynomial of a permutation u without a descent but at place m, in m variables, is
+/// the Schur polynomial of the partition of the parts u(i) - i for i from m down to 1 (Macdonald,
+/// Notes on Schubert polynomials, IV).
 ///
-/// Example: 1 3 4 2 has its descent at place 3, so its Schubert polynomial in three variables is the Schur polynomial
-/// of (1,1).
+/// Example: 1 3 4 2 has its descent at place 3, so its Schubert polynomial in three variables is
+/// the Schur polynomial of (1,1).
 pub fn grassmannian_law()
     ensures schur { (m : ℕ) (u : List ℕ) → IsGrassmannian m u
         → Same (schubert_in u m) (schur (front_shape m u) m) }

@@ -1,7 +1,8 @@
 -- Containment of shapes by parts, by cells and as a test.
 --     contains-tells, contains-from      the test and the parts
 --     cells-from, cells-tell             the parts and the cells
-use Rattle.std.proofs.Common.{◌≡◌, ℕ, zero, suc, ◌+◌, ◌-◌, ◌≤◌, true, List, [], ◌∷◌, get_or, leb, eqb, subst, refl, inl, inr, arith, ◌&&◌, ap, ◌∙◌}
+--     cell                               a place between the parts of a row is a cell
+use Rattle.std.proofs.Common.{◌≡◌, ℕ, zero, suc, ◌+◌, ◌-◌, ◌<◌, ◌≤◌, true, List, [], ◌∷◌, get_or, leb, eqb, subst, refl, inl, inr, arith, ◌&&◌, ap, ◌∙◌}
 use Rattle.std.proofs.lemmas.Bool.{cases_lt, eq-eqb, eqb-true, leb-true, le-leb, and_parts, and_from}
 use Rattle.sym_model.specs.Partition.{part, Holds, IsCell}
 use Rattle.sym_model.specs.Schur.{contains}
@@ -71,3 +72,6 @@ contains_from_places [] (b ∷ inner) h =
     ap (λ x. x && contains [] inner) (eq-eqb b 0 z) ∙ contains_from_places [] inner (λ j. let y = h (suc j) in y)
 contains_from_places (a ∷ outer) (b ∷ inner) h =
     ap (λ x. x && contains outer inner) (le-leb b a (h 0)) ∙ contains_from_places outer inner (λ j. h (suc j))
+
+pub cell : (outer inner : List ℕ) (row column : ℕ) → 1 ≤ row → part inner row < column → column ≤ part outer row → IsCell outer inner row column
+cell outer inner row column a b c = record { row_counts = a; outside = b; within = c }

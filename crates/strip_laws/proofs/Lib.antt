@@ -1,6 +1,5 @@
 pub mod Strips
 pub mod RimHooks
-pub mod ClosedShapes
 pub mod HookSizes
 pub mod Reflections
 pub mod Containment

@@ -24,11 +24,11 @@ squares_sorted [] = refl
 squares_sorted (a ∷ b) = squares_put a (sorted_falling b) ∙ ap (λ n. a * a + n) (squares_sorted b)
 
 -- the last entry of a list that is not empty
-abbrev last_of : ℕ → List ℕ → ℕ
+abbrev pub last_of : ℕ → List ℕ → ℕ
 last_of a [] = a
 last_of a (c ∷ b) = last_of c b
 
-last_is : (a : ℕ) (b : List ℕ) → get_or (a ∷ b) (length b) 0 ≡ last_of a b
+pub last_is : (a : ℕ) (b : List ℕ) → get_or (a ∷ b) (length b) 0 ≡ last_of a b
 last_is a [] = refl
 last_is a (c ∷ b) = last_is c b
 

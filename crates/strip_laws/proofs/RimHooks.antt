@@ -2,10 +2,9 @@
 --     hook_from_rows      rows that are chained make a rim hook
 --     hook_rows           each rim hook has such rows
 --     height_of_rows      its height is the number of these rows
-use Rattle.std.proofs.Common.{◌≡◌, ℕ, zero, suc, ◌+◌, ◌-◌, ◌<◌, ◌≤◌, min, max, ◌⊎◌, List, [], ◌∷◌, ◌++◌, length, Bool, true, false, nat_lt, sym, subst, refl, inl, inr, arith}
+use Rattle.std.proofs.Common.{◌≡◌, ℕ, zero, suc, ◌+◌, ◌-◌, ◌<◌, ◌≤◌, min, max, ◌⊎◌, List, [], ◌∷◌, ◌++◌, length, Bool, true, false, nat_lt, sym, subst, refl, inl, inr, arith, filter}
 use Rattle.std.proofs.lemmas.Bool.{cases_lt}
 use Rattle.std.proofs.lemmas.Bool.Decides.{nat_tests}
-use Rattle.sym_model.specs.Sum.{select}
 use Rattle.sym_model.specs.Partition.{Falls, part, rows, after, Holds, IsCell}
 use Rattle.strip_laws.specs.HookRows.{IsHookRows}
 use Rattle.sym_model.specs.Strip.{AreNeighbours, ShareEdge, IsPath, IsConnected, HasNoSquare, IsRimHook, height}
@@ -254,14 +253,14 @@ hook_rows outer inner f g h =
 
 -- how many of the rows a + 1, .., a + k are among the rows first, .., last
 counted : (test : ℕ → Bool) (first last a k : ℕ) → ((i : ℕ) → 1 ≤ i → first ≤ i → i ≤ last → test i ≡ true) → ((i : ℕ) → 1 ≤ i → (i < first) ⊎ (last < i) → test i ≡ false)
-    → first ≤ last + 1 → length (select test (after a k)) ≡ (min last (a + k) + 1) - max first (a + 1)
+    → first ≤ last + 1 → length (filter test (after a k)) ≡ (min last (a + k) + 1) - max first (a + 1)
 counted test first last a zero yes' no' o = omega arith
 counted test first last a (suc k) yes' no' o =
     by (cases_lt (a + 1) first) (cases_lt last (a + 1)) (counted test first last (a + 1) k yes' no' o)
   where
     by : (a + 1 < first) ⊎ (first ≤ a + 1) → (last < a + 1) ⊎ (a + 1 ≤ last)
-        → length (select test (after (a + 1) k)) ≡ (min last (a + 1 + k) + 1) - max first (a + 1 + 1)
-        → length (select test (after a (suc k))) ≡ (min last (a + suc k) + 1) - max first (a + 1)
+        → length (filter test (after (a + 1) k)) ≡ (min last (a + 1 + k) + 1) - max first (a + 1 + 1)
+        → length (filter test (after a (suc k))) ≡ (min last (a + suc k) + 1) - max first (a + 1)
     by (inl p) q e = rw (no' (a + 1) (omega arith) (inl p)) (omega arith)
     by (inr p) (inl q) e = rw (no' (a + 1) (omega arith) (inr q)) (omega arith)
     by (inr p) (inr q) e = rw (yes' (a + 1) (omega arith) p q) (omega arith)

@@ -1,18 +1,16 @@
-//! Laws of strips, rim hooks and reflections: what the conditions on cells say of rows and beta lists.
+//! Laws of strips, rim hooks and reflections: what the conditions on cells say about rows and beta
+//! lists.
 //!
-//! A law function takes nothing, answers nothing and does no work when it runs: its contract is
-//! the law.
+//! A law function has an empty body: its contract is the law.
 //!
 //! What is proved:
 //!
-//! Strips, rim hooks, reflections and containment by rows: `strip_law`, `reflection_law`,
-//! `containment_law`.
+//! `strip_law`: horizontal and vertical strips and rim hooks by rows. `containment_law`: one shape
+//! lies inside another exactly if its cells are cells of the other.
 #![tactic(auto)]
 
 mod containing;
-mod reflecting;
 mod strips_and_hooks;
 
 pub use containing::containment_law;
-pub use reflecting::reflection_law;
-pub use strips_and_hooks::{removal_examples_law, strip_examples_law, strip_law};
+pub use strips_and_hooks::strip_law;

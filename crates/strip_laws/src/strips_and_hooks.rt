@@ -1,20 +1,16 @@
 //! Strips and rim hooks of partitions by their rows, and worked examples of both.
 
-ghost use Rattle.std.specs.Prelude.{◌≡◌, ℕ, ◌+◌, ◌-◌, ◌≤◌, ◌↔◌, pos, negsuc, List, [], ◌∷◌, Some, None};
-ghost use Rattle.sym_model.specs.Answer.{answer};
-ghost use Rattle.sym_model.specs.Command.{quantum};
-ghost use Rattle.sym_model.specs.Kind.{powers};
-ghost use Rattle.sym_model.specs.Target.{Meets};
+ghost use Rattle.std.specs.Prelude.{◌≡◌, ℕ, ◌+◌, ◌-◌, ◌≤◌, ◌↔◌, List};
 ghost use Rattle.sym_model.specs.Partition.{Falls, Holds, part, size};
 ghost use Rattle.sym_model.specs.Strip.{IsHorizontalStrip, IsVerticalStrip, IsRimHook, height};
 ghost use Rattle.strip_laws.specs.HookRows.{IsHookRows};
-ghost use Rattle.sym_model.specs.RimHookReduction.{IsRemoval, HasNoRemoval, GoesTo, ReducesTo};
 
 /// The conditions on cells as conditions on parts. A skew shape of falling lists is a horizontal
-/// strip where no part of the outer list is greater than the inner part of the row above, a vertical
-/// strip where each part is at most 1 greater than the inner one, and a rim hook where it lies in
-/// the rows first, .., last, chained together. Its height is then the number of these rows, and the
-/// number of its cells the height plus what the first outer part exceeds the last inner part, less 1.
+/// strip where no part of the outer list is greater than the inner part of the row above, a
+/// vertical strip where each part is at most 1 greater than the inner one, and a rim hook where it
+/// lies in the rows first, .., last, chained together. Its height is then the number of these rows,
+/// and the number of its cells the height plus what the first outer part exceeds the last inner
+/// part, less 1.
 pub fn strip_law()
     ensures horizontal { (outer inner : List ℕ) → Falls outer → Falls inner → Holds outer inner
         → (IsHorizontalStrip outer inner
@@ -24,44 +20,9 @@ pub fn strip_law()
         ↔ ((i : ℕ) → 1 ≤ i → part outer i ≤ part inner i + 1)) }
     ensures rim_hook { (outer inner : List ℕ) → Falls outer → Falls inner
         → (IsRimHook outer inner ↔ ((first : ℕ) × (last : ℕ) × IsHookRows outer inner first last)) }
-    ensures height { (outer inner : List ℕ) (first last : ℕ) → Falls outer → IsHookRows outer inner first last
+    ensures height { (outer inner : List ℕ) (first last : ℕ) → Falls outer
+        → IsHookRows outer inner first last
         → height outer inner ≡ last + 1 - first }
     ensures cells { (outer inner : List ℕ) (first last : ℕ) → IsHookRows outer inner first last
         → size outer + part inner last ≡ size inner + part outer first + (last - first) }
-{}
-
-/// Strips and rim hooks around (2,1), (1) and (2,2).
-pub fn strip_examples_law()
-    ensures row_of_two { IsHorizontalStrip (4 ∷ 1 ∷ []) (2 ∷ 1 ∷ []) }
-    ensures three_rows { IsHorizontalStrip (3 ∷ 1 ∷ 1 ∷ []) (2 ∷ 1 ∷ []) }
-    ensures not_horizontal { IsHorizontalStrip (2 ∷ 2 ∷ 2 ∷ []) (2 ∷ 1 ∷ []) → ⊥ }
-    ensures column_of_two { IsVerticalStrip (2 ∷ 1 ∷ 1 ∷ 1 ∷ []) (2 ∷ 1 ∷ []) }
-    ensures not_vertical { IsVerticalStrip (4 ∷ 1 ∷ []) (2 ∷ 1 ∷ []) → ⊥ }
-    ensures flat_hook { IsRimHook (3 ∷ []) (1 ∷ []) }
-    ensures flat_height { height (3 ∷ []) (1 ∷ []) ≡ 1 }
-    ensures upright_hook { IsRimHook (1 ∷ 1 ∷ 1 ∷ []) (1 ∷ []) }
-    ensures upright_height { height (1 ∷ 1 ∷ 1 ∷ []) (1 ∷ []) ≡ 2 }
-    ensures corner_hook { IsRimHook (2 ∷ 1 ∷ []) [] }
-    ensures corner_height { height (2 ∷ 1 ∷ []) [] ≡ 2 }
-    ensures square { IsRimHook (2 ∷ 2 ∷ []) [] → ⊥ }
-    ensures apart { IsRimHook (2 ∷ 1 ∷ []) (1 ∷ []) → ⊥ }
-    ensures no_cell { IsRimHook (1 ∷ []) (1 ∷ []) → ⊥ }
-{}
-
-/// Removals of rim hooks: the products of (1) and (2,1) and of (2,2) and (2,2) in two rows and two
-/// columns, and partitions of 6 in three rows and three columns.
-pub fn removal_examples_law()
-    ensures one_hook { GoesTo 2 4 (3 ∷ 1 ∷ []) [] (pos 1) 1 }
-    ensures stays { GoesTo 2 4 (2 ∷ 2 ∷ []) (2 ∷ 2 ∷ []) (pos 1) 0 }
-    ensures two_hooks { GoesTo 2 4 (4 ∷ 4 ∷ []) [] (pos 1) 2 }
-    ensures other_order { IsRemoval 4 (4 ∷ 4 ∷ []) (4 ∷ []) }
-    ensures negative { GoesTo 2 4 (4 ∷ []) [] (negsuc 0) 1 }
-    ensures hook_of_six { ReducesTo 3 6 (4 ∷ 1 ∷ 1 ∷ []) (Some ([], pos 1, 1)) }
-    ensures too_wide { ReducesTo 3 6 (4 ∷ 2 ∷ []) None }
-    ensures empty { HasNoRemoval 3 [] }
-    // what `quantum 2 2 1 - 2 1` and `quantum 2 2 2 2 - 2 2` must be: s_(2,2) + q, and q^2
-    ensures product { Meets (quantum 2 2 ((1 ∷ []) ∷ (2 ∷ 1 ∷ []) ∷ []))
-        (answer powers (((0, 2 ∷ 2 ∷ []), (pos 1, 1)) ∷ ((1, []), (pos 1, 1)) ∷ [])) }
-    ensures product_of_squares { Meets (quantum 2 2 ((2 ∷ 2 ∷ []) ∷ (2 ∷ 2 ∷ []) ∷ []))
-        (answer powers (((2, []), (pos 1, 1)) ∷ [])) }
 {}

@@ -1,4 +1,4 @@
-pub mod ShapeSums
+pub mod TermsAdded
 pub mod ShapeLists
 pub mod Signs
 pub mod TermProducts

@@ -2,91 +2,199 @@
 --     AddsList-none, AddsList-next    one term after another
 --     list_large                      where one is refused, the weight of the list is large
 --     weight_within                   the weight of the products
-use Rattle.std.proofs.Common.{◌≡◌, ℕ, zero, suc, ◌+◌, ◌*◌, ◌/◌, ◌^◌, ◌<◌, ◌≤◌, max, List, [], ◌∷◌, ◌++◌, refl, sym, ap, ◌∙◌, subst, inl, inr, arith, ℤ, ◌+ℤ◌, ◌*ℤ◌}
-use Rattle.std.specs.Prelude.{nat_abs}
+use Rattle.std.proofs.Common.{◌≡◌, ℕ, zero, suc, ◌+◌, ◌*◌, ◌/◌, ◌^◌, ◌<◌, ◌≤◌, max, List, [], ◌∷◌, ◌++◌, refl, sym, ap, ap₂, ◌∙◌, subst, inl, inr, arith, ℤ, ◌+ℤ◌, ◌*ℤ◌}
+use Rattle.std.specs.Prelude.{nat_eq, nat_abs}
 use Rattle.std.specs.Int.{◌∣◌}
+use Rattle.std.specs.Cmp.Lexicographic.{pointwise, nat_list_eq_equiv}
 use Rattle.std.proofs.Math.Nat.{div-mul_cancel, div-mul-le_self, dvd_of_mul-dvd-mul_right, mul-dvd-mul_right, one-dvd, one-le-pow, pow-le-pow_left}
-use Rattle.std.proofs.lemmas.Bool.{cases_lt}
+use Rattle.std.proofs.lemmas.Bool.{and_parts, cases_lt}
+use Rattle.std.proofs.lemmas.Int.{ints}
 use Rattle.std.proofs.lemmas.Nat.Gcd.{le_of_dvd}
 use Rattle.sym_model.specs.Sum.{Among}
-use Rattle.sym_model.specs.Canonical.{gcd}
-use Rattle.sym_model.specs.Partition.{size}
+use Rattle.sym_model.specs.Canonical.{gcd, is_label}
+use Rattle.sym_model.specs.Partition.{IsPartition, size, rows}
 use Rattle.sym_model.specs.Polynomial.{Poly, pair, times}
 use Rattle.sym_model.specs.Schur.{schur}
 use Rattle.sym_model.specs.Expansion.{Fraction, Terms}
 use Rattle.sym_model.specs.Expression.{lcm}
 use Rattle.sym_model.specs.ListWeight.{common_denominator, absolute_sum, list_weight}
+use Rattle.sym_model.specs.WholeTerms.{WholeTerms}
 use Rattle.sym_model.proofs.GreatestCommonDivisors.{IsGcd-gcd}
 use Rattle.sym_model.proofs.CanonicalLists.{each_term-among}
-use Rattle.sym_model.proofs.Orders.{is_reduced-tells}
-use Rattle.std.proofs.lemmas.Bool.{and_parts}
+use Rattle.sym_model.proofs.Orders.{is_reduced-tells, is_label-tells}
+use Rattle.sym_model.proofs.Sums.{Among-map, Among_from_map}
+use Rattle.monomial_laws.specs.ExpressionTerms.{over as numerators_over}
 use Rattle.monomial_laws.proofs.WeightBounds.{lcm-positive}
-use Rattle.coeff_rings.specs.Fractions.{scaled, whole}
+use Rattle.coeff_rings.specs.Fractions.{scaled as numerator_over, whole, InLowestTerms}
 use Rattle.coeff_rings.specs.Room.{magnitude}
 use Rattle.coeff_rings.specs.Proved.Divisors.{divides_other_factor, coprime_without, divisor_positive}
+use Rattle.linear_combinations.specs.Entries.{IsCombination}
+use Rattle.linear_combinations.specs.Gains.{over, mass, mass_at, scaled as gained_times, HaveLabels, Gains}
+use Rattle.linear_combinations.specs.Labels.{same_partition}
+use Rattle.linear_combinations.proofs.Gains.{all_pairs, next_among, over_append, gains_none, gains_both, gains_mass, mass_at_append, overflows_both, scaled_over}
+use Rattle.linear_combinations.proofs.LowestTerms.{lowest-is_reduced}
+use Rattle.linear_combinations.proofs.Totals.{term-among}
+use Rattle.linear_combinations.proofs.Masses.{mass_append, mass_scaled, mass_at_scaled, labels_append, labels_scaled, labels_gained}
 use Rattle.sparse_polys.specs.Combination.{terms_of}
 use Rattle.sparse_polys.specs.Products.{cleared_sum}
+use Rattle.sparse_polys.specs.MonomialProducts.{greatest_size}
+use Rattle.sparse_polys.specs.Products.{AreCleared}
 use Rattle.sparse_polys.proofs.ListSteps.{sum_next, absolute_next, rows_sizes}
-use Rattle.sparse_polys.specs.MonomialProducts.{coefficient_at, AreCleared}
-use Rattle.sparse_polys.proofs.Accumulating.{AreCleared-nothing}
-use Rattle.sparse_polys.proofs.Expansions.{least-denominators}
-use Rattle.strip_rules.specs.Adding.{AddsProduct, Overflows, in_schurs}
-use Rattle.strip_rules.proofs.ShapeSums.{IsTable}
+use Rattle.sparse_polys.proofs.ClearedSums.{AreCleared-nothing}
+use Rattle.sparse_polys.proofs.Expansions.{divides_terms, least-denominators}
+use Rattle.sparse_polys.proofs.Rows.{greatest_size-among}
+use Rattle.whole_lists.specs.Tables.{IsTable}
+use Rattle.strip_rules.specs.Adding.{IsDenominator, Adds, Exceeds, IsProduct}
+use Rattle.strip_rules.specs.Room.{AreWithin}
+use Rattle.strip_rules.proofs.TermsAdded.{over_numerators, mass_numerators, size_numerator, table-numerators}
 use native.Mathlib.Nat.{mul-le-mul_left, pow-zero, le-div_iff_mul-le}
 
 -- ---- one term after another
 
--- the sum has, times q, the products of f and the terms so far
-pub record AddsList (f : ℕ → Poly) (k most q : ℕ) (done sum : Terms (List ℕ)) : Type 0 where
+-- the sum has, times q, the products of f and the terms of the list so far
+pub record AddsList (f : ℕ → Poly) (k q : ℕ) (list done sum : Terms (List ℕ)) : Type 0 where
   pub cleared : AreCleared q sum
-  pub value : (n : ℕ) (φ : List ℕ → ℤ) → in_schurs q n φ sum ≡ cleared_sum q (λ label. pair (times (f n) (schur label n)) φ) done
-  pub grows : absolute_sum q sum ≤ absolute_sum q done * (most + k) ^ k
-  pub within : (ν : List ℕ) → magnitude q (coefficient_at sum ν) ≤ absolute_sum q done
+  pub gained : WholeTerms
+  pub gains : Gains [] gained (numerators_over q sum)
+  pub value : (n : ℕ) (φ : List ℕ → ℤ) → over (λ ν. pair (schur ν n) φ) gained ≡ cleared_sum q (λ label. pair (times (f n) (schur label n)) φ) done
+  pub once : (ν : List ℕ) → mass_at (pointwise nat_eq) ν gained ≤ absolute_sum q done
+  pub few : mass gained ≤ absolute_sum q done * (greatest_size list + k) ^ k
+  pub small : (cells lengths : ℕ) → AreWithin cells lengths list → HaveLabels (λ ν. (size ν ≤ cells + k) × (rows ν ≤ lengths + k)) gained
 
-pub AddsList-none : (f : ℕ → Poly) (k most q : ℕ) → AddsList f k most q [] []
-AddsList-none f k most q = record {
+pub AddsList-none : (f : ℕ → Poly) (k q : ℕ) (list : Terms (List ℕ)) → AddsList f k q list [] []
+AddsList-none f k q list = record {
   cleared = AreCleared-nothing q;
+  gained = [];
+  gains = gains_none [];
   value = λ n φ. refl;
-  grows = omega arith;
-  within = λ ν. omega arith;
+  once = λ ν. omega arith;
+  few = omega arith;
+  small = λ cells lengths within t m. absurd m;
 }
 
-pub AddsList-next : {R : Type 0} (value : R → Fraction) (f : ℕ → Poly) (k most q : ℕ) (done : List (List ℕ × R)) (cur new : Terms (List ℕ)) (label : List ℕ) (v : R)
-    → size label ≤ most → AddsProduct q cur f k label (value v) new → AddsList f k most q (terms_of value done) cur
-    → AddsList f k most q (terms_of value (done ++ (label, v) ∷ [])) new
-AddsList-next value f k most q done cur new label v small a h = record {
-  cleared = a.cleared;
-  value =
-      λ n φ.
-      a.value n φ
-      ∙ ap (λ z. z +ℤ scaled q (value v) *ℤ pair (times (f n) (schur label n)) φ) (h.value n φ)
-      ∙ sym (sum_next value q (λ l. pair (times (f n) (schur l n)) φ) done label v);
-  grows =
-      let g = a.grows in
-      let b = h.grows in
-      let p = pow-le-pow_left {n = size label + k} {m = most + k} (omega arith) k in
-      let m = mul-le-mul_left (magnitude q (value v)) p in
-      let s = rows_sizes ((most + k) ^ k) _ _ _ _ (absolute_next value q done label v []) in
-      omega arith;
-  within =
-      λ ν.
-      let w = a.within ν in
-      let b = h.within ν in
-      let s = absolute_next value q done label v [] in
-      omega arith;
-}
+module _ {R : Type 0} (value : R → Fraction) (f : ℕ → Poly) (k q : ℕ) (done : List (List ℕ × R)) (list cur : Terms (List ℕ)) (label : List ℕ) (v : R)
+    (h : AddsList f k q list (terms_of value done) cur) (terms : WholeTerms) (p : IsProduct f k label terms) where
+  -- each label is gained at most as often as the coefficients so far and this one come to
+  once_next : (ν : List ℕ) → mass_at (pointwise nat_eq) ν (h.gained ++ gained_times (numerator_over q (value v)) terms) ≤ absolute_sum q (terms_of value done) + magnitude q (value v)
+  once_next ν =
+      let z = numerator_over q (value v) in
+      let a = mass_at_append (pointwise nat_eq) ν h.gained (gained_times z terms) in
+      let b = mass_at_scaled (pointwise nat_eq) ν z terms in
+      let o = mul-le-mul_left (nat_abs z) (p.once ν) in
+      let w = h.once ν in
+      let s = size_numerator q (value v) in
+      omega arith
 
--- where one term is refused, the absolute values come to 2^127 or more
-pub refused_large : {R : Type 0} (value : R → Fraction) (f : ℕ → Poly) (k most q : ℕ) (done rest : List (List ℕ × R)) (cur list : Terms (List ℕ)) (label : List ℕ) (v : R)
-    → terms_of value (done ++ (label, v) ∷ rest) ≡ list → AddsList f k most q (terms_of value done) cur → Overflows q cur (magnitude q (value v)) → 2 ^ 127 ≤ absolute_sum q list
-refused_large value f k most q done rest cur list label v whole h o =
-    let w = h.within o.0 in
-    let l = o.1 in
-    let s = absolute_next value q done label v rest in
-    let e = ap (absolute_sum q) whole in
-    omega arith
+  pub AddsList-next : (new : Terms (List ℕ)) → Among (label, value v) list → IsDenominator q (value v) → Adds (value v) terms cur new
+      → AddsList f k q list (terms_of value (done ++ (label, v) ∷ [])) new
+  AddsList-next new among d a =
+      let z = numerator_over q (value v) in
+      let g = a.gains q d h.cleared in
+      record {
+        cleared = g.cleared;
+        gained = h.gained ++ gained_times z terms;
+        gains = gains_both [] h.gained (numerators_over q cur) (gained_times z terms) (numerators_over q new) h.gains g.gains;
+        value =
+            λ n φ.
+            over_append (λ ν. pair (schur ν n) φ) h.gained (gained_times z terms)
+            ∙ ap₂ (λ x y. x +ℤ y) (h.value n φ) (scaled_over z (λ ν. pair (schur ν n) φ) terms ∙ ap (λ y. z *ℤ y) (p.value n φ))
+            ∙ sym (sum_next value q (λ l. pair (times (f n) (schur l n)) φ) done label v);
+        once =
+            λ ν.
+            let w = once_next ν in
+            let s = absolute_next value q done label v [] in
+            omega arith;
+        few =
+            let most = (greatest_size list + k) ^ k in
+            let b = h.few in
+            let u = greatest_size-among list (label, value v) among in
+            let e = pow-le-pow_left {n = size label + k} {m = greatest_size list + k} (omega arith) k in
+            let w = p.few in
+            let m = mul-le-mul_left (nat_abs z) (let x : mass terms ≤ most = omega arith in x) in
+            let c = mass_scaled z terms in
+            let n = ap (λ x. x * most) (size_numerator q (value v)) in
+            let l = mass_append h.gained (gained_times z terms) in
+            let s = rows_sizes most _ _ _ _ (absolute_next value q done label v []) in
+            omega arith;
+        small =
+            λ cells lengths within.
+            labels_append (λ ν. (size ν ≤ cells + k) × (rows ν ≤ lengths + k)) h.gained (gained_times z terms) (h.small cells lengths within)
+            (labels_scaled (λ ν. (size ν ≤ cells + k) × (rows ν ≤ lengths + k)) z terms
+            (λ t m.
+            let x = p.small t m in
+            let y = within (label, value v) among in
+            let b = x.0 in
+            let c = x.1 in
+            let r = y.0 in
+            let s = y.1 in
+            (omega arith, omega arith)));
+      }
 
--- so the weight of the list is
+  -- where one term is refused, the absolute values come to 2^127 or more
+  pub refused_large : (rest : List (List ℕ × R)) → terms_of value (done ++ (label, v) ∷ rest) ≡ list → IsDenominator q (value v) → q < 2 ^ 127
+      → Exceeds (value v) terms cur → 2 ^ 127 ≤ absolute_sum q list
+  refused_large rest whole d small e =
+      let o = overflows_both (pointwise nat_eq) [] h.gained (numerators_over q cur) (gained_times (numerator_over q (value v)) terms) h.gains (e q d small h.cleared) in
+      let l = o.1 in
+      let w = once_next o.0 in
+      let s = absolute_next value q done label v rest in
+      let i = ap (absolute_sum q) whole in
+      omega arith
+
+-- ---- the whole list
+
+module _ {f : ℕ → Poly} {k q : ℕ} {list done sum : Terms (List ℕ)} (is : IsTable sum) (some : 0 < q) (a : AddsList f k q list done sum) where
+  -- q clears each term
+  pub list_divides : (t : List ℕ × Fraction) → Among t sum → t.1.1 ∣ q
+  list_divides = divides_terms q sum is (λ ν p. a.cleared ν)
+
+  table : IsCombination (pointwise nat_eq) is_label whole (numerators_over q sum)
+  table = table-numerators q sum is some list_divides
+
+  pub list_sums : (n : ℕ) (φ : List ℕ → ℤ) → cleared_sum q (λ ν. pair (schur ν n) φ) sum ≡ cleared_sum q (λ label. pair (times (f n) (schur label n)) φ) done
+  list_sums n φ =
+      let s = a.gains.sums (λ ν. pair (schur ν n) φ) in
+      let o = over_numerators q (λ ν. pair (schur ν n) φ) sum in
+      let v = a.value n φ in
+      omega (arith, ints)
+
+  pub list_grows : absolute_sum q sum ≤ absolute_sum q done * (greatest_size list + k) ^ k
+  list_grows =
+      let g = gains_mass nat_list_eq_equiv same_partition [] a.gained (numerators_over q sum) table a.gains in
+      let m = mass_numerators q sum in
+      let w = a.few in
+      omega arith
+
+  pub list_small : (cells lengths : ℕ) → AreWithin cells lengths list → AreWithin (cells + k) (lengths + k) sum
+  list_small cells lengths within t m =
+      labels_gained nat_list_eq_equiv same_partition [] a.gained (numerators_over q sum) table a.gains (λ ν. (size ν ≤ cells + k) × (rows ν ≤ lengths + k))
+      (λ u n. absurd n) (a.small cells lengths within) (t.0, numerator_over q t.1)
+      (Among-map (λ (u : List ℕ × Fraction). (u.0, numerator_over q u.1)) t sum m)
+
+-- the labels of entries and of the fractions that they stand for
+pub within_values : {R : Type 0} (value : R → Fraction) (cells lengths : ℕ) (entries : List (List ℕ × R)) → AreWithin cells lengths entries → AreWithin cells lengths (terms_of value entries)
+within_values {R} value cells lengths entries h t m =
+    let u = Among_from_map (λ (p : List ℕ × R). (p.0, value p.1)) t entries m in
+    subst (λ (x : List ℕ × Fraction). (size x.0 ≤ cells) × (rows x.0 ≤ lengths)) (sym u.2) (h u.0 u.1)
+
+pub values_within : {R : Type 0} (value : R → Fraction) (cells lengths : ℕ) (entries : List (List ℕ × R)) → AreWithin cells lengths (terms_of value entries) → AreWithin cells lengths entries
+values_within {R} value cells lengths entries h t m = h (t.0, value t.1) (Among-map (λ (p : List ℕ × R). (p.0, value p.1)) t entries m)
+
+-- an entry of a table is a partition with a coefficient in lowest terms
+pub entry_term : {R : Type 0} (value : R → Fraction) (entries : List (List ℕ × R)) → IsCombination (pointwise nat_eq) is_label value entries → (t : List ℕ × R) → Among t entries
+    → IsPartition t.0 × InLowestTerms (value t.1)
+entry_term value entries is t m =
+    let p = and_parts _ _ (term-among is_label value entries is.proper t m) in
+    ((is_label-tells t.0 p.1).partition, lowest-is_reduced (value t.1) p.0)
+
+-- the next pair of a loop is one of the table
+pub pair_here : {A : Type 0} (done rest left begun items all : List A) (p : A) → left ≡ p ∷ rest → done ++ left ≡ begun → begun ≡ items → items ≡ all → Among p all
+pair_here done rest left begun items all p steps so_far given is =
+    subst (Among p) (all_pairs done rest left begun items all p steps so_far given is) (next_among done p rest)
+
+-- ---- weights
+
+-- where absolute values are large, the weight is
 pub list_large : (terms : Terms (List ℕ)) → IsTable terms → (common_denominator terms < 2 ^ 127 → 2 ^ 127 ≤ absolute_sum (common_denominator terms) terms) → 2 ^ 127 ≤ list_weight terms
 list_large terms is h = by (absolute_sum (common_denominator terms) terms) (common_denominator terms) (least-denominators terms is).positive h
   where

@@ -1,12 +1,16 @@
 -- The shapes that strips and rim hooks of k cells make of a partition.
 --     horizontal_list, vertical_list, hook_list    each list has exactly these shapes, each once
---     is_shape, shape_limits, shapes_small         they have at most k cells and k rows more
+--     rows_around, shape_limits                    they have k cells more, and at most k rows
 --     height_positive                              the height of a rim hook
-use Rattle.std.proofs.Common.{◌≡◌, ℕ, suc, ◌+◌, ◌≤◌, List, [], ◌∷◌, get_or, arith}
+--     among_next, next_on, so_far_on               one shape after another
+use Rattle.std.proofs.Common.{◌≡◌, ℕ, suc, ◌+◌, ◌≤◌, List, [], ◌∷◌, ◌++◌, append_assoc, get_or, refl, sym, ap, ◌∙◌, subst, inl, arith}
+use Rattle.std.specs.Prelude.{Option, Some}
+use Rattle.std.specs.Option.{option_to_list}
 use Rattle.sym_model.specs.Sum.{Among}
 use Rattle.sym_model.specs.Partition.{IsPartition, ArePositive, Holds, size, rows}
 use Rattle.sym_model.specs.Strip.{height}
 use Rattle.sym_model.proofs.PartitionLists.{Once-FallsLexicographically}
+use Rattle.sym_model.proofs.Sums.{Among-append_right}
 use Rattle.strip_laws.proofs.RimHooks.{hook_rows, height_of_rows}
 use Rattle.strip_laws.proofs.Containment.{Holds-get_or}
 use Rattle.partitions.specs.Limits.{IsWithinLimits}
@@ -14,7 +18,6 @@ use Rattle.skew_shapes.specs.HorizontalStrips.{AreHorizontalStrips}
 use Rattle.skew_shapes.specs.VerticalStrips.{AreVerticalStrips}
 use Rattle.skew_shapes.specs.HookLists.{AreHooksAdded}
 use Rattle.product_laws.specs.StripLists.{ListsEach, AddsHorizontalStrip, AddsVerticalStrip, AddsRimHook}
-use Rattle.strip_rules.specs.Adding.{AreSmall}
 
 pub horizontal_list : (k : ℕ) (parts : List ℕ) (list : List (List ℕ)) → AreHorizontalStrips parts k list → ListsEach (AddsHorizontalStrip k parts) list
 horizontal_list k parts list h = record { once = Once-FallsLexicographically list h.falls; members = h.members }
@@ -38,7 +41,7 @@ rows_grow [] (b ∷ outer) p q h = let r = rows_grow [] outer tt q.1 (λ j. omeg
 rows_grow (a ∷ inner) [] p q h = absurd (let l = h 0 in let s = p.0 in omega arith)
 rows_grow (a ∷ inner) (b ∷ outer) p q h = let r = rows_grow inner outer p.1 q.1 (λ j. h (suc j)) in let l = h 0 in omega arith
 
-rows_around : (k : ℕ) (inner outer : List ℕ) → IsPartition inner → IsAround k inner outer → rows outer ≤ rows inner + k
+pub rows_around : (k : ℕ) (inner outer : List ℕ) → IsPartition inner → IsAround k inner outer → rows outer ≤ rows inner + k
 rows_around k inner outer p a =
     let r = rows_grow inner outer p.positive a.partition.positive (Holds-get_or outer inner a.holds) in
     let c = a.cells in
@@ -49,14 +52,6 @@ shape_limits k inner outer p cells few a =
     let r = rows_around k inner outer p a in
     let c = a.cells in
     record { partition = a.partition; few = omega arith; small = omega arith }
-
-pub shapes_small : (k : ℕ) (inner : List ℕ) (list : List (List ℕ)) (cells lengths : ℕ) → IsPartition inner → ((ν : List ℕ) → Among ν list → IsAround k inner ν)
-    → size inner + k ≤ cells → rows inner + k ≤ lengths → AreSmall cells lengths list
-shapes_small k inner list cells lengths p around h l ν m =
-    let a = around ν m in
-    let r = rows_around k inner ν p a in
-    let c = a.cells in
-    (omega arith, omega arith)
 
 pub horizontal_around : (k : ℕ) (parts : List ℕ) (list : List (List ℕ)) → ListsEach (AddsHorizontalStrip k parts) list → (ν : List ℕ) → Among ν list → IsAround k parts ν
 horizontal_around k parts list h ν m = let f = (h.members ν).0 m in record { partition = f.0; cells = f.1; holds = f.2.holds }
@@ -74,3 +69,15 @@ height_positive k parts list p h ν m =
     let e = height_of_rows ν parts r.0 r.1 f.0.falls r.2 in
     let o = r.2.ordered in
     omega arith
+
+-- ---- one shape after another in a lister
+
+pub among_next : (done rest all : List (List ℕ)) (k : List ℕ) → done ++ k ∷ rest ≡ all → Among k all
+among_next done rest all k e = subst (Among k) e (Among-append_right k done (k ∷ rest) (inl refl))
+
+-- the current shape comes behind those so far, and before the rest
+pub next_on : (done old new all : List (List ℕ)) (item : Option (List ℕ)) (k : List ℕ) → done ++ old ≡ all → old ≡ option_to_list item ++ new → item ≡ Some k → done ++ k ∷ new ≡ all
+next_on done old new all item k so_far next current = ap (λ xs. done ++ xs) (ap (λ o. option_to_list o ++ new) (sym current) ∙ sym next) ∙ so_far
+
+pub so_far_on : (done new all : List (List ℕ)) (k : List ℕ) → done ++ k ∷ new ≡ all → (done ++ k ∷ []) ++ new ≡ all
+so_far_on done new all k on = append_assoc done (k ∷ []) new ∙ on

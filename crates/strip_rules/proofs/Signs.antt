@@ -1,9 +1,9 @@
 -- The signs of rim hooks by their heights.
 --     sign_size                   a sign has the absolute value 1
---     signed_odd, signed_even     a number with the sign of a height
+--     signed_one, _odd, _even     a coefficient with the sign of a height
 --     negation_large              a negation is refused for its size alone
 --     height_here                 the height that a lister tells
-use Rattle.std.proofs.Common.{◌≡◌, ◌⊎◌, ℕ, zero, suc, ◌-◌, ◌/◌, ◌%◌, ◌^◌, ◌<◌, ◌≤◌, inl, inr, refl, sym, ap, ◌∙◌, subst, arith, pos, neg_ℤ, ◌*ℤ◌, unsigned_abs}
+use Rattle.std.proofs.Common.{◌≡◌, ◌⊎◌, ℕ, ◌-◌, ◌/◌, ◌%◌, ◌^◌, ◌<◌, ◌≤◌, inl, inr, refl, sym, ap, ◌∙◌, subst, arith, pos, neg_ℤ, unsigned_abs}
 use Rattle.std.specs.Prelude.{◌≢◌, List, Option, Some, None, IfSome}
 use Rattle.std.proofs.Math.Nat.{div-le_of_le-mul}
 use Rattle.std.proofs.lemmas.Bool.{cases_lt}
@@ -14,32 +14,36 @@ use Rattle.beta_list_laws.proofs.NeighbourExchanges.{parity_of}
 use Rattle.coeff_rings.specs.Room.{magnitude}
 use Rattle.coeff_rings.specs.Answers.{AnswersNegation}
 use Rattle.coeff_rings.specs.Proved.Divisors.{quotient_positive}
-use Rattle.strip_rules.specs.Adding.{IsDenominator}
+use Rattle.strip_rules.specs.Adding.{IsDenominator, IsSigned}
 use Rattle.sym_model.proofs.Ring.{product-one, product-negation, negation-product}
 use Rattle.coeff_rings.specs.Fractions.{scaled, fraction_negation}
-use Rattle.coeff_rings.specs.Proved.Fractions.{unsigned_abs-negation}
 use native.Mathlib.Nat.{mul-le-mul_left}
 
-pub sign_size : (n : ℕ) → unsigned_abs (minus_one_to n) ≡ 1
-sign_size zero = refl
-sign_size (suc n) = unsigned_abs-negation (minus_one_to n) ∙ sign_size n
+pub signed_one : (c : Fraction) → IsSigned c (pos 1) c
+signed_one c = record { denominator = refl; value = λ q. sym (product-one (scaled q c)) }
 
-pub signed_odd : (q h : ℕ) (c : Fraction) → h % 2 ≡ 1 → scaled q c ≡ scaled q c *ℤ minus_one_to (h - 1)
-signed_odd q h c e = elim (parity_of (h - 1)) [
-  | inl p ↦ sym (product-one (scaled q c)) ∙ ap (λ z. scaled q c *ℤ z) (sym p.1)
+pub signed_odd : (h : ℕ) (c : Fraction) → h % 2 ≡ 1 → IsSigned c (minus_one_to (h - 1)) c
+signed_odd h c e = elim (parity_of (h - 1)) [
+  | inl p ↦ subst (λ s. IsSigned c s c) (sym p.1) (signed_one c)
   | inr p ↦ absurd (let m = p.0 in omega arith)
 ]
 
-pub signed_even : (q h : ℕ) (c d : Fraction) → 1 ≤ h → h % 2 ≢ 1 → d ≡ fraction_negation c → scaled q d ≡ scaled q c *ℤ minus_one_to (h - 1)
-signed_even q h c d l e f = elim (parity_of (h - 1)) [
+pub signed_even : (h : ℕ) (c d : Fraction) → 1 ≤ h → h % 2 ≢ 1 → d ≡ fraction_negation c → IsSigned c (minus_one_to (h - 1)) d
+signed_even h c d l e f = elim (parity_of (h - 1)) [
   | inl p ↦ absurd (e (let m = p.0 in omega arith))
-  | inr p ↦
-      ap (scaled q) f
-      ∙ negation-product c.0 (pos (q / c.1))
-      ∙ ap neg_ℤ (sym (product-one (scaled q c)))
-      ∙ sym (product-negation (scaled q c) (pos 1))
-      ∙ ap (λ z. scaled q c *ℤ z) (sym p.1)
+  | inr p ↦ subst (λ s. IsSigned c s d) (sym p.1) negated
 ]
+  where
+    negated : IsSigned c (neg_ℤ (pos 1)) d
+    negated = record {
+      denominator = ap (λ (r : Fraction). r.1) f;
+      value =
+          λ q.
+          ap (scaled q) f
+          ∙ negation-product c.0 (pos (q / c.1))
+          ∙ ap neg_ℤ (sym (product-one (scaled q c)))
+          ∙ sym (product-negation (scaled q c) (pos 1));
+    }
 
 -- a negation is refused for its size alone
 pub negation_large : {R : Type 0} (value : R → Fraction) (c : R) → AnswersNegation value c None → (q : ℕ) → IsDenominator q (value c) → 2 ^ 127 ≤ magnitude q (value c)

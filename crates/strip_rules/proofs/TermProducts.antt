@@ -1,13 +1,15 @@
 -- One term times h_k, e_k or p_k, and a list of terms (specs/Adding).
---     rows_value, columns_value, hooks_value    the sum over the shapes of a term is its product
---     AddsProduct-from                          so the shapes add the product
+--     strips_value, hooks_value                 the sum over the shapes of a term is its product
+--     horizontal_product, vertical_, hooks_     so the shapes with their signs are the product
 --     list_value                                a list of products is the product of the list
 --     expansion                                 a list with the sums of a polynomial stands for it
-use Rattle.std.proofs.Common.{◌≡◌, ℕ, ◌+◌, ◌-◌, ◌*◌, ◌^◌, ◌≤◌, List, [], ◌∷◌, length, refl, sym, ap, ap₂, ◌∙◌, arith, ℤ, pos, ◌+ℤ◌, ◌*ℤ◌}
+use Rattle.std.proofs.Common.{◌≡◌, ℕ, suc, ◌+◌, ◌-◌, ◌*◌, ◌^◌, ◌≤◌, Bool, true, false, cond, List, [], ◌∷◌, length, refl, sym, ap, ap₂, ◌∙◌, subst, inl, inr, arith, ℤ, pos, ◌+ℤ◌, ◌*ℤ◌, flat_map}
+use Rattle.std.specs.Prelude.{nat_eq, nat_abs}
 use Rattle.std.specs.Int.{◌∣◌}
+use Rattle.std.specs.Cmp.Lexicographic.{pointwise}
 use Rattle.std.proofs.Math.Nat.{pow-le-pow_right}
-use Rattle.sym_model.specs.Sum.{total, each, Among}
-use Rattle.sym_model.specs.Partition.{IsPartition, size}
+use Rattle.sym_model.specs.Sum.{total, Among, Once}
+use Rattle.sym_model.specs.Partition.{IsPartition, size, rows}
 use Rattle.sym_model.specs.Polynomial.{Poly, Same, join, pair, times, scale}
 use Rattle.sym_model.specs.Bases.{complete_of, elementary_of, power_sum_of}
 use Rattle.sym_model.specs.Schur.{schur}
@@ -15,49 +17,46 @@ use Rattle.sym_model.specs.Strip.{height}
 use Rattle.sym_model.specs.PlaceOrders.{minus_one_to}
 use Rattle.sym_model.specs.Expansion.{Basis, Fraction, Terms, denominators, cleared, value, basis_polynomial, IsExpansionOf}
 use Rattle.sym_model.proofs.Ring.{one-product}
-use Rattle.sym_model.proofs.Sums.{total_ext}
+use Rattle.sym_model.proofs.Sums.{total_ext, total_map, Among_from_map}
 use Rattle.sym_model.proofs.Polynomials.{pair_ext, pair_plus, pair_scale, pair_each, pair_times, pair_total, pair_factor, pair_determined, same_from_pair}
 use Rattle.coeff_rings.specs.Fractions.{scaled}
-use Rattle.coeff_rings.specs.Room.{magnitude}
-use Rattle.coeff_rings.specs.Proved.Cleared.{unsigned_abs-scaled}
+use Rattle.linear_combinations.specs.Gains.{mass, mass_at}
+use Rattle.linear_combinations.specs.Labels.{same_partition}
 use Rattle.sparse_polys.specs.Products.{cleared_sum}
 use Rattle.sparse_polys.proofs.Expansions.{common-denominators}
 use Rattle.sparse_polys.proofs.PolynomialValues.{two_denominators}
-use Rattle.product_laws.specs.StripLists.{ListsEach, AddsHorizontalStrip, AddsVerticalStrip, AddsRimHook}
+use Rattle.product_laws.specs.StripLists.{ListsEach, AddsRimHook}
 use Rattle.product_laws.proofs.Pieri.{horizontal, vertical}
 use Rattle.product_laws.proofs.RimHookSums.{rim_hooks}
-use Rattle.product_laws.proofs.StripCounts.{hooks_within}
-use Rattle.strip_rules.specs.Adding.{AddsShapes, AddsProduct, in_schurs}
-use Rattle.strip_rules.proofs.ShapeSums.{IsTable}
-use native.Mathlib.Nat.{mul-le-mul_left, pow-suc, pow-zero}
+use Rattle.product_laws.proofs.StripCounts.{horizontal_count, vertical_count, hooks_within}
+use Rattle.skew_shapes.specs.HorizontalStrips.{AreHorizontalStrips}
+use Rattle.skew_shapes.specs.VerticalStrips.{AreVerticalStrips}
+use Rattle.skew_shapes.specs.HookLists.{AreHooksAdded}
+use Rattle.whole_lists.specs.Tables.{IsTable}
+use Rattle.strip_rules.specs.Adding.{with_signs, IsProduct}
+use Rattle.strip_rules.proofs.ShapeLists.{IsAround, rows_around, horizontal_list, vertical_list, hook_list, horizontal_around, vertical_around, hook_around}
+use Rattle.sym_model.proofs.Integers.{sign_size}
+use native.Mathlib.Nat.{pow-suc, pow-zero}
 
 -- ---- one term
 
-strips_value : (f : Poly) (n : ℕ) (parts : List ℕ) (list : List (List ℕ)) (φ : List ℕ → ℤ) → Same (times f (schur parts n)) (each (λ ν. schur ν n) list)
+strips_value : (f : Poly) (n : ℕ) (parts : List ℕ) (list : List (List ℕ)) (φ : List ℕ → ℤ) → Same (times f (schur parts n)) (flat_map (λ ν. schur ν n) list)
     → total (λ ν. pos 1 *ℤ pair (schur ν n) φ) list ≡ pair (times f (schur parts n)) φ
 strips_value f n parts list φ h =
     total_ext (λ (ν : List ℕ). pos 1 *ℤ pair (schur ν n) φ) (λ (ν : List ℕ). pair (schur ν n) φ) (λ ν. one-product (pair (schur ν n) φ)) list
     ∙ sym (pair_each (λ (ν : List ℕ). schur ν n) list φ)
-    ∙ sym (pair_determined (times f (schur parts n)) (each (λ (ν : List ℕ). schur ν n) list) φ h)
+    ∙ sym (pair_determined (times f (schur parts n)) (flat_map (λ (ν : List ℕ). schur ν n) list) φ h)
 
-pub rows_value : (k n : ℕ) (parts : List ℕ) (list : List (List ℕ)) (φ : List ℕ → ℤ) → IsPartition parts → ListsEach (AddsHorizontalStrip k parts) list
-    → total (λ ν. pos 1 *ℤ pair (schur ν n) φ) list ≡ pair (times (complete_of k n) (schur parts n)) φ
-rows_value k n parts list φ p l = strips_value (complete_of k n) n parts list φ (horizontal n k parts list p l)
-
-pub columns_value : (k n : ℕ) (parts : List ℕ) (list : List (List ℕ)) (φ : List ℕ → ℤ) → IsPartition parts → ListsEach (AddsVerticalStrip k parts) list
-    → total (λ ν. pos 1 *ℤ pair (schur ν n) φ) list ≡ pair (times (elementary_of k n) (schur parts n)) φ
-columns_value k n parts list φ p l = strips_value (elementary_of k n) n parts list φ (vertical n k parts list p l)
-
-pub hooks_value : (k n : ℕ) (parts : List ℕ) (list : List (List ℕ)) (φ : List ℕ → ℤ) → 1 ≤ k → IsPartition parts → ListsEach (AddsRimHook k parts) list
+hooks_value : (k n : ℕ) (parts : List ℕ) (list : List (List ℕ)) (φ : List ℕ → ℤ) → 1 ≤ k → IsPartition parts → ListsEach (AddsRimHook k parts) list
     → total (λ ν. minus_one_to (height ν parts - 1) *ℤ pair (schur ν n) φ) list ≡ pair (times (power_sum_of k n) (schur parts n)) φ
 hooks_value k n parts list φ h p l =
     let sign : List ℕ → ℤ = λ ν. minus_one_to (height ν parts - 1) in
     total_ext (λ (ν : List ℕ). sign ν *ℤ pair (schur ν n) φ) (λ (ν : List ℕ). pair (scale (sign ν) (schur ν n)) φ) (λ ν. sym (pair_scale (sign ν) (schur ν n) φ)) list
     ∙ sym (pair_each (λ (ν : List ℕ). scale (sign ν) (schur ν n)) list φ)
-    ∙ sym (pair_determined (times (power_sum_of k n) (schur parts n)) (each (λ (ν : List ℕ). scale (sign ν) (schur ν n)) list) φ (rim_hooks n k parts list h p l))
+    ∙ sym (pair_determined (times (power_sum_of k n) (schur parts n)) (flat_map (λ (ν : List ℕ). scale (sign ν) (schur ν n)) list) φ (rim_hooks n k parts list h p l))
 
 -- there are at most so many rim hooks
-pub hook_count : (k : ℕ) (parts : List ℕ) (list : List (List ℕ)) → 1 ≤ k → IsPartition parts → ListsEach (AddsRimHook k parts) list → length list ≤ (size parts + k) ^ k
+hook_count : (k : ℕ) (parts : List ℕ) (list : List (List ℕ)) → 1 ≤ k → IsPartition parts → ListsEach (AddsRimHook k parts) list → length list ≤ (size parts + k) ^ k
 hook_count k parts list h p l =
     let c = hooks_within k parts list p l in
     let g = pow-le-pow_right {n = size parts + k} (omega arith) {i = 1} {j = k} h in
@@ -67,25 +66,78 @@ hook_count k parts list h p l =
     first_power : (n : ℕ) → n ^ 1 ≡ n
     first_power n = let a = pow-suc n 0 in let b = pow-zero n in let c = ap (λ m. m * n) b in omega arith
 
-pub AddsProduct-from : (q : ℕ) (old new : Terms (List ℕ)) (f : ℕ → Poly) (k : ℕ) (label : List ℕ) (c : Fraction) (sign : List ℕ → ℤ) (list : List (List ℕ))
-    → ((n : ℕ) (φ : List ℕ → ℤ) → total (λ ν. sign ν *ℤ pair (schur ν n) φ) list ≡ pair (times (f n) (schur label n)) φ)
-    → length list ≤ (size label + k) ^ k → AddsShapes q old (scaled q c) sign list new → AddsProduct q old f k label c new
-AddsProduct-from q old new f k label c sign list values few a = record {
-  cleared = a.cleared;
-  value = λ n φ. a.sums (λ ν. pair (schur ν n) φ) ∙ ap (λ z. in_schurs q n φ old +ℤ scaled q c *ℤ z) (values n φ);
-  grows =
-      let g = a.grows in
-      let s = unsigned_abs-scaled q c in
-      let m = mul-le-mul_left (magnitude q c) few in
-      let e = ap (λ x. x * length list) s in
-      omega arith;
-  within = λ ν. let w = a.within ν in let s = unsigned_abs-scaled q c in omega arith;
-}
+-- ---- shapes with signs
+
+module _ (sign : List ℕ → ℤ) (unit : (ν : List ℕ) → nat_abs (sign ν) ≡ 1) where
+  mass_signs : (shapes : List (List ℕ)) → mass (with_signs sign shapes) ≡ length shapes
+  mass_signs [] = refl
+  mass_signs (ν ∷ shapes) = ap₂ (λ a b. a + b) (unit ν) (mass_signs shapes) ∙ (let e : 1 + length shapes ≡ suc (length shapes) = omega arith in e)
+
+  none_signs : (ν : List ℕ) (shapes : List (List ℕ)) → (Among ν shapes → ⊥) → mass_at (pointwise nat_eq) ν (with_signs sign shapes) ≡ 0
+  none_signs ν [] h = refl
+  none_signs ν (μ ∷ shapes) h = by (pointwise nat_eq ν μ) refl (none_signs ν shapes (λ m. h (inr m)))
+    where
+      by : (b : Bool) → pointwise nat_eq ν μ ≡ b → mass_at (pointwise nat_eq) ν (with_signs sign shapes) ≡ 0
+          → cond b (nat_abs (sign μ)) 0 + mass_at (pointwise nat_eq) ν (with_signs sign shapes) ≡ 0
+      by true e r = absurd (h (inl (same_partition ν μ e)))
+      by false e r = omega arith
+
+  once_signs : (ν : List ℕ) (shapes : List (List ℕ)) → Once shapes → mass_at (pointwise nat_eq) ν (with_signs sign shapes) ≤ 1
+  once_signs ν [] o = omega arith
+  once_signs ν (μ ∷ shapes) o = by (pointwise nat_eq ν μ) refl (once_signs ν shapes o.1)
+    where
+      by : (b : Bool) → pointwise nat_eq ν μ ≡ b → mass_at (pointwise nat_eq) ν (with_signs sign shapes) ≤ 1
+          → cond b (nat_abs (sign μ)) 0 + mass_at (pointwise nat_eq) ν (with_signs sign shapes) ≤ 1
+      by true e r =
+          let none = none_signs ν shapes (subst (λ (l : List ℕ). Among l shapes → ⊥) (sym (same_partition ν μ e)) o.0) in
+          let u = unit μ in
+          omega arith
+      by false e r = omega arith
+
+  -- shapes with the sums of a product are the product
+  signs_product : (f : ℕ → Poly) (k : ℕ) (label : List ℕ) (shapes : List (List ℕ)) → IsPartition label
+      → ((n : ℕ) (φ : List ℕ → ℤ) → total (λ ν. sign ν *ℤ pair (schur ν n) φ) shapes ≡ pair (times (f n) (schur label n)) φ)
+      → length shapes ≤ (size label + k) ^ k → Once shapes → ((ν : List ℕ) → Among ν shapes → IsAround k label ν)
+      → IsProduct f k label (with_signs sign shapes)
+  signs_product f k label shapes p values few once around = record {
+    value = λ n φ. total_map (λ (t : List ℕ × ℤ). t.1 *ℤ pair (schur t.0 n) φ) (λ (ν : List ℕ). (ν, sign ν)) shapes ∙ values n φ;
+    once = λ ν. once_signs ν shapes once;
+    few = let m = mass_signs shapes in omega arith;
+    small =
+        λ t m.
+        let u = Among_from_map (λ (ν : List ℕ). (ν, sign ν)) t shapes m in
+        let a = around u.0 u.1 in
+        let c = a.cells in
+        let r = rows_around k label u.0 p a in
+        subst (λ (l : List ℕ). (size l ≤ size label + k) × (rows l ≤ rows label + k)) (sym (ap (λ (v : List ℕ × ℤ). v.0) u.2)) (omega arith, r);
+  }
+
+pub horizontal_product : (k : ℕ) (parts : List ℕ) (list : List (List ℕ)) → IsPartition parts → AreHorizontalStrips parts k list
+    → IsProduct (complete_of k) k parts (with_signs (λ ν. pos 1) list)
+horizontal_product k parts list p strips =
+    let l = horizontal_list k parts list strips in
+    signs_product (λ ν. pos 1) (λ ν. refl) (complete_of k) k parts list p (λ n φ. strips_value (complete_of k n) n parts list φ (horizontal n k parts list p l))
+    (horizontal_count k parts list p l) l.once (horizontal_around k parts list l)
+
+pub vertical_product : (k : ℕ) (parts : List ℕ) (list : List (List ℕ)) → IsPartition parts → AreVerticalStrips parts k list
+    → IsProduct (elementary_of k) k parts (with_signs (λ ν. pos 1) list)
+vertical_product k parts list p strips =
+    let l = vertical_list k parts list strips in
+    signs_product (λ ν. pos 1) (λ ν. refl) (elementary_of k) k parts list p (λ n φ. strips_value (elementary_of k n) n parts list φ (vertical n k parts list p l))
+    (vertical_count k parts list p l) l.once (vertical_around k parts list l)
+
+pub hooks_product : (k : ℕ) (parts base : List ℕ) (list : List (List ℕ)) → 1 ≤ k → IsPartition parts → base ≡ parts → AreHooksAdded parts k list
+    → IsProduct (power_sum_of k) k parts (with_signs (λ ν. minus_one_to (height ν base - 1)) list)
+hooks_product k parts base list h p e hooks =
+    let l = hook_list k parts list hooks in
+    subst (λ b. IsProduct (power_sum_of k) k parts (with_signs (λ ν. minus_one_to (height ν b - 1)) list)) (sym e)
+    (signs_product (λ ν. minus_one_to (height ν parts - 1)) (λ ν. sign_size (height ν parts - 1)) (power_sum_of k) k parts list p
+    (λ n φ. hooks_value k n parts list φ h p l) (hook_count k parts list h p l) l.once (hook_around k parts list l))
 
 -- ---- a list
 
 pair_cleared : (n q : ℕ) (terms : Terms (List ℕ)) (φ : List ℕ → ℤ)
-    → pair (cleared (λ ν. basis_polynomial Basis.schurs ν n) q terms) φ ≡ in_schurs q n φ terms
+    → pair (cleared (λ ν. basis_polynomial Basis.schurs ν n) q terms) φ ≡ cleared_sum q (λ ν. pair (schur ν n) φ) terms
 pair_cleared n q [] φ = refl
 pair_cleared n q (t ∷ terms) φ =
     pair_plus (scale (scaled q t.1) (schur t.0 n)) (cleared (λ ν. basis_polynomial Basis.schurs ν n) q terms) φ
@@ -97,7 +149,7 @@ list_value f n terms φ =
     let q = denominators terms in
     sym
     (pair_times f (value Basis.schurs terms n) φ
-    ∙ pair_ext f (λ α. pair (value Basis.schurs terms n) (λ β. φ (join α β))) (λ α. in_schurs q n (λ β. φ (join α β)) terms) (λ α. pair_cleared n q terms (λ β. φ (join α β)))
+    ∙ pair_ext f (λ α. pair (value Basis.schurs terms n) (λ β. φ (join α β))) (λ α. cleared_sum q (λ ν. pair (schur ν n) (λ β. φ (join α β))) terms) (λ α. pair_cleared n q terms (λ β. φ (join α β)))
     ∙ pair_total f (λ (t : List ℕ × Fraction) (α : List ℕ). scaled q t.1 *ℤ pair (schur t.0 n) (λ β. φ (join α β))) terms
     ∙ total_ext (λ (t : List ℕ × Fraction). pair f (λ α. scaled q t.1 *ℤ pair (schur t.0 n) (λ β. φ (join α β)))) (λ (t : List ℕ × Fraction). scaled q t.1 *ℤ pair (times f (schur t.0 n)) φ)
     (λ t.
@@ -107,7 +159,7 @@ list_value f n terms φ =
 -- ---- what a list stands for
 
 pub expansion : (terms : Terms (List ℕ)) (d n : ℕ) (f : Poly) → IsTable terms → ((t : List ℕ × Fraction) → Among t terms → t.1.1 ∣ d)
-    → ((φ : List ℕ → ℤ) → in_schurs d n φ terms ≡ pair f φ) → IsExpansionOf Basis.schurs terms n f d
+    → ((φ : List ℕ → ℤ) → cleared_sum d (λ ν. pair (schur ν n) φ) terms ≡ pair f φ) → IsExpansionOf Basis.schurs terms n f d
 expansion terms d n f is divides sums =
     let q = denominators terms in
     let common = common-denominators terms is in

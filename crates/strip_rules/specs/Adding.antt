@@ -1,57 +1,56 @@
--- Lists of terms in s to which shapes are added with one coefficient, and with fractions cleared (this project's own).
-use Rattle.std.specs.Prelude.{◌≡◌, ℕ, ◌+◌, ◌*◌, ◌^◌, ◌<◌, ◌≤◌, ℤ, ◌+ℤ◌, ◌*ℤ◌, unsigned_abs, List, length, Result, OnOk, IsErrOf}
+-- Tables of terms in s to which whole numbers at labels are added, each times one coefficient, with
+-- the fractions cleared (this project's own).
+use Rattle.std.specs.Prelude.{◌≡◌, ℕ, ◌+◌, ◌^◌, ◌<◌, ◌≤◌, ℤ, ◌*ℤ◌, nat_eq, List, map}
 use Rattle.std.specs.Int.{◌∣◌}
-use Rattle.calc_base.specs.declared.faults.SumFault.{SumFault}
-use Rattle.calc_base.specs.declared.faults.SumFault.TheVariants.{Large}
-use Rattle.sym_model.specs.Sum.{total, Among}
+use Rattle.std.specs.Cmp.Lexicographic.{pointwise}
 use Rattle.sym_model.specs.Partition.{size, rows}
 use Rattle.sym_model.specs.Polynomial.{Poly, pair, times}
 use Rattle.sym_model.specs.Schur.{schur}
 use Rattle.sym_model.specs.Expansion.{Fraction, Terms}
-use Rattle.sym_model.specs.ListWeight.{absolute_sum}
-use Rattle.coeff_rings.specs.Fractions.{scaled}
-use Rattle.coeff_rings.specs.Room.{magnitude}
-use Rattle.sparse_polys.specs.Products.{cleared_sum}
-use Rattle.sparse_polys.specs.MonomialProducts.{coefficient_at, AreCleared}
-use Rattle.strip_rules.specs.Room.{AreWithin}
+use Rattle.sym_model.specs.WholeTerms.{WholeTerms}
+use Rattle.monomial_laws.specs.ExpressionTerms.{over as numerators_over}
+use Rattle.coeff_rings.specs.Fractions.{scaled as numerator_over}
+use Rattle.linear_combinations.specs.Gains.{over, mass, mass_at, scaled, HaveLabels, Gains}
+use Rattle.linear_combinations.specs.Gains.{Overflows}
+use Rattle.sparse_polys.specs.Products.{AreCleared}
+use Rattle.whole_lists.specs.Tables.{IsTable}
 
 -- q is a positive multiple of the denominator of c
 pub record IsDenominator (q : ℕ) (c : Fraction) : Type 0 where
   pub positive : 0 < q
   pub multiple : c.1 ∣ q
 
--- no shape has more cells than the first number, nor more rows than the second
-abbrev pub AreSmall : ℕ → ℕ → List (List ℕ) → Type 0
-AreSmall cells lengths shapes = (ν : List ℕ) → Among ν shapes → (size ν ≤ cells) × (rows ν ≤ lengths)
+-- d is c times the sign, over the same denominator
+pub record IsSigned (c : Fraction) (sign : ℤ) (d : Fraction) : Type 0 where
+  pub denominator : d.1 ≡ c.1
+  pub value : (q : ℕ) → numerator_over q d ≡ numerator_over q c *ℤ sign
 
--- the new list has, times q, x times a sign more than the old one at each of the shapes
-pub record AddsShapes (q : ℕ) (old : Terms (List ℕ)) (x : ℤ) (sign : List ℕ → ℤ) (shapes : List (List ℕ)) (new : Terms (List ℕ)) : Type 0 where
+-- each shape with its sign
+abbrev pub with_signs : (List ℕ → ℤ) → List (List ℕ) → WholeTerms
+with_signs sign shapes = map (λ (ν : List ℕ). (ν, sign ν)) shapes
+
+-- the new list, cleared by q, has gained these
+pub record GainsCleared (q : ℕ) (old : Terms (List ℕ)) (gained : WholeTerms)
+    (new : Terms (List ℕ)) : Type 0 where
   pub cleared : AreCleared q new
-  pub sums : (φ : List ℕ → ℤ) → cleared_sum q φ new ≡ cleared_sum q φ old +ℤ x *ℤ total (λ ν. sign ν *ℤ φ ν) shapes
-  pub grows : absolute_sum q new ≤ absolute_sum q old + unsigned_abs x * length shapes
-  pub kept : (ν : List ℕ) → (Among ν shapes → ⊥) → coefficient_at new ν ≡ coefficient_at old ν
-  pub within : (ν : List ℕ) → magnitude q (coefficient_at new ν) ≤ magnitude q (coefficient_at old ν) + unsigned_abs x
+  pub gains : Gains (numerators_over q old) gained (numerators_over q new)
 
--- at some label the coefficient times q and what is added to it come to 2^127 or more
-abbrev pub Overflows : ℕ → Terms (List ℕ) → ℕ → Type 0
-Overflows q old added = (ν : List ℕ) × (2 ^ 127 ≤ magnitude q (coefficient_at old ν) + added)
+-- c times the terms is added
+pub record Adds (c : Fraction) (terms : WholeTerms) (old new : Terms (List ℕ)) : Type 0 where
+  pub table : IsTable new
+  pub gains : (q : ℕ) → IsDenominator q c → AreCleared q old
+      → GainsCleared q old (scaled (numerator_over q c) terms) new
 
--- the sum of the terms in s of a list, times q, paired with a test function in n variables
-abbrev pub in_schurs : ℕ → ℕ → (List ℕ → ℤ) → Terms (List ℕ) → ℤ
-in_schurs q n φ terms = cleared_sum q (λ ν. pair (schur ν n) φ) terms
+-- c times the terms cannot be added: cleared by any q below 2^127, the sums overflow
+abbrev pub Exceeds : Fraction → WholeTerms → Terms (List ℕ) → Type 0
+Exceeds c terms old = (q : ℕ) → IsDenominator q c → q < 2 ^ 127 → AreCleared q old
+    → Overflows (pointwise nat_eq) (numerators_over q old) (scaled (numerator_over q c) terms)
 
--- the new list has, times q, the product of f and c·s_label more than the old one, in every number n of variables
-pub record AddsProduct (q : ℕ) (old : Terms (List ℕ)) (f : ℕ → Poly) (k : ℕ) (label : List ℕ) (c : Fraction) (new : Terms (List ℕ)) : Type 0 where
-  pub cleared : AreCleared q new
+-- the terms are the product of f, a polynomial of degree k, and s_label:
+-- each label at most once, with 1 or -1
+pub record IsProduct (f : ℕ → Poly) (k : ℕ) (label : List ℕ) (terms : WholeTerms) : Type 0 where
   pub value : (n : ℕ) (φ : List ℕ → ℤ)
-      → in_schurs q n φ new ≡ in_schurs q n φ old +ℤ scaled q c *ℤ pair (times (f n) (schur label n)) φ
-  pub grows : absolute_sum q new ≤ absolute_sum q old + magnitude q c * (size label + k) ^ k
-  pub within : (ν : List ℕ) → magnitude q (coefficient_at new ν) ≤ magnitude q (coefficient_at old ν) + magnitude q c
-
--- the product of f, a polynomial of degree k, and c·s_label is added to a list, and refused for size only where a coefficient
--- and c come to 2^127 or more
-pub record IsAdded (f : ℕ → Poly) (k : ℕ) (label : List ℕ) (c : Fraction) (old new : Terms (List ℕ)) (result : Result (Unit {0}) SumFault) : Type 0 where
-  pub ok : OnOk result ((q : ℕ) → IsDenominator q c → AreCleared q old → AddsProduct q old f k label c new)
-  pub labels : OnOk result ((cells lengths : ℕ) → size label + k ≤ cells → rows label + k ≤ lengths
-      → AreWithin cells lengths old → AreWithin cells lengths new)
-  pub large : IsErrOf result Large → (q : ℕ) → IsDenominator q c → q < 2 ^ 127 → AreCleared q old → Overflows q old (magnitude q c)
+      → over (λ ν. pair (schur ν n) φ) terms ≡ pair (times (f n) (schur label n)) φ
+  pub once : (ν : List ℕ) → mass_at (pointwise nat_eq) ν terms ≤ 1
+  pub few : mass terms ≤ (size label + k) ^ k
+  pub small : HaveLabels (λ ν. (size ν ≤ size label + k) × (rows ν ≤ rows label + k)) terms

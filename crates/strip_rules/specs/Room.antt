@@ -1,15 +1,14 @@
--- The sizes of the labels of a list of terms (this project's own).
+-- The sizes of the labels of a table (this project's own).
 use Rattle.std.specs.Prelude.{ℕ, ◌+◌, ◌≤◌, List}
 use Rattle.sym_model.specs.Sum.{Among}
 use Rattle.sym_model.specs.Partition.{size, rows}
-use Rattle.sym_model.specs.Expansion.{Fraction, Terms}
 
 -- no label has more cells than the first number, nor more rows than the second
-abbrev pub AreWithin : ℕ → ℕ → Terms (List ℕ) → Type 0
-AreWithin cells lengths terms =
-    (t : List ℕ × Fraction) → Among t terms → (size t.0 ≤ cells) × (rows t.0 ≤ lengths)
+abbrev pub AreWithin : {R : Type 0} → ℕ → ℕ → List (List ℕ × R) → Type 0
+AreWithin {R} cells lengths entries =
+    (t : List ℕ × R) → Among t entries → (size t.0 ≤ cells) × (rows t.0 ≤ lengths)
 
 -- each label has room for k cells more: it has at most 4,096 - k cells and at most 512 - k rows
-abbrev pub HasRoom : ℕ → Terms (List ℕ) → Type 0
-HasRoom k terms =
-    (t : List ℕ × Fraction) → Among t terms → (size t.0 + k ≤ 4096) × (rows t.0 + k ≤ 512)
+abbrev pub HasRoom : {R : Type 0} → ℕ → List (List ℕ × R) → Type 0
+HasRoom {R} k entries =
+    (t : List ℕ × R) → Among t entries → (size t.0 + k ≤ 4096) × (rows t.0 + k ≤ 512)

@@ -1,11 +1,11 @@
 -- Lists of terms in strict order, and tests of each term: from adjacent terms to all pairs, and along `++`.
-use Rattle.std.proofs.Common.{◌≡◌, Bool, true, [], ◌∷◌, ◌++◌, map, refl, sym, ap, ◌∙◌, subst, inl, inr}
+use Rattle.std.proofs.Common.{◌≡◌, Bool, true, [], ◌∷◌, map, refl, sym, ap, ◌∙◌, subst, inl, inr}
 use Rattle.std.specs.Ordering.{is_lt}
 use Rattle.std.specs.declared.cmp.Ordering.{Ordering}
 use Rattle.std.specs.declared.cmp.Ordering.TheVariants.{Less, Equal, Greater}
 use Rattle.std.specs.Cmp.{IsTotalOrder}
 use Rattle.std.proofs.lemmas.Cmp.{tied_itself}
-use Rattle.std.proofs.lemmas.Bool.{and_parts, and_from}
+use Rattle.std.proofs.lemmas.Bool.{and_parts}
 use Rattle.sym_model.specs.Sum.{Among, Once}
 use Rattle.sym_model.specs.Expansion.{Fraction, Terms}
 use Rattle.sym_model.specs.Canonical.{is_ordered, each_term}
@@ -44,18 +44,6 @@ is_ordered-tells order trans (t ∷ u ∷ terms) h =
     let rest = is_ordered-tells order trans (u ∷ terms) p.1 in
     ((e, stands_before-weaker order trans t.0 u.0 terms e rest.0), rest)
 
-pub is_ordered-from : {Label : Type 0} (order : Label → Label → Ordering) (terms : Terms Label) → IsOrdered order terms → is_ordered order terms ≡ true
-is_ordered-from order [] h = refl
-is_ordered-from order (t ∷ []) h = refl
-is_ordered-from order (t ∷ u ∷ terms) h =
-    and_from (is_lt (order t.0 u.0)) (is_ordered order (u ∷ terms)) (ap is_lt h.0.0) (is_ordered-from order (u ∷ terms) h.1)
-
--- the label of a term among them stands after
-pub stands_before-among : {Label : Type 0} (order : Label → Label → Ordering) (label : Label) (terms : Terms Label) (t : Label × Fraction) → StandsBefore order label terms → Among t terms → order label t.0 ≡ Less
-stands_before-among order label [] t h k = absurd k
-stands_before-among {Label = Label} order label (u ∷ terms) t h (inl e) = subst (λ (v : Label × Fraction). order label v.0 ≡ Less) (sym e) h.0
-stands_before-among order label (u ∷ terms) t h (inr k) = stands_before-among order label terms t h.1 k
-
 -- no label stands twice
 pub labels-once : {Label : Type 0} (order : Label → Label → Ordering) → IsTotalOrder order → (terms : Terms Label) → IsOrdered order terms → Once (map (λ (t : Label × Fraction). t.0) terms)
 labels-once order total [] h = tt
@@ -68,13 +56,6 @@ labels-once {Label = Label} order total (t ∷ terms) h =
         let same_label : order label label ≡ Less = subst (λ x. order label x ≡ Less) (sym e) k.0 in
         let itself = tied_itself total label in cc
     not_again label (u ∷ rest) k (inr m) = not_again label rest k.1 m
-
--- a test of each term, along `++` and from its members
-pub each_term-append : {Label : Type 0} (test : Label × Fraction → Bool) (xs ys : Terms Label) → each_term test xs ≡ true → each_term test ys ≡ true → each_term test (xs ++ ys) ≡ true
-each_term-append test [] ys h k = k
-each_term-append test (x ∷ xs) ys h k =
-    let p = and_parts (test x) (each_term test xs) h in
-    and_from (test x) (each_term test (xs ++ ys)) p.0 (each_term-append test xs ys p.1 k)
 
 pub each_term-among : {Label : Type 0} (test : Label × Fraction → Bool) (terms : Terms Label) → each_term test terms ≡ true → (t : Label × Fraction) → Among t terms → test t ≡ true
 each_term-among test [] h t k = absurd k

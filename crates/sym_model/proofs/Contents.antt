@@ -1,8 +1,10 @@
 -- How often a letter stands in a list: `times_in` and `content` of specs/Schur.
-use Rattle.std.proofs.Common.{◌+◌, Bool, List, ap, arith, cond, suc, ℕ, ◌∙◌, ◌∷◌, ◌≡◌, ◌++◌, [], map, refl, replicate, zero, ◌==◌, false, length, true, ◌≤◌}
-use Rattle.std.proofs.lemmas.Bool.{eq-eqb, ne_eqb}
+use Rattle.std.proofs.Common.{◌+◌, Bool, List, ap, arith, cond, suc, ℕ, ◌∙◌, ◌∷◌, ◌≡◌, ◌++◌, [], map, refl, replicate, zero, ◌==◌, false, length, true, ◌≤◌, ◌-◌, ◌<◌, eqb, inl, inr}
+use Rattle.std.proofs.lemmas.Bool.{eq-eqb, ne_eqb, cases_eq}
 use Rattle.sym_model.specs.Schur.{times_in, content}
-use Rattle.sym_model.specs.Partition.{after}
+use Rattle.sym_model.specs.Partition.{after, size}
+use Rattle.sym_model.proofs.Parts.{size-map_add}
+use Rattle.sym_model.specs.Bounded.{AreLetters}
 
 pub times_in-here : (k c : ℕ) (l : List ℕ) → c ≡ k → times_in k (c ∷ l) ≡ suc (times_in k l)
 times_in-here k c l e = ap (λ (b : Bool). cond {A = ℕ} b 1 0 + times_in k l) (eq-eqb c k e) ∙ omega arith
@@ -28,3 +30,42 @@ times_in-most j (a ∷ v) = by (a == j) (times_in-most j v)
     by : (b : Bool) → times_in j v ≤ length v → cond b 1 0 + times_in j v ≤ suc (length v)
     by true h = omega arith
     by false h = omega arith
+
+-- 1 if the letter is j, and 0 otherwise
+one_at : ℕ → ℕ → ℕ
+one_at a j = cond (eqb a j) 1 0
+
+none-after : (a m k : ℕ) → a ≤ m → size (map (one_at a) (after m k)) ≡ 0
+unfolding one_at
+none-after a m zero h = refl
+none-after a m (suc k) h =
+    let rest = none-after a (m + 1) k (omega arith) in
+    let first : cond {A = ℕ} (eqb a (m + 1)) 1 0 ≡ 0 = ap (λ b. cond b 1 0) (ne_eqb a (m + 1) (λ e. omega arith)) in
+    omega arith
+
+one-after : (a m k : ℕ) → m < a → a ≤ m + k → size (map (one_at a) (after m k)) ≡ 1
+unfolding one_at
+one-after a m zero h l = absurd (omega arith)
+one-after a m (suc k) h l = elim (cases_eq a (m + 1)) [
+  | inl e ↦
+      let first : cond {A = ℕ} (eqb a (m + 1)) 1 0 ≡ 1 = ap (λ b. cond b 1 0) (eq-eqb a (m + 1) e) in
+      let rest = none-after a (m + 1) k (omega arith) in
+      omega arith
+  | inr n ↦
+      let first : cond {A = ℕ} (eqb a (m + 1)) 1 0 ≡ 0 = ap (λ b. cond b 1 0) (ne_eqb a (m + 1) n) in
+      let rest = one-after a (m + 1) k (omega (arith, n)) (omega arith) in
+      omega arith
+]
+
+pub size-content : (k : ℕ) (w : List ℕ) → AreLetters k w → size (content k w) ≡ length w
+unfolding one_at
+size-content k [] h = zeros (after 0 k)
+  where
+    zeros : (ks : List ℕ) → size (map (λ j. times_in j []) ks) ≡ 0
+    zeros [] = refl
+    zeros (j ∷ ks) = let e = zeros ks in omega arith
+size-content k (a ∷ w) h =
+    let low = h.0.0 in
+    let high = h.0.1 in
+    let one = one-after a 0 k (omega arith) (omega arith) in
+    omega (arith, size-map_add (one_at a) (λ j. times_in j w) (after 0 k), one, size-content k w h.1)

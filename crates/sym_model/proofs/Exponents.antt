@@ -4,6 +4,7 @@ use Rattle.std.proofs.lemmas.Bool.{and_parts, and_from, cases_Bool, false_from_n
 use Rattle.std.proofs.Math.Bool.{and-true}
 use Rattle.sym_model.specs.Polynomial.{same, join, resize, all_zero, fits_in}
 use Rattle.sym_model.specs.Partition.{size}
+use Rattle.sym_model.specs.Sum.{Among}
 
 -- two tests that are true together are one test
 pub tests_agree : (x y : Bool) → (x ≡ true → y ≡ true) → (y ≡ true → x ≡ true) → x ≡ y
@@ -161,3 +162,12 @@ get_or-join [] β k = omega arith
 get_or-join (a ∷ α) [] k = omega arith
 get_or-join (a ∷ α) (b ∷ β) zero = refl
 get_or-join (a ∷ α) (b ∷ β) (suc k) = get_or-join α β k
+
+pub among_or_not : (x : List ℕ) (xs : List (List ℕ)) → Among x xs ⊎ (Among x xs → ⊥)
+among_or_not x [] = inr (λ m. m)
+among_or_not x (y ∷ xs) = by (same_or_not x y) (among_or_not x xs)
+  where
+    by : (x ≡ y) ⊎ (x ≡ y → ⊥) → Among x xs ⊎ (Among x xs → ⊥) → Among x (y ∷ xs) ⊎ (Among x (y ∷ xs) → ⊥)
+    by (inl e) r = inl (inl e)
+    by (inr n) (inl m) = inl (inr m)
+    by (inr n) (inr k) = inr (λ m. elim m [ inl e ↦ n e | inr q ↦ k q ])

@@ -1,10 +1,13 @@
 -- Integers: absolute values, signs, and the test of specs/LargeAnswer for a coefficient past the limit.
-use Rattle.std.proofs.Common.{◌+◌, ◌+ℤ◌, arith, negsuc, pos, ℤ, ◌≤◌, inl, inr, refl, suc, zero, ◌≡◌, ◌⊎◌, ◌*ℤ◌, ◌^◌, true, ◌*◌, Bool, cond, false}
+use Rattle.std.proofs.Common.{ℕ, ◌+◌, ◌+ℤ◌, arith, negsuc, pos, ℤ, ◌≤◌, inl, inr, refl, suc, zero, ◌≡◌, ◌⊎◌, ◌*ℤ◌, ◌^◌, true, neg_ℤ, ◌*◌, Bool, cond, false, ◌<◌, ap}
 use Rattle.std.proofs.lemmas.Int.{ints}
 use Rattle.std.specs.Prelude.{nat_abs, ◌≤ℤ◌}
+use native.Mathlib.Nat.{eq_of_mul-eq-mul_right, add-mul}
+use borrow.Author.Differences.{up, down}
 use Rattle.std.proofs.Math.Nat.{mul-suc}
 use Rattle.std.proofs.lemmas.Bool.{leb-true, le-leb}
 use Rattle.sym_model.specs.LargeAnswer.{is_past}
+use Rattle.sym_model.specs.PlaceOrders.{minus_one_to}
 
 pub nat_abs-sum : (x y : ℤ) → nat_abs (x +ℤ y) ≤ nat_abs x + nat_abs y
 nat_abs-sum (pos a) (pos b) = omega (arith, ints)
@@ -45,3 +48,23 @@ nat_abs-product (negsuc m) (negsuc n) = omega (arith, ints)
 pub cond-nonnegative : (b : Bool) (z : ℤ) → pos 0 ≤ℤ z → pos 0 ≤ℤ cond b z (pos 0)
 cond-nonnegative true z h = h
 cond-nonnegative false z h = omega (arith, ints)
+
+-- the sign of a number
+abbrev pub sign_of : ℤ → ℤ
+sign_of (pos n) = pos 1
+sign_of (negsuc n) = negsuc 0
+
+-- a positive factor can be cancelled
+pub product_cancel : (x y : ℤ) (d : ℕ) → 0 < d → x *ℤ pos d ≡ y *ℤ pos d → x ≡ y
+product_cancel x y d some e =
+    let both : (up x + down y) * d ≡ (up y + down x) * d =
+    omega (arith, ints, ap up e, ap down e, add-mul (up x) (down y) d, add-mul (up y) (down x) d) in
+    let parts : up x + down y ≡ up y + down x = eq_of_mul-eq-mul_right d some (up x + down y) (up y + down x) both in
+    omega (arith, ints)
+
+pub product-neg_one : (c : ℤ) → c *ℤ negsuc 0 ≡ neg_ℤ c
+product-neg_one c = omega (arith, ints)
+
+pub sign_size : (n : ℕ) → nat_abs (minus_one_to n) ≡ 1
+sign_size zero = refl
+sign_size (suc n) = let h = sign_size n in omega (arith, ints)

@@ -15,7 +15,6 @@ pub mod PartitionLists
 pub mod AfterLists
 pub mod OrderLists
 pub mod Signs
-pub mod LabelKeys
 pub mod Parts
 pub mod Numbers
 pub mod Contents

@@ -1,17 +1,18 @@
 -- Lists: `each` and `select` of specs/Sum over lists put together, and what stands at a place.
-use Rattle.std.proofs.Common.{◌<◌, List, Some, [], arith, get_or, length, refl, suc, zero, ℕ, ◌∷◌, ◌≡◌, ◌++◌, ap, append_assoc, sym, ◌∙◌, append-nil, drop, ap₂, inl, inr, map, Bool, cond, false, true, ◌+◌}
+use Rattle.std.proofs.Common.{◌<◌, List, Some, [], arith, get_or, length, refl, suc, zero, ℕ, ◌∷◌, ◌≡◌, ◌++◌, ap, append_assoc, sym, ◌∙◌, append-nil, drop, ap₂, inl, inr, map, Bool, cond, false, true, ◌+◌, filter, flat_map, ◌≤◌, nat_lt}
 use Rattle.std.specs.Prelude.{slice_get}
 use Rattle.std.proofs.Math.Seq.{drop-cons}
-use Rattle.sym_model.specs.Sum.{each, Among, select}
+use Rattle.sym_model.specs.Sum.{Among}
+use Rattle.sym_model.specs.PlaceOrders.{smaller}
 
 pub slice_get-within : (ns : List ℕ) (i : ℕ) → i < length ns → slice_get ns i ≡ Some (get_or ns i 0)
 slice_get-within [] i h = absurd (omega (arith, h))
 slice_get-within (a ∷ ns) zero h = refl
 slice_get-within (a ∷ ns) (suc i) h = slice_get-within ns i (omega (arith, h))
 
-pub each-append : {A B : Type 0} (f : A → List B) (xs ys : List A) → each f (xs ++ ys) ≡ each f xs ++ each f ys
+pub each-append : {A B : Type 0} (f : A → List B) (xs ys : List A) → flat_map f (xs ++ ys) ≡ flat_map f xs ++ flat_map f ys
 each-append f [] ys = refl
-each-append f (x ∷ xs) ys = ap (λ z. f x ++ z) (each-append f xs ys) ∙ sym (append_assoc (f x) (each f xs) (each f ys))
+each-append f (x ∷ xs) ys = ap (λ z. f x ++ z) (each-append f xs ys) ∙ sym (append_assoc (f x) (flat_map f xs) (flat_map f ys))
 
 -- within a list the default does not matter
 pub get_or-any : (v : List ℕ) (i p q : ℕ) → i < length v → get_or v i p ≡ get_or v i q
@@ -31,38 +32,38 @@ pub map-among : {A B : Type 0} (f g : A → B) (xs : List A) → ((x : A) → Am
 map-among f g [] h = refl
 map-among f g (x ∷ xs) h = ap₂ ◌∷◌ (h x (inl refl)) (map-among f g xs (λ y m. h y (inr m)))
 
-pub select-append : {A : Type 0} (test : A → Bool) (xs ys : List A) → select test (xs ++ ys) ≡ select test xs ++ select test ys
+pub select-append : {A : Type 0} (test : A → Bool) (xs ys : List A) → filter test (xs ++ ys) ≡ filter test xs ++ filter test ys
 select-append test [] ys = refl
 select-append test (x ∷ xs) ys = by (test x) (select-append test xs ys)
   where
-    by : (b : Bool) → select test (xs ++ ys) ≡ select test xs ++ select test ys
-        → cond b (x ∷ select test (xs ++ ys)) (select test (xs ++ ys)) ≡ cond b (x ∷ select test xs) (select test xs) ++ select test ys
+    by : (b : Bool) → filter test (xs ++ ys) ≡ filter test xs ++ filter test ys
+        → cond b (x ∷ filter test (xs ++ ys)) (filter test (xs ++ ys)) ≡ cond b (x ∷ filter test xs) (filter test xs) ++ filter test ys
     by true e = ap (λ l. x ∷ l) e
     by false e = e
 
-pub select-each : {A B : Type 0} (test : B → Bool) (f : A → List B) (xs : List A) → select test (each f xs) ≡ each (λ (x : A). select test (f x)) xs
+pub select-each : {A B : Type 0} (test : B → Bool) (f : A → List B) (xs : List A) → filter test (flat_map f xs) ≡ flat_map (λ (x : A). filter test (f x)) xs
 select-each test f [] = refl
-select-each test f (x ∷ xs) = select-append test (f x) (each f xs) ∙ ap (λ l. select test (f x) ++ l) (select-each test f xs)
+select-each test f (x ∷ xs) = select-append test (f x) (flat_map f xs) ∙ ap (λ l. filter test (f x) ++ l) (select-each test f xs)
 
-pub select-map : {A B : Type 0} (test : B → Bool) (g : A → B) (xs : List A) → select test (map g xs) ≡ map g (select (λ (x : A). test (g x)) xs)
+pub select-map : {A B : Type 0} (test : B → Bool) (g : A → B) (xs : List A) → filter test (map g xs) ≡ map g (filter (λ (x : A). test (g x)) xs)
 select-map test g [] = refl
 select-map test g (x ∷ xs) = by (test (g x)) (select-map test g xs)
   where
-    by : (b : Bool) → select test (map g xs) ≡ map g (select (λ x. test (g x)) xs)
-        → cond b (g x ∷ select test (map g xs)) (select test (map g xs)) ≡ map g (cond b (x ∷ select (λ x. test (g x)) xs) (select (λ x. test (g x)) xs))
+    by : (b : Bool) → filter test (map g xs) ≡ map g (filter (λ x. test (g x)) xs)
+        → cond b (g x ∷ filter test (map g xs)) (filter test (map g xs)) ≡ map g (cond b (x ∷ filter (λ x. test (g x)) xs) (filter (λ x. test (g x)) xs))
     by true e = ap (λ l. g x ∷ l) e
     by false e = e
 
-pub select-none : (test : List ℕ → Bool) (xs : List (List ℕ)) → ((x : List ℕ) → Among x xs → test x ≡ false) → select test xs ≡ []
+pub select-none : (test : List ℕ → Bool) (xs : List (List ℕ)) → ((x : List ℕ) → Among x xs → test x ≡ false) → filter test xs ≡ []
 select-none test [] h = refl
 select-none test (x ∷ xs) h =
-    ap (λ b. cond b (x ∷ select test xs) (select test xs)) (h x (inl refl)) ∙ select-none test xs (λ y m. h y (inr m))
+    ap (λ b. cond b (x ∷ filter test xs) (filter test xs)) (h x (inl refl)) ∙ select-none test xs (λ y m. h y (inr m))
 
-pub select-ext : (test other : List ℕ → Bool) (xs : List (List ℕ)) → ((x : List ℕ) → test x ≡ other x) → select test xs ≡ select other xs
+pub select-ext : (test other : List ℕ → Bool) (xs : List (List ℕ)) → ((x : List ℕ) → test x ≡ other x) → filter test xs ≡ filter other xs
 select-ext test other [] h = refl
 select-ext test other (x ∷ xs) h = ap₂ (λ b l. cond b (x ∷ l) l) (h x) (select-ext test other xs h)
 
-pub each-ext : (f g : ℕ → List (List ℕ)) (xs : List ℕ) → ((x : ℕ) → f x ≡ g x) → each f xs ≡ each g xs
+pub each-ext : (f g : ℕ → List (List ℕ)) (xs : List ℕ) → ((x : ℕ) → f x ≡ g x) → flat_map f xs ≡ flat_map g xs
 each-ext f g [] h = refl
 each-ext f g (x ∷ xs) h = ap₂ (λ a b. a ++ b) (h x) (each-ext f g xs h)
 
@@ -74,3 +75,12 @@ pub drop-next : (word : List ℕ) (place : ℕ) → place < length word → drop
 drop-next word place h =
     let next : suc place ≡ place + 1 = omega arith in
     drop-cons word place 0 h ∙ ap (λ n. get_or word place 0 ∷ drop n word) next
+
+-- at most all letters are smaller than a
+pub smaller-within : (a : ℕ) (w : List ℕ) → smaller a w ≤ length w
+smaller-within a [] = omega arith
+smaller-within a (b ∷ w) = by (nat_lt b a) (smaller-within a w)
+  where
+    by : (t : Bool) → smaller a w ≤ length w → cond t 1 0 + smaller a w ≤ suc (length w)
+    by true h = omega arith
+    by false h = omega arith

@@ -1,8 +1,8 @@
 -- The polynomials of specs/Bases by their coefficients and pairings: sums of monomials, m_λ and p_a.
-use Rattle.std.proofs.Common.{◌≡◌, ◌⊎◌, ℕ, zero, suc, ◌+◌, ◌-◌, ◌<◌, ◌≤◌, Bool, true, false, ◌&&◌, cond, eqb, leb, List, [], ◌∷◌, map, length, replicate, sym, ◌∙◌, ap, ap₂, subst, refl, inl, inr, arith, ℤ, pos, ◌+ℤ◌}
+use Rattle.std.proofs.Common.{◌≡◌, ◌⊎◌, ℕ, zero, suc, ◌+◌, ◌-◌, ◌<◌, ◌≤◌, Bool, true, false, ◌&&◌, cond, eqb, leb, List, [], ◌∷◌, map, length, replicate, sym, ◌∙◌, ap, ap₂, subst, refl, inl, inr, arith, ℤ, pos, ◌+ℤ◌, filter, flat_map}
 use Rattle.std.proofs.lemmas.Int.{ints}
 use Rattle.std.proofs.lemmas.Bool.{cases_lt, cases_eq, le-leb, lt-leb, leb-true, eq-eqb, ne_eqb, eqb-true, cond-true, cond-false, true≢false, and_parts, and_from}
-use Rattle.sym_model.specs.Sum.{total, each, select, Among}
+use Rattle.sym_model.specs.Sum.{total, Among}
 use Rattle.sym_model.specs.Polynomial.{Term, same, coefficient, In, pair}
 use Rattle.sym_model.specs.Partition.{size, sorted_parts}
 use Rattle.sym_model.specs.Bases.{down_from, exponent_lists, monomials, has, monomial, power_sum_of}
@@ -108,7 +108,7 @@ total_exponent_lists-only φ (c ∷ γ) (suc n) d =
 -- the coefficient of x^γ in the sum of the monomials of degree d in n variables that pass a test
 pub coefficient-monomials : (test : List ℕ → Bool) (n d : ℕ) (γ : List ℕ) → coefficient (monomials test n d) γ ≡ cond (is_exponent_list n d γ) (cond (test γ) (pos 1) (pos 0)) (pos 0)
 coefficient-monomials test n d γ =
-    total_map (λ (t : Term). cond (same t.0 γ) t.1 (pos 0)) (λ (α : List ℕ). (α, pos 1)) (select test (exponent_lists n d))
+    total_map (λ (t : Term). cond (same t.0 γ) t.1 (pos 0)) (λ (α : List ℕ). (α, pos 1)) (filter test (exponent_lists n d))
     ∙ total_select (λ (α : List ℕ). cond (same α γ) (pos 1) (pos 0)) test (exponent_lists n d)
     ∙ total_ext
     (λ (α : List ℕ). cond (test α) (cond (same α γ) (pos 1) (pos 0)) (pos 0))
@@ -164,7 +164,7 @@ members_of-exponent_lists α (suc n) d m =
 
 pub In-monomials : (test : List ℕ → Bool) (n d : ℕ) → In n (monomials test n d)
 In-monomials test n d t m =
-    let r = Among_from_map (λ (α : List ℕ). (α, pos 1)) t (select test (exponent_lists n d)) m in
+    let r = Among_from_map (λ (α : List ℕ). (α, pos 1)) t (filter test (exponent_lists n d)) m in
     let s = Among_from_select test r.0 (exponent_lists n d) r.1 in
     ap (λ (u : Term). length u.0) r.2 ∙ (members_of-exponent_lists r.0 n d s.0).0
 
@@ -199,7 +199,7 @@ has_above_size a (c ∷ α) h = rw (ne_eqb c a (λ e. omega arith)) (has_above_s
 total_power_sum : (a n : ℕ) (φ : List ℕ → ℤ) → total (λ (α : List ℕ). cond (has (suc a) α) (φ α) (pos 0)) (exponent_lists n (suc a)) ≡ total φ (one_place (suc a) n)
 total_power_sum a zero φ = rw (ne_eqb (suc a) 0 (λ e. omega arith)) refl
 total_power_sum a (suc n) φ =
-    total_append F (map (λ (α : List ℕ). suc a ∷ α) (exponent_lists n (suc a - suc a))) (each (λ (c : ℕ). map (λ (α : List ℕ). c ∷ α) (exponent_lists n (suc a - c))) (down_from a))
+    total_append F (map (λ (α : List ℕ). suc a ∷ α) (exponent_lists n (suc a - suc a))) (flat_map (λ (c : ℕ). map (λ (α : List ℕ). c ∷ α) (exponent_lists n (suc a - c))) (down_from a))
     ∙ ap₂ ◌+ℤ◌ top (total_each F (λ (c : ℕ). map (λ (α : List ℕ). c ∷ α) (exponent_lists n (suc a - c))) (down_from a) ∙ total_down_from-last row a middle ∙ bottom (total_power_sum a n (λ α. φ (0 ∷ α))))
   where
     F : List ℕ → ℤ
@@ -235,6 +235,6 @@ total_power_sum a (suc n) φ =
 pub pair-power_sum_of : (a n : ℕ) (φ : List ℕ → ℤ) → 0 < a → pair (power_sum_of a n) φ ≡ total φ (one_place a n)
 pair-power_sum_of zero n φ h = absurd (omega arith)
 pair-power_sum_of (suc a) n φ h =
-    pair_monomials (select (has (suc a)) (exponent_lists n (suc a))) φ
+    pair_monomials (filter (has (suc a)) (exponent_lists n (suc a))) φ
     ∙ total_select φ (has (suc a)) (exponent_lists n (suc a))
     ∙ total_power_sum a n φ

@@ -1,11 +1,12 @@
 -- Natural numbers: powers, factorials, products, and their tests.
-use Rattle.std.proofs.Common.{arith, nat_le, suc, ℕ, ◌≡◌, ◌^◌, pow-suc, zero, ◌≤◌, ◌<◌, ◌==◌, sym, cond, nat_lt, ap, true, false, ◌*◌, ◌+◌}
+use Rattle.std.proofs.Common.{arith, nat_le, suc, ℕ, ◌≡◌, ◌^◌, pow-suc, zero, ◌≤◌, ◌<◌, ◌==◌, sym, cond, nat_lt, ap, true, false, ◌*◌, ◌+◌, List, [], ◌∷◌}
 use Rattle.std.proofs.lemmas.Bool.Decides.{nat_tests}
 use Rattle.std.proofs.lemmas.Nat.{mul-le}
 use Rattle.std.proofs.Math.Nat.{pow-zero}
 use Rattle.std.proofs.lemmas.Bool.{eq-eqb, eqb-true, lt-ltb}
 use native.Mathlib.Nat.{mul-pos, mul-le-mul_left}
 use Rattle.sym_model.proofs.Exponents.{tests_agree}
+use Rattle.sym_model.specs.Bounded.{AreBelow}
 
 pub nat_le-suc : (a b : ℕ) → nat_le (suc a) (suc b) ≡ nat_le a b
 nat_le-suc a b = grind (arith, nat_tests)
@@ -45,3 +46,7 @@ positive_factor (suc q) a m e h = omega arith
 
 pub many-within : (A x y z : ℕ) → x + y ≤ z → A * x + A * y ≤ A * z
 many-within A x y z h = let m = mul-le-mul_left A h in omega arith
+
+pub below_more : (k l : ℕ) (w : List ℕ) → k ≤ l → AreBelow k w → AreBelow l w
+below_more k l [] le h = tt
+below_more k l (a ∷ w) le h = (omega (arith, h.0), below_more k l w le h.1)

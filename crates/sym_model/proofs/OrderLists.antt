@@ -1,5 +1,4 @@
 -- The orders of the places: each list that has every place, and no other entry, once.
---     orders_members      what the orders of a list without repeats are
 --     orders_once         each of them once
 use Rattle.std.proofs.Common.{◌≡◌, ℕ, suc, ◌⊎◌, ◌==◌, true, false, cond, List, [], ◌∷◌, map, length, sym, ◌∙◌, ap, subst, refl, inl, inr, arith}
 use Rattle.std.proofs.lemmas.Bool.Decides.{nat_tests}
@@ -7,6 +6,7 @@ use Rattle.sym_model.specs.Sum.{Among, Once, Within}
 use Rattle.sym_model.specs.PlaceOrders.{insertions, orders, places}
 use Rattle.sym_model.proofs.Sums.{Among-map, Among_from_map, Among-each, Among_from_each, Once-map, Once-each, without, length-without, Among-without, Within_tail}
 use Rattle.sym_model.proofs.AfterLists.{length_after, once_after}
+use Rattle.sym_model.specs.RaisedPart.{without_one}
 
 -- ---- every order is listed
 
@@ -105,21 +105,15 @@ order_from (x ∷ xs) w z m n =
 
 -- ---- each order once
 
--- a list without its first x
-taken : ℕ → List ℕ → List ℕ
-taken x [] = []
-taken x (y ∷ w) = cond (y == x) w (y ∷ taken x w)
-
-taken_insertion : (x : ℕ) (v w : List ℕ) → (Among x v → ⊥) → Among w (insertions x v) → taken x w ≡ v
-unfolding taken
-taken_insertion x [] w n (inl e) = ap (taken x) e ∙ (let t : (x == x) ≡ true = grind (arith, nat_tests) in ap (λ b. cond b [] (x ∷ [])) t)
+taken_insertion : (x : ℕ) (v w : List ℕ) → (Among x v → ⊥) → Among w (insertions x v) → without_one x w ≡ v
+taken_insertion x [] w n (inl e) = ap (without_one x) e ∙ (let t : (x == x) ≡ true = grind (arith, nat_tests) in ap (λ b. cond b [] (x ∷ [])) t)
 taken_insertion x [] w n (inr m) = absurd m
-taken_insertion x (y ∷ v) w n (inl e) = ap (taken x) e ∙ (let t : (x == x) ≡ true = grind (arith, nat_tests) in ap (λ b. cond b (y ∷ v) (x ∷ cond (y == x) v (y ∷ taken x v))) t)
+taken_insertion x (y ∷ v) w n (inl e) = ap (without_one x) e ∙ (let t : (x == x) ≡ true = grind (arith, nat_tests) in ap (λ b. cond b (y ∷ v) (x ∷ cond (y == x) v (y ∷ without_one x v))) t)
 taken_insertion x (y ∷ v) w n (inr m) =
     let r = Among_from_map (λ (zs : List ℕ). y ∷ zs) w (insertions x v) m in
     let d : y ≡ x → ⊥ = λ e. n (inl (sym e)) in
     let t : (y == x) ≡ false = grind (arith, nat_tests) in
-    ap (taken x) r.2 ∙ ap (λ b. cond b r.0 (y ∷ taken x r.0)) t ∙ ap (λ l. y ∷ l) (taken_insertion x v r.0 (λ a. n (inr a)) r.1)
+    ap (without_one x) r.2 ∙ ap (λ b. cond b r.0 (y ∷ without_one x r.0)) t ∙ ap (λ l. y ∷ l) (taken_insertion x v r.0 (λ a. n (inr a)) r.1)
 
 insertions_once : (x : ℕ) (v : List ℕ) → (Among x v → ⊥) → Once (insertions x v)
 insertions_once x [] n = ((λ m. m), tt)

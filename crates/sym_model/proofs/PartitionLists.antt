@@ -1,11 +1,11 @@
 -- The list of the partitions of a number: it has exactly these, each once, in falling lexicographic order.
-use Rattle.std.proofs.Common.{◌≡◌, ℕ, zero, suc, ◌-◌, ◌<◌, ◌≤◌, min, List, [], ◌∷◌, ◌++◌, map, length, sym, ◌∙◌, ap, ap₂, subst, refl, inl, inr, ⊎_elim, arith}
+use Rattle.std.proofs.Common.{◌≡◌, ℕ, zero, suc, ◌-◌, ◌<◌, ◌≤◌, min, List, [], ◌∷◌, ◌++◌, map, length, sym, ◌∙◌, ap, ap₂, subst, refl, inl, inr, ⊎_elim, arith, flat_map}
 use Rattle.std.proofs.Math.Nat.{eq-or-lt_of_le, min-le_left, min-le_right, le-min}
 use Rattle.std.proofs.lemmas.Cmp.{nat_cmp_total, tied_itself}
 use Rattle.std.specs.Cmp.{nat_cmp_is}
 use Rattle.std.specs.Ordering.{ordering_then}
 use Rattle.std.specs.declared.cmp.Ordering.TheVariants.{Less}
-use Rattle.sym_model.specs.Sum.{each, Among, Once}
+use Rattle.sym_model.specs.Sum.{Among, Once}
 use Rattle.sym_model.specs.Partition.{IsPartition, Falls, ArePositive, size, columns}
 use Rattle.sym_model.specs.PrintedOrder.{falling_lexicographic}
 use Rattle.sym_model.specs.PartitionList.{down_to_one, partitions_within, partitions_of, FallsLexicographically}
@@ -141,11 +141,11 @@ FallsLexicographically-map a (x ∷ xs) f = (
 FallsLexicographically-each :
     (rest : ℕ → List (List ℕ)) (k : ℕ)
     → ((a : ℕ) → 0 < a → FallsLexicographically (rest a))
-    → FallsLexicographically (each (λ a. map (λ x. a ∷ x) (rest a)) (down_to_one k))
+    → FallsLexicographically (flat_map (λ a. map (λ x. a ∷ x) (rest a)) (down_to_one k))
 FallsLexicographically-each rest zero f = tt
 FallsLexicographically-each rest (suc k) f =
     FallsLexicographically-append (map (λ x. suc k ∷ x) (rest (suc k)))
-    (each (λ a. map (λ x. a ∷ x) (rest a)) (down_to_one k))
+    (flat_map (λ a. map (λ x. a ∷ x) (rest a)) (down_to_one k))
     (FallsLexicographically-map (suc k) (rest (suc k)) (f (suc k) (omega arith)))
     (FallsLexicographically-each rest k f)
     (λ x y m n.
@@ -178,7 +178,7 @@ Once-FallsLexicographically (x ∷ xs) f =
 -- ---- how many rows are allowed makes no difference where it is enough
 
 each-among :
-    (f g : ℕ → List (List ℕ)) (xs : List ℕ) → ((a : ℕ) → Among a xs → f a ≡ g a) → each f xs ≡ each g xs
+    (f g : ℕ → List (List ℕ)) (xs : List ℕ) → ((a : ℕ) → Among a xs → f a ≡ g a) → flat_map f xs ≡ flat_map g xs
 each-among f g [] h = refl
 each-among f g (x ∷ xs) h = ap₂ (λ a b. a ++ b) (h x (inl refl)) (each-among f g xs (λ a m. h a (inr m)))
 

@@ -46,7 +46,7 @@ positive-at [] k h l = absurd (omega arith)
 positive-at (a ∷ parts) zero h l = h.0
 positive-at (a ∷ parts) (suc k) h l = positive-at parts k h.1 (omega arith)
 
--- the first part, and those behind it as a slice holds them
+-- the first part, and those after it as a slice holds them
 pub split_first : (parts : List ℕ) → 1 ≤ length parts → get_or parts 0 0 ∷ take (length parts - 1) (drop 1 parts) ≡ parts
 split_first [] h = absurd (omega arith)
 split_first (k ∷ parts) h = ap (λ r. k ∷ r) (take_all (length (k ∷ parts) - 1) parts (omega arith))
@@ -153,3 +153,19 @@ pub part-in_front : (a : ℕ) (parts : List ℕ) → part (in_front a parts) 1 �
 part-in_front zero [] = refl
 part-in_front zero (b ∷ parts) = refl
 part-in_front (suc a) parts = refl
+
+-- a list without its last entry
+pub falls_front : (front : List ℕ) (last : ℕ) → Falls (front ++ last ∷ []) → Falls front
+falls_front [] last f = tt
+falls_front (a ∷ []) last f = tt
+falls_front (a ∷ b ∷ front) last f = (f.0, falls_front (b ∷ front) last f.1)
+
+-- a list without its first entry
+pub falls_after : (parts : List ℕ) → Falls parts → Falls (drop 1 parts)
+falls_after [] f = tt
+falls_after (a ∷ []) f = tt
+falls_after (a ∷ b ∷ parts) f = f.1
+
+pub ArePositive-ones : (s : ℕ) → ArePositive (replicate s 1)
+ArePositive-ones zero = tt
+ArePositive-ones (suc s) = (omega arith, ArePositive-ones s)

@@ -3,7 +3,8 @@ use Rattle.std.proofs.Common.{◌≡◌, ℕ, Bool, true, false, ◌&&◌, cond,
 use Rattle.std.proofs.lemmas.Int.{ints}
 use Rattle.sym_model.specs.Polynomial.{Poly, Same, In, nothing, no_exponents, one, join, plus, scale, negate, times, pair, resize, fits_in, restrict}
 use Rattle.sym_model.proofs.Exponents.{join_comm, join_assoc, join_zeros, resize_zeros, resize-join, fits_in-join, fits_in_zeros}
-use Rattle.sym_model.proofs.Polynomials.{pair_ext, pair_in, pair_add, pair_factor, pair_opposite, pair_zero, pair_exchange, pair_plus, pair_scale, pair_negate, pair_times, pair_one, pair_restrict, same_from_pair, Same_trans}
+use Rattle.sym_model.proofs.Polynomials.{pair_ext, pair_in, pair_add, pair_factor, pair_opposite, pair_zero, pair_exchange, pair_plus, pair_scale, pair_negate, pair_times, pair_one, pair_restrict, same_from_pair, Same_trans, pair_determined}
+use Rattle.std.specs.Prelude.{◌-ℤ◌}
 
 -- ---- sums
 
@@ -78,47 +79,60 @@ times-negate f g =
 -- ---- restriction
 
 -- the test function of a restriction
-abbrev kept : ℕ → (List ℕ → ℤ) → List ℕ → ℤ
-kept n φ α = cond (fits_in n α) (φ (resize n α)) (pos 0)
+abbrev pub restricted_test : ℕ → (List ℕ → ℤ) → List ℕ → ℤ
+restricted_test n φ α = cond (fits_in n α) (φ (resize n α)) (pos 0)
 
 pub restrict-plus : (n : ℕ) (f g : Poly) → Same (restrict n (plus f g)) (plus (restrict n f) (restrict n g))
 restrict-plus n f g =
     same_from_pair (restrict n (plus f g)) (plus (restrict n f) (restrict n g)) (λ φ.
     pair_restrict n (plus f g) φ
-    ∙ pair_plus f g (kept n φ)
+    ∙ pair_plus f g (restricted_test n φ)
     ∙ sym (pair_plus (restrict n f) (restrict n g) φ ∙ ap₂ ◌+ℤ◌ (pair_restrict n f φ) (pair_restrict n g φ)))
 
-restricted_join : (n : ℕ) (φ : List ℕ → ℤ) (g : Poly) (α : List ℕ) → pair g (λ β. kept n φ (join α β)) ≡ kept n (λ γ. pair g (kept n (λ β. φ (join γ β)))) α
+restricted_join : (n : ℕ) (φ : List ℕ → ℤ) (g : Poly) (α : List ℕ) → pair g (λ β. restricted_test n φ (join α β)) ≡ restricted_test n (λ γ. pair g (restricted_test n (λ β. φ (join γ β)))) α
 restricted_join n φ g α = by (fits_in n α) refl
   where
-    by : (b : Bool) → fits_in n α ≡ b → pair g (λ β. kept n φ (join α β)) ≡ cond b (pair g (kept n (λ β. φ (join (resize n α) β)))) (pos 0)
+    by : (b : Bool) → fits_in n α ≡ b → pair g (λ β. restricted_test n φ (join α β)) ≡ cond b (pair g (restricted_test n (λ β. φ (join (resize n α) β)))) (pos 0)
     by true e =
-        pair_ext g (λ β. kept n φ (join α β)) (kept n (λ β. φ (join (resize n α) β))) (λ β.
+        pair_ext g (λ β. restricted_test n φ (join α β)) (restricted_test n (λ β. φ (join (resize n α) β))) (λ β.
         ap₂ (λ b γ. cond b (φ γ) (pos 0)) (fits_in-join n α β ∙ ap (λ b. b && fits_in n β) e) (resize-join n α β))
     by false e =
-        pair_ext g (λ β. kept n φ (join α β)) (λ β. pos 0) (λ β. ap (λ b. cond b (φ (resize n (join α β))) (pos 0)) (fits_in-join n α β ∙ ap (λ b. b && fits_in n β) e))
+        pair_ext g (λ β. restricted_test n φ (join α β)) (λ β. pos 0) (λ β. ap (λ b. cond b (φ (resize n (join α β))) (pos 0)) (fits_in-join n α β ∙ ap (λ b. b && fits_in n β) e))
         ∙ pair_zero g
 
 pub restrict-times : (n : ℕ) (f g : Poly) → Same (restrict n (times f g)) (times (restrict n f) (restrict n g))
 restrict-times n f g =
     same_from_pair (restrict n (times f g)) (times (restrict n f) (restrict n g)) (λ φ.
     pair_restrict n (times f g) φ
-    ∙ pair_times f g (kept n φ)
-    ∙ pair_ext f (λ α. pair g (λ β. kept n φ (join α β))) (kept n (λ γ. pair g (kept n (λ β. φ (join γ β))))) (restricted_join n φ g)
+    ∙ pair_times f g (restricted_test n φ)
+    ∙ pair_ext f (λ α. pair g (λ β. restricted_test n φ (join α β))) (restricted_test n (λ γ. pair g (restricted_test n (λ β. φ (join γ β))))) (restricted_join n φ g)
     ∙ sym (pair_times (restrict n f) (restrict n g) φ
     ∙ pair_restrict n f (λ α. pair (restrict n g) (λ β. φ (join α β)))
-    ∙ pair_ext f (kept n (λ α. pair (restrict n g) (λ β. φ (join α β)))) (kept n (λ α. pair g (kept n (λ β. φ (join α β))))) (λ α.
+    ∙ pair_ext f (restricted_test n (λ α. pair (restrict n g) (λ β. φ (join α β)))) (restricted_test n (λ α. pair g (restricted_test n (λ β. φ (join α β))))) (λ α.
     ap (λ m. cond (fits_in n α) m (pos 0)) (pair_restrict n g (λ β. φ (join (resize n α) β))))))
 
 pub restrict-one : (n k : ℕ) → Same (restrict n (one k)) (one n)
 restrict-one n k =
     same_from_pair (restrict n (one k)) (one n) (λ φ.
     pair_restrict n (one k) φ
-    ∙ pair_one k (kept n φ)
+    ∙ pair_one k (restricted_test n φ)
     ∙ ap₂ (λ b γ. cond b (φ γ) (pos 0)) (fits_in_zeros n k) (resize_zeros n k)
     ∙ sym (pair_one n φ))
 
 pub restrict-scale : (n : ℕ) (c : ℤ) (f : Poly) → Same (restrict n (scale c f)) (scale c (restrict n f))
 restrict-scale n c f =
     same_from_pair (restrict n (scale c f)) (scale c (restrict n f)) (λ φ.
-    pair_restrict n (scale c f) φ ∙ pair_scale c f (kept n φ) ∙ sym (pair_scale c (restrict n f) φ ∙ ap (λ m. c *ℤ m) (pair_restrict n f φ)))
+    pair_restrict n (scale c f) φ ∙ pair_scale c f (restricted_test n φ) ∙ sym (pair_scale c (restrict n f) φ ∙ ap (λ m. c *ℤ m) (pair_restrict n f φ)))
+
+pub pair_times_comm : (p f : Poly) (φ : List ℕ → ℤ) → pair (times p f) φ ≡ pair (times f p) φ
+pair_times_comm p f φ = pair_determined (times p f) (times f p) φ (times_comm p f)
+
+pub pair_times_plus : (p f g : Poly) (φ : List ℕ → ℤ) → pair (times p (plus f g)) φ ≡ pair (times p f) φ +ℤ pair (times p g) φ
+pair_times_plus p f g φ = pair_determined (times p (plus f g)) (plus (times p f) (times p g)) φ (times-plus p f g) ∙ pair_plus (times p f) (times p g) φ
+
+pub pair_times_minus : (p f g : Poly) (φ : List ℕ → ℤ) → pair (times p (plus f (negate g))) φ ≡ pair (times p f) φ -ℤ pair (times p g) φ
+pair_times_minus p f g φ =
+    let a = pair_times_plus p f (negate g) φ in
+    let b = pair_determined (times p (negate g)) (negate (times p g)) φ (times-negate p g) in
+    let c = pair_negate (times p g) φ in
+    omega (arith, ints)

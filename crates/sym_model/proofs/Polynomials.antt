@@ -1,16 +1,17 @@
 -- Polynomials through their pairings with test functions. Two polynomials are the same exactly where all
 -- pairings agree (`pair_determined`, `same_from_pair`); the pairing of a sum, product or restriction is
 -- a pairing of its parts, so that a law of polynomials is a law of finite sums.
-use Rattle.std.proofs.Common.{◌≡◌, ℕ, zero, suc, ◌+◌, ◌≤◌, ◌⊎◌, Bool, true, false, cond, not, List, [], ◌∷◌, ◌++◌, map, length, length-append, sym, ◌∙◌, ap, ap₂, subst, refl, inl, inr, arith, ℤ, pos, ◌+ℤ◌, ◌*ℤ◌, neg_ℤ}
+use Rattle.std.proofs.Common.{◌≡◌, ℕ, zero, suc, ◌+◌, ◌≤◌, ◌⊎◌, Bool, true, false, cond, not, List, [], ◌∷◌, ◌++◌, map, length, length-append, sym, ◌∙◌, ap, ap₂, subst, refl, inl, inr, arith, ℤ, pos, ◌+ℤ◌, ◌*ℤ◌, neg_ℤ, filter, flat_map}
 use Rattle.std.proofs.lemmas.Int.{ints}
 use Rattle.std.proofs.lemmas.Bool.{cases_eq}
 use Rattle.std.proofs.lemmas.List.{length-replicate}
-use Rattle.sym_model.specs.Sum.{total, each, select, Among}
+use Rattle.sym_model.specs.Sum.{total, Among}
 use Rattle.sym_model.specs.Polynomial.{Term, Poly, same, coefficient, Same, In, no_exponents, one, join, plus, scale, negate, times, pair, resize, fits_in, restrict}
 use Rattle.sym_model.specs.Expansion.{beside}
 use Rattle.sym_model.proofs.Ring.{distributes_left, product_assoc, product_left_comm, negation-product, product-negation, product-one, one-product}
 use Rattle.sym_model.proofs.Sums.{total_ext, total_among, total_append, total_none, total_add, total_neg, total_scale, total_map, total_each, total_select, total_exchange, Among_from_append, Among_from_map, Among_from_each, Among_from_select}
 use Rattle.sym_model.proofs.Exponents.{same_refl, same_true, same_apart, same_or_not, length-join_same, length-resize}
+use Rattle.std.specs.Prelude.{◌≤ℤ◌}
 use lib.IntN.{+ℤ_idl, *ℤ-zero, *ℤ_comm}
 
 -- ---- pairing with changed test functions
@@ -68,7 +69,7 @@ pair_negate f φ =
     ∙ total_ext (λ (t : Term). neg_ℤ t.1 *ℤ φ t.0) (λ (t : Term). neg_ℤ (t.1 *ℤ φ t.0)) (λ t. negation-product t.1 (φ t.0)) f
     ∙ total_neg (λ (t : Term). t.1 *ℤ φ t.0) f
 
-pub pair_each : {A : Type 0} (h : A → Poly) (xs : List A) (φ : List ℕ → ℤ) → pair (each h xs) φ ≡ total (λ (x : A). pair (h x) φ) xs
+pub pair_each : {A : Type 0} (h : A → Poly) (xs : List A) (φ : List ℕ → ℤ) → pair (flat_map h xs) φ ≡ total (λ (x : A). pair (h x) φ) xs
 pair_each h xs φ = total_each (λ (t : Term). t.1 *ℤ φ t.0) h xs
 
 -- a sum of monomials
@@ -89,10 +90,10 @@ pair_times f g φ =
     pair_each (λ (s : Term). map (λ (t : Term). (join s.0 t.0, s.1 *ℤ t.1)) g) f φ
     ∙ total_ext (λ (s : Term). pair (map (λ (t : Term). (join s.0 t.0, s.1 *ℤ t.1)) g) φ) (λ (s : Term). s.1 *ℤ pair g (λ β. φ (join s.0 β))) (λ s. pair_shift s g φ) f
 
-pub pair_times_each : {A : Type 0} (f : Poly) (h : A → Poly) (xs : List A) (φ : List ℕ → ℤ) → pair (times f (each h xs)) φ ≡ total (λ (x : A). pair (times f (h x)) φ) xs
+pub pair_times_each : {A : Type 0} (f : Poly) (h : A → Poly) (xs : List A) (φ : List ℕ → ℤ) → pair (times f (flat_map h xs)) φ ≡ total (λ (x : A). pair (times f (h x)) φ) xs
 pair_times_each {A} f h xs φ =
-    pair_times f (each h xs) φ
-    ∙ pair_ext f (λ α. pair (each h xs) (λ β. φ (join α β))) (λ α. total (λ (x : A). pair (h x) (λ β. φ (join α β))) xs) (λ α. pair_each h xs (λ β. φ (join α β)))
+    pair_times f (flat_map h xs) φ
+    ∙ pair_ext f (λ α. pair (flat_map h xs) (λ β. φ (join α β))) (λ α. total (λ (x : A). pair (h x) (λ β. φ (join α β))) xs) (λ α. pair_each h xs (λ β. φ (join α β)))
     ∙ pair_total f (λ (x : A) (α : List ℕ). pair (h x) (λ β. φ (join α β))) xs
     ∙ total_ext (λ (x : A). pair f (λ α. pair (h x) (λ β. φ (join α β)))) (λ (x : A). pair (times f (h x)) φ) (λ x. sym (pair_times f (h x) φ)) xs
 
@@ -101,7 +102,7 @@ pair_one n φ = omega (arith, ints, one-product (φ (no_exponents n)))
 
 pub pair_restrict : (n : ℕ) (f : Poly) (φ : List ℕ → ℤ) → pair (restrict n f) φ ≡ pair f (λ α. cond (fits_in n α) (φ (resize n α)) (pos 0))
 pair_restrict n f φ =
-    total_map (λ (t : Term). t.1 *ℤ φ t.0) (λ (t : Term). (resize n t.0, t.1)) (select (λ (t : Term). fits_in n t.0) f)
+    total_map (λ (t : Term). t.1 *ℤ φ t.0) (λ (t : Term). (resize n t.0, t.1)) (filter (λ (t : Term). fits_in n t.0) f)
     ∙ total_select (λ (t : Term). t.1 *ℤ φ (resize n t.0)) (λ (t : Term). fits_in n t.0) f
     ∙ total_ext (λ (t : Term). cond (fits_in n t.0) (t.1 *ℤ φ (resize n t.0)) (pos 0)) (λ (t : Term). t.1 *ℤ cond (fits_in n t.0) (φ (resize n t.0)) (pos 0)) (λ t. inside (fits_in n t.0) t.1 (φ (resize n t.0))) f
   where
@@ -139,7 +140,7 @@ same_from_pair f g e α = coefficient_pair f α ∙ e (at_only α) ∙ sym (coef
 
 -- the terms at other exponents than α
 abbrev pub others : List ℕ → Poly → Poly
-others α f = select (λ (t : Term). not (same t.0 α)) f
+others α f = filter (λ (t : Term). not (same t.0 α)) f
 
 pub length_others : (α : List ℕ) (f : Poly) → length (others α f) ≤ length f
 length_others α [] = omega arith
@@ -293,10 +294,10 @@ In_plus n f g i j t m = elim (Among_from_append t f g m) [ inl l ↦ i t l | inr
 pub In_map : {A : Type 0} (n : ℕ) (h : A → Term) (xs : List A) → ((x : A) → Among x xs → length (h x).0 ≡ n) → In n (map h xs)
 In_map n h xs i t m = let r = Among_from_map h t xs m in ap (λ (s : Term). length s.0) r.2 ∙ i r.0 r.1
 
-pub In_each : {A : Type 0} (n : ℕ) (h : A → Poly) (xs : List A) → ((x : A) → Among x xs → In n (h x)) → In n (each h xs)
+pub In_each : {A : Type 0} (n : ℕ) (h : A → Poly) (xs : List A) → ((x : A) → Among x xs → In n (h x)) → In n (flat_map h xs)
 In_each n h xs i t m = let r = Among_from_each h t xs m in i r.0 r.1 t r.2
 
-pub In_select : (n : ℕ) (test : Term → Bool) (f : Poly) → In n f → In n (select test f)
+pub In_select : (n : ℕ) (test : Term → Bool) (f : Poly) → In n f → In n (filter test f)
 In_select n test f i t m = i t (Among_from_select test t f m).0
 
 pub In_scale : (n : ℕ) (c : ℤ) (f : Poly) → In n f → In n (scale c f)
@@ -316,7 +317,7 @@ In_beside n k f g i j =
     In_map (n + k) (λ (t : Term). (s.0 ++ t.0, s.1 *ℤ t.1)) g (λ t q. let a = length-append s.0 t.0 in let b = i s p in let c = j t q in omega arith))
 
 pub In_restrict : (n : ℕ) (f : Poly) → In n (restrict n f)
-In_restrict n f = In_map n (λ (t : Term). (resize n t.0, t.1)) (select (λ (t : Term). fits_in n t.0) f) (λ t m. length-resize n t.0)
+In_restrict n f = In_map n (λ (t : Term). (resize n t.0, t.1)) (filter (λ (t : Term). fits_in n t.0) f) (λ t m. length-resize n t.0)
 
 -- a polynomial in n variables has no coefficient at a list of another length
 pub coefficient_outside : (n : ℕ) (f : Poly) (α : List ℕ) → In n f → (length α ≡ n → ⊥) → coefficient f α ≡ pos 0
@@ -344,3 +345,10 @@ coefficient_negate f α = coefficient_pair (negate f) α ∙ pair_negate f (at_o
 -- the coefficients of a restriction are those of the polynomial, at lists padded with zeros
 pub coefficient_restrict : (n : ℕ) (f : Poly) (α : List ℕ) → coefficient (restrict n f) α ≡ pair f (λ β. cond (fits_in n β) (at_only α (resize n β)) (pos 0))
 coefficient_restrict n f α = coefficient_pair (restrict n f) α ∙ pair_restrict n f (at_only α)
+
+pub at_only-nonnegative : (α β : List ℕ) → pos 0 ≤ℤ at_only α β
+at_only-nonnegative α β = by (same β α)
+  where
+    by : (b : Bool) → pos 0 ≤ℤ cond b (pos 1) (pos 0)
+    by true = omega (arith, ints)
+    by false = omega (arith, ints)

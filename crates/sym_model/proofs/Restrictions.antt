@@ -37,7 +37,7 @@ and_middle true false z = refl
 and_middle false true z = refl
 and_middle false false z = refl
 
--- β of k + m places restricts to γ: it is γ with m zeros behind it, and γ has k places
+-- β of k + m places restricts to γ: it is γ with m zeros after it, and γ has k places
 restricts_to : (k m : ℕ) (β γ : List ℕ) → length β ≡ k + m → (fits_in k β && same (resize k β) γ) ≡ (eqb (length γ) k && same β (γ ++ replicate m 0))
 restricts_to zero m β [] l = and-true (all_zero β) ∙ all_zero-same m β (omega arith)
 restricts_to zero m β (c ∷ γ) l = and-false (all_zero β) ∙ rw (ne_eqb (suc (length γ)) 0 (λ e. omega arith)) refl

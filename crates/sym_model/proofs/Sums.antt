@@ -4,12 +4,15 @@
 --     total_exchange              two sums in either order
 --     total_within                a list without repeats within another of its length has its sums
 --     total_same_members, total_reindex, total_bijection, total_cancel      what follows from that
-use Rattle.std.proofs.Common.{◌≡◌, suc, ◌≤◌, ◌⊎◌, Bool, true, false, cond, not, List, [], ◌∷◌, ◌++◌, map, length, sym, ◌∙◌, ap, ap₂, subst, refl, inl, inr, arith, ℤ, pos, ◌+ℤ◌, ◌*ℤ◌, neg_ℤ, ◌<◌, get_or, zero, ℕ}
+use Rattle.std.proofs.Common.{◌≡◌, suc, ◌≤◌, ◌⊎◌, Bool, true, false, cond, not, List, [], ◌∷◌, ◌++◌, map, length, sym, ◌∙◌, ap, ap₂, subst, refl, inl, inr, arith, ℤ, pos, ◌+ℤ◌, ◌*ℤ◌, neg_ℤ, ◌<◌, get_or, zero, ℕ, filter, flat_map, reverse, nat_le}
 use Rattle.std.proofs.lemmas.Int.{ints}
-use Rattle.sym_model.specs.Sum.{total, each, select, Among, Once, Within}
+use Rattle.sym_model.specs.Sum.{total, Among, Once, Within}
 use Rattle.sym_model.proofs.Ring.{distributes_left}
-use Rattle.std.proofs.lemmas.List.{length-map}
+use Rattle.std.proofs.lemmas.List.{length-map, reverse-append}
 use Rattle.std.specs.Prelude.{◌≤ℤ◌}
+use Rattle.sym_model.specs.Bases.{down_from}
+use Rattle.std.proofs.lemmas.Bool.{cases_lt, le-leb, and_from}
+use Rattle.sym_model.specs.Tableau.{are_letters}
 use lib.IntN.{+ℤ_idl, *ℤ-zero}
 
 -- ---- sums
@@ -51,25 +54,25 @@ pub total_map : {A B : Type 0} (f : B → ℤ) (h : A → B) (xs : List A) → t
 total_map f h [] = refl
 total_map f h (x ∷ xs) = ap (λ n. f (h x) +ℤ n) (total_map f h xs)
 
-pub total_each : {A B : Type 0} (f : B → ℤ) (h : A → List B) (xs : List A) → total f (each h xs) ≡ total (λ (x : A). total f (h x)) xs
+pub total_each : {A B : Type 0} (f : B → ℤ) (h : A → List B) (xs : List A) → total f (flat_map h xs) ≡ total (λ (x : A). total f (h x)) xs
 total_each f h [] = refl
-total_each f h (x ∷ xs) = total_append f (h x) (each h xs) ∙ ap (λ n. total f (h x) +ℤ n) (total_each f h xs)
+total_each f h (x ∷ xs) = total_append f (h x) (flat_map h xs) ∙ ap (λ n. total f (h x) +ℤ n) (total_each f h xs)
 
-pub total_select : {A : Type 0} (f : A → ℤ) (test : A → Bool) (xs : List A) → total f (select test xs) ≡ total (λ (x : A). cond (test x) (f x) (pos 0)) xs
+pub total_select : {A : Type 0} (f : A → ℤ) (test : A → Bool) (xs : List A) → total f (filter test xs) ≡ total (λ (x : A). cond (test x) (f x) (pos 0)) xs
 total_select f test [] = refl
 total_select {A} f test (x ∷ xs) = by (test x) (total_select f test xs)
   where
-    by : (b : Bool) → total f (select test xs) ≡ total (λ (y : A). cond (test y) (f y) (pos 0)) xs
-        → total f (cond b (x ∷ select test xs) (select test xs)) ≡ cond b (f x) (pos 0) +ℤ total (λ (y : A). cond (test y) (f y) (pos 0)) xs
+    by : (b : Bool) → total f (filter test xs) ≡ total (λ (y : A). cond (test y) (f y) (pos 0)) xs
+        → total f (cond b (x ∷ filter test xs) (filter test xs)) ≡ cond b (f x) (pos 0) +ℤ total (λ (y : A). cond (test y) (f y) (pos 0)) xs
     by true e = ap (λ n. f x +ℤ n) e
     by false e = e ∙ sym (+ℤ_idl _)
 
 -- a sum over all is the sum where a test holds and the sum where it does not
-pub total_split : {A : Type 0} (f : A → ℤ) (test : A → Bool) (xs : List A) → total f xs ≡ total f (select test xs) +ℤ total f (select (λ (x : A). not (test x)) xs)
+pub total_split : {A : Type 0} (f : A → ℤ) (test : A → Bool) (xs : List A) → total f xs ≡ total f (filter test xs) +ℤ total f (filter (λ (x : A). not (test x)) xs)
 total_split f test [] = refl
 total_split {A} f test (x ∷ xs) = by (test x) (total_split f test xs)
   where
-    by : (b : Bool) → total f xs ≡ total f (select test xs) +ℤ total f (select (λ (y : A). not (test y)) xs) → f x +ℤ total f xs ≡ total f (cond b (x ∷ select test xs) (select test xs)) +ℤ total f (cond (not b) (x ∷ select (λ (y : A). not (test y)) xs) (select (λ (y : A). not (test y)) xs))
+    by : (b : Bool) → total f xs ≡ total f (filter test xs) +ℤ total f (filter (λ (y : A). not (test y)) xs) → f x +ℤ total f xs ≡ total f (cond b (x ∷ filter test xs) (filter test xs)) +ℤ total f (cond (not b) (x ∷ filter (λ (y : A). not (test y)) xs) (filter (λ (y : A). not (test y)) xs))
     by true e = omega (arith, ints)
     by false e = omega (arith, ints)
 
@@ -108,33 +111,33 @@ Among_from_map f y [] m = absurd m
 Among_from_map f y (x ∷ xs) (inl e) = (x, inl refl, e)
 Among_from_map f y (x ∷ xs) (inr m) = let r = Among_from_map f y xs m in (r.0, inr r.1, r.2)
 
-pub Among-each : {A B : Type 0} (f : A → List B) (x : A) (y : B) (xs : List A) → Among x xs → Among y (f x) → Among y (each f xs)
+pub Among-each : {A B : Type 0} (f : A → List B) (x : A) (y : B) (xs : List A) → Among x xs → Among y (f x) → Among y (flat_map f xs)
 Among-each f x y [] m n = absurd m
-Among-each f x y (z ∷ xs) (inl e) n = Among-append_left y (f z) (each f xs) (subst (λ w. Among y (f w)) e n)
-Among-each f x y (z ∷ xs) (inr m) n = Among-append_right y (f z) (each f xs) (Among-each f x y xs m n)
+Among-each f x y (z ∷ xs) (inl e) n = Among-append_left y (f z) (flat_map f xs) (subst (λ w. Among y (f w)) e n)
+Among-each f x y (z ∷ xs) (inr m) n = Among-append_right y (f z) (flat_map f xs) (Among-each f x y xs m n)
 
-pub Among_from_each : {A B : Type 0} (f : A → List B) (y : B) (xs : List A) → Among y (each f xs) → (x : A) × Among x xs × Among y (f x)
+pub Among_from_each : {A B : Type 0} (f : A → List B) (y : B) (xs : List A) → Among y (flat_map f xs) → (x : A) × Among x xs × Among y (f x)
 Among_from_each f y [] m = absurd m
-Among_from_each {A} f y (z ∷ xs) m = by (Among_from_append y (f z) (each f xs) m) (Among_from_each f y xs)
+Among_from_each {A} f y (z ∷ xs) m = by (Among_from_append y (f z) (flat_map f xs) m) (Among_from_each f y xs)
   where
-    by : Among y (f z) ⊎ Among y (each f xs) → (Among y (each f xs) → (x : A) × Among x xs × Among y (f x)) → (x : A) × Among x (z ∷ xs) × Among y (f x)
+    by : Among y (f z) ⊎ Among y (flat_map f xs) → (Among y (flat_map f xs) → (x : A) × Among x xs × Among y (f x)) → (x : A) × Among x (z ∷ xs) × Among y (f x)
     by (inl l) rest = (z, inl refl, l)
     by (inr r) rest = let s = rest r in (s.0, inr s.1, s.2)
 
-pub Among-select : {A : Type 0} (test : A → Bool) (x : A) (xs : List A) → Among x xs → test x ≡ true → Among x (select test xs)
+pub Among-select : {A : Type 0} (test : A → Bool) (x : A) (xs : List A) → Among x xs → test x ≡ true → Among x (filter test xs)
 Among-select test x [] m t = absurd m
-Among-select test x (y ∷ xs) (inl e) t = subst (λ b. Among x (cond b (y ∷ select test xs) (select test xs))) (sym t ∙ ap test e) (inl e)
+Among-select test x (y ∷ xs) (inl e) t = subst (λ b. Among x (cond b (y ∷ filter test xs) (filter test xs))) (sym t ∙ ap test e) (inl e)
 Among-select {A} test x (y ∷ xs) (inr m) t = by (test y) (Among-select test x xs m t)
   where
-    by : (b : Bool) → Among x (select test xs) → Among x (cond b (y ∷ select test xs) (select test xs))
+    by : (b : Bool) → Among x (filter test xs) → Among x (cond b (y ∷ filter test xs) (filter test xs))
     by true n = inr n
     by false n = n
 
-pub Among_from_select : {A : Type 0} (test : A → Bool) (x : A) (xs : List A) → Among x (select test xs) → Among x xs × (test x ≡ true)
+pub Among_from_select : {A : Type 0} (test : A → Bool) (x : A) (xs : List A) → Among x (filter test xs) → Among x xs × (test x ≡ true)
 Among_from_select test x [] m = absurd m
 Among_from_select {A} test x (y ∷ xs) m = by (test y) refl m (Among_from_select test x xs)
   where
-    by : (b : Bool) → test y ≡ b → Among x (cond b (y ∷ select test xs) (select test xs)) → (Among x (select test xs) → Among x xs × (test x ≡ true)) → Among x (y ∷ xs) × (test x ≡ true)
+    by : (b : Bool) → test y ≡ b → Among x (cond b (y ∷ filter test xs) (filter test xs)) → (Among x (filter test xs) → Among x xs × (test x ≡ true)) → Among x (y ∷ xs) × (test x ≡ true)
     by true t (inl e) rest = (inl e, ap test e ∙ t)
     by true t (inr n) rest = let r = rest n in (inr r.0, r.1)
     by false t n rest = let r = rest n in (inr r.0, r.1)
@@ -151,11 +154,11 @@ Once-map {A} {B} f (x ∷ xs) inj o = (apart, Once-map f xs (λ a b m n. inj a b
     apart : Among (f x) (map f xs) → ⊥
     apart m = let r = Among_from_map f (f x) xs m in o.0 (subst (λ z. Among z xs) (sym (inj x r.0 (inl refl) (inr r.1) r.2)) r.1)
 
-pub Once-select : {A : Type 0} (test : A → Bool) (xs : List A) → Once xs → Once (select test xs)
+pub Once-select : {A : Type 0} (test : A → Bool) (xs : List A) → Once xs → Once (filter test xs)
 Once-select test [] o = tt
 Once-select {A} test (x ∷ xs) o = by (test x) (Once-select test xs o.1)
   where
-    by : (b : Bool) → Once (select test xs) → Once (cond b (x ∷ select test xs) (select test xs))
+    by : (b : Bool) → Once (filter test xs) → Once (cond b (x ∷ filter test xs) (filter test xs))
     by true p = (λ m. o.0 (Among_from_select test x xs m).0, p)
     by false p = p
 
@@ -167,12 +170,12 @@ Once-append {A} (x ∷ xs) ys o p d = (apart, Once-append xs ys o.1 p (λ z m n.
     apart m = elim (Among_from_append x xs ys m) [ inl l ↦ o.0 l | inr r ↦ d x (inl refl) r ]
 
 pub Once-each : {A B : Type 0} (f : A → List B) (xs : List A) → Once xs → ((x : A) → Among x xs → Once (f x))
-    → ((x z : A) (y : B) → Among x xs → Among z xs → Among y (f x) → Among y (f z) → x ≡ z) → Once (each f xs)
+    → ((x z : A) (y : B) → Among x xs → Among z xs → Among y (f x) → Among y (f z) → x ≡ z) → Once (flat_map f xs)
 Once-each f [] o p d = tt
 Once-each {A} {B} f (x ∷ xs) o p d =
-    Once-append (f x) (each f xs) (p x (inl refl)) (Once-each f xs o.1 (λ z m. p z (inr m)) (λ z w y m n. d z w y (inr m) (inr n))) apart
+    Once-append (f x) (flat_map f xs) (p x (inl refl)) (Once-each f xs o.1 (λ z m. p z (inr m)) (λ z w y m n. d z w y (inr m) (inr n))) apart
   where
-    apart : (y : B) → Among y (f x) → Among y (each f xs) → ⊥
+    apart : (y : B) → Among y (f x) → Among y (flat_map f xs) → ⊥
     apart y m n = let r = Among_from_each f y xs n in o.0 (subst (λ z. Among z xs) (sym (d x r.0 y (inl refl) (inr r.1) m r.2)) r.1)
 
 -- ---- a member taken out once
@@ -298,12 +301,12 @@ Among-get_or (x ∷ todo) zero w h e = inl e
 Among-get_or (x ∷ todo) (suc i) w h e = inr (Among-get_or todo i w (omega arith) e)
 
 -- a count as a sum
-pub length-select : {A : Type 0} (test : A → Bool) (xs : List A) → pos (length (select test xs)) ≡ total (λ (x : A). cond (test x) (pos 1) (pos 0)) xs
+pub length-select : {A : Type 0} (test : A → Bool) (xs : List A) → pos (length (filter test xs)) ≡ total (λ (x : A). cond (test x) (pos 1) (pos 0)) xs
 length-select test [] = refl
 length-select {A} test (x ∷ xs) = by (test x) (length-select test xs)
   where
-    by : (b : Bool) → pos (length (select test xs)) ≡ total (λ (y : A). cond (test y) (pos 1) (pos 0)) xs
-        → pos (length (cond b (x ∷ select test xs) (select test xs))) ≡ cond b (pos 1) (pos 0) +ℤ total (λ (y : A). cond (test y) (pos 1) (pos 0)) xs
+    by : (b : Bool) → pos (length (filter test xs)) ≡ total (λ (y : A). cond (test y) (pos 1) (pos 0)) xs
+        → pos (length (cond b (x ∷ filter test xs) (filter test xs))) ≡ cond b (pos 1) (pos 0) +ℤ total (λ (y : A). cond (test y) (pos 1) (pos 0)) xs
     by true e = omega (arith, ints)
     by false e = omega (arith, ints)
 
@@ -315,3 +318,24 @@ total_not_negative f (x ∷ xs) h = let r = total_not_negative f xs h in let k =
 pub total_cond_list : {A : Type 0} (b : Bool) (f : A → ℤ) (xs : List A) → total f (cond b xs []) ≡ cond b (total f xs) (pos 0)
 total_cond_list true f xs = refl
 total_cond_list false f xs = refl
+
+pub among_down_from : (a d : ℕ) → a ≤ d → Among a (down_from d)
+among_down_from a zero h = inl (omega arith)
+among_down_from a (suc d) h = by (cases_lt d a) (λ g. among_down_from a d g)
+  where
+    by : (d < a) ⊎ (a ≤ d) → (a ≤ d → Among a (down_from d)) → Among a (down_from (suc d))
+    by (inl l) r = inl (omega arith)
+    by (inr l) r = inr (r l)
+
+pub among_reverse : (x : ℕ) (xs : List ℕ) → Among x (reverse xs) → Among x xs
+among_reverse x [] m = m
+among_reverse x (y ∷ xs) m = by (Among_from_append x (reverse xs) (y ∷ []) (subst (Among x) (reverse-append (y ∷ []) xs) m)) (λ m. among_reverse x xs m)
+  where
+    by : Among x (reverse xs) ⊎ Among x (y ∷ []) → (Among x (reverse xs) → Among x xs) → Among x (y ∷ xs)
+    by (inl n) r = inr (r n)
+    by (inr (inl e)) r = inl e
+    by (inr (inr n)) r = absurd n
+
+pub letters_among : (w : List ℕ) → ((a : ℕ) → Among a w → 1 ≤ a) → are_letters w ≡ true
+letters_among [] h = refl
+letters_among (a ∷ w) h = and_from (nat_le 1 a) (are_letters w) (le-leb 1 a (h a (inl refl))) (letters_among w (λ b m. h b (inr m)))

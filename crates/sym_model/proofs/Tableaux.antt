@@ -1,10 +1,14 @@
 -- The lengths of the rows of a shape, and the letters of tableaux.
-use Rattle.std.proofs.Common.{List, [], arith, length, refl, ℕ, ◌∷◌, ◌≡◌, ap, suc, ◌++◌, nat_le, true, ◌-◌, get_or, zero}
+use Rattle.std.proofs.Common.{List, [], arith, length, refl, ℕ, ◌∷◌, ◌≡◌, ap, suc, ◌++◌, nat_le, true, ◌-◌, get_or, zero, ◌≤◌, map, ◌∙◌, sym, subst, inl, inr}
 use Rattle.std.proofs.lemmas.List.{length-append}
 use Rattle.std.proofs.lemmas.Bool.{and_from, and_parts}
-use Rattle.sym_model.specs.Schur.{letters_of, row_lengths}
+use Rattle.sym_model.specs.Schur.{letters_of, row_lengths, words}
 use Rattle.sym_model.specs.Tableau.{shape_of, are_letters}
-use Rattle.sym_model.specs.Partition.{size}
+use Rattle.sym_model.specs.Partition.{size, after}
+use Rattle.sym_model.specs.Sum.{Among}
+use Rattle.sym_model.proofs.Sums.{Among_from_map, Among_from_each}
+use Rattle.sym_model.proofs.AfterLists.{after_among}
+use Rattle.sym_model.specs.Bounded.{AreLetters}
 
 pub length-letters_of : (rows : List (List ℕ)) → length (letters_of rows) ≡ size (shape_of rows)
 length-letters_of [] = refl
@@ -31,3 +35,16 @@ get_or-row_lengths (a ∷ outer) (b ∷ inner) (suc k) = get_or-row_lengths oute
 pub row_lengths-none : (parts : List ℕ) → row_lengths parts [] ≡ parts
 row_lengths-none [] = refl
 row_lengths-none (a ∷ parts) = ap (λ l. a ∷ l) (row_lengths-none parts)
+
+pub word_tells : (n k : ℕ) (w : List ℕ) → Among w (words n k) → (length w ≡ k) × AreLetters n w
+word_tells n zero w (inl e) = (ap length e, subst (AreLetters n) (sym e) tt)
+word_tells n zero w (inr m) = absurd m
+word_tells n (suc k) w m =
+    let found = Among_from_each (λ a. map (λ v. a ∷ v) (words n k)) w (after 0 n) m in
+    let a = found.0 in
+    let past = after_among 0 n a found.1 in
+    let tail = Among_from_map (λ v. a ∷ v) w (words n k) found.2 in
+    let rest = word_tells n k tail.0 tail.1 in
+    let low : 1 ≤ found.0 = omega (arith, past.0) in
+    let high : found.0 ≤ n = omega (arith, past.1) in
+    (ap length tail.2 ∙ ap suc rest.0, subst (AreLetters n) (sym tail.2) ((low, high), rest.1))

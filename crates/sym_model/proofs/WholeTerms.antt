@@ -1,12 +1,12 @@
 -- Lists of terms with whole coefficients (specs/WholeTerms): what they stand for depends on the summed coefficient of
 -- each label alone. Labels of any type are told apart by a key, a list of numbers from which the label can be had back.
-use Rattle.std.proofs.Common.{◌≡◌, ℕ, Bool, cond, List, [], ◌∷◌, map, sym, ◌∙◌, ap, ap₂, subst, refl, arith, ℤ, pos, ◌*ℤ◌}
+use Rattle.std.proofs.Common.{◌≡◌, ℕ, List, [], ◌∷◌, ◌++◌, ◌+◌, sym, ◌∙◌, ap, ap₂, subst, refl, arith, ℤ, pos, ◌*ℤ◌}
 use Rattle.sym_model.specs.Sum.{total}
-use Rattle.sym_model.specs.Polynomial.{Poly, same, coefficient, Same, pair, plus, scale}
+use Rattle.sym_model.specs.Polynomial.{Poly, coefficient, Same, pair, plus, scale}
 use Rattle.sym_model.specs.Expansion.{Terms, Basis, basis_polynomial, denominators, cleared, value_by, value, Represents}
-use Rattle.sym_model.specs.WholeTerms.{WholeTermsOf, WholeTerms, coefficient_by, combined, as_fractions, AreWhole, numerators}
+use Rattle.sym_model.specs.WholeTerms.{WholeTermsOf, WholeTerms, absolute_total, combined, as_fractions, AreWhole, numerators}
 use Rattle.sym_model.proofs.Ring.{product-one}
-use Rattle.sym_model.proofs.Sums.{total_ext, total_map}
+use Rattle.sym_model.proofs.Sums.{total_ext}
 use Rattle.sym_model.proofs.Polynomials.{at_only, coefficient_pair, pair_each, pair_scale, pair_determined, scale_respects}
 
 -- the pairing of a combination
@@ -33,35 +33,6 @@ coefficient-combined polynomial terms α = coefficient_of_combined polynomial te
 pub combined_respects : (polynomial : List ℕ → Poly) (terms others : WholeTerms) → Same terms others → Same (combined polynomial terms) (combined polynomial others)
 combined_respects polynomial terms others e α =
     coefficient-combined polynomial terms α ∙ pair_determined terms others (λ label. coefficient (polynomial label) α) e ∙ sym (coefficient-combined polynomial others α)
-
--- ---- labels of any type, by a key
-
--- the terms with other labels, such as keys
-abbrev pub relabelled : {A B : Type 0} → (A → B) → WholeTermsOf A → WholeTermsOf B
-relabelled {A = A} other terms = map (λ (t : A × ℤ). (other t.0, t.1)) terms
-
--- the label can be had back from its key
-abbrev pub IsKey : {Label : Type 0} → (Label → List ℕ) → (List ℕ → Label) → Type 0
-IsKey {Label = Label} key back = (label : Label) → back (key label) ≡ label
-
--- the terms with their keys as labels stand for the same
-pub combined-relabelled : {Label : Type 0} (key : Label → List ℕ) (back : List ℕ → Label) → IsKey key back → (polynomial : Label → Poly) (terms : WholeTermsOf Label) → combined (λ k. polynomial (back k)) (relabelled key terms) ≡ combined polynomial terms
-combined-relabelled key back is_key polynomial [] = refl
-combined-relabelled key back is_key polynomial (t ∷ terms) =
-    ap₂ plus (ap (λ label. scale t.1 (polynomial label)) (is_key t.0)) (combined-relabelled key back is_key polynomial terms)
-
--- equal labels put together, terms with 0 left out and another order change nothing
-pub combined_respects_by : {Label : Type 0} (key : Label → List ℕ) (back : List ℕ → Label) → IsKey key back → (polynomial : Label → Poly) (terms others : WholeTermsOf Label) → Same (relabelled key terms) (relabelled key others) → Same (combined polynomial terms) (combined polynomial others)
-combined_respects_by key back is_key polynomial terms others e =
-    subst (λ f. Same f (combined polynomial others)) (combined-relabelled key back is_key polynomial terms)
-    (subst (λ f. Same (combined (λ k. polynomial (back k)) (relabelled key terms)) f) (combined-relabelled key back is_key polynomial others)
-    (combined_respects (λ k. polynomial (back k)) (relabelled key terms) (relabelled key others) e))
-
--- the summed coefficient of a label is that of its key, where the test of labels is that of their keys
-pub coefficient-relabelled : {Label : Type 0} (test : Label → Label → Bool) (key : Label → List ℕ) → ((x y : Label) → same (key x) (key y) ≡ test x y) → (terms : WholeTermsOf Label) (label : Label) → coefficient (relabelled key terms) (key label) ≡ coefficient_by test terms label
-coefficient-relabelled {Label = Label} test key tests terms label =
-    total_map (λ (t : List ℕ × ℤ). cond (same t.0 (key label)) t.1 (pos 0)) (λ (t : Label × ℤ). (key t.0, t.1)) terms
-    ∙ total_ext (λ (t : Label × ℤ). cond (same (key t.0) (key label)) t.1 (pos 0)) (λ (t : Label × ℤ). cond (test t.0 label) t.1 (pos 0)) (λ t. ap (λ b. cond b t.1 (pos 0)) (tests t.0 label)) terms
 
 -- ---- the value of a list with denominators 1
 
@@ -101,4 +72,6 @@ represents-whole polynomial terms f w e = record {
       (scale_respects (pos 1) (value_by polynomial terms) f (subst (λ g. Same g f) (sym (value_by-whole polynomial terms w)) e));
 }
 
--- ---- a table to which terms are added
+pub absolute-append : (xs ys : WholeTerms) → absolute_total (xs ++ ys) ≡ absolute_total xs + absolute_total ys
+absolute-append [] ys = omega arith
+absolute-append (t ∷ xs) ys = omega (arith, absolute-append xs ys)

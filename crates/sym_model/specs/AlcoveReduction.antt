@@ -1,8 +1,10 @@
--- The reduction of partitions with at most k rows into the alcove of level n - k, by reflections of the beta
--- list (Kac and Walton: fusion products).
-use Rattle.std.specs.Prelude.{ℕ, zero, suc, ◌+◌, ◌-◌, ◌*◌, ◌==◌, nat_lt, nat_le, ◌||◌, cond, ℤ, pos, ◌*ℤ◌, List, [], ◌∷◌, length, Option, Some, None}
+-- The reduction of partitions with at most k rows into the alcove of level n - k, by reflections of
+-- the beta list (Kac and Walton: fusion products).
+use Rattle.std.specs.Prelude.{ℕ, zero, suc, ◌+◌, ◌-◌, ◌*◌, ◌==◌, nat_lt, nat_le, ◌||◌, cond, ℤ, pos}
+use Rattle.std.specs.Prelude.{◌*ℤ◌, List, [], ◌∷◌, length, Option, Some, None}
 use Rattle.sym_model.specs.Partition.{part, rows}
-use Rattle.sym_model.specs.BetaList.{beta, from_beta, has_equal_entries, sorted_falling, sorting_sign}
+use Rattle.sym_model.specs.BetaList.{beta, from_beta, has_equal_entries, sorted_falling}
+use Rattle.sym_model.specs.BetaList.{sorting_sign}
 
 -- how far the first entry is above the last
 abbrev pub spread : List ℕ → ℕ
@@ -29,9 +31,10 @@ abbrev pub with_sign : ℤ → Option (List ℕ × ℤ) → Option (List ℕ × 
 with_sign t None = None
 with_sign t (Some answer) = Some (answer.0, t *ℤ answer.1)
 
--- where the reflections of a strictly falling list end, in at most the given number of steps. A list with a
--- spread below n stays, with the sign 1; one with the spread n is 0. Any other list is reflected: with two equal
--- entries it is then 0; otherwise it is sorted, the sign of sorting multiplies, and the rule is applied again.
+-- where the reflections of a strictly falling list end, in at most the given number of steps. A
+-- list with a spread below n stays, with the sign 1; one with the spread n is 0. Any other list is
+-- reflected: with two equal entries it is then 0; otherwise it is sorted, the sign of sorting
+-- multiplies, and the rule is applied again.
 abbrev pub reflected_within : ℕ → ℕ → List ℕ → Option (List ℕ × ℤ)
 reflected_within zero n b = None
 reflected_within (suc steps) n b =
@@ -40,7 +43,8 @@ reflected_within (suc steps) n b =
     cond (nat_lt (spread b) n) (Some (b, pos 1))
     (cond ((spread b == n) || has_equal_entries next) None later)
 
--- the same without a bound: each reflection lowers the sum of the squares, so one step more than that sum is enough
+-- the same without a bound: each reflection lowers the sum of the squares,
+-- so one step more than that sum is enough
 abbrev pub reflected_into_alcove : ℕ → List ℕ → Option (List ℕ × ℤ)
 reflected_into_alcove n b = reflected_within (suc (squares b)) n b
 
@@ -49,7 +53,8 @@ abbrev pub as_partition : Option (List ℕ × ℤ) → Option (List ℕ × ℤ)
 as_partition None = None
 as_partition (Some answer) = Some (from_beta answer.0, answer.1)
 
--- the reduction of a partition with at most k rows: a partition with a sign, or nothing where it is 0; nothing for a
--- partition with more rows
+-- the reduction of a partition with at most k rows: a partition with a sign, or nothing where it is
+-- 0; nothing for a partition with more rows
 abbrev pub alcove_reduction : ℕ → ℕ → List ℕ → Option (List ℕ × ℤ)
-alcove_reduction k n shape = cond (nat_le (rows shape) k) (as_partition (reflected_into_alcove n (beta k shape))) None
+alcove_reduction k n shape =
+    cond (nat_le (rows shape) k) (as_partition (reflected_into_alcove n (beta k shape))) None

@@ -1,6 +1,5 @@
 -- Alternants, ρ and the Schur coefficients of a polynomial (Macdonald, I.3).
-use Rattle.std.specs.Prelude.{ℕ, zero, suc, ℤ, List, [], ◌∷◌, map, length}
-use Rattle.sym_model.specs.Sum.{each}
+use Rattle.std.specs.Prelude.{ℕ, zero, suc, ℤ, List, [], ◌∷◌, map, length, flat_map}
 use Rattle.sym_model.specs.Polynomial.{Poly, Term, coefficient, join, scale, times}
 use Rattle.sym_model.specs.Partition.{part}
 use Rattle.sym_model.specs.PlaceOrders.{orders, places, sign}
@@ -25,4 +24,4 @@ schur_coefficient n ν f = coefficient (times (alternant (staircase n)) f) (join
 
 -- the sum over the terms of f, of exponents α, of the coefficient times a_(β + α)
 abbrev pub alternants_over : List ℕ → Poly → Poly
-alternants_over β f = each (λ (t : Term). scale t.1 (alternant (join β t.0))) f
+alternants_over β f = flat_map (λ (t : Term). scale t.1 (alternant (join β t.0))) f

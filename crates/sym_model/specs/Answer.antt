@@ -1,4 +1,4 @@
--- An answer: a kind and a list of terms of that kind (this project's own).
+-- An answer: a kind and a list of terms of that kind.
 use Rattle.std.specs.Prelude.{ℕ, ℤ, pos, List, [], ◌∷◌, IsTrue}
 use Rattle.sym_model.specs.Expansion.{Terms}
 use Rattle.sym_model.specs.Kind.{Kind, Label, number, label_rules}
@@ -20,4 +20,5 @@ answer_text (answer kind terms) = block_by (label_rules kind) terms
 
 -- the answer is a canonical list of its kind, with numbers of 128 bits
 abbrev pub IsPrintable : Answer → Type 0
-IsPrintable (answer kind terms) = IsCanonicalBy (label_rules kind) terms × IsTrue (is_printable terms)
+IsPrintable (answer kind terms) =
+    IsCanonicalBy (label_rules kind) terms × IsTrue (is_printable terms)

@@ -1,6 +1,7 @@
--- The monomial, elementary, complete and power sum polynomials of a partition in n variables (Macdonald, I.2).
-use Rattle.std.specs.Prelude.{ℕ, zero, suc, ◌-◌, ◌==◌, nat_le, Bool, true, false, ◌&&◌, ◌||◌, cond, pos, List, [], ◌∷◌, map}
-use Rattle.sym_model.specs.Sum.{each, select}
+-- The monomial, elementary, complete and power sum polynomials of a partition in n variables
+-- (Macdonald, I.2).
+use Rattle.std.specs.Prelude.{ℕ, zero, suc, ◌-◌, ◌==◌, nat_le, Bool, true, false, ◌&&◌, ◌||◌, cond}
+use Rattle.std.specs.Prelude.{pos, List, [], ◌∷◌, map, filter, flat_map}
 use Rattle.sym_model.specs.Polynomial.{Poly, same, one, times}
 use Rattle.sym_model.specs.Partition.{size, sorted_parts}
 
@@ -12,11 +13,11 @@ down_from (suc d) = suc d ∷ down_from d
 -- all exponent lists of n places with the sum d, each once
 abbrev pub exponent_lists : ℕ → ℕ → List (List ℕ)
 exponent_lists zero d = cond (d == 0) ([] ∷ []) []
-exponent_lists (suc n) d = each (λ a. map (λ α. a ∷ α) (exponent_lists n (d - a))) (down_from d)
+exponent_lists (suc n) d = flat_map (λ a. map (λ α. a ∷ α) (exponent_lists n (d - a))) (down_from d)
 
 -- the sum of the monomials of degree d in n variables whose exponents pass the test
 abbrev pub monomials : (List ℕ → Bool) → ℕ → ℕ → Poly
-monomials test n d = map (λ α. (α, pos 1)) (select test (exponent_lists n d))
+monomials test n d = map (λ α. (α, pos 1)) (filter test (exponent_lists n d))
 
 -- whether each number is at most 1
 abbrev pub at_most_one : List ℕ → Bool

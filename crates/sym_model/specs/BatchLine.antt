@@ -1,6 +1,5 @@
--- The lines of a batch, and their words (this project's own).
-use Rattle.std.specs.Prelude.{ℕ, ◌==◌, nat_lt, Bool, cond, List, [], ◌∷◌, length}
-use Rattle.sym_model.specs.Sum.{each, select}
+-- The lines of a batch, and their words.
+use Rattle.std.specs.Prelude.{ℕ, ◌==◌, nat_lt, Bool, cond, List, [], ◌∷◌, length, filter, flat_map}
 use Rattle.sym_model.specs.PrintedBlock.{split_at}
 use Rattle.sym_model.specs.ExpressionOffence.{range}
 use Rattle.sym_model.specs.CommandOffence.{Offence}
@@ -9,7 +8,8 @@ use Rattle.sym_model.specs.CommandOffence.{Offence}
 abbrev pub is_some_text : List ℕ → Bool
 is_some_text text = nat_lt 0 (length text)
 
--- the lines of a text: what stands between its line feeds (byte 10), the piece after the last one only where it has a byte
+-- the lines of a text: what stands between its line feeds (byte 10), the piece after the last one
+-- only where it has a byte
 abbrev pub lines_of : List ℕ → List (List ℕ)
 lines_of text = whole_lines (split_at 10 text)
   where
@@ -26,27 +26,30 @@ without_return (byte ∷ next ∷ line) = byte ∷ without_return (next ∷ line
 
 -- the words of a line: what stands between its spaces (byte 32) and tabs (byte 9)
 abbrev pub words_of_line : List ℕ → List (List ℕ)
-words_of_line line = select is_some_text (each (split_at 9) (split_at 32 line))
+words_of_line line = filter is_some_text (flat_map (split_at 9) (split_at 32 line))
 
 -- the most bytes of a line before its line feed
 abbrev pub most_bytes : ℕ
 most_bytes = 4096
 
--- what a line is: one that is too long, one that is passed over, or the words of a command (this project's own)
+-- what a line is: one that is too long, one that is skipped, or the words of a command
 pub data BatchLine : Type 0 where
   too_long : BatchLine
   passed_over : BatchLine
   spoken : List (List ℕ) → BatchLine
 
--- words are passed over where there is none or the first begins with `#` (byte 35)
+-- words are skipped where there is none or the first begins with `#` (byte 35)
 abbrev pub line_of_words : List (List ℕ) → BatchLine
 line_of_words [] = passed_over
 line_of_words ([] ∷ words) = spoken ([] ∷ words)
-line_of_words ((byte ∷ text) ∷ words) = cond (byte == 35) passed_over (spoken ((byte ∷ text) ∷ words))
+line_of_words ((byte ∷ text) ∷ words) =
+    cond (byte == 35) passed_over (spoken ((byte ∷ text) ∷ words))
 
 -- a line before its line feed; its bytes are counted with the carriage return
 abbrev pub batch_line : List ℕ → BatchLine
-batch_line line = cond (nat_lt most_bytes (length line)) too_long (line_of_words (words_of_line (without_return line)))
+batch_line line =
+    cond (nat_lt most_bytes (length line)) too_long
+    (line_of_words (words_of_line (without_return line)))
 
 -- the offence of a line that is too long
 abbrev pub too_long_offence : Offence

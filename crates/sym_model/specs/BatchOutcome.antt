@@ -1,9 +1,10 @@
--- The outcomes of the commands that run others (this project's own): `batch`, which runs the lines of its input, and `work`,
--- which runs lines that it makes. With them, the outcomes of any words.
+-- The outcomes of the commands that run others: `batch`, which runs the lines of its input, and
+-- `work`, which runs lines that it makes. With them, the outcomes of any words.
 use Rattle.std.specs.Prelude.{◌≡◌, ℕ, Bool, true, false, ◌&&◌, cond, List, [], ◌∷◌, map, codes}
 use Rattle.sym_model.specs.TableauText.{separated}
 use Rattle.sym_model.specs.Workload.{work_lines, summary_text}
-use Rattle.sym_model.specs.BatchLine.{BatchLine, too_long, passed_over, spoken, batch_line, lines_of, too_long_offence}
+use Rattle.sym_model.specs.BatchLine.{BatchLine, too_long, passed_over, spoken, batch_line}
+use Rattle.sym_model.specs.BatchLine.{lines_of, too_long_offence}
 use Rattle.sym_model.specs.Command.{Command, batch, work}
 use Rattle.sym_model.specs.Entry.{Entry}
 use Rattle.sym_model.specs.RefusalText.{offence_line}
@@ -19,7 +20,8 @@ abbrev pub AreBlocks : List Entry → List BatchLine → List Block → Type 0
 AreBlocks entries [] [] = Unit {0}
 AreBlocks entries (passed_over ∷ lines) blocks = AreBlocks entries lines blocks
 AreBlocks entries (too_long ∷ lines) (b ∷ blocks) =
-    (b ≡ (offence_line too_long_offence, ending_of too_long_offence.2)) × AreBlocks entries lines blocks
+    (b ≡ (offence_line too_long_offence, ending_of too_long_offence.2))
+    × AreBlocks entries lines blocks
 AreBlocks entries (spoken words ∷ lines) (b ∷ blocks) =
     IsLineOutcome entries words b.0 b.1 × AreBlocks entries lines blocks
 AreBlocks entries _ _ = ⊥
@@ -55,13 +57,16 @@ pub record RunsWorkload (entries : List Entry) (lines seed : ℕ) (text : List �
   pub are_blocks : AreBlocks entries (map batch_line (work_lines lines seed)) blocks
   pub summed : text ≡ summary_text (map (λ (b : Block). b.0) blocks)
 
--- what comes of a command without an offence, where the lines of a batch and of the workload spell commands of these entries
+-- the outcome of a command without an offence, where the lines of a batch and of the workload spell
+-- commands of these entries
 abbrev pub AnswersWith : List Entry → List ℕ → Command → List ℕ → Ending → Type 0
 AnswersWith entries input batch text ending = RunsInput entries input text ending
-AnswersWith entries input (work lines seed) text ending = RunsWorkload entries lines seed text × (ending ≡ done)
+AnswersWith entries input (work lines seed) text ending =
+    RunsWorkload entries lines seed text × (ending ≡ done)
 AnswersWith entries input command text ending = Answers command text ending
 
--- the outcomes of words over an input, by the commands of the command line and those of a line of a batch
+-- the outcomes of words over an input, by the commands of the command line and those of a line of a
+-- batch
 abbrev pub IsOutcomeOf : List Entry → List Entry → List (List ℕ) → List ℕ → List ℕ → Ending → Type 0
 IsOutcomeOf entries line_entries words input text ending =
     ComesOf (AnswersWith line_entries input) entries words text ending

@@ -1,6 +1,7 @@
--- Canonical lists of terms (this project's own): each label once, in the printed order, with a coefficient
+-- Canonical lists of terms: each label once, in the printed order, with a coefficient
 -- that is not 0 and in lowest terms.
-use Rattle.std.specs.Prelude.{ℕ, zero, suc, ◌+◌, ◌^◌, ◌%◌, ◌==◌, nat_lt, Bool, true, ◌&&◌, ◌||◌, ℤ, pos, negsuc, nat_abs, [], ◌∷◌, IsTrue}
+use Rattle.std.specs.Prelude.{ℕ, zero, suc, ◌+◌, ◌^◌, ◌%◌, ◌==◌, nat_lt, Bool, true, ◌&&◌, ◌||◌, ℤ}
+use Rattle.std.specs.Prelude.{pos, negsuc, nat_abs, [], ◌∷◌, IsTrue}
 use Rattle.std.specs.Ordering.{is_lt}
 use Rattle.std.specs.declared.cmp.Ordering.{Ordering}
 use Rattle.sym_model.specs.Expansion.{Fraction, Terms}
@@ -32,7 +33,8 @@ abbrev pub each_term : {Label : Type 0} → (Label × Fraction → Bool) → Ter
 each_term test [] = true
 each_term test (t ∷ terms) = test t && each_term test terms
 
--- whether a fraction may be a coefficient: it is not 0 and in lowest terms, and a whole number where those alone are meant
+-- whether a fraction may be a coefficient: it is not 0 and in lowest terms, and a whole number
+-- where those alone are meant
 abbrev pub is_coefficient : Bool → Fraction → Bool
 is_coefficient has_fractions c = (has_fractions || (c.1 == 1)) && is_reduced c
 

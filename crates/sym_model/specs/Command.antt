@@ -1,20 +1,20 @@
--- The commands, over plain lists and numbers (this project's own).
+-- The commands, over plain lists and numbers.
 use Rattle.std.specs.Prelude.{ℕ, Bool, List, Option}
 use Rattle.sym_model.specs.Expansion.{Basis}
 use Rattle.sym_model.specs.Expression.{Tree}
 
--- a command: partitions, permutations, letters and column readings are lists of numbers, factors are lists of partitions,
--- tableaux the lists of their rows (this project's own)
+-- a command: partitions, permutations, letters and column readings are lists of numbers, factors
+-- are lists of partitions, tableaux the lists of their rows
 pub data Command : Type 0 where
-  -- mult rows one_line factors: the product in s, in so many variables where a number is there, on one line where it is so
-  -- asked
+  -- mult rows one_line factors: the product in s, in K variables if rows is K,
+  -- on one line if one_line is true
   mult : Option ℕ → Bool → List (List ℕ) → Command
   -- skew rows one_line outer inner
   skew : Option ℕ → Bool → List ℕ → List ℕ → Command
   -- coef outer left right
   coef : List ℕ → List ℕ → List ℕ → Command
   coprod : List ℕ → Command
-  -- tab outer inner after: the lattice tableaux, from behind the one that has this column reading
+  -- tab outer inner after: the lattice tableaux, from after the one that has this column reading
   tab : List ℕ → List ℕ → Option (List ℕ) → Command
   -- quantum rows columns factors
   quantum : ℕ → ℕ → List (List ℕ) → Command
@@ -31,11 +31,12 @@ pub data Command : Type 0 where
   rect : List ℕ → List ℕ → List (List ℕ) → Command
   -- growth permutation: the growth grid
   growth : List ℕ → Command
-  -- plethysm target outer inner: the outer expression, its variables replaced by the monomials of the inner one
+  -- plethysm target outer inner: the outer expression,
+  -- its variables replaced by the monomials of the inner one
   plethysm : Basis → Tree → Tree → Command
   -- dschubmult left right: the product of two double Schubert polynomials
   dschubmult : List ℕ → List ℕ → Command
-  -- stanley variables permutation: the Stanley polynomial in s, in so many variables
+  -- stanley variables permutation: the Stanley polynomial in s, in this number of variables
   stanley : ℕ → List ℕ → Command
   batch : Command
   -- work lines seed

@@ -1,7 +1,9 @@
--- What the words of a command can offend by, list by list, at which word and byte, and which offence comes first
--- (this project's own).
-use Rattle.std.specs.Prelude.{◌≡◌, ◌⊎◌, ◌<◌, ℕ, ◌+◌, ◌-◌, ◌*◌, ◌==◌, nat_le, nat_lt, Bool, false, ◌&&◌, ◌||◌, cond, List, [], ◌∷◌, ◌++◌, map, length, drop, slice_get, Option, Some, None}
-use Rattle.sym_model.specs.Sum.{each}
+-- What the words of a command can offend by, list by list, at which word and byte,
+-- and which offence comes first
+--.
+use Rattle.std.specs.Prelude.{◌≡◌, ◌⊎◌, ◌<◌, ℕ, ◌+◌, ◌-◌, ◌*◌, ◌==◌, nat_le, nat_lt, Bool, false}
+use Rattle.std.specs.Prelude.{◌&&◌, ◌||◌, cond, List, [], ◌∷◌, ◌++◌, map, length, drop, slice_get}
+use Rattle.std.specs.Prelude.{Option, Some, None, flat_map}
 use Rattle.sym_model.specs.Polynomial.{same}
 use Rattle.sym_model.specs.Partition.{part, size}
 use Rattle.sym_model.specs.Schur.{row_lengths}
@@ -9,13 +11,16 @@ use Rattle.sym_model.specs.GoodTableau.{is_among, column_reading, lattice_readin
 use Rattle.sym_model.specs.Expansion.{Basis}
 use Rattle.sym_model.specs.Expression.{degree}
 use Rattle.sym_model.specs.Phrase.{Phrase, spelling, tree}
-use Rattle.sym_model.specs.ExpressionOffence.{OffenceKind, literal, range, shape, is_wide, rises, rank, WordOffence, offences, offences_within, inner_offences, plethysm_degree_limit}
+use Rattle.sym_model.specs.ExpressionOffence.{OffenceKind, literal, range, shape, is_wide, rises}
+use Rattle.sym_model.specs.ExpressionOffence.{rank, WordOffence, offences, offences_within}
+use Rattle.sym_model.specs.ExpressionOffence.{inner_offences, plethysm_degree_limit}
 
 -- an offence: its word, its byte there and its kind
 abbrev pub Offence : Type 0
 Offence = ℕ × ℕ × OffenceKind
 
--- an offence comes before another one: its word is less or, in the same word, its byte, or at the same place its kind
+-- an offence comes before another one: its word is less or, in the same word, its byte,
+-- or at the same place its kind
 abbrev pub ComesBefore : Offence → Offence → Type 0
 ComesBefore o p =
     (o.0 < p.0) ⊎ ((o.0 ≡ p.0) × ((o.1 < p.1) ⊎ ((o.1 ≡ p.1) × (rank o.2 < rank p.2))))
@@ -36,7 +41,8 @@ abbrev pub first_offence : List Offence → Option Offence
 first_offence [] = None
 first_offence (o ∷ os) = earlier_of o (first_offence os)
 
--- a list that is judged against an earlier list is judged so only where the earlier list has no offence
+-- a list that is judged against an earlier list is judged so only where the earlier list has no
+-- offence
 abbrev pub judged_against : List Offence → List Offence → List Offence
 judged_against [] found = found
 judged_against (o ∷ earlier) found = []
@@ -49,7 +55,8 @@ when test kind = cond test (kind ∷ []) []
 abbrev pub Rule : Type 0
 Rule = List ℕ → ℕ → List OffenceKind
 
--- the offences by a rule of the numbers of a list that begins at the word, after those that stand before it
+-- the offences by a rule of the numbers of a list that begins at the word,
+-- after those that stand before it
 abbrev pub offences_after : Rule → List ℕ → ℕ → List ℕ → List Offence
 offences_after rule before k [] = []
 offences_after rule before k (a ∷ numbers) =
@@ -85,7 +92,8 @@ most_factors = 8
 abbrev pub most_permuted : ℕ
 most_permuted = 16
 
--- the most letters of a permutation whose double Schubert polynomial is a factor, and the greatest of them
+-- the most letters of a permutation whose double Schubert polynomial is a factor,
+-- and the greatest of them
 abbrev pub most_doubled : ℕ
 most_doubled = 8
 
@@ -125,17 +133,19 @@ lines_rule before a = when (is_wide a) literal ++ when (is_outside most_lines a)
 abbrev pub seed_rule : Rule
 seed_rule before a = when (is_wide a) literal ++ when (nat_lt greatest_seed a) range
 
--- a number of a partition: the 65th, the one at which the sum so far first passes 512, one greater than the number before it
+-- a number of a partition: the 65th, the one at which the sum so far first passes 512, one greater
+-- than the number before it
 abbrev pub part_rule : Rule
 part_rule before a =
     when (is_wide a) literal
     ++ when
-    ((length before == most_parts) || (nat_le (size before) most_cells && nat_lt most_cells (size before + a)))
+    ((length before == most_parts)
+    || (nat_le (size before) most_cells && nat_lt most_cells (size before + a)))
     range
     ++ when (rises (left_of before) a) shape
 
--- a number of a permutation of so many letters, of which at most so many may be written: one past these, the one behind them; 0,
--- one past the number of letters, one that stands before it
+-- a number of a permutation of `count` letters, of which at most `most` may be written: one past
+-- these, the one after them; 0, one past the number of letters, one that occurs before it
 abbrev pub permutation_rule_within : ℕ → ℕ → Rule
 permutation_rule_within most count before a =
     when (is_wide a) literal
@@ -145,7 +155,8 @@ permutation_rule_within most count before a =
 -- a letter of a word: 0, one past 65,535, the 257th
 abbrev pub letter_rule : Rule
 letter_rule before a =
-    when (is_wide a) literal ++ when (is_outside greatest_letter a || (length before == most_letters)) range
+    when (is_wide a) literal ++ when
+    (is_outside greatest_letter a || (length before == most_letters)) range
 
 -- an entry of a tableau: 0, one past 65,535
 abbrev pub entry_rule : Rule
@@ -159,8 +170,8 @@ inside_rule outer before a = when (nat_lt (part outer (length before + 1)) a) sh
 abbrev pub part_offences : ℕ → List ℕ → List Offence
 part_offences k numbers = offences_by part_rule k numbers
 
--- partitions after so many others, with a word between them, the first of which begins at the word: those of each, and the
--- word in front of the ninth
+-- partitions after a number of others, with a word between them, the first of which begins at the
+-- word: those of each, and the word in front of the ninth
 abbrev pub factor_offences : ℕ → ℕ → List (List ℕ) → List Offence
 factor_offences count k [] = []
 factor_offences count k (numbers ∷ factors) =
@@ -168,9 +179,10 @@ factor_offences count k (numbers ∷ factors) =
     ++ part_offences k numbers
     ++ factor_offences (count + 1) (k + length numbers + 1) factors
 
--- a permutation at the word, of which at most so many letters may be written
+-- a permutation at the word, of which at most `most` letters may be written
 abbrev pub permutation_offences_within : ℕ → ℕ → List ℕ → List Offence
-permutation_offences_within most k letters = offences_by (permutation_rule_within most (length letters)) k letters
+permutation_offences_within most k letters =
+    offences_by (permutation_rule_within most (length letters)) k letters
 
 -- a permutation at the word
 abbrev pub permutation_offences : ℕ → List ℕ → List Offence
@@ -182,9 +194,9 @@ PlacedRow = ℕ × List ℕ
 
 -- the entries of each row by a rule
 abbrev pub row_offences : Rule → List PlacedRow → List Offence
-row_offences rule rows = each (λ (row : PlacedRow). offences_by rule row.0 row.1) rows
+row_offences rule rows = flat_map (λ (row : PlacedRow). offences_by rule row.0 row.1) rows
 
--- the 257th number of a tableau, where so many stand in the rows before
+-- the 257th number of a tableau, with `count` numbers in the rows before
 abbrev pub count_offences : ℕ → List PlacedRow → List Offence
 count_offences count [] = []
 count_offences count (row ∷ rows) =
@@ -205,14 +217,15 @@ stays (Some b) a = nat_le a b
 abbrev pub entry_above : List ℕ → ℕ → ℕ → Option ℕ
 entry_above upper c j = cond (nat_le c j) (slice_get upper (j - c)) None
 
--- the rows of a tableau whose rows begin at these columns, below a row that begins at column c: a number smaller than its
--- left neighbour, or not greater than the entry above it
+-- the rows of a tableau whose rows begin at these columns, below a row that begins at column c: a
+-- number smaller than its left neighbour, or not greater than the entry above it
 abbrev pub order_offences : ℕ → List ℕ → List ℕ → List PlacedRow → List Offence
 order_offences c upper inner [] = []
 order_offences c upper inner (row ∷ rows) =
     offences_by
     (λ before a.
-    when (falls (left_of before) a || stays (entry_above upper c (part inner 1 + length before)) a) shape)
+    when (falls (left_of before) a || stays (entry_above upper c (part inner 1 + length before)) a)
+    shape)
     row.0
     row.1
     ++ order_offences (part inner 1) row.1 (drop 1 inner) rows
@@ -229,10 +242,12 @@ abbrev pub empty_row_offences : List PlacedRow → List Offence
 empty_row_offences [] = []
 empty_row_offences (row ∷ []) = []
 empty_row_offences (row ∷ next ∷ rows) =
-    each (λ (r : PlacedRow). cond (length r.1 == 0) ((r.0, 0, shape) ∷ []) []) (row ∷ next ∷ rows)
+    flat_map (λ (r : PlacedRow). cond (length r.1 == 0) ((r.0, 0, shape) ∷ []) [])
+    (row ∷ next ∷ rows)
 
--- the rows of a tableau of so many cells that is to be standard, below a row and after these entries: a number that is past
--- the number of cells, not greater than its left neighbour or the entry above, or stands earlier in it
+-- the rows of a tableau of `count` cells that is to be standard, below a row and after these
+-- entries: a number that exceeds the number of cells, is not greater than its left neighbour or the
+-- entry above, or occurs earlier in it
 abbrev pub standard_offences : ℕ → List ℕ → List ℕ → List PlacedRow → List Offence
 standard_offences count earlier upper [] = []
 standard_offences count earlier upper (row ∷ rows) =
@@ -250,7 +265,8 @@ standard_offences count earlier upper (row ∷ rows) =
 abbrev pub entries : List PlacedRow → List (List ℕ)
 entries rows = map (λ (row : PlacedRow). row.1) rows
 
--- the rows of a tableau of the shape outer/inner: `.` alone is a tableau without rows where the shape has none
+-- the rows of a tableau of the shape outer/inner:
+-- `.` alone is a tableau without rows where the shape has none
 abbrev pub rows_in : List ℕ → List (List ℕ) → List (List ℕ)
 rows_in [] ([] ∷ []) = []
 rows_in outer rows = rows
@@ -269,13 +285,14 @@ offences_in_word k found = map (λ o. (k, o.0, o.1)) found
 abbrev pub expression_offences : ℕ → Basis → Phrase → List Offence
 expression_offences k target phrase = offences_in_word k (offences target phrase)
 
--- the two expressions of a plethysm, the first at the word: those of each, and the length of the second, where the first has no
--- offence and the product of the two degrees is past the limit
+-- the two expressions of a plethysm, the first at the word: those of each, and the length of the
+-- second, where the first has no offence and the product of the two degrees is past the limit
 abbrev pub plethysm_offences : ℕ → Phrase → Phrase → List Offence
 plethysm_offences k outer inner =
     let first = offences_in_word k (offences_within plethysm_degree_limit outer) in
     first
     ++ offences_in_word (k + 1) (inner_offences inner)
     ++ judged_against first
-    (cond (nat_lt plethysm_degree_limit (degree (tree outer) * degree (tree inner))) ((k + 1, length (spelling inner), range) ∷ [])
+    (cond (nat_lt plethysm_degree_limit (degree (tree outer) * degree (tree inner)))
+    ((k + 1, length (spelling inner), range) ∷ [])
     [])

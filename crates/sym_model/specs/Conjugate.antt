@@ -7,6 +7,7 @@ abbrev pub count_from : ℕ → List ℕ → ℕ
 count_from j [] = 0
 count_from j (a ∷ numbers) = cond (nat_le j a) 1 0 + count_from j numbers
 
--- the conjugate of λ: its part j is the number of parts of λ that are at least j, the length of column j
+-- the conjugate of λ: its part j is the number of parts of λ that are at least j,
+-- the length of column j
 abbrev pub conjugate : List ℕ → List ℕ
 conjugate parts = map (λ j. count_from j parts) (after 0 (columns parts))

@@ -1,8 +1,9 @@
--- Divided differences (Macdonald, Notes on Schubert polynomials, II): ∂_i f is (f - s_i f)/(x_i - x_(i+1)).
+-- Divided differences (Macdonald, Notes on Schubert polynomials, II):
+-- ∂_i f is (f - s_i f)/(x_i - x_(i+1)).
 -- Here ∂_i is written out on monomials and extended by sums; that it is this quotient is a law.
-use Rattle.std.specs.Prelude.{ℕ, zero, suc, ◌+◌, ◌-◌, ℤ, pos, neg_ℤ, List, [], ◌∷◌, ◌++◌, map, replicate}
+use Rattle.std.specs.Prelude.{ℕ, zero, suc, ◌+◌, ◌-◌, ℤ, pos, neg_ℤ, List, [], ◌∷◌, ◌++◌, map}
+use Rattle.std.specs.Prelude.{replicate, flat_map}
 use Rattle.std.specs.List.{range_with_len}
-use Rattle.sym_model.specs.Sum.{each}
 use Rattle.sym_model.specs.Polynomial.{Term, Poly, join, scale, restrict}
 use Rattle.sym_model.specs.Permutation.{exchanged}
 
@@ -31,20 +32,22 @@ with_exchanged i f = map (λ (t : Term). (exchanged i t.0, t.1)) f
 
 -- sign times the sum of x^c·y^(a+b-1-c) for c from b to a - 1, times x^rest; nothing where a ≤ b
 abbrev pub powers_between : ℤ → ℕ → ℕ → List ℕ → Poly
-powers_between sign a b rest = map (λ c. (c ∷ (a + b - 1 - c) ∷ rest, sign)) (range_with_len b (a - b))
+powers_between sign a b rest =
+    map (λ c. (c ∷ (a + b - 1 - c) ∷ rest, sign)) (range_with_len b (a - b))
 
--- ∂ of the monomial x^exponents in the two variables after the first k: with their exponents a and b, for a > b
--- the sum of the powers between, for a < b minus that sum, for a = b nothing
+-- ∂ of the monomial x^exponents in the two variables after the first k: with their exponents a and
+-- b, for a > b the sum of the powers between, for a < b minus that sum, for a = b nothing
 abbrev pub difference_after : ℕ → List ℕ → Poly
 difference_after zero [] = []
 difference_after zero (a ∷ []) = []
-difference_after zero (a ∷ b ∷ rest) = powers_between (pos 1) a b rest ++ powers_between (neg_ℤ (pos 1)) b a rest
+difference_after zero (a ∷ b ∷ rest) =
+    powers_between (pos 1) a b rest ++ powers_between (neg_ℤ (pos 1)) b a rest
 difference_after (suc k) [] = []
 difference_after (suc k) (a ∷ rest) = map (λ (t : Term). (a ∷ t.0, t.1)) (difference_after k rest)
 
 -- ∂ of a polynomial in the two variables after the first k: the sum over its terms
 abbrev pub differences_after : ℕ → Poly → Poly
-differences_after k f = each (λ (t : Term). scale t.1 (difference_after k t.0)) f
+differences_after k f = flat_map (λ (t : Term). scale t.1 (difference_after k t.0)) f
 
 -- ∂_i f, the divided difference of f in x_i and x_(i+1); i counts from 1
 abbrev pub divided_difference : ℕ → Poly → Poly

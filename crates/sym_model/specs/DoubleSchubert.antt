@@ -1,7 +1,8 @@
--- Double Schubert polynomials (Lascoux and Schützenberger; Macdonald, Notes on Schubert polynomials, VI), as polynomials
--- in m variables x at the places 1 to m and m variables y at the places m + 1 to 2m.
+-- Double Schubert polynomials (Lascoux and Schützenberger; Macdonald, Notes on Schubert
+-- polynomials, VI), as polynomials in m variables x at the places 1 to m and m variables y at the
+-- places m + 1 to 2m.
 use Rattle.std.specs.Prelude.{ℕ, ◌+◌, ◌-◌, ◌&&◌, List, [], ◌∷◌, ◌++◌, map, take, drop, length}
-use Rattle.sym_model.specs.Sum.{each, select}
+use Rattle.std.specs.Prelude.{filter, flat_map}
 use Rattle.sym_model.specs.Partition.{after}
 use Rattle.sym_model.specs.Polynomial.{Term, Poly, one, plus, negate, times, resize, fits_in}
 use Rattle.sym_model.specs.DividedDifference.{x_to_in, variable_in}
@@ -15,14 +16,17 @@ product_of n (f ∷ fs) = times f (product_of n fs)
 
 -- x_i - y_j, in m variables x and m variables y
 abbrev pub difference_in : ℕ → ℕ → ℕ → Poly
-difference_in i j m = plus (beside (variable_in i m) (one m)) (negate (beside (one m) (variable_in j m)))
+difference_in i j m =
+    plus (beside (variable_in i m) (one m)) (negate (beside (one m) (variable_in j m)))
 
 -- the product of all x_i - y_j with i + j at most n, in m variables of each
 abbrev pub difference_product : ℕ → ℕ → Poly
-difference_product n m = product_of (m + m) (each (λ i. map (λ j. difference_in i j m) (after 0 (n - i))) (after 0 n))
+difference_product n m =
+    product_of (m + m) (flat_map (λ i. map (λ j. difference_in i j m) (after 0 (n - i)))
+    (after 0 n))
 
--- S(w; x, y), the double Schubert polynomial of a list w of n letters, in m variables of each, m at least n: divided
--- differences in x alone, over the product of the x_i - y_j
+-- S(w; x, y), the double Schubert polynomial of a list w of n letters, in m variables of each, m at
+-- least n: divided differences in x alone, over the product of the x_i - y_j
 abbrev pub double_schubert : List ℕ → ℕ → Poly
 double_schubert w m = schubert_over (difference_product (length w) m) w
 
@@ -30,7 +34,7 @@ double_schubert w m = schubert_over (difference_product (length w) m) w
 abbrev pub restrict_both : ℕ → ℕ → Poly → Poly
 restrict_both m n f =
     map (λ (t : Term). (resize n (take m t.0) ++ resize n (drop m t.0), t.1))
-    (select (λ (t : Term). fits_in n (take m t.0) && fits_in n (drop m t.0)) f)
+    (filter (λ (t : Term). fits_in n (take m t.0) && fits_in n (drop m t.0)) f)
 
 -- the double Schubert polynomial of a permutation, in n variables of each
 abbrev pub double_schubert_in : List ℕ → ℕ → Poly
@@ -38,7 +42,7 @@ double_schubert_in w n = restrict_both (length w) n (double_schubert w (length w
 
 -- the sum of the double Schubert polynomials of permutations, in n variables of each
 abbrev pub double_schuberts_in : List (List ℕ) → ℕ → Poly
-double_schuberts_in ws n = each (λ w. double_schubert_in w n) ws
+double_schuberts_in ws n = flat_map (λ w. double_schubert_in w n) ws
 
 -- y^exponents times the double Schubert polynomial of a permutation, in n variables of each
 abbrev pub shifted_in : List ℕ × List ℕ → ℕ → Poly

@@ -1,7 +1,8 @@
--- How a command ends (this project's own).
+-- How a command ends.
 
--- how a command ends: its text was put whole, a line of a batch was refused, or the words or the answer were refused, with
--- the words no command, an offence of limits or of shape, or a number past 128 bits
+-- how a command ends: its text was put whole, a line of a batch was refused, or the words or the
+-- answer were refused, with the words no command, an offence of limits or of shape,
+-- or a number past 128 bits
 pub data Ending : Type 0 where
   done : Ending
   some_refused : Ending

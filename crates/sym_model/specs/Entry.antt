@@ -1,11 +1,13 @@
--- Commands by the forms of their words: what a list of words spells, begins and first offends by, for any list of commands
--- (this project's own).
+-- Commands by the forms of their words: what a list of words spells, begins and first offends by,
+-- for any list of commands
+--.
 use Rattle.std.specs.Prelude.{◌≡◌, ℕ, List, Option, None}
 use Rattle.sym_model.specs.Form.{Form, Written, SomeOf, Has, Begins, Awaits}
 use Rattle.sym_model.specs.Command.{Command}
 use Rattle.sym_model.specs.CommandOffence.{Offence, first_offence}
 
--- a command of the grammar: its name, the form of its words, what they say, and all that they offend by
+-- a command of the grammar: its name, the form of its words, what they say,
+-- and all that they offend by
 pub record Entry : Type 0 where
   pub name : List ℕ
   pub form : Form

@@ -1,6 +1,5 @@
 -- The polynomial that a list of terms stands for, with its fractions cleared.
-use Rattle.std.specs.Prelude.{ℕ, ◌<◌, ◌*◌, ◌/◌, ℤ, pos, ◌*ℤ◌, List, [], ◌∷◌, ◌++◌, map}
-use Rattle.sym_model.specs.Sum.{each}
+use Rattle.std.specs.Prelude.{ℕ, ◌<◌, ◌*◌, ◌/◌, ℤ, pos, ◌*ℤ◌, List, [], ◌∷◌, ◌++◌, map, flat_map}
 use Rattle.sym_model.specs.Polynomial.{Term, Poly, Same, nothing, plus, scale}
 use Rattle.sym_model.specs.Bases.{monomial, elementary, complete, power_sum}
 use Rattle.sym_model.specs.Schur.{schur}
@@ -44,13 +43,15 @@ cleared polynomial q (t ∷ terms) =
 abbrev pub value_by : {Label : Type 0} → (Label → Poly) → Terms Label → Poly
 value_by polynomial terms = cleared polynomial (denominators terms) terms
 
--- the list, each label read as its polynomial, is the polynomial f divided by the number d: no denominator is 0, and with
--- the denominators cleared on both sides the polynomials are the same
-pub record Represents {Label : Type 0} (polynomial : Label → Poly) (terms : Terms Label) (f : Poly) (d : ℕ) : Type 0 where
+-- the list, each label read as its polynomial, is the polynomial f divided by the number d: no
+-- denominator is 0, and with the denominators cleared on both sides the polynomials are the same
+pub record Represents {Label : Type 0} (polynomial : Label → Poly) (terms : Terms Label) (f : Poly)
+    (d : ℕ) : Type 0 where
   pub positive : 0 < denominators terms
   pub equal : Same (scale (pos d) (value_by polynomial terms)) (scale (pos (denominators terms)) f)
 
--- the value of a list in n variables, labels read in the basis, times the product of its denominators
+-- the value of a list in n variables, labels read in the basis,
+-- times the product of its denominators
 abbrev pub value : Basis → Terms (List ℕ) → ℕ → Poly
 value basis terms n = value_by (λ label. basis_polynomial basis label n) terms
 
@@ -60,9 +61,9 @@ IsExpansionOf basis terms n f d = Represents (λ label. basis_polynomial basis l
 
 -- the product of two polynomials in variables of their own: those of g come after those of f
 abbrev pub beside : Poly → Poly → Poly
-beside f g = each (λ (s : Term). map (λ (t : Term). (s.0 ++ t.0, s.1 *ℤ t.1)) g) f
+beside f g = flat_map (λ (s : Term). map (λ (t : Term). (s.0 ++ t.0, s.1 *ℤ t.1)) g) f
 
--- the polynomial of a pair of partitions: the Schur polynomial of the first in n variables times that of the second in the k
--- variables after them
+-- the polynomial of a pair of partitions: the Schur polynomial of the first in n variables times
+-- that of the second in the k variables after them
 abbrev pub pair_polynomial : ℕ → ℕ → List ℕ × List ℕ → Poly
 pair_polynomial n k pair = beside (schur pair.0 n) (schur pair.1 k)

@@ -1,12 +1,14 @@
--- Expressions of symmetric functions: their trees, and what a tree stands for with its fractions cleared
--- (this project's own).
+-- Expressions of symmetric functions: their trees,
+-- and what a tree stands for with its fractions cleared
+--.
 use Rattle.std.specs.Prelude.{ℕ, ◌+◌, ◌*◌, ◌/◌, pos, max, List}
 use Rattle.sym_model.specs.Polynomial.{Poly, one, plus, scale, negate, times}
 use Rattle.sym_model.specs.Partition.{size}
 use Rattle.sym_model.specs.Expansion.{Basis, basis_polynomial}
 use Rattle.sym_model.specs.Canonical.{gcd}
 
--- an expression: a number, a fraction that need not be in lowest terms, a partition in a basis, and what is made of these
+-- an expression: a number, a fraction that need not be in lowest terms, a partition in a basis,
+-- and what is made of these
 pub data Tree : Type 0 where
   number : ℕ → Tree
   fraction : ℕ → ℕ → Tree
@@ -16,7 +18,8 @@ pub data Tree : Type 0 where
   difference : Tree → Tree → Tree
   product : Tree → Tree → Tree
 
--- the degree: 0 of a number, the size of an atom's partition, the greater one of a sum, the sum of those of a product
+-- the degree: 0 of a number, the size of an atom's partition, the greater one of a sum,
+-- the sum of those of a product
 abbrev pub degree : Tree → ℕ
 degree (number a) = 0
 degree (fraction a b) = 0
@@ -26,7 +29,8 @@ degree (sum e f) = max (degree e) (degree f)
 degree (difference e f) = max (degree e) (degree f)
 degree (product e f) = degree e + degree f
 
--- the nesting: 1 of a number, a fraction or an atom, and one more than the greatest of the parts of the others
+-- the nesting: 1 of a number, a fraction or an atom,
+-- and one more than the greatest of the parts of the others
 abbrev pub nesting : Tree → ℕ
 nesting (number a) = 1
 nesting (fraction a b) = 1
@@ -58,7 +62,8 @@ cleared_value (atom basis parts) n = basis_polynomial basis parts n
 cleared_value (negation e) n = negate (cleared_value e n)
 cleared_value (sum e f) n =
     let q = lcm (denominator e) (denominator f) in
-    plus (scale (pos (q / denominator e)) (cleared_value e n)) (scale (pos (q / denominator f)) (cleared_value f n))
+    plus (scale (pos (q / denominator e)) (cleared_value e n))
+    (scale (pos (q / denominator f)) (cleared_value f n))
 cleared_value (difference e f) n =
     let q = lcm (denominator e) (denominator f) in
     plus

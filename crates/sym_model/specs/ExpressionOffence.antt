@@ -1,19 +1,21 @@
--- What an expression can offend by, at which byte of its word, and which offence comes first (this project's own).
-use Rattle.std.specs.Prelude.{◌≡◌, ℕ, ◌+◌, ◌^◌, ◌<◌, ◌==◌, nat_le, nat_lt, Bool, false, ◌&&◌, ◌||◌, cond, List, [], ◌∷◌, ◌++◌, length, Option, Some, None, ◌⊎◌}
-use Rattle.sym_model.specs.Sum.{each}
+-- What an expression can offend by, at which byte of its word, and which offence comes first.
+use Rattle.std.specs.Prelude.{◌≡◌, ℕ, ◌+◌, ◌^◌, ◌<◌, ◌==◌, nat_le, nat_lt, Bool, false, ◌&&◌, ◌||◌}
+use Rattle.std.specs.Prelude.{cond, List, [], ◌∷◌, ◌++◌, length, Option, Some, None, ◌⊎◌, flat_map}
 use Rattle.sym_model.specs.Expansion.{Basis, monomials, schurs}
 use Rattle.sym_model.specs.Expression.{degree}
 use Rattle.sym_model.specs.PrintedBlock.{decimal_value}
-use Rattle.sym_model.specs.Phrase.{Operator, minus, Phrase, numeral, ratio, label, brackets, minus_first, operation, spelling, tree}
+use Rattle.sym_model.specs.Phrase.{Operator, minus, Phrase, numeral, ratio, label, brackets}
+use Rattle.sym_model.specs.Phrase.{minus_first, operation, spelling, tree}
 
--- the kinds of offence in words that spell a command, in the order in which they come at one place (this project's own)
+-- the kinds of offence in words that spell a command, in the order in which they come at one place
 pub data OffenceKind : Type 0 where
   literal : OffenceKind
   range : OffenceKind
   shape : OffenceKind
 
--- what a byte of an expression begins: a number or a numerator, a denominator, a number of an atom's list with how many
--- stand before it there and the last of these, or a parenthesis with how many are then open
+-- what a byte of an expression begins: a number or a numerator, a denominator, a number of an
+-- atom's list with how many stand before it there and the last of these,
+-- or a parenthesis with how many are then open
 pub data Mark : Type 0 where
   value : ℕ → Mark
   denominator : ℕ → Mark
@@ -29,8 +31,9 @@ abbrev pub rises : Option ℕ → ℕ → Bool
 rises None n = false
 rises (Some before) n = nat_lt before n
 
--- whether a mark is an offence of the kind: a number past 2^127 - 1; the 65th number of an atom, a parenthesis that opens
--- depth 65; a number of an atom that is greater than the one before it, a denominator 0
+-- whether a mark is an offence of the kind: a number past 2^127 - 1; the 65th number of an atom, a
+-- parenthesis that opens depth 65; a number of an atom that is greater than the one before it,
+-- a denominator 0
 abbrev pub is_offence : Mark → OffenceKind → Bool
 is_offence (value n) literal = is_wide n
 is_offence (denominator n) literal = is_wide n
@@ -48,11 +51,12 @@ entry_marks byte count before (word ∷ words) =
     (byte, entry count before (decimal_value word))
     ∷ entry_marks (byte + length word + 1) (count + 1) (Some (decimal_value word)) words
 
--- the marks of a phrase that begins at the byte, where so many parentheses are open, in their order
+-- the marks of a phrase that begins at the byte, with `depth` parentheses open, in their order
 abbrev pub marks : ℕ → ℕ → Phrase → List (ℕ × Mark)
 marks depth byte (numeral digits) = (byte, value (decimal_value digits)) ∷ []
 marks depth byte (ratio num den) =
-    (byte, value (decimal_value num)) ∷ (byte + length num + 1, denominator (decimal_value den)) ∷ []
+    (byte, value (decimal_value num)) ∷ (byte + length num + 1, denominator (decimal_value den))
+    ∷ []
 marks depth byte (label basis words) = entry_marks (byte + 2) 0 None words
 marks depth byte (brackets inner) = (byte, opening (depth + 1)) ∷ marks (depth + 1) (byte + 1) inner
 marks depth byte (minus_first inner) = marks depth (byte + 1) inner
@@ -77,11 +81,13 @@ degree_limit monomials = 20
 degree_limit schurs = 20
 degree_limit _ = 15
 
--- the greatest degree of each expression of a plethysm, and of the two together, which is the product of their degrees
+-- the greatest degree of each expression of a plethysm, and of the two together, which is the
+-- product of their degrees
 abbrev pub plethysm_degree_limit : ℕ
 plethysm_degree_limit = 10
 
--- the offences of an expression as a whole: byte 4096 where it has more than 4096, its length where its degree is past the limit
+-- the offences of an expression as a whole: byte 4096 where it has more than 4096, its length where
+-- its degree is past the limit
 abbrev pub offences_of_whole_within : ℕ → Phrase → List WordOffence
 offences_of_whole_within limit phrase =
     cond (nat_lt 4096 (length (spelling phrase))) ((4096, range) ∷ []) []
@@ -89,7 +95,8 @@ offences_of_whole_within limit phrase =
 
 -- all offences of an expression whose degree is to be within the limit
 abbrev pub offences_within : ℕ → Phrase → List WordOffence
-offences_within limit phrase = each offences_at (marks 0 0 phrase) ++ offences_of_whole_within limit phrase
+offences_within limit phrase =
+    flat_map offences_at (marks 0 0 phrase) ++ offences_of_whole_within limit phrase
 
 -- the offences of an expression as a whole that is expanded into the target
 abbrev pub offences_of_whole : Basis → Phrase → List WordOffence
@@ -104,8 +111,8 @@ abbrev pub minus_offences : ℕ → Operator → List WordOffence
 minus_offences byte minus = (byte, shape) ∷ []
 minus_offences byte operator = []
 
--- what an expression that begins at the byte offends by, where no coefficient may be negative or a fraction: each minus, and
--- each fraction at its first byte
+-- what an expression that begins at the byte offends by, where no coefficient may be negative or a
+-- fraction: each minus, and each fraction at its first byte
 abbrev pub sign_offences : ℕ → Phrase → List WordOffence
 sign_offences byte (numeral digits) = []
 sign_offences byte (ratio num den) = (byte, shape) ∷ []
@@ -127,7 +134,8 @@ rank literal = 0
 rank range = 1
 rank shape = 2
 
--- whether an offence comes before another one or is at the same place of the same kind: the least byte, then the kind
+-- whether an offence comes before another one or is at the same place of the same kind:
+-- the least byte, then the kind
 abbrev pub comes_first : WordOffence → WordOffence → Bool
 comes_first o p = nat_lt o.0 p.0 || ((o.0 == p.0) && nat_le (rank o.1) (rank p.1))
 

@@ -1,22 +1,23 @@
--- Forms of the words of a command: regular expressions over classes of words, what each of them spells, and their
--- derivatives by a word (this project's own; derivatives of regular expressions: Brzozowski, Antimirov).
-use Rattle.std.specs.Prelude.{◌≡◌, ℕ, ◌+◌, nat_le, Bool, true, false, ◌&&◌, ◌||◌, cond, List, [], ◌∷◌, ◌++◌, map, ◌⊎◌}
+-- Forms of the words of a command: regular expressions over classes of words, what each of them
+-- spells, and their derivatives by a word (derivatives of regular expressions:
+-- Brzozowski, Antimirov).
+use Rattle.std.specs.Prelude.{◌≡◌, ℕ, ◌+◌, nat_le, Bool, true, false, ◌&&◌, ◌||◌, cond, List, []}
+use Rattle.std.specs.Prelude.{◌∷◌, ◌++◌, map, ◌⊎◌, flat_map}
 use Rattle.std.proofs.Common.{inl, inr}
-use Rattle.sym_model.specs.Sum.{each}
 use Rattle.sym_model.specs.Polynomial.{same}
 use Rattle.sym_model.specs.Expansion.{Basis}
 use Rattle.sym_model.specs.NumberWord.{IsNumberWord}
 use Rattle.sym_model.specs.Phrase.{Phrase, Is, expression, letter, spelling, SpellsPhrase}
 
--- what one word can be: a fixed text, a number, the letter of one of these bases, an expression (this project's own)
+-- what one word can be: a fixed text, a number, the letter of one of these bases, an expression
 pub data Class : Type 0 where
   exact : List ℕ → Class
   number : Class
   target : List Basis → Class
   formula : Class
 
--- what a list of words can be: no word, one word of a class, one form and then another, one of two, any number of one
--- (Kleene's regular expressions)
+-- what a list of words can be: no word, one word of a class, one form and then another, one of two,
+-- any number of one (Kleene's regular expressions)
 pub data Form : Type 0 where
   empty : Form
   word : Class → Form
@@ -53,7 +54,7 @@ words_of (word c) x = word_of c x ∷ []
 words_of (sequence f g) x = words_of f x.0 ++ words_of g x.1
 words_of (either f g) (inl x) = words_of f x
 words_of (either f g) (inr x) = words_of g x
-words_of (many f) xs = each (words_of f) xs
+words_of (many f) xs = flat_map (words_of f) xs
 
 -- some element of the list has the property
 abbrev pub SomeOf : {A : Type 0} → (A → Type 0) → List A → Type 0
@@ -98,10 +99,12 @@ Awaits (word formula) words = words ≡ []
 Awaits (word c) words = ⊥
 Awaits (sequence f g) words =
     Awaits f words
-    ⊎ ((before : List (List ℕ)) × (after : List (List ℕ)) × (words ≡ before ++ after) × Has f before × Awaits g after)
+    ⊎ ((before : List (List ℕ)) × (after : List (List ℕ)) × (words ≡ before ++ after) × Has f before
+    × Awaits g after)
 Awaits (either f g) words = Awaits f words ⊎ Awaits g words
 Awaits (many f) words =
-    (before : List (List ℕ)) × (after : List (List ℕ)) × (words ≡ before ++ after) × Has (many f) before × Awaits f after
+    (before : List (List ℕ)) × (after : List (List ℕ)) × (words ≡ before ++ after)
+    × Has (many f) before × Awaits f after
 
 -- whether the byte is an ASCII digit
 abbrev pub is_digit : ℕ → Bool
@@ -137,18 +140,20 @@ is_skippable (sequence f g) = is_skippable f && is_skippable g
 is_skippable (either f g) = is_skippable f || is_skippable g
 is_skippable (many f) = true
 
--- the forms of what may follow the word, where words of the form begin with it: the partial derivatives (Antimirov)
+-- the forms of what may follow the word, where words of the form begin with it:
+-- the partial derivatives (Antimirov)
 abbrev pub derivatives : (List ℕ → Bool) → Form → List ℕ → List Form
 derivatives reads empty text = []
 derivatives reads (word c) text = cond (fits reads c text) (empty ∷ []) []
 derivatives reads (sequence f g) text =
-    map (λ h. sequence h g) (derivatives reads f text) ++ cond (is_skippable f) (derivatives reads g text) []
+    map (λ h. sequence h g) (derivatives reads f text)
+    ++ cond (is_skippable f) (derivatives reads g text) []
 derivatives reads (either f g) text = derivatives reads f text ++ derivatives reads g text
 derivatives reads (many f) text = map (λ h. sequence h (many f)) (derivatives reads f text)
 
 -- the same for words of one of these forms
 abbrev pub after_word : (List ℕ → Bool) → List Form → List ℕ → List Form
-after_word reads forms text = each (λ f. derivatives reads f text) forms
+after_word reads forms text = flat_map (λ f. derivatives reads f text) forms
 
 -- one more, where some form is left
 abbrev pub one_more : List Form → ℕ → ℕ

@@ -1,6 +1,8 @@
--- Column readings, good tableaux and their counts (Stembridge, A concise proof of the Littlewood–Richardson rule).
-use Rattle.std.specs.Prelude.{ℕ, ◌+◌, ◌-◌, nat_le, nat_lt, Bool, true, false, ◌&&◌, ◌||◌, cond, List, [], ◌∷◌, ◌++◌, map, length, reverse, take, drop}
-use Rattle.sym_model.specs.Sum.{each, select}
+-- Column readings, good tableaux and their counts (Stembridge, A concise proof of the
+-- Littlewood–Richardson rule).
+use Rattle.std.specs.Prelude.{ℕ, ◌+◌, ◌-◌, nat_le, nat_lt, Bool, true, false, ◌&&◌, ◌||◌, cond}
+use Rattle.std.specs.Prelude.{List, [], ◌∷◌, ◌++◌, map, length, reverse, take, drop, filter}
+use Rattle.std.specs.Prelude.{flat_map}
 use Rattle.sym_model.specs.Polynomial.{same, join}
 use Rattle.sym_model.specs.Partition.{part, rows, columns, after, cells, without_last_zeros}
 use Rattle.sym_model.specs.Schur.{words, content, tableaux}
@@ -17,9 +19,10 @@ column inner (row ∷ rest) j = letter_in (part inner 1) row j ++ column (drop 1
 -- the columns right of column j, from the rightmost to the left, each from top to bottom
 abbrev pub reading_right_of : ℕ → List ℕ → List ℕ → List (List ℕ) → List ℕ
 reading_right_of j outer inner filling =
-    each (column inner filling) (reverse (after j (columns outer - j)))
+    flat_map (column inner filling) (reverse (after j (columns outer - j)))
 
--- the column reading of a filling: all columns from the rightmost to the leftmost, each from top to bottom
+-- the column reading of a filling: all columns from the rightmost to the leftmost,
+-- each from top to bottom
 abbrev pub column_reading : List ℕ → List ℕ → List (List ℕ) → List ℕ
 column_reading outer inner filling = reading_right_of 0 outer inner filling
 
@@ -39,8 +42,9 @@ abbrev pub is_among : List ℕ → List (List ℕ) → Bool
 is_among w [] = false
 is_among w (v ∷ vs) = same w v || is_among w vs
 
--- whether a filling with entries from 1 to k is good for start, a partition with at most k rows: start plus the
--- content of the columns right of column j is a partition for every j from 0, which takes all columns, to the last
+-- whether a filling with entries from 1 to k is good for start, a partition with at most k rows:
+-- start plus the content of the columns right of column j is a partition for every j from 0, which
+-- takes all columns, to the last
 abbrev pub is_good : ℕ → List ℕ → List ℕ → List ℕ → List (List ℕ) → Bool
 is_good k start outer inner filling =
     every (λ j. is_falling (join start (content k (reading_right_of j outer inner filling))))
@@ -49,22 +53,24 @@ is_good k start outer inner filling =
 -- the good tableaux of outer/inner with entries from 1 to k; none where start has more than k rows
 abbrev pub good_tableaux : ℕ → List ℕ → List ℕ → List ℕ → List (List (List ℕ))
 good_tableaux k start outer inner =
-    cond (nat_le (rows start) k) (select (is_good k start outer inner) (tableaux k outer inner)) []
+    cond (nat_le (rows start) k) (filter (is_good k start outer inner) (tableaux k outer inner)) []
 
--- their list, in rising lexicographic order: the words with letters from 1 to k that are the column reading of a
--- good tableau
+-- their list, in rising lexicographic order: the words with letters from 1 to k that are the column
+-- reading of a good tableau
 abbrev pub good_readings : ℕ → List ℕ → List ℕ → List ℕ → List (List ℕ)
 good_readings k start outer inner =
     let readings = map (column_reading outer inner) (good_tableaux k start outer inner) in
-    select (λ w. is_among w readings) (words k (length (cells outer inner)))
+    filter (λ w. is_among w readings) (words k (length (cells outer inner)))
 
--- how many good tableaux T of the shape μ with start λ and entries from 1 to k have λ plus the content of T equal
--- to ν: the count of products
+-- how many good tableaux T of the shape μ with start λ and entries from 1 to k have λ plus the
+-- content of T equal to ν: the count of products
 abbrev pub product_count : ℕ → List ℕ → List ℕ → List ℕ → ℕ
 product_count k λ' μ ν =
-    length (select (λ w. same (without_last_zeros (join λ' (content k w))) ν) (good_readings k λ' μ []))
+    length (filter (λ w. same (without_last_zeros (join λ' (content k w))) ν)
+    (good_readings k λ' μ []))
 
--- the lattice tableaux of outer/inner: the good ones with an empty start and as many entries as outer has rows
+-- the lattice tableaux of outer/inner: the good ones with an empty start and as many entries as
+-- outer has rows
 abbrev pub lattice_readings : List ℕ → List ℕ → List (List ℕ)
 lattice_readings outer inner = good_readings (rows outer) [] outer inner
 
@@ -72,4 +78,5 @@ lattice_readings outer inner = good_readings (rows outer) [] outer inner
 abbrev pub skew_count : List ℕ → List ℕ → List ℕ → ℕ
 skew_count outer inner κ =
     length
-    (select (λ w. same (without_last_zeros (content (rows outer) w)) κ) (lattice_readings outer inner))
+    (filter (λ w. same (without_last_zeros (content (rows outer) w)) κ)
+    (lattice_readings outer inner))

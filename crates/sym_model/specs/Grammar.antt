@@ -1,6 +1,8 @@
--- The grammar of commands: for each command the form of its words, what they say and what they offend by
--- (this project's own).
-use Rattle.std.specs.Prelude.{ℕ, ◌+◌, cond, List, [], ◌∷◌, ◌++◌, map, length, codes, Option, Some, None}
+-- The grammar of commands: for each command the form of its words,
+-- what they say and what they offend by
+--.
+use Rattle.std.specs.Prelude.{ℕ, ◌+◌, cond, List, [], ◌∷◌, ◌++◌, map, length, codes, Option, Some}
+use Rattle.std.specs.Prelude.{None}
 use Rattle.std.proofs.Common.{inl, inr}
 use Rattle.sym_model.specs.Partition.{size}
 use Rattle.sym_model.specs.Schur.{row_lengths}
@@ -11,9 +13,23 @@ use Rattle.sym_model.specs.Phrase.{tree}
 use Rattle.sym_model.specs.Permutation.{kept}
 use Rattle.sym_model.specs.ExpressionOffence.{shape}
 use Rattle.sym_model.specs.Form.{Form, word, many, number, target, formula, Written, words_of}
-use Rattle.sym_model.specs.Command.{Command, mult, skew, coef, coprod, tab, quantum, fusion, schubert, schubmult, expand, rsk, unrsk, rect, growth, plethysm, dschubmult, stanley, batch, work}
-use Rattle.sym_model.specs.CommandOffence.{Offence, judged_against, offences_by, rows_rule, lines_rule, seed_rule, letter_rule, entry_rule, inside_rule, part_offences, factor_offences, most_doubled, permutation_offences, permutation_offences_within, PlacedRow, row_offences, count_offences, order_offences, length_offences, empty_row_offences, standard_offences, rows_in, is_lattice_tableau, expression_offences, plethysm_offences}
-use Rattle.sym_model.specs.WordForms.{the, in_turn, optional, partition_words, permutation_words, rows_words, form_words, factors_words, tableau_words, from_words, numbers, partition, factors, factor_numbers, is_one_line, letters, row_limit, row_limit_offences, placed_rows, tableau_rows, shape_offences}
+use Rattle.sym_model.specs.Command.{Command, mult, skew, coef, coprod, tab, quantum, fusion}
+use Rattle.sym_model.specs.Command.{schubert, schubmult, expand, rsk, unrsk, rect, growth, plethysm}
+use Rattle.sym_model.specs.Command.{dschubmult, stanley, batch, work}
+use Rattle.sym_model.specs.CommandOffence.{Offence, judged_against, offences_by, rows_rule}
+use Rattle.sym_model.specs.CommandOffence.{lines_rule, seed_rule, letter_rule, entry_rule}
+use Rattle.sym_model.specs.CommandOffence.{inside_rule, part_offences, factor_offences}
+use Rattle.sym_model.specs.CommandOffence.{most_doubled, permutation_offences}
+use Rattle.sym_model.specs.CommandOffence.{permutation_offences_within, PlacedRow, row_offences}
+use Rattle.sym_model.specs.CommandOffence.{count_offences, order_offences, length_offences}
+use Rattle.sym_model.specs.CommandOffence.{empty_row_offences, standard_offences, rows_in}
+use Rattle.sym_model.specs.CommandOffence.{is_lattice_tableau, expression_offences}
+use Rattle.sym_model.specs.CommandOffence.{plethysm_offences}
+use Rattle.sym_model.specs.WordForms.{the, in_turn, optional, partition_words, permutation_words}
+use Rattle.sym_model.specs.WordForms.{rows_words, form_words, factors_words, tableau_words}
+use Rattle.sym_model.specs.WordForms.{from_words, numbers, partition, factors, factor_numbers}
+use Rattle.sym_model.specs.WordForms.{is_one_line, letters, row_limit, row_limit_offences}
+use Rattle.sym_model.specs.WordForms.{placed_rows, tableau_rows, shape_offences}
 use Rattle.sym_model.specs.Entry.{Entry}
 
 -- the offences of two partitions with a word between them, the first of which begins at the word
@@ -23,11 +39,13 @@ two_partitions k left right =
 
 -- how many words the row limit and the word for the one-line form are
 abbrev pub option_words : Written (optional rows_words) → Written (optional form_words) → ℕ
-option_words limit form = length (words_of (optional rows_words) limit) + length (words_of (optional form_words) form)
+option_words limit form =
+    length (words_of (optional rows_words) limit) + length (words_of (optional form_words) form)
 
 -- 'mult' ROWS? FORM? PART ('-' PART)+
 abbrev pub mult_words : Form
-mult_words = in_turn (the (codes "mult") ∷ optional rows_words ∷ optional form_words ∷ factors_words ∷ [])
+mult_words =
+    in_turn (the (codes "mult") ∷ optional rows_words ∷ optional form_words ∷ factors_words ∷ [])
 
 -- what the words of `mult` say
 abbrev pub mult_says : Written mult_words → Command
@@ -40,13 +58,15 @@ mult_offends (name, (limit, (form, x))) =
 
 -- the command `mult`
 abbrev pub mult_entry : Entry
-mult_entry = record { name = codes "mult"; form = mult_words; says = mult_says; offends = mult_offends }
+mult_entry =
+    record { name = codes "mult"; form = mult_words; says = mult_says; offends = mult_offends }
 
 -- 'skew' ROWS? FORM? PART '/' PART
 abbrev pub skew_words : Form
 skew_words =
     in_turn
-    (the (codes "skew") ∷ optional rows_words ∷ optional form_words ∷ partition_words ∷ the (codes "/") ∷ partition_words
+    (the (codes "skew") ∷ optional rows_words ∷ optional form_words ∷ partition_words
+    ∷ the (codes "/") ∷ partition_words
     ∷ [])
 
 -- what the words of `skew` say
@@ -61,17 +81,20 @@ skew_offends (name, (limit, (form, (outer, (slash, inner))))) =
 
 -- the command `skew`
 abbrev pub skew_entry : Entry
-skew_entry = record { name = codes "skew"; form = skew_words; says = skew_says; offends = skew_offends }
+skew_entry =
+    record { name = codes "skew"; form = skew_words; says = skew_says; offends = skew_offends }
 
 -- 'coef' PART '-' PART '-' PART
 abbrev pub coef_words : Form
 coef_words =
     in_turn
-    (the (codes "coef") ∷ partition_words ∷ the (codes "-") ∷ partition_words ∷ the (codes "-") ∷ partition_words ∷ [])
+    (the (codes "coef") ∷ partition_words ∷ the (codes "-") ∷ partition_words ∷ the (codes "-")
+    ∷ partition_words ∷ [])
 
 -- what the words of `coef` say
 abbrev pub coef_says : Written coef_words → Command
-coef_says (name, (outer, (minus, (left, (again, right))))) = coef (partition outer) (partition left) (partition right)
+coef_says (name, (outer, (minus, (left, (again, right))))) =
+    coef (partition outer) (partition left) (partition right)
 
 -- what the words of `coef` offend by
 abbrev pub coef_offends : Written coef_words → List Offence
@@ -80,7 +103,8 @@ coef_offends (name, (outer, (minus, (left, (again, right))))) =
 
 -- the command `coef`
 abbrev pub coef_entry : Entry
-coef_entry = record { name = codes "coef"; form = coef_words; says = coef_says; offends = coef_offends }
+coef_entry =
+    record { name = codes "coef"; form = coef_words; says = coef_says; offends = coef_offends }
 
 -- 'coprod' PART
 abbrev pub coprod_words : Form
@@ -96,26 +120,34 @@ coprod_offends (name, parts) = part_offences 1 (numbers parts)
 
 -- the command `coprod`
 abbrev pub coprod_entry : Entry
-coprod_entry = record { name = codes "coprod"; form = coprod_words; says = coprod_says; offends = coprod_offends }
+coprod_entry =
+    record {
+      name = codes "coprod";
+      form = coprod_words;
+      says = coprod_says;
+      offends = coprod_offends;
+    }
 
 -- 'tab' PART '/' PART FROM?
 abbrev pub tab_words : Form
 tab_words =
-    in_turn (the (codes "tab") ∷ partition_words ∷ the (codes "/") ∷ partition_words ∷ optional from_words ∷ [])
+    in_turn (the (codes "tab") ∷ partition_words ∷ the (codes "/") ∷ partition_words
+    ∷ optional from_words ∷ [])
 
--- the column reading of the tableau behind which the list begins
+-- the column reading of the tableau after which the list begins
 abbrev pub last_reading : List ℕ → List ℕ → Written (optional from_words) → Option (List ℕ)
 last_reading outer inner (inl nothing) = None
 last_reading outer inner (inr (name, tableau)) =
     Some (column_reading outer inner (rows_in outer (tableau_rows tableau)))
 
--- the word `-from`, where the tableau behind it is not in the list
+-- the word `-from`, where the tableau after it is not in the list
 abbrev pub not_listed : ℕ → List ℕ → List ℕ → Written (optional from_words) → List Offence
 not_listed k outer inner (inl nothing) = []
 not_listed k outer inner (inr (name, tableau)) =
-    cond (is_lattice_tableau outer inner (rows_in outer (tableau_rows tableau))) [] ((k, 0, shape) ∷ [])
+    cond (is_lattice_tableau outer inner (rows_in outer (tableau_rows tableau))) []
+    ((k, 0, shape) ∷ [])
 
--- the entries of the tableau behind the word `-from`
+-- the entries of the tableau after the word `-from`
 abbrev pub from_entries : ℕ → Written (optional from_words) → List Offence
 from_entries k (inl nothing) = []
 from_entries k (inr (name, tableau)) = row_offences entry_rule (placed_rows (k + 1) tableau)
@@ -130,7 +162,8 @@ abbrev pub tab_offends : Written tab_words → List Offence
 tab_offends (name, (outer, (slash, (inner, after)))) =
     let lists = two_partitions 1 outer inner in
     let k = 2 + length outer + length inner in
-    lists ++ judged_against lists (not_listed k (partition outer) (partition inner) after) ++ from_entries k after
+    lists ++ judged_against lists (not_listed k (partition outer) (partition inner) after)
+    ++ from_entries k after
 
 -- the command `tab`
 abbrev pub tab_entry : Entry
@@ -149,7 +182,8 @@ reduction_offends name (first, (rows, (bound, x))) =
 
 -- what the words of `quantum` say: 'quantum' NUM NUM PART ('-' PART)+
 abbrev pub quantum_says : Written (reduction_words (codes "quantum")) → Command
-quantum_says (name, (rows, (columns, x))) = quantum (decimal_value rows) (decimal_value columns) (factors x)
+quantum_says (name, (rows, (columns, x))) =
+    quantum (decimal_value rows) (decimal_value columns) (factors x)
 
 -- the command `quantum`
 abbrev pub quantum_entry : Entry
@@ -162,7 +196,8 @@ quantum_entry = record {
 
 -- what the words of `fusion` say: 'fusion' NUM NUM PART ('-' PART)+
 abbrev pub fusion_says : Written (reduction_words (codes "fusion")) → Command
-fusion_says (name, (rows, (level, x))) = fusion (decimal_value rows) (decimal_value level) (factors x)
+fusion_says (name, (rows, (level, x))) =
+    fusion (decimal_value rows) (decimal_value level) (factors x)
 
 -- the command `fusion`
 abbrev pub fusion_entry : Entry
@@ -201,12 +236,14 @@ schubmult_words =
 
 -- what the words of `schubmult` say
 abbrev pub schubmult_says : Written schubmult_words → Command
-schubmult_says (name, (left, (minus, right))) = schubmult (kept (letters left)) (kept (letters right))
+schubmult_says (name, (left, (minus, right))) =
+    schubmult (kept (letters left)) (kept (letters right))
 
 -- what the words of `schubmult` offend by
 abbrev pub schubmult_offends : Written schubmult_words → List Offence
 schubmult_offends (name, (left, (minus, right))) =
-    permutation_offences 1 (letters left) ++ permutation_offences (2 + length (letters left)) (letters right)
+    permutation_offences 1 (letters left)
+    ++ permutation_offences (2 + length (letters left)) (letters right)
 
 -- the command `schubmult`
 abbrev pub schubmult_entry : Entry
@@ -289,24 +326,28 @@ unrsk_offends (name, (first, (minus, second))) =
     ++ filled_offences recording
     ++ judged_against
     earlier
-    (shape_offences k lengths (words_of tableau_words second) ++ standard_offences (size lengths) [] [] recording)
+    (shape_offences k lengths (words_of tableau_words second)
+    ++ standard_offences (size lengths) [] [] recording)
 
 -- the command `unrsk`
 abbrev pub unrsk_entry : Entry
-unrsk_entry = record { name = codes "unrsk"; form = unrsk_words; says = unrsk_says; offends = unrsk_offends }
+unrsk_entry =
+    record { name = codes "unrsk"; form = unrsk_words; says = unrsk_says; offends = unrsk_offends }
 
 -- 'rect' PART '/' PART '-' TABLEAU
 abbrev pub rect_words : Form
 rect_words =
     in_turn
-    (the (codes "rect") ∷ partition_words ∷ the (codes "/") ∷ partition_words ∷ the (codes "-") ∷ tableau_words ∷ [])
+    (the (codes "rect") ∷ partition_words ∷ the (codes "/") ∷ partition_words ∷ the (codes "-")
+    ∷ tableau_words ∷ [])
 
 -- what the words of `rect` say
 abbrev pub rect_says : Written rect_words → Command
 rect_says (name, (outer, (slash, (inner, (minus, tableau))))) =
     rect (partition outer) (partition inner) (rows_in (partition outer) (tableau_rows tableau))
 
--- the offences of an inner partition at the word, which is judged against the outer one where that has no offence
+-- the offences of an inner partition at the word,
+-- which is judged against the outer one where that has no offence
 abbrev pub inner_offences : ℕ → List Offence → List ℕ → List ℕ → List Offence
 inner_offences k earlier outer inner =
     part_offences k inner ++ judged_against earlier (offences_by (inside_rule outer) k inner)
@@ -315,7 +356,8 @@ inner_offences k earlier outer inner =
 abbrev pub rect_offends : Written rect_words → List Offence
 rect_offends (name, (outer, (slash, (inner, (minus, tableau))))) =
     let outer_found = part_offences 1 (numbers outer) in
-    let inner_found = inner_offences (2 + length outer) outer_found (numbers outer) (numbers inner) in
+    let inner_found =
+    inner_offences (2 + length outer) outer_found (numbers outer) (numbers inner) in
     let k = 3 + length outer + length inner in
     let rows = placed_rows k tableau in
     outer_found
@@ -323,12 +365,14 @@ rect_offends (name, (outer, (slash, (inner, (minus, tableau))))) =
     ++ row_offences entry_rule rows
     ++ judged_against
     (outer_found ++ inner_found)
-    (shape_offences k (row_lengths (partition outer) (partition inner)) (words_of tableau_words tableau)
+    (shape_offences k (row_lengths (partition outer) (partition inner))
+    (words_of tableau_words tableau)
     ++ order_offences 0 [] (numbers inner) rows)
 
 -- the command `rect`
 abbrev pub rect_entry : Entry
-rect_entry = record { name = codes "rect"; form = rect_words; says = rect_says; offends = rect_offends }
+rect_entry =
+    record { name = codes "rect"; form = rect_words; says = rect_says; offends = rect_offends }
 
 -- 'growth' PERM
 abbrev pub growth_words : Form
@@ -344,7 +388,13 @@ growth_offends (name, w) = permutation_offences 1 (letters w)
 
 -- the command `growth`
 abbrev pub growth_entry : Entry
-growth_entry = record { name = codes "growth"; form = growth_words; says = growth_says; offends = growth_offends }
+growth_entry =
+    record {
+      name = codes "growth";
+      form = growth_words;
+      says = growth_says;
+      offends = growth_offends;
+    }
 
 -- 'plethysm' BASIS EXPR EXPR, with these bases
 abbrev pub plethysm_words : List Basis → Form
@@ -371,11 +421,13 @@ plethysm_entry bases = record {
 -- 'dschubmult' PERM '-' PERM
 abbrev pub dschubmult_words : Form
 dschubmult_words =
-    in_turn (the (codes "dschubmult") ∷ permutation_words ∷ the (codes "-") ∷ permutation_words ∷ [])
+    in_turn (the (codes "dschubmult") ∷ permutation_words ∷ the (codes "-") ∷ permutation_words
+    ∷ [])
 
 -- what the words of `dschubmult` say
 abbrev pub dschubmult_says : Written dschubmult_words → Command
-dschubmult_says (name, (left, (minus, right))) = dschubmult (kept (letters left)) (kept (letters right))
+dschubmult_says (name, (left, (minus, right))) =
+    dschubmult (kept (letters left)) (kept (letters right))
 
 -- what the words of `dschubmult` offend by
 abbrev pub dschubmult_offends : Written dschubmult_words → List Offence
@@ -434,17 +486,21 @@ work_says (name, (lines, seed)) = work (decimal_value lines) (decimal_value seed
 -- what the words of `work` offend by
 abbrev pub work_offends : Written work_words → List Offence
 work_offends (name, (lines, seed)) =
-    offences_by lines_rule 1 (decimal_value lines ∷ []) ++ offences_by seed_rule 2 (decimal_value seed ∷ [])
+    offences_by lines_rule 1 (decimal_value lines ∷ [])
+    ++ offences_by seed_rule 2 (decimal_value seed ∷ [])
 
 -- the command `work`
 abbrev pub work_entry : Entry
-work_entry = record { name = codes "work"; form = work_words; says = work_says; offends = work_offends }
+work_entry =
+    record { name = codes "work"; form = work_words; says = work_says; offends = work_offends }
 
 -- the commands of a batch line
 abbrev pub line_entries : List Basis → List Entry
 line_entries bases =
-    mult_entry ∷ skew_entry ∷ coef_entry ∷ coprod_entry ∷ tab_entry ∷ quantum_entry ∷ fusion_entry ∷ schubert_entry
-    ∷ schubmult_entry ∷ expand_entry bases ∷ rsk_entry ∷ unrsk_entry ∷ rect_entry ∷ growth_entry ∷ plethysm_entry bases
+    mult_entry ∷ skew_entry ∷ coef_entry ∷ coprod_entry ∷ tab_entry ∷ quantum_entry ∷ fusion_entry
+    ∷ schubert_entry
+    ∷ schubmult_entry ∷ expand_entry bases ∷ rsk_entry ∷ unrsk_entry ∷ rect_entry ∷ growth_entry
+    ∷ plethysm_entry bases
     ∷ dschubmult_entry ∷ stanley_entry ∷ []
 
 -- all commands

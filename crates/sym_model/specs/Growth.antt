@@ -1,11 +1,11 @@
--- Growth of shapes by local rules (Fomin; Stanley, Enumerative Combinatorics 2, 7.13). The grid of a permutation w has a shape
--- at (i, j) for i and j from 0 to the number of its letters. Its square between (i, j) and (i + 1, j + 1) is marked where
--- w takes place i + 1 to j + 1.
-use Rattle.std.specs.Prelude.{ℕ, zero, suc, ◌+◌, ◌==◌, max, nat_le, nat_lt, Bool, cond, List, [], ◌∷◌, ◌++◌, map, length}
+-- Growth of shapes by local rules (Fomin; Stanley, Enumerative Combinatorics 2, 7.13). The grid of
+-- a permutation w has a shape at (i, j) for i and j from 0 to the number of its letters. Its square
+-- between (i, j) and (i + 1, j + 1) is marked where w takes place i + 1 to j + 1.
+use Rattle.std.specs.Prelude.{ℕ, zero, suc, ◌+◌, ◌==◌, max, nat_le, nat_lt, Bool, cond, List, []}
+use Rattle.std.specs.Prelude.{◌∷◌, ◌++◌, map, length, filter}
 use Rattle.sym_model.specs.Polynomial.{same}
 use Rattle.sym_model.specs.Partition.{after}
 use Rattle.sym_model.specs.Permutation.{letter}
-use Rattle.sym_model.specs.Sum.{select}
 
 -- the union of two shapes: in each row the cells of the longer one
 abbrev pub union : List ℕ → List ℕ → List ℕ
@@ -25,13 +25,15 @@ with_cell i [] = 1 ∷ []
 with_cell zero (a ∷ shape) = (a + 1) ∷ shape
 with_cell (suc i) (a ∷ shape) = a ∷ with_cell i shape
 
--- the local rules, for the shape at a corner of a square from the shape at the opposite corner and the two beside it. Two
--- different ones give their union. Two that are the opposite shape itself give that shape, with one more cell in the first
--- row where the square is marked. Two that are it with one more cell in a row get another cell in the next row.
+-- the local rules, for the shape at a corner of a square from the shape at the opposite corner and
+-- the two beside it. Two different ones give their union. Two that are the opposite shape itself
+-- give that shape, with one more cell in the first row where the square is marked. Two that are it
+-- with one more cell in a row get another cell in the next row.
 abbrev pub at_corner : Bool → List ℕ → List ℕ → List ℕ → List ℕ
 at_corner marked opposite left right =
     cond (same left right)
-    (cond (same left opposite) (cond marked (with_cell 0 opposite) opposite) (with_cell (suc (grown left opposite)) left))
+    (cond (same left opposite) (cond marked (with_cell 0 opposite) opposite)
+    (with_cell (suc (grown left opposite)) left))
     (union left right)
 
 -- the growth shape of w at (i, j): empty at the edges, and inside by the local rules
@@ -39,7 +41,8 @@ abbrev pub growth_shape : List ℕ → ℕ → ℕ → List ℕ
 growth_shape w zero j = []
 growth_shape w (suc i) zero = []
 growth_shape w (suc i) (suc j) =
-    at_corner (letter w (suc i) == suc j) (growth_shape w i j) (growth_shape w i (suc j)) (growth_shape w (suc i) j)
+    at_corner (letter w (suc i) == suc j) (growth_shape w i j) (growth_shape w i (suc j))
+    (growth_shape w (suc i) j)
 
 -- the growth shapes of a permutation of n letters at (i, 0), .., (i, n)
 abbrev pub grid_line : List ℕ → ℕ → List (List ℕ)
@@ -51,7 +54,7 @@ grid_lines w = map (grid_line w) (0 ∷ after 0 (length w))
 
 -- the letters of a word that are at most j
 abbrev pub at_most : ℕ → List ℕ → List ℕ
-at_most j w = select (λ a. nat_le a j) w
+at_most j w = filter (λ a. nat_le a j) w
 
 -- the rows with k at the end of row i, counted from 0, or in a new row where there is none
 abbrev pub with_end : ℕ → ℕ → List (List ℕ) → List (List ℕ)
@@ -59,7 +62,9 @@ with_end i k [] = (k ∷ []) ∷ []
 with_end zero k (row ∷ rows) = (row ++ k ∷ []) ∷ rows
 with_end (suc i) k (row ∷ rows) = row ∷ with_end i k rows
 
--- the tableau of a chain of shapes up to shape n: number k stands in the cell that shape k has more than the one before it
+-- the tableau of a chain of shapes up to shape n:
+-- number k stands in the cell that shape k has more than the one before it
 abbrev pub tableau_of_chain : (ℕ → List ℕ) → ℕ → List (List ℕ)
 tableau_of_chain shape zero = []
-tableau_of_chain shape (suc k) = with_end (grown (shape (suc k)) (shape k)) (suc k) (tableau_of_chain shape k)
+tableau_of_chain shape (suc k) =
+    with_end (grown (shape (suc k)) (shape k)) (suc k) (tableau_of_chain shape k)

@@ -1,8 +1,11 @@
--- Row insertion and the pair of tableaux of a word (Fulton, 1.1 and 4.1; Robinson, Schensted and Knuth).
-use Rattle.std.specs.Prelude.{ℕ, ◌+◌, nat_lt, cond, List, [], ◌∷◌, ◌++◌, length, reverse, Option, Some, None}
+-- Row insertion and the pair of tableaux of a word (Fulton, 1.1 and 4.1; Robinson,
+-- Schensted and Knuth).
+use Rattle.std.specs.Prelude.{ℕ, ◌+◌, nat_lt, cond, List, [], ◌∷◌, ◌++◌, length, reverse, Option}
+use Rattle.std.specs.Prelude.{Some, None}
 use Rattle.sym_model.specs.Schur.{letters_of}
 
--- the row with a put in: in place of the first letter greater than it, or at the end where there is none
+-- the row with a put in: in place of the first letter greater than it,
+-- or at the end where there is none
 abbrev pub row_with : ℕ → List ℕ → List ℕ
 row_with a [] = a ∷ []
 row_with a (b ∷ row) = cond (nat_lt a b) (a ∷ row) (b ∷ row_with a row)
@@ -12,23 +15,25 @@ abbrev pub bumped : ℕ → List ℕ → Option ℕ
 bumped a [] = None
 bumped a (b ∷ row) = cond (nat_lt a b) (Some b) (bumped a row)
 
--- the tableau with a inserted: a is put into the first row, the letter whose place it takes into the next, and so on,
--- until a letter comes to the end of a row
+-- the tableau with a inserted: a is put into the first row, the letter whose place it takes into
+-- the next, and so on, until a letter comes to the end of a row
 abbrev pub inserted : List (List ℕ) → Option ℕ → List (List ℕ)
 inserted rows None = rows
 inserted [] (Some a) = (a ∷ []) ∷ []
 inserted (row ∷ rows) (Some a) = row_with a row ∷ inserted rows (bumped a row)
 
--- q with k put at the end of the first row that is shorter than the same row of p, a missing row having no cells
+-- q with k put at the end of the first row that is shorter than the same row of p,
+-- a missing row having no cells
 abbrev pub with_step : ℕ → List (List ℕ) → List (List ℕ) → List (List ℕ)
 with_step k [] q = q
 with_step k (row ∷ p) [] = (k ∷ []) ∷ []
 with_step k (row ∷ p) (steps ∷ q) =
     cond (nat_lt (length steps) (length row)) ((steps ++ k ∷ []) ∷ q) (steps ∷ with_step k p q)
 
--- the tableaux p and q after the letters of a word are inserted into p one by one, from step k on; q says at which
--- step each cell came
-abbrev pub inserted_from : ℕ → List ℕ → List (List ℕ) → List (List ℕ) → List (List ℕ) × List (List ℕ)
+-- the tableaux p and q after the letters of a word are inserted into p one by one, from step k on;
+-- q says at which step each cell came
+abbrev pub inserted_from : ℕ → List ℕ → List (List ℕ) → List (List ℕ)
+    → List (List ℕ) × List (List ℕ)
 inserted_from k [] p q = (p, q)
 inserted_from k (a ∷ w) p q =
     let next = inserted p (Some a) in

@@ -1,13 +1,17 @@
--- The kinds of answers, and what a block of each has to know of the labels of its lines (this project's own).
+-- The kinds of answers, and what a block of each has to know of the labels of its lines.
 use Rattle.std.specs.Prelude.{◌≡◌, ℕ, Bool, true, false, List, [], ◌∷◌, ◌++◌, codes, decimal}
 use Rattle.std.specs.declared.cmp.Ordering.{Ordering}
 use Rattle.std.specs.declared.cmp.Ordering.TheVariants.{Equal}
-use Rattle.sym_model.specs.NumberText.{label_text, Lacks, cut_at, decimal_value, label_of}
-use Rattle.sym_model.specs.LabelLimits.{is_label, is_pair_label, is_power_label, is_permutation_label, is_monomial_label, is_shifted_label}
-use Rattle.sym_model.specs.PrintedOrder.{printed_order, pair_order, power_order, permutation_order, shifted_order}
+use Rattle.sym_model.specs.NumberText.{label_text, cut_at, decimal_value, label_of}
+use Rattle.sym_model.specs.LabelLimits.{is_label, is_pair_label, is_power_label}
+use Rattle.sym_model.specs.LabelLimits.{is_permutation_label, is_monomial_label, is_shifted_label}
+use Rattle.sym_model.specs.PrintedOrder.{printed_order, pair_order, power_order, permutation_order}
+use Rattle.sym_model.specs.PrintedOrder.{shifted_order}
+use Rattle.sym_model.specs.Bounded.{Lacks}
 
--- What a block has to know of its labels: the text that follows the coefficient on a line, the label that such a text
--- spells, the order of the lines, the limits of the labels, and whether a coefficient may be a fraction.
+-- What a block has to know of its labels: the text that follows the coefficient on a line, the
+-- label that such a text spells, the order of the lines, the limits of the labels, and whether a
+-- coefficient may be a fraction.
 pub record LabelRules (Label : Type 0) : Type 0 where
   pub text : Label → List ℕ
   pub spelled : List ℕ → Label
@@ -15,8 +19,9 @@ pub record LabelRules (Label : Type 0) : Type 0 where
   pub is_within_limits : Label → Bool
   pub has_fractions : Bool
 
--- the kinds of answers: one number; partitions with fractions and with whole coefficients; pairs of partitions; partitions
--- with a power of q; permutations; monomials; permutations with a monomial beside them
+-- the kinds of answers: one number; partitions with fractions and with whole coefficients; pairs of
+-- partitions; partitions with a power of q; permutations; monomials;
+-- permutations with a monomial beside them
 pub data Kind : Type 0 where
   number : Kind
   expansion : Kind
@@ -27,7 +32,8 @@ pub data Kind : Type 0 where
   polynomial : Kind
   shifts : Kind
 
--- the labels of a kind. A number stands on a line of its own, so that it is a term with nothing as its label.
+-- the labels of a kind. A number stands on a line of its own,
+-- so that it is a term with nothing as its label.
 abbrev pub Label : Kind → Type 0
 Label number = Unit {0}
 Label expansion = List ℕ
@@ -126,9 +132,11 @@ abbrev pub BeginsWithSpace : List ℕ → Type 0
 BeginsWithSpace [] = Unit {0}
 BeginsWithSpace (byte ∷ text) = byte ≡ 32
 
--- The labels within the limits can be read: their text stands on one line (LF is the byte 10), the coefficient in front of it
--- ends where it begins, and it spells the label.
+-- The labels within the limits can be read: their text stands on one line (LF is the byte 10), the
+-- coefficient in front of it ends where it begins, and it spells the label.
 pub record IsLegible {Label : Type 0} (rules : LabelRules Label) : Type 0 where
   pub one_line : (label : Label) → rules.is_within_limits label ≡ true → Lacks 10 (rules.text label)
-  pub apart : (label : Label) → rules.is_within_limits label ≡ true → BeginsWithSpace (rules.text label)
-  pub reads : (label : Label) → rules.is_within_limits label ≡ true → rules.spelled (rules.text label) ≡ label
+  pub apart : (label : Label) → rules.is_within_limits label ≡ true
+      → BeginsWithSpace (rules.text label)
+  pub reads : (label : Label) → rules.is_within_limits label ≡ true
+      → rules.spelled (rules.text label) ≡ label

@@ -1,4 +1,5 @@
--- Knuth steps between words, their chains, which join a Knuth class, and the straight tableau of a class (Knuth; Fulton, 2.1).
+-- Knuth steps between words, their chains, which join a Knuth class, and the straight tableau of a
+-- class (Knuth; Fulton, 2.1).
 use Rattle.std.specs.Prelude.{◌≡◌, ℕ, ◌<◌, ◌≤◌, ◌⊎◌, List, [], ◌∷◌, ◌++◌}
 use Rattle.sym_model.specs.Insertion.{reading_word}
 use Rattle.sym_model.specs.Tableau.{IsStraightTableau}
@@ -28,7 +29,8 @@ abbrev pub AreKnuthRelated : List ℕ → List ℕ → Type 0
 AreKnuthRelated v w =
     (IsFirstExchange v w ⊎ IsFirstExchange w v) ⊎ (IsSecondExchange v w ⊎ IsSecondExchange w v)
 
--- the words are one Knuth step apart: one relation changes three neighbouring letters of v into those of w
+-- the words are one Knuth step apart: one relation changes three neighbouring letters of v into
+-- those of w
 pub record IsKnuthStep (v w : List ℕ) : Type 0 where
   pub front : List ℕ
   pub three : List ℕ
@@ -52,4 +54,5 @@ pub record AreKnuthEquivalent (v w : List ℕ) : Type 0 where
 pub record IsOnlyTableauOf (w : List ℕ) (rows : List (List ℕ)) : Type 0 where
   pub straight : IsStraightTableau rows
   pub class : AreKnuthEquivalent w (reading_word rows)
-  pub only : (others : List (List ℕ)) → IsStraightTableau others → AreKnuthEquivalent w (reading_word others) → others ≡ rows
+  pub only : (others : List (List ℕ)) → IsStraightTableau others
+      → AreKnuthEquivalent w (reading_word others) → others ≡ rows

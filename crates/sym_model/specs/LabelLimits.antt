@@ -1,4 +1,5 @@
--- Which labels a line of an answer may have: partitions, permutations and monomials within the limits of this project.
+-- Which labels a line of an answer may have: partitions,
+-- permutations and monomials within the limits of this project.
 use Rattle.std.specs.Prelude.{ℕ, ◌^◌, nat_le, nat_lt, Bool, true, ◌&&◌, not, List, [], ◌∷◌, length}
 use Rattle.sym_model.specs.Polynomial.{same}
 use Rattle.sym_model.specs.Partition.{size, rows, without_last_zeros}
@@ -28,17 +29,19 @@ abbrev pub are_letters : ℕ → List ℕ → Bool
 are_letters n [] = true
 are_letters n (a ∷ w) = nat_le 1 a && nat_le a n && are_letters n w
 
--- whether a list is a permutation as it is kept, of at most 255 letters: different letters from 1 to n, n being at least 1,
--- and no fixed letter at the end but that of the identity
+-- whether a list is a permutation as it is kept, of at most 255 letters: different letters from 1
+-- to n, n being at least 1, and no fixed letter at the end but that of the identity
 abbrev pub is_permutation_label : List ℕ → Bool
 is_permutation_label w =
-    are_letters (length w) w && not (has_equal_entries w) && nat_lt 0 (length w) && same (kept w) w && nat_le (length w) 255
+    are_letters (length w) w && not (has_equal_entries w) && nat_lt 0 (length w) && same (kept w) w
+    && nat_le (length w) 255
 
--- whether a list is the exponents of a monomial without the zeros at their end, at most 255 of them and of a degree of at
--- most 32385
+-- whether a list is the exponents of a monomial without the zeros at their end, at most 255 of them
+-- and of a degree of at most 32385
 abbrev pub is_monomial_label : List ℕ → Bool
 is_monomial_label exponents =
-    same (without_last_zeros exponents) exponents && nat_le (length exponents) 255 && nat_le (size exponents) 32385
+    same (without_last_zeros exponents) exponents && nat_le (length exponents) 255
+    && nat_le (size exponents) 32385
 
 -- whether a permutation and the monomial beside it are within the limits
 abbrev pub is_shifted_label : List ℕ × List ℕ → Bool

@@ -1,6 +1,8 @@
--- When the answer to a command is too large for numbers of 128 bits (this project's own): by the coefficients that its
+-- When the answer to a command is too large for numbers of 128 bits: by the coefficients that its
 -- definition gives, or by a weight that bounds all that is computed.
-use Rattle.std.specs.Prelude.{◌≡◌, ℕ, ◌+◌, ◌*◌, ◌^◌, ◌≤◌, nat_le, nat_abs, max, Bool, false, cond, ℤ, pos, negsuc, List, [], ◌∷◌, map, length, Option, Some, None, IsTrue}
+use Rattle.std.specs.Prelude.{◌≡◌, ℕ, ◌+◌, ◌*◌, ◌^◌, ◌≤◌, nat_le, nat_abs, max, Bool, false, cond}
+use Rattle.std.specs.Prelude.{ℤ, pos, negsuc, List, [], ◌∷◌, map, length, Option, Some, None}
+use Rattle.std.specs.Prelude.{IsTrue}
 use Rattle.sym_model.specs.Sum.{total}
 use Rattle.sym_model.specs.Polynomial.{Term, Poly, coefficient}
 use Rattle.sym_model.specs.Partition.{IsPartition, Holds, size, rows}
@@ -15,23 +17,27 @@ use Rattle.sym_model.specs.Stanley.{stanley_in}
 use Rattle.sym_model.specs.Target.{schur_product}
 use Rattle.sym_model.specs.ReductionSteps.{IsQuantumWeight, IsFusionWeight}
 pub use Rattle.sym_model.specs.ReductionSteps.{classical_weight}
-use Rattle.sym_model.specs.Command.{Command, mult, skew, coef, coprod, quantum, fusion, schubert, schubmult, expand, plethysm, dschubmult, stanley}
+use Rattle.sym_model.specs.Command.{Command, mult, skew, coef, coprod, quantum, fusion, schubert}
+use Rattle.sym_model.specs.Command.{schubmult, expand, plethysm, dschubmult, stanley}
 
--- c is the Schur coefficient of the polynomial f in n variables at some partition with at most n rows
+-- c is the Schur coefficient of the polynomial f in n variables at some partition with at most n
+-- rows
 pub record IsSchurCoefficientOf (f : Poly) (n : ℕ) (c : ℤ) : Type 0 where
   pub parts : List ℕ
   pub partition : IsPartition parts
   pub within : rows parts ≤ n
   pub is : c ≡ schur_coefficient n parts f
 
--- c is the Schur coefficient of s_(shape/part) in as many variables as shape has rows, for some part of the shape
+-- c is the Schur coefficient of s_(shape/part) in as many variables as shape has rows,
+-- for some part of the shape
 pub record IsCoproductCoefficient (shape : List ℕ) (c : ℤ) : Type 0 where
   pub part : List ℕ
   pub partition : IsPartition part
   pub inside : Holds shape part
   pub is : IsSchurCoefficientOf (skew_schur shape part (rows shape)) (rows shape) c
 
--- the number of variables in which the answer is looked at: those given, or enough for all its labels
+-- the number of variables in which the answer is looked at: those given,
+-- or enough for all its labels
 abbrev pub variables_or : Option ℕ → ℕ → ℕ
 variables_or None enough = enough
 variables_or (Some k) enough = k
@@ -47,8 +53,10 @@ IsDefinedCoefficient (skew variables one_line outer inner) c =
 IsDefinedCoefficient (coef outer left right) c =
     c ≡ schur_coefficient (rows outer) outer (schur_product (left ∷ right ∷ []) (rows outer))
 IsDefinedCoefficient (coprod shape) c = IsCoproductCoefficient shape c
-IsDefinedCoefficient (schubert w) c = (exponents : List ℕ) × (c ≡ coefficient (polynomials.schubert w) exponents)
-IsDefinedCoefficient (stanley variables w) c = IsSchurCoefficientOf (stanley_in w variables) variables c
+IsDefinedCoefficient (schubert w) c =
+    (exponents : List ℕ) × (c ≡ coefficient (polynomials.schubert w) exponents)
+IsDefinedCoefficient (stanley variables w) c =
+    IsSchurCoefficientOf (stanley_in w variables) variables c
 IsDefinedCoefficient _ c = ⊥
 
 -- whether a whole number is past 2^127 - 1
@@ -70,22 +78,24 @@ value_at_ones f = total (λ (t : Term). t.1) f
 abbrev pub shorter : List ℕ → List ℕ → List ℕ
 shorter u v = cond (nat_le (inversions u) (inversions v)) u v
 
--- the weight of a pair of permutations, S_u(1, .., 1)·(n + ℓ)^ℓ: u is the one with fewer inversions, ℓ their number, and n the
--- greater number of letters
+-- the weight of a pair of permutations, S_u(1, .., 1)·(n + ℓ)^ℓ: u is the one with fewer
+-- inversions, ℓ their number, and n the greater number of letters
 abbrev pub pair_weight : List ℕ → List ℕ → ℕ
 pair_weight u v =
     let w = shorter u v in
-    nat_abs (value_at_ones (polynomials.schubert w)) * (max (length u) (length v) + inversions w) ^ inversions w
+    nat_abs (value_at_ones (polynomials.schubert w))
+    * (max (length u) (length v) + inversions w) ^ inversions w
 
--- the weight of a pair of permutations for the product of their double Schubert polynomials, S_u(1, .., 1)·(n + ℓ + 2)^ℓ, with
--- u, n and ℓ as above; S_u is the single Schubert polynomial
+-- the weight of a pair of permutations for the product of their double Schubert polynomials, S_u(1,
+-- .., 1)·(n + ℓ + 2)^ℓ, with u, n and ℓ as above; S_u is the single Schubert polynomial
 abbrev pub double_weight : List ℕ → List ℕ → ℕ
 double_weight u v =
     let w = shorter u v in
-    nat_abs (value_at_ones (polynomials.schubert w)) * (max (length u) (length v) + inversions w + 2) ^ inversions w
+    nat_abs (value_at_ones (polynomials.schubert w))
+    * (max (length u) (length v) + inversions w + 2) ^ inversions w
 
--- a weight of a command, where its definition gives one: of a quantum or fusion product each of its step weights, the
--- greatest of which is the weight of the command
+-- a weight of a command, where its definition gives one: of a quantum or fusion product each of its
+-- step weights, the greatest of which is the weight of the command
 abbrev pub HasWeight : Command → ℕ → Type 0
 HasWeight (quantum k columns factors) weight = IsQuantumWeight k (k + columns) factors weight
 HasWeight (fusion k level factors) weight = IsFusionWeight k (k + level) factors weight

@@ -66,3 +66,4 @@ pub mod Headline
 pub mod Ending
 pub mod Outcome
 pub mod BatchOutcome
+pub mod Bounded

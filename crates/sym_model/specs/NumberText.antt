@@ -1,11 +1,13 @@
--- How numbers, fractions and lists of numbers are written, and how such a text is read (this project's own).
-use Rattle.std.specs.Prelude.{◌≡◌, ℕ, ◌+◌, ◌-◌, ◌*◌, ◌==◌, ℤ, pos, neg_ℤ, List, [], ◌∷◌, ◌++◌, map, cond, codes, decimal}
+-- How numbers, fractions and lists of numbers are written, and how such a text is read.
+use Rattle.std.specs.Prelude.{ℕ, ◌+◌, ◌-◌, ◌*◌, ◌==◌, ℤ, pos, neg_ℤ, List, [], ◌∷◌, ◌++◌, map, cond}
+use Rattle.std.specs.Prelude.{codes, decimal}
 use Rattle.std.specs.Fmt.{signed_decimal}
 use Rattle.sym_model.specs.Expansion.{Fraction}
 
 -- a fraction as text: NUM/DEN, and a whole value without a denominator
 abbrev pub fraction_text : Fraction → List ℕ
-fraction_text c = cond (c.1 == 1) (signed_decimal c.0) (signed_decimal c.0 ++ (codes "/" ++ decimal c.1))
+fraction_text c =
+    cond (c.1 == 1) (signed_decimal c.0) (signed_decimal c.0 ++ (codes "/" ++ decimal c.1))
 
 -- numbers with commas between them
 abbrev pub numbers_text : List ℕ → List ℕ
@@ -17,11 +19,6 @@ numbers_text (a ∷ b ∷ numbers) = decimal a ++ (codes "," ++ numbers_text (b 
 abbrev pub label_text : List ℕ → List ℕ
 label_text numbers = codes "(" ++ (numbers_text numbers ++ codes ")")
 
--- the byte stands nowhere in the text
-abbrev pub Lacks : ℕ → List ℕ → Type 0
-Lacks byte [] = Unit {0}
-Lacks byte (b ∷ text) = (b ≡ byte → ⊥) × Lacks byte text
-
 -- a byte put in front of the first piece
 abbrev pub before_first : ℕ → List (List ℕ) → List (List ℕ)
 before_first byte [] = (byte ∷ []) ∷ []
@@ -31,7 +28,8 @@ before_first byte (piece ∷ pieces) = (byte ∷ piece) ∷ pieces
 abbrev pub split_at : ℕ → List ℕ → List (List ℕ)
 split_at separator [] = [] ∷ []
 split_at separator (byte ∷ text) =
-    cond (byte == separator) ([] ∷ split_at separator text) (before_first byte (split_at separator text))
+    cond (byte == separator) ([] ∷ split_at separator text)
+    (before_first byte (split_at separator text))
 
 -- a byte put in front of the first part of a text that is cut in two
 abbrev pub before_cut : ℕ → List ℕ × List ℕ → List ℕ × List ℕ

@@ -1,4 +1,4 @@
--- Number words, and lists of them with commas between (this project's own).
+-- Number words, and lists of them with commas between.
 use Rattle.std.specs.Prelude.{ℕ, ◌<◌, ◌≤◌, List, [], ◌∷◌, length}
 use Rattle.std.specs.List.{join_with_byte}
 

@@ -1,9 +1,11 @@
--- The one-line form of a list of terms, as s[2,1]+2*s[1,1,1] or -1/3*p[3], and how such a text is read back (this project's
--- own).
-use Rattle.std.specs.Prelude.{ℕ, ℤ, pos, negsuc, nat_abs, neg_ℤ, ◌==◌, Bool, true, false, ◌&&◌, ◌||◌, cond, List, [], ◌∷◌, ◌++◌, map, codes, Option, Some, None}
+-- The one-line form of a list of terms, as s[2,1]+2*s[1,1,1] or -1/3*p[3],
+-- and how such a text is read back.
+use Rattle.std.specs.Prelude.{ℕ, ℤ, pos, negsuc, nat_abs, neg_ℤ, ◌==◌, Bool, true, false, ◌&&◌}
+use Rattle.std.specs.Prelude.{◌||◌, cond, List, [], ◌∷◌, ◌++◌, map, codes, Option, Some, None}
 use Rattle.sym_model.specs.Polynomial.{same}
 use Rattle.sym_model.specs.Expansion.{Basis, Fraction, Terms}
-use Rattle.sym_model.specs.NumberText.{fraction_text, numbers_text, numbers_of, fraction_of, cut_at, before_first, without_last}
+use Rattle.sym_model.specs.NumberText.{fraction_text, numbers_text, numbers_of, fraction_of, cut_at}
+use Rattle.sym_model.specs.NumberText.{before_first, without_last}
 use Rattle.sym_model.specs.Kind.{LabelRules}
 use Rattle.sym_model.specs.Canonical.{is_canonical_by, is_printable}
 use Rattle.sym_model.specs.Phrase.{letter}
@@ -20,7 +22,8 @@ without_sign c = (pos (nat_abs c.0), c.1)
 abbrev pub is_unit : Fraction → Bool
 is_unit c = (nat_abs c.0 == 1) && (c.1 == 1)
 
--- a term without its sign: the atom, after the absolute value of the coefficient and `*` where that value is not 1
+-- a term without its sign: the atom, after the absolute value of the coefficient and `*` where that
+-- value is not 1
 abbrev pub unsigned_text : Basis → List ℕ × Fraction → List ℕ
 unsigned_text basis t =
     cond (is_unit t.1) [] (fraction_text (without_sign t.1) ++ codes "*") ++ atom_text basis t.0
@@ -34,13 +37,16 @@ is_negative (negsuc n) = true
 abbrev pub later_text : Basis → Terms (List ℕ) → List ℕ
 later_text basis [] = []
 later_text basis (t ∷ terms) =
-    cond (is_negative t.1.0) (codes "-") (codes "+") ++ (unsigned_text basis t ++ later_text basis terms)
+    cond (is_negative t.1.0) (codes "-") (codes "+")
+    ++ (unsigned_text basis t ++ later_text basis terms)
 
--- the one-line form: the terms one after another, with `-` before a negative first one, or 0 where there is none, and LF
+-- the one-line form: the terms one after another, with `-` before a negative first one,
+-- or 0 where there is none, and LF
 abbrev pub one_line : Basis → Terms (List ℕ) → List ℕ
 one_line basis [] = codes "0\n"
 one_line basis (t ∷ terms) =
-    cond (is_negative t.1.0) (codes "-") [] ++ (unsigned_text basis t ++ (later_text basis terms ++ codes "\n"))
+    cond (is_negative t.1.0) (codes "-") []
+    ++ (unsigned_text basis t ++ (later_text basis terms ++ codes "\n"))
 
 -- ---- read back
 
@@ -65,7 +71,8 @@ abbrev pub numbers_in_atom : List ℕ → List ℕ
 numbers_in_atom (basis ∷ bracket ∷ text) = numbers_of (without_last text)
 numbers_in_atom _ = []
 
--- the term of a piece without its sign, cut in front of its first `*`: the atom, and 1 where no coefficient stands before it
+-- the term of a piece without its sign, cut in front of its first `*`: the atom, and 1 where no
+-- coefficient stands before it
 abbrev pub term_of_cut : List ℕ × List ℕ → List ℕ × Fraction
 term_of_cut (atom, []) = (numbers_in_atom atom, (pos 1, 1))
 term_of_cut (coefficient, star ∷ atom) = (numbers_in_atom atom, fraction_of coefficient)
@@ -89,13 +96,18 @@ term_of_piece (byte ∷ text) =
 -- the terms that a text spells, without its LF; none for 0
 abbrev pub terms_on_line : List ℕ → Terms (List ℕ)
 terms_on_line text =
-    cond (same text (codes "0\n")) [] (map {B = List ℕ × Fraction} term_of_piece (pieces_of (without_last text)))
+    cond (same text (codes "0\n")) []
+    (map {B = List ℕ × Fraction} term_of_piece (pieces_of (without_last text)))
 
--- the list of terms, where it is canonical with numbers of 128 bits and the text is its one-line form; otherwise nothing
-abbrev pub accepted_line : Basis → LabelRules (List ℕ) → List ℕ → Terms (List ℕ) → Option (Terms (List ℕ))
+-- the list of terms, where it is canonical with numbers of 128 bits and the text is its one-line
+-- form; otherwise nothing
+abbrev pub accepted_line : Basis → LabelRules (List ℕ) → List ℕ → Terms (List ℕ)
+    → Option (Terms (List ℕ))
 accepted_line basis rules text terms =
-    cond (is_canonical_by rules terms && is_printable terms && same (one_line basis terms) text) (Some terms) None
+    cond (is_canonical_by rules terms && is_printable terms && same (one_line basis terms) text)
+    (Some terms) None
 
--- a text read back: the canonical list, with numbers of 128 bits, whose one-line form it is; nothing where there is none
+-- a text read back: the canonical list, with numbers of 128 bits, whose one-line form it is;
+-- nothing where there is none
 abbrev pub read_one_line : Basis → LabelRules (List ℕ) → List ℕ → Option (Terms (List ℕ))
 read_one_line basis rules text = accepted_line basis rules text (terms_on_line text)

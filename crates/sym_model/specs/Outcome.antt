@@ -1,4 +1,4 @@
--- The outcomes of a list of words (this project's own): the text that is defined for it, and how the command ends. The
+-- The outcomes of a list of words: the text that is defined for it, and how the command ends. The
 -- commands that the words can spell are an argument, a list of entries.
 use Rattle.std.specs.Prelude.{◌≡◌, ℕ, ◌⊎◌, List, codes, Option, Some, None}
 use Rattle.sym_model.specs.GoodTableau.{lattice_readings}
@@ -6,7 +6,8 @@ use Rattle.sym_model.specs.TableauList.{later_than}
 use Rattle.sym_model.specs.Tableau.{SkewFilling}
 use Rattle.sym_model.specs.Insertion.{insertion_pair}
 use Rattle.sym_model.specs.Slide.{IsReached}
-use Rattle.sym_model.specs.TableauText.{tableau_line, pair_text, word_line, readings_text, grid_text}
+use Rattle.sym_model.specs.TableauText.{tableau_line, pair_text, word_line, readings_text}
+use Rattle.sym_model.specs.TableauText.{grid_text}
 use Rattle.sym_model.specs.ExpressionOffence.{OffenceKind, literal, range as beyond, shape}
 use Rattle.sym_model.specs.CommandOffence.{Offence}
 use Rattle.sym_model.specs.Command.{Command, tab, rsk, unrsk, rect, growth, batch, work}
@@ -27,7 +28,7 @@ ending_of shape = range
 
 -- ---- words that are refused
 
--- the words spell no command, and the text says where they go wrong
+-- the words spell no command, and the text says where they first fail
 pub record IsNoCommand (entries : List Entry) (words : List (List ℕ)) (text : List ℕ) : Type 0 where
   pub word : ℕ
   pub byte : ℕ
@@ -35,7 +36,8 @@ pub record IsNoCommand (entries : List Entry) (words : List (List ℕ)) (text : 
   pub line : text ≡ refusal_line (codes "Syntax") word byte
 
 -- the words spell a command and offend, and the text says by what and where they do first
-pub record IsOffending (entries : List Entry) (words : List (List ℕ)) (text : List ℕ) (ending : Ending) : Type 0 where
+pub record IsOffending (entries : List Entry) (words : List (List ℕ)) (text : List ℕ)
+    (ending : Ending) : Type 0 where
   pub offence : Offence
   pub first : HasFirstOffence entries words (Some offence)
   pub line : text ≡ offence_line offence
@@ -66,7 +68,8 @@ Expands command text ending =
 
 -- ---- the other commands
 
--- the lattice tableaux of a skew shape, from behind the one with this column reading where one is given
+-- the lattice tableaux of a skew shape, from after the one with this column reading where one is
+-- given
 abbrev pub readings_after : List ℕ → List ℕ → Option (List ℕ) → List (List ℕ)
 readings_after outer inner None = lattice_readings outer inner
 readings_after outer inner (Some last) = later_than last (lattice_readings outer inner)
@@ -85,7 +88,7 @@ pub record PrintsRectified (filling : SkewFilling) (text : List ℕ) : Type 0 wh
 
 -- ---- outcomes
 
--- what comes of a command that has no offence, but for those that run other commands
+-- the outcome of a command that has no offence, but for those that run other commands
 abbrev pub Answers : Command → List ℕ → Ending → Type 0
 Answers (tab outer inner last) text ending =
     (text ≡ readings_text outer inner (readings_after outer inner last)) × (ending ≡ done)
@@ -99,13 +102,15 @@ Answers batch text ending = ⊥
 Answers (work lines seed) text ending = ⊥
 Answers command text ending = Expands command text ending
 
--- what comes of the words, by what comes of the commands: the refusal of the words, or what comes of the command that they
--- spell without an offence
-abbrev pub ComesOf : (Command → List ℕ → Ending → Type 0) → List Entry → List (List ℕ) → List ℕ → Ending → Type 0
+-- the outcome of the words, by the outcome of the commands: the refusal of the words, or the
+-- outcome of the command that they spell without an error
+abbrev pub ComesOf : (Command → List ℕ → Ending → Type 0) → List Entry → List (List ℕ) → List ℕ
+    → Ending → Type 0
 ComesOf answers entries words text ending =
     (IsNoCommand entries words text × (ending ≡ syntax))
     ⊎ IsOffending entries words text ending
-    ⊎ ((command : Command) × SpellsWithoutOffence entries words command × answers command text ending)
+    ⊎ ((command : Command) × SpellsWithoutOffence entries words command
+    × answers command text ending)
 
 -- the outcomes of words that run no other commands, such as those of a line of a batch
 abbrev pub IsLineOutcome : List Entry → List (List ℕ) → List ℕ → Ending → Type 0

@@ -1,12 +1,19 @@
--- Partitions and skew shapes (Macdonald, I.1; Fulton, Notation). Rows, columns and parts are counted from 1.
-use Rattle.std.specs.Prelude.{ℕ, zero, suc, ◌+◌, ◌-◌, ◌<◌, ◌≤◌, nat_le, List, [], ◌∷◌, map, length, cond, slice_index}
-use Rattle.sym_model.specs.Sum.{each}
+-- Partitions and skew shapes (Macdonald, I.1; Fulton, Notation). Rows,
+-- columns and parts are counted from 1.
+use Rattle.std.specs.Prelude.{ℕ, zero, suc, ◌+◌, ◌-◌, ◌<◌, ◌≤◌, nat_le, List, [], ◌∷◌, map, length}
+use Rattle.std.specs.Prelude.{cond, slice_index, flat_map, Option, Some, None}
+use Rattle.sym_model.specs.Sum.{Among}
 
 -- no number is greater than the one before it
 abbrev pub Falls : List ℕ → Type 0
 Falls [] = Unit {0}
 Falls (a ∷ []) = Unit {0}
 Falls (a ∷ b ∷ parts) = (b ≤ a) × Falls (b ∷ parts)
+
+-- the list is weakly decreasing, also from the number before it, if there is one
+abbrev pub FallsFrom : Option ℕ → List ℕ → Type 0
+FallsFrom None numbers = Falls numbers
+FallsFrom (Some before) numbers = Falls (before ∷ numbers)
 
 -- each number is positive
 abbrev pub ArePositive : List ℕ → Type 0
@@ -18,6 +25,10 @@ pub record IsPartition (parts : List ℕ) : Type 0 where
   pub falls : Falls parts
   pub positive : ArePositive parts
 
+-- each list is a partition
+abbrev pub ArePartitions : List (List ℕ) → Type 0
+ArePartitions shapes = (parts : List ℕ) → Among parts shapes → IsPartition parts
+
 -- the size of a partition, |λ|: the sum of its parts
 abbrev pub size : List ℕ → ℕ
 size [] = 0
@@ -27,7 +38,8 @@ size (a ∷ parts) = a + size parts
 abbrev pub rows : List ℕ → ℕ
 rows parts = length parts
 
--- part i, counted from 1; 0 past the last. A part 0 is never asked for: it would be the first part, by the cut-off i - 1
+-- part i, counted from 1; 0 past the last. A part 0 is never asked for:
+-- it would be the first part, by the cut-off i - 1
 abbrev pub part : List ℕ → ℕ → ℕ
 part parts i = slice_index parts (i - 1)
 
@@ -35,7 +47,8 @@ part parts i = slice_index parts (i - 1)
 abbrev pub columns : List ℕ → ℕ
 columns parts = part parts 1
 
--- the shape of inner lies inside that of outer: no part of inner is greater than the part of outer in the same row; by
+-- the shape of inner lies inside that of outer:
+-- no part of inner is greater than the part of outer in the same row; by
 -- `containment_law`, each cell of inner is a cell of outer
 abbrev pub Holds : List ℕ → List ℕ → Type 0
 Holds outer inner = (i : ℕ) → part inner i ≤ part outer i
@@ -51,17 +64,21 @@ abbrev pub after : ℕ → ℕ → List ℕ
 after a zero = []
 after a (suc k) = (a + 1) ∷ after (a + 1) k
 
--- the cells of outer/inner as pairs (row, column), row by row
+-- the cells of outer/inner in a row, as pairs (row, column)
+abbrev pub row_cells : List ℕ → List ℕ → ℕ → List (ℕ × ℕ)
+row_cells outer inner row =
+    map (λ column. (row, column)) (after (part inner row) (part outer row - part inner row))
+
+-- the cells of outer/inner, row by row
 abbrev pub cells : List ℕ → List ℕ → List (ℕ × ℕ)
-cells outer inner =
-    each (λ row. map (λ column. (row, column)) (after (part inner row) (part outer row - part inner row)))
-    (after 0 (rows outer))
+cells outer inner = flat_map (row_cells outer inner) (after 0 (rows outer))
 
 -- the positive numbers of a list put in falling order: a into its place in a falling list
 abbrev pub insert_part : ℕ → List ℕ → List ℕ
 insert_part zero parts = parts
 insert_part (suc a) [] = suc a ∷ []
-insert_part (suc a) (b ∷ parts) = cond (nat_le b (suc a)) (suc a ∷ b ∷ parts) (b ∷ insert_part (suc a) parts)
+insert_part (suc a) (b ∷ parts) =
+    cond (nat_le b (suc a)) (suc a ∷ b ∷ parts) (b ∷ insert_part (suc a) parts)
 
 -- the partition that a list of exponents sorts to: its positive numbers in falling order
 abbrev pub sorted_parts : List ℕ → List ℕ

@@ -1,7 +1,7 @@
--- The partitions of a number, listed in falling lexicographic order (this project's own).
-use Rattle.std.specs.Prelude.{◌≡◌, ℕ, zero, suc, ◌-◌, min, List, [], ◌∷◌, map}
+-- The partitions of a number, listed in falling lexicographic order.
+use Rattle.std.specs.Prelude.{◌≡◌, ℕ, zero, suc, ◌-◌, min, List, [], ◌∷◌, map, flat_map}
 use Rattle.std.specs.declared.cmp.Ordering.TheVariants.{Less}
-use Rattle.sym_model.specs.Sum.{each, Among}
+use Rattle.sym_model.specs.Sum.{Among}
 use Rattle.sym_model.specs.PrintedOrder.{falling_lexicographic}
 
 -- the numbers from k down to 1
@@ -9,13 +9,15 @@ abbrev pub down_to_one : ℕ → List ℕ
 down_to_one zero = []
 down_to_one (suc k) = suc k ∷ down_to_one k
 
--- the partitions of a size that have no part above `most` and at most so many rows: the first part runs down from the
--- greatest that it can be, and behind it come the partitions of what is left, with no part above the first
+-- the partitions of a size that have no part above `most` and at most `rows` rows: the first part
+-- runs down from the greatest that it can be, and after it come the partitions of what is left,
+-- with no part above the first
 unfoldable pub partitions_within : ℕ → ℕ → ℕ → List (List ℕ)
 partitions_within zero most rows = [] ∷ []
 partitions_within (suc left) most zero = []
 partitions_within (suc left) most (suc rows) =
-    each (λ a. map (λ parts. a ∷ parts) (partitions_within (suc left - a) a rows)) (down_to_one (min most (suc left)))
+    flat_map (λ a. map (λ parts. a ∷ parts) (partitions_within (suc left - a) a rows))
+    (down_to_one (min most (suc left)))
 
 -- the partitions of d in falling lexicographic order
 abbrev pub partitions_of : ℕ → List (List ℕ)

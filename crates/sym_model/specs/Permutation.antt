@@ -1,8 +1,11 @@
--- Permutations in one-line form (Macdonald, Notes on Schubert polynomials, I): their letters, descents, codes,
--- transpositions and covers. Places count from 1. The number of inversions is that of specs/PlaceOrders.
-use Rattle.std.specs.Prelude.{◌≡◌, ℕ, suc, ◌+◌, ◌-◌, ◌<◌, ◌≤◌, max, nat_lt, ◌==◌, cond, List, [], ◌∷◌, ◌++◌, map, length, swap, remove, slice_index, slice_index_or, Option, Some, None, option_map, unwrap_or, ◌⊎◌}
+-- Permutations in one-line form (Macdonald, Notes on Schubert polynomials, I): their letters,
+-- descents, codes, transpositions and covers. Places count from 1. The number of inversions is that
+-- of specs/PlaceOrders.
+use Rattle.std.specs.Prelude.{◌≡◌, ℕ, suc, ◌+◌, ◌-◌, ◌<◌, ◌≤◌, max, nat_lt, ◌==◌, cond, List, []}
+use Rattle.std.specs.Prelude.{◌∷◌, ◌++◌, map, length, swap, remove, slice_index, slice_index_or}
+use Rattle.std.specs.Prelude.{Option, Some, None, option_map, unwrap_or, ◌⊎◌, filter}
 use Rattle.std.specs.Option.{option_or}
-use Rattle.sym_model.specs.Sum.{select, Among, Once}
+use Rattle.sym_model.specs.Sum.{Among, Once}
 use Rattle.sym_model.specs.Partition.{after}
 use Rattle.sym_model.specs.PlaceOrders.{places, smaller, inversions}
 
@@ -34,7 +37,8 @@ abbrev pub kept : List ℕ → List ℕ
 kept [] = []
 kept (a ∷ w) = a ∷ without_fixed_from 2 w
 
--- a permutation as it is kept: it has a letter and, but for the letter 1 alone, no fixed letter at the end
+-- a permutation as it is kept: it has a letter and, but for the letter 1 alone,
+-- no fixed letter at the end
 pub record IsKept (w : List ℕ) : Type 0 where
   pub one_line : IsOneLine w
   pub some : 0 < length w
@@ -62,7 +66,8 @@ first_ascent (a ∷ b ∷ w) = cond (nat_lt a b) (Some 1) (option_map suc (first
 abbrev pub last_descent : List ℕ → Option ℕ
 last_descent [] = None
 last_descent (a ∷ []) = None
-last_descent (a ∷ b ∷ w) = option_or (option_map suc (last_descent (b ∷ w))) (cond (nat_lt b a) (Some 1) None)
+last_descent (a ∷ b ∷ w) =
+    option_or (option_map suc (last_descent (b ∷ w))) (cond (nat_lt b a) (Some 1) None)
 
 -- the code: for each place the number of smaller letters to the right (Lehmer)
 abbrev pub code : List ℕ → List ℕ
@@ -97,7 +102,7 @@ times_swap i j w = kept (swapped i j (with_fixed j w))
 
 -- those of the permutations that have exactly one inversion more than w
 abbrev pub covers_among : List ℕ → List (List ℕ) → List (List ℕ)
-covers_among w vs = select (λ v. inversions v == inversions w + 1) vs
+covers_among w vs = filter (λ v. inversions v == inversions w + 1) vs
 
 -- the covers w·t_rj of w with j > r, by rising j; the greatest j is the first new place
 abbrev pub covers_up : ℕ → List ℕ → List (List ℕ)
@@ -107,8 +112,8 @@ covers_up r w = covers_among w (map (λ j. times_swap r j w) (after r (max (leng
 abbrev pub covers_down : ℕ → List ℕ → List (List ℕ)
 covers_down r w = covers_among w (map (λ i. times_swap i r w) (after 0 (r - 1)))
 
--- r is the last descent of w, and s the last place whose letter is smaller than that at place r (the transition rule
--- of Lascoux and Schützenberger)
+-- r is the last descent of w, and s the last place whose letter is smaller than that at place r
+-- (the transition rule of Lascoux and Schützenberger)
 pub record IsTransition (w : List ℕ) (r s : ℕ) : Type 0 where
   pub descent : last_descent w ≡ Some r
   pub counts : 1 ≤ s
@@ -119,11 +124,12 @@ pub record IsTransition (w : List ℕ) (r s : ℕ) : Type 0 where
 abbrev pub last_descent_place : List ℕ → ℕ
 last_descent_place w = unwrap_or (last_descent w) 0
 
--- the order that the transition rule lowers: v has fewer inversions than w; or as many and an earlier last descent; or
--- as many and the same one, with a smaller letter there
+-- the order that the transition rule lowers: v has fewer inversions than w; or as many and an
+-- earlier last descent; or as many and the same one, with a smaller letter there
 abbrev pub IsLower : List ℕ → List ℕ → Type 0
 IsLower v w =
     (inversions v < inversions w)
     ⊎ ((inversions v ≡ inversions w)
     × ((last_descent_place v < last_descent_place w)
-    ⊎ ((last_descent_place v ≡ last_descent_place w) × (letter v (last_descent_place v) < letter w (last_descent_place w)))))
+    ⊎ ((last_descent_place v ≡ last_descent_place w)
+    × (letter v (last_descent_place v) < letter w (last_descent_place w)))))

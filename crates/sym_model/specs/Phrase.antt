@@ -1,19 +1,21 @@
--- Expressions as words: the grammar, as the phrases that it allows, what each one spells and the tree that it stands for
--- (this project's own).
+-- Expressions as words: the grammar, as the phrases that it allows,
+-- what each one spells and the tree that it stands for
+--.
 use Rattle.std.specs.Prelude.{◌≡◌, ℕ, List, ◌++◌, map, codes}
 use Rattle.sym_model.specs.Expansion.{Basis, monomials, elementaries, completes, power_sums, schurs}
 use Rattle.sym_model.specs.Partition.{without_last_zeros}
 use Rattle.sym_model.specs.PrintedBlock.{decimal_value}
 use Rattle.sym_model.specs.NumberWord.{IsNumberWord, AreNumberWords, comma_separated}
-use Rattle.sym_model.specs.Expression.{Tree, number, fraction, atom, negation, sum, difference, product}
+use Rattle.sym_model.specs.Expression.{Tree, number, fraction, atom, negation, sum, difference}
+use Rattle.sym_model.specs.Expression.{product}
 
--- what joins two parts of an expression (this project's own)
+-- what joins two parts of an expression
 pub data Operator : Type 0 where
   plus : Operator
   minus : Operator
   times : Operator
 
--- how a part of an expression is put together; numbers stand in it as the digits that are written (this project's own)
+-- how a part of an expression is put together; numbers stand in it as the digits that are written
 pub data Phrase : Type 0 where
   numeral : List ℕ → Phrase
   ratio : List ℕ → List ℕ → Phrase
@@ -48,7 +50,8 @@ level_after plus = term
 level_after minus = term
 level_after times = factor
 
--- the grammar: a phrase is of a level by these rules, by which sums, differences and products group to the left
+-- the grammar: a phrase is of a level by these rules, by which sums,
+-- differences and products group to the left
 --   EXPR   := '-'? TERM (('+' | '-') TERM)*
 --   TERM   := FACTOR ('*' FACTOR)*
 --   FACTOR := NUM | NUM '/' NUM | LETTER '[' (NUM (',' NUM)*)? ']' | '(' EXPR ')'
@@ -90,7 +93,8 @@ join_trees plus e f = sum e f
 join_trees minus e f = difference e f
 join_trees times e f = product e f
 
--- the expression of a phrase: parentheses leave no trace, and zeros at the end of an atom's list are dropped
+-- the expression of a phrase: parentheses leave no trace,
+-- and zeros at the end of an atom's list are dropped
 abbrev pub tree : Phrase → Tree
 tree (numeral digits) = number (decimal_value digits)
 tree (ratio num den) = fraction (decimal_value num) (decimal_value den)

@@ -1,6 +1,6 @@
 -- The orders of the places 1, 2, .., n, and their signs (permutations; Macdonald, I.3).
 use Rattle.std.specs.Prelude.{ℕ, zero, suc, ◌+◌, nat_lt, cond, ℤ, pos, neg_ℤ, List, [], ◌∷◌, map}
-use Rattle.sym_model.specs.Sum.{each}
+use Rattle.std.specs.Prelude.{flat_map}
 use Rattle.sym_model.specs.Partition.{after}
 
 -- the lists that come of putting x at some place into a list, one for each place
@@ -8,10 +8,11 @@ abbrev pub insertions : ℕ → List ℕ → List (List ℕ)
 insertions x [] = (x ∷ []) ∷ []
 insertions x (y ∷ ys) = (x ∷ y ∷ ys) ∷ map (λ zs. y ∷ zs) (insertions x ys)
 
--- all orders of the entries of a list: the first entry put at each place into each order of the others
+-- all orders of the entries of a list: the first entry put at each place into each order of the
+-- others
 abbrev pub orders : List ℕ → List (List ℕ)
 orders [] = [] ∷ []
-orders (x ∷ xs) = each (insertions x) (orders xs)
+orders (x ∷ xs) = flat_map (insertions x) (orders xs)
 
 -- the places 1, 2, .., n
 abbrev pub places : ℕ → List ℕ

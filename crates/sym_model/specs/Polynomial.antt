@@ -1,9 +1,12 @@
 -- Polynomials with whole coefficients, as formal sums. A polynomial is what its coefficients are:
 -- two formal sums are the same polynomial where all coefficients agree.
-use Rattle.std.specs.Prelude.{◌≡◌, ℕ, zero, suc, ◌+◌, ◌==◌, Bool, true, false, ◌&&◌, cond, ℤ, pos, neg_ℤ, ◌*ℤ◌, List, [], ◌∷◌, ◌++◌, map, length, replicate}
-use Rattle.sym_model.specs.Sum.{total, each, select, Among}
+use Rattle.std.specs.Prelude.{◌≡◌, ℕ, zero, suc, ◌+◌, ◌==◌, Bool, true, false, ◌&&◌, cond, ℤ, pos}
+use Rattle.std.specs.Prelude.{neg_ℤ, ◌*ℤ◌, List, [], ◌∷◌, ◌++◌, map, length, replicate, filter}
+use Rattle.std.specs.Prelude.{flat_map}
+use Rattle.sym_model.specs.Sum.{total, Among}
 
--- an exponent list has the exponent of each variable; a term is an exponent list with its coefficient
+-- an exponent list has the exponent of each variable;
+-- a term is an exponent list with its coefficient
 abbrev pub Term : Type 0
 Term = List ℕ × ℤ
 
@@ -62,7 +65,7 @@ negate f = map (λ (t : Term). (t.0, neg_ℤ t.1)) f
 
 -- the product: each term of f times each term of g
 abbrev pub times : Poly → Poly → Poly
-times f g = each (λ (s : Term). map (λ (t : Term). (join s.0 t.0, s.1 *ℤ t.1)) g) f
+times f g = flat_map (λ (s : Term). map (λ (t : Term). (join s.0 t.0, s.1 *ℤ t.1)) g) f
 
 -- the sum over the terms of coefficient times the value of a test function at the exponents
 abbrev pub pair : Poly → (List ℕ → ℤ) → ℤ
@@ -87,4 +90,4 @@ fits_in (suc n) (a ∷ α) = fits_in n α
 
 -- the polynomial restricted to n variables: the later variables are set to 0
 abbrev pub restrict : ℕ → Poly → Poly
-restrict n f = map (λ (t : Term). (resize n t.0, t.1)) (select (λ (t : Term). fits_in n t.0) f)
+restrict n f = map (λ (t : Term). (resize n t.0, t.1)) (filter (λ (t : Term). fits_in n t.0) f)

@@ -1,11 +1,13 @@
--- The printed block of a list of terms, and how a text is read back (this project's own).
-use Rattle.std.specs.Prelude.{ℕ, ◌&&◌, nat_lt, nat_abs, List, [], ◌∷◌, ◌++◌, cond, codes, Option, Some, None}
+-- The printed block of a list of terms, and how a text is read back.
+use Rattle.std.specs.Prelude.{ℕ, ◌&&◌, nat_lt, nat_abs, List, [], ◌∷◌, ◌++◌, cond, codes, Option}
+use Rattle.std.specs.Prelude.{Some, None}
 use Rattle.sym_model.specs.Polynomial.{same}
 use Rattle.sym_model.specs.Expansion.{Fraction, Terms}
 use Rattle.sym_model.specs.Kind.{LabelRules, label_rules, expansion}
 use Rattle.sym_model.specs.Canonical.{is_canonical_by, is_printable}
 use Rattle.sym_model.specs.NumberText.{cut_at, fraction_of}
-pub use Rattle.sym_model.specs.NumberText.{fraction_text, numbers_text, label_text, split_at, value_from, decimal_value}
+pub use Rattle.sym_model.specs.NumberText.{fraction_text, numbers_text, label_text, split_at}
+pub use Rattle.sym_model.specs.NumberText.{value_from, decimal_value}
 
 -- the line of a term: its coefficient and the text of its label
 abbrev pub line_by : {Label : Type 0} → LabelRules Label → Label × Fraction → List ℕ
@@ -21,7 +23,7 @@ abbrev pub block_by : {Label : Type 0} → LabelRules Label → Terms Label → 
 block_by rules [] = codes "0\n"
 block_by rules (t ∷ terms) = lines_by rules (t ∷ terms)
 
--- the term that is spelled by a coefficient and the text behind it; none where the coefficient is 0
+-- the term that is spelled by a coefficient and the text after it; none where the coefficient is 0
 abbrev pub term_of_parts : {Label : Type 0} → LabelRules Label → Fraction → List ℕ → Terms Label
 term_of_parts rules c text = cond (nat_lt 0 (nat_abs c.0)) ((rules.spelled text, c) ∷ []) []
 
@@ -32,18 +34,23 @@ term_of_line rules cut = term_of_parts rules (fraction_of cut.0) cut.1
 -- the terms of the lines
 abbrev pub terms_of_lines : {Label : Type 0} → LabelRules Label → List (List ℕ) → Terms Label
 terms_of_lines rules [] = []
-terms_of_lines rules (line ∷ lines) = term_of_line rules (cut_at 32 line) ++ terms_of_lines rules lines
+terms_of_lines rules (line ∷ lines) =
+    term_of_line rules (cut_at 32 line) ++ terms_of_lines rules lines
 
 -- the list of terms that a text spells, line by line (LF is the byte 10)
 abbrev pub terms_of : {Label : Type 0} → LabelRules Label → List ℕ → Terms Label
 terms_of rules text = terms_of_lines rules (split_at 10 text)
 
--- the list of terms, where it is canonical with numbers of 128 bits and the text is its block; otherwise nothing
-abbrev pub accepted : {Label : Type 0} → LabelRules Label → List ℕ → Terms Label → Option (Terms Label)
+-- the list of terms, where it is canonical with numbers of 128 bits and the text is its block;
+-- otherwise nothing
+abbrev pub accepted : {Label : Type 0} → LabelRules Label → List ℕ → Terms Label
+    → Option (Terms Label)
 accepted rules text terms =
-    cond (is_canonical_by rules terms && is_printable terms && same (block_by rules terms) text) (Some terms) None
+    cond (is_canonical_by rules terms && is_printable terms && same (block_by rules terms) text)
+    (Some terms) None
 
--- a text read back: the canonical list, with numbers of 128 bits, whose block it is; nothing where there is none
+-- a text read back: the canonical list, with numbers of 128 bits, whose block it is;
+-- nothing where there is none
 abbrev pub read_by : {Label : Type 0} → LabelRules Label → List ℕ → Option (Terms Label)
 read_by rules text = accepted rules text (terms_of rules text)
 

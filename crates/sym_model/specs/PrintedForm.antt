@@ -1,4 +1,4 @@
--- The printed form that a command asks for, and how an answer is printed in it and read back (this project's own).
+-- The printed form that a command asks for, and how an answer is printed in it and read back.
 use Rattle.std.specs.Prelude.{ℕ, List, cond, Option}
 use Rattle.sym_model.specs.Expansion.{Basis, schurs, Terms}
 use Rattle.sym_model.specs.Kind.{Kind, Label, label_rules, expansion, product}

@@ -1,4 +1,4 @@
--- A partition with one part taken out or raised, and its different parts (this project's own).
+-- A partition with one part taken out or raised, and its different parts.
 use Rattle.std.specs.Prelude.{ℕ, ◌+◌, ◌==◌, cond, List, [], ◌∷◌}
 use Rattle.sym_model.specs.Partition.{insert_part}
 use Rattle.sym_model.specs.Bases.{has}

@@ -1,4 +1,4 @@
--- The lines of refusals (this project's own): what the words offend by and where, and the answer that is too large.
+-- The lines of refusals: what the words offend by and where, and the answer that is too large.
 use Rattle.std.specs.Prelude.{ℕ, List, ◌++◌, codes, decimal}
 use Rattle.sym_model.specs.ExpressionOffence.{OffenceKind, literal, range, shape}
 use Rattle.sym_model.specs.CommandOffence.{Offence}
@@ -12,7 +12,8 @@ offence_name shape = codes "Shape"
 -- the line of a refusal at a byte of a word, as in `! Range 1:0`
 abbrev pub refusal_line : List ℕ → ℕ → ℕ → List ℕ
 refusal_line name word byte =
-    codes "! " ++ (name ++ (codes " " ++ (decimal word ++ (codes ":" ++ (decimal byte ++ codes "\n")))))
+    codes "! " ++ (name ++ (codes " "
+    ++ (decimal word ++ (codes ":" ++ (decimal byte ++ codes "\n")))))
 
 -- the line of an offence
 abbrev pub offence_line : Offence → List ℕ

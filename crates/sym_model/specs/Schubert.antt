@@ -1,25 +1,26 @@
 -- Schubert polynomials (Lascoux and Schützenberger; Macdonald, Notes on Schubert polynomials, IV).
-use Rattle.std.specs.Prelude.{ℕ, zero, suc, List, length}
+use Rattle.std.specs.Prelude.{ℕ, zero, suc, List, length, flat_map}
 use Rattle.std.specs.Option.{option_map_or}
-use Rattle.sym_model.specs.Sum.{each}
 use Rattle.sym_model.specs.Polynomial.{Poly, restrict}
 use Rattle.sym_model.specs.Alternant.{staircase}
 use Rattle.sym_model.specs.BetaList.{rising_pairs}
 use Rattle.sym_model.specs.Permutation.{first_ascent, exchanged}
 use Rattle.sym_model.specs.DividedDifference.{x_to, divided_difference}
 
--- the polynomial that divided differences make of g, the polynomial of the list without an ascent: for a list w with
--- an ascent it is ∂_i of that of w·s_i, where i is the first ascent; at most `fuel` steps are taken
+-- the polynomial that divided differences make of g, the polynomial of the list without an ascent:
+-- for a list w with an ascent it is ∂_i of that of w·s_i, where i is the first ascent;
+-- at most `fuel` steps are taken
 abbrev pub descended : Poly → ℕ → List ℕ → Poly
 descended g zero w = g
-descended g (suc fuel) w = option_map_or (λ i. divided_difference i (descended g fuel (exchanged i w))) (first_ascent w) g
+descended g (suc fuel) w =
+    option_map_or (λ i. divided_difference i (descended g fuel (exchanged i w))) (first_ascent w) g
 
 -- the same with all its steps: each takes away one pair of letters in rising order
 abbrev pub schubert_over : Poly → List ℕ → Poly
 schubert_over g w = descended g (rising_pairs w) w
 
--- S(w), the Schubert polynomial of a list w of n letters, in n variables: over the monomial of the staircase,
--- x_1^(n-1)·x_2^(n-2)·..·x_(n-1)
+-- S(w), the Schubert polynomial of a list w of n letters, in n variables: over the monomial of the
+-- staircase, x_1^(n-1)·x_2^(n-2)·..·x_(n-1)
 abbrev pub schubert : List ℕ → Poly
 schubert w = schubert_over (x_to (staircase (length w))) w
 
@@ -29,4 +30,4 @@ schubert_in w n = restrict n (schubert w)
 
 -- the sum of the Schubert polynomials of permutations, in n variables
 abbrev pub schuberts_in : List (List ℕ) → ℕ → Poly
-schuberts_in ws n = each (λ w. schubert_in w n) ws
+schuberts_in ws n = flat_map (λ w. schubert_in w n) ws

@@ -1,13 +1,14 @@
--- Semistandard tableaux of a skew shape and the Schur polynomials (Fulton, 1 and 2.2; Macdonald, I.5).
-use Rattle.std.specs.Prelude.{ℕ, zero, suc, ◌+◌, ◌-◌, ◌==◌, nat_le, nat_lt, Bool, true, ◌&&◌, cond, pos, List, [], ◌∷◌, map, drop}
-use Rattle.sym_model.specs.Sum.{each, select}
+-- Semistandard tableaux of a skew shape and the Schur polynomials (Fulton, 1 and 2.2;
+-- Macdonald, I.5).
+use Rattle.std.specs.Prelude.{ℕ, zero, suc, ◌+◌, ◌-◌, ◌==◌, nat_le, nat_lt, Bool, true, ◌&&◌, cond}
+use Rattle.std.specs.Prelude.{pos, List, [], ◌∷◌, map, drop, filter, flat_map}
 use Rattle.sym_model.specs.Polynomial.{Poly}
 use Rattle.sym_model.specs.Partition.{part, after}
 
 -- all words of k letters from 1 to n, in lexicographic order
 abbrev pub words : ℕ → ℕ → List (List ℕ)
 words n zero = [] ∷ []
-words n (suc k) = each (λ a. map (λ w. a ∷ w) (words n k)) (after 0 n)
+words n (suc k) = flat_map (λ a. map (λ w. a ∷ w) (words n k)) (after 0 n)
 
 -- how many cells each row of outer/inner has
 abbrev pub row_lengths : List ℕ → List ℕ → List ℕ
@@ -15,10 +16,12 @@ row_lengths [] inner = []
 row_lengths (a ∷ outer) [] = a ∷ row_lengths outer []
 row_lengths (a ∷ outer) (b ∷ inner) = (a - b) ∷ row_lengths outer inner
 
--- a filling has a word for each row, one letter for each cell; these are all fillings with letters from 1 to n
+-- a filling has a word for each row, one letter for each cell;
+-- these are all fillings with letters from 1 to n
 abbrev pub fillings_of : ℕ → List ℕ → List (List (List ℕ))
 fillings_of n [] = [] ∷ []
-fillings_of n (k ∷ lengths) = each (λ row. map (λ rest. row ∷ rest) (fillings_of n lengths)) (words n k)
+fillings_of n (k ∷ lengths) =
+    flat_map (λ row. map (λ rest. row ∷ rest) (fillings_of n lengths)) (words n k)
 
 -- whether no letter of a row is smaller than its left neighbour
 abbrev pub row_rises : List ℕ → Bool
@@ -26,19 +29,21 @@ row_rises [] = true
 row_rises (a ∷ []) = true
 row_rises (a ∷ b ∷ row) = nat_le a b && row_rises (b ∷ row)
 
--- whether each letter of the lower row is greater than the letter above it, both read from one column on
+-- whether each letter of the lower row is greater than the letter above it,
+-- both read from one column on
 abbrev pub columns_rise : List ℕ → List ℕ → Bool
 columns_rise [] lower = true
 columns_rise (a ∷ upper) [] = true
 columns_rise (a ∷ upper) (b ∷ lower) = nat_lt a b && columns_rise upper lower
 
--- whether a filling is semistandard: rows rise weakly, columns strictly. The cells of a row of inner part c
--- begin c - c' columns right of those of the next row, of inner part c'.
+-- whether a filling is semistandard: rows are weakly increasing, columns strictly. The cells of a
+-- row of inner part c begin c - c' columns right of those of the next row, of inner part c'.
 abbrev pub semistandard : List ℕ → List (List ℕ) → Bool
 semistandard inner [] = true
 semistandard inner (row ∷ []) = row_rises row
 semistandard inner (row ∷ lower ∷ rest) =
-    row_rises row && columns_rise row (drop (part inner 1 - part inner 2) lower) && semistandard (drop 1 inner) (lower ∷ rest)
+    row_rises row && columns_rise row (drop (part inner 1 - part inner 2) lower)
+    && semistandard (drop 1 inner) (lower ∷ rest)
 
 -- whether no part of inner is greater than the part of outer in the same row
 abbrev pub contains : List ℕ → List ℕ → Bool
@@ -49,7 +54,8 @@ contains (a ∷ outer) (b ∷ inner) = nat_le b a && contains outer inner
 -- the semistandard tableaux of shape outer/inner with entries from 1 to n
 abbrev pub tableaux : ℕ → List ℕ → List ℕ → List (List (List ℕ))
 tableaux n outer inner =
-    cond (contains outer inner) (select (semistandard inner) (fillings_of n (row_lengths outer inner))) []
+    cond (contains outer inner) (filter (semistandard inner)
+    (fillings_of n (row_lengths outer inner))) []
 
 -- how often k stands in the word
 abbrev pub times_in : ℕ → List ℕ → ℕ
@@ -58,7 +64,7 @@ times_in k (a ∷ w) = cond (a == k) 1 0 + times_in k w
 
 -- the letters of a filling
 abbrev pub letters_of : List (List ℕ) → List ℕ
-letters_of filling = each (λ row. row) filling
+letters_of filling = flat_map (λ row. row) filling
 
 -- the content of a word in letters from 1 to n: how often each of them stands in it
 abbrev pub content : ℕ → List ℕ → List ℕ
@@ -67,7 +73,8 @@ content n w = map (λ k. times_in k w) (after 0 n)
 -- s_{outer/inner} in n variables: the sum of x^content over the semistandard tableaux (Fulton);
 -- 0 where inner does not lie inside outer
 abbrev pub skew_schur : List ℕ → List ℕ → ℕ → Poly
-skew_schur outer inner n = map (λ filling. (content n (letters_of filling), pos 1)) (tableaux n outer inner)
+skew_schur outer inner n =
+    map (λ filling. (content n (letters_of filling), pos 1)) (tableaux n outer inner)
 
 -- s_λ in n variables
 abbrev pub schur : List ℕ → ℕ → Poly

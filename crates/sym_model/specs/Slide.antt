@@ -1,11 +1,13 @@
 -- Slides of skew tableaux (Schützenberger's jeu de taquin; Fulton, 1.2).
-use Rattle.std.specs.Prelude.{◌≡◌, ℕ, zero, suc, ◌+◌, ◌-◌, ◌<◌, ◌≤◌, nat_le, Bool, true, false, cond, List, [], ◌∷◌, ◌++◌, length, take, drop}
+use Rattle.std.specs.Prelude.{◌≡◌, ℕ, zero, suc, ◌+◌, ◌-◌, ◌<◌, ◌≤◌, nat_le, Bool, true, false}
+use Rattle.std.specs.Prelude.{cond, List, [], ◌∷◌, ◌++◌, length, take, drop}
 use Rattle.sym_model.specs.Partition.{part, without_last_zeros}
 use Rattle.sym_model.specs.Schur.{letters_of}
 use Rattle.sym_model.specs.Tableau.{SkewFilling}
 
--- whether the letter below the empty cell moves into it: there is one, and no smaller letter to the right; `right` are
--- the letters right of the empty cell in its row, `lower` those of the next row from its column on
+-- whether the letter below the empty cell moves into it: there is one, and no smaller letter to the
+-- right; `right` are the letters right of the empty cell in its row,
+-- `lower` those of the next row from its column on
 abbrev pub moves_up : List ℕ → List ℕ → Bool
 moves_up right [] = false
 moves_up [] (b ∷ lower) = true
@@ -14,10 +16,12 @@ moves_up (a ∷ right) (b ∷ lower) = nat_le b a
 -- how many letters of the row move left before the letter below moves up or no letter is left
 abbrev pub moves_left : List ℕ → List ℕ → ℕ
 moves_left [] lower = 0
-moves_left (a ∷ right) lower = cond (moves_up (a ∷ right) lower) 0 (suc (moves_left right (drop 1 lower)))
+moves_left (a ∷ right) lower =
+    cond (moves_up (a ∷ right) lower) 0 (suc (moves_left right (drop 1 lower)))
 
--- the rows from that of the empty cell on after the slide: `left` and `right` are the letters left and right of the
--- empty cell in its row, `below` the rows below it, and inner the inner parts of all these rows
+-- the rows from that of the empty cell on after the slide: `left` and `right` are the letters left
+-- and right of the empty cell in its row, `below` the rows below it,
+-- and inner the inner parts of all these rows
 abbrev pub slid_rows : List ℕ → List ℕ → List ℕ → List (List ℕ) → List (List ℕ)
 slid_rows inner left right [] = (left ++ right) ∷ []
 slid_rows inner left right (row ∷ below) =
@@ -40,19 +44,21 @@ abbrev pub outer_parts : List ℕ → List (List ℕ) → List ℕ
 outer_parts inner [] = []
 outer_parts inner (row ∷ rows) = (part inner 1 + length row) ∷ outer_parts (drop 1 inner) rows
 
--- the slide from the inner corner in that row: the corner becomes an empty cell. The smaller of its right and its lower
--- neighbour moves into it, on a tie the lower one, and so on with the cell that is then empty. The last empty cell
--- leaves the outer shape.
+-- the slide from the inner corner in that row: the corner becomes an empty cell. The smaller of its
+-- right and its lower neighbour moves into it, on a tie the lower one, and so on with the cell that
+-- is then empty. The last empty cell leaves the outer shape.
 abbrev pub slide : ℕ → SkewFilling → SkewFilling
 slide row t =
     let inner = without_last_zeros (lowered_at row t.inner) in
     let kept = take (row - 1) t.rows in
     let here = drop (row - 1) t.rows in
-    let rows = kept ++ slid_rows (drop (row - 1) inner) [] (letters_of (take 1 here)) (drop 1 here) in
+    let rows =
+    kept ++ slid_rows (drop (row - 1) inner) [] (letters_of (take 1 here)) (drop 1 here) in
     let outer = without_last_zeros (outer_parts inner rows) in
     record { outer = outer; inner = inner; rows = take (length outer) rows }
 
--- the inner partition has an inner corner in that row: a cell that is the last of its row and of its column
+-- the inner partition has an inner corner in that row:
+-- a cell that is the last of its row and of its column
 abbrev pub HasInnerCorner : ℕ → List ℕ → Type 0
 HasInnerCorner row inner = (1 ≤ row) × (part inner (row + 1) < part inner row)
 

@@ -1,4 +1,5 @@
--- Straightening a list of exponents (Macdonald, I.3): which Schur polynomial a_(α+ρ)/a_ρ is, and with which sign.
+-- Straightening a list of exponents (Macdonald, I.3): which Schur polynomial a_(α+ρ)/a_ρ is,
+-- and with which sign.
 use Rattle.std.specs.Prelude.{ℕ, cond, ℤ, List, length, Option, Some, None}
 use Rattle.sym_model.specs.Polynomial.{join}
 use Rattle.sym_model.specs.Alternant.{staircase}
@@ -8,7 +9,8 @@ use Rattle.sym_model.specs.BetaList.{from_beta, has_equal_entries, sorted_fallin
 abbrev pub shifted : List ℕ → List ℕ
 shifted α = join α (staircase (length α))
 
--- 0 (None) where α + ρ has two equal entries; otherwise the sign of sorting α + ρ, and the partition sorted(α + ρ) - ρ
+-- 0 (None) where α + ρ has two equal entries; otherwise the sign of sorting α + ρ, and the
+-- partition sorted(α + ρ) - ρ
 abbrev pub straightened : List ℕ → Option (ℤ × List ℕ)
 straightened α =
     cond (has_equal_entries (shifted α)) None

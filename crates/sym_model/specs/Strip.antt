@@ -1,8 +1,7 @@
--- Horizontal strips, vertical strips and rim hooks, as conditions on the cells of a skew shape outer/inner
--- (Macdonald, I.1; Stanley, 7.17). The height of a rim hook is the number of its rows, as Bertram, Ciocan-Fontanine and
--- Fulton count; Macdonald and Stanley take 1 less.
-use Rattle.std.specs.Prelude.{◌≡◌, ℕ, ◌+◌, nat_lt, ◌⊎◌, List, [], ◌∷◌, length}
-use Rattle.sym_model.specs.Sum.{select}
+-- Horizontal strips, vertical strips and rim hooks, as conditions on the cells of a skew shape
+-- outer/inner (Macdonald, I.1; Stanley, 7.17). The height of a rim hook is the number of its rows,
+-- as Bertram, Ciocan-Fontanine and Fulton count; Macdonald and Stanley take 1 less.
+use Rattle.std.specs.Prelude.{◌≡◌, ℕ, ◌+◌, nat_lt, ◌⊎◌, List, [], ◌∷◌, length, filter}
 use Rattle.sym_model.specs.Partition.{part, rows, after, Holds, IsCell}
 
 -- outer/inner is a horizontal strip: a skew shape with at most one cell in each column
@@ -51,4 +50,5 @@ pub record IsRimHook (outer inner : List ℕ) : Type 0 where
 
 -- the height of a rim hook: how many rows have cells of outer/inner
 abbrev pub height : List ℕ → List ℕ → ℕ
-height outer inner = length (select (λ row. nat_lt (part inner row) (part outer row)) (after 0 (rows outer)))
+height outer inner =
+    length (filter (λ row. nat_lt (part inner row) (part outer row)) (after 0 (rows outer)))

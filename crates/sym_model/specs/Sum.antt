@@ -1,20 +1,10 @@
 -- Finite sums over lists, and the words on lists that every definition here is made of.
-use Rattle.std.specs.Prelude.{◌≡◌, ◌⊎◌, ℤ, pos, ◌+ℤ◌, List, [], ◌∷◌, ◌++◌, Bool, cond}
+use Rattle.std.specs.Prelude.{◌≡◌, ◌⊎◌, ℤ, pos, ◌+ℤ◌, List, [], ◌∷◌}
 
 -- the sum of a whole number for each element of a list
 abbrev pub total : {A : Type 0} → (A → ℤ) → List A → ℤ
 total f [] = pos 0
 total f (x ∷ xs) = f x +ℤ total f xs
-
--- the lists that f gives of the elements, one after another
-abbrev pub each : {A B : Type 0} → (A → List B) → List A → List B
-each f [] = []
-each f (x ∷ xs) = f x ++ each f xs
-
--- the elements at which the test gives true
-abbrev pub select : {A : Type 0} → (A → Bool) → List A → List A
-select test [] = []
-select test (x ∷ xs) = cond (test x) (x ∷ select test xs) (select test xs)
 
 -- x is an element of the list
 abbrev pub Among : {A : Type 0} → A → List A → Type 0

@@ -1,24 +1,27 @@
--- Where words that spell no command go wrong (this project's own).
+-- Where words that spell no command first fail.
 use Rattle.std.specs.Prelude.{◌≡◌, ℕ, ◌<◌, List, [], length, take, ◌⊎◌, slice_index_or}
 use Rattle.sym_model.specs.LongestPrefix.{IsLongestPrefix}
 use Rattle.sym_model.specs.Phrase.{BeginsExpression}
 use Rattle.sym_model.specs.Command.{Command}
 use Rattle.sym_model.specs.Entry.{Entry, SpellsCommand, BeginsCommand, AwaitsExpression}
 
--- after so many words there is one more, and it stands in the place of an expression
+-- the word with this number, counted from 0, is there and in the place of an expression
 pub record IsExpressionWord (entries : List Entry) (words : List (List ℕ)) (word : ℕ) : Type 0 where
   pub is_there : word < length words
   pub awaited : AwaitsExpression entries (take word words)
 
--- the byte at which the word offends that stands after so many: where it stands in the place of an expression, by the
--- longest prefix of it that begins one; 0 elsewhere
+-- the byte at which the word with this number is invalid: in the place of an expression, the length
+-- of its longest prefix that begins one; 0 elsewhere
 abbrev pub IsSyntaxByte : List Entry → List (List ℕ) → ℕ → ℕ → Type 0
 IsSyntaxByte entries words word byte =
-    (IsExpressionWord entries words word × IsLongestPrefix BeginsExpression (slice_index_or words word []) byte)
+    (IsExpressionWord entries words word
+    × IsLongestPrefix BeginsExpression (slice_index_or words word []) byte)
     ⊎ ((IsExpressionWord entries words word → ⊥) × (byte ≡ 0))
 
--- the words spell no command, and this is where they go wrong: the word after the longest prefix that begins a command
-pub record IsSyntaxPlace (entries : List Entry) (words : List (List ℕ)) (word byte : ℕ) : Type 0 where
+-- the words spell no command, and this is where they first fail:
+-- the word after the longest prefix that begins a command
+pub record IsSyntaxPlace (entries : List Entry) (words : List (List ℕ))
+    (word byte : ℕ) : Type 0 where
   pub no_command : (command : Command) → SpellsCommand entries words command → ⊥
   pub word_is : IsLongestPrefix (BeginsCommand entries) words word
   pub byte_is : IsSyntaxByte entries words word byte

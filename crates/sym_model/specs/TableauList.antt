@@ -1,22 +1,24 @@
--- The lists of the tableaux of a skew shape by their column readings, and the filling of a reading (this project's own).
-use Rattle.std.specs.Prelude.{ℕ, ◌-◌, ◌==◌, nat_le, nat_lt, ◌&&◌, cond, List, [], ◌∷◌, map, length, reverse}
-use Rattle.sym_model.specs.Sum.{each, select}
+-- The lists of the tableaux of a skew shape by their column readings, and the filling of a reading.
+use Rattle.std.specs.Prelude.{ℕ, ◌-◌, ◌==◌, nat_le, nat_lt, ◌&&◌, cond, List, [], ◌∷◌, map, length}
+use Rattle.std.specs.Prelude.{reverse, filter, flat_map}
 use Rattle.sym_model.specs.Polynomial.{same}
 use Rattle.sym_model.specs.Partition.{part, rows, columns, after, cells}
 use Rattle.sym_model.specs.Schur.{words, tableaux, content}
 use Rattle.sym_model.specs.GoodTableau.{column_reading, is_among}
 
--- the column readings of the semistandard tableaux of outer/inner with entries from 1 to n, in rising lexicographic
--- order: the words with letters from 1 to n that are the column reading of such a tableau
+-- the column readings of the semistandard tableaux of outer/inner with entries from 1 to n, in
+-- rising lexicographic order: the words with letters from 1 to n that are the column reading of
+-- such a tableau
 abbrev pub tableau_readings : ℕ → List ℕ → List ℕ → List (List ℕ)
 tableau_readings n outer inner =
     let readings = map (column_reading outer inner) (tableaux n outer inner) in
-    select (λ w. is_among w readings) (words n (length (cells outer inner)))
+    filter (λ w. is_among w readings) (words n (length (cells outer inner)))
 
 -- those among them of the tableaux with this content, in as many letters as the content has numbers
 abbrev pub readings_with_content : List ℕ → List ℕ → List ℕ → List (List ℕ)
 readings_with_content counts outer inner =
-    select (λ w. same (content (length counts) w) counts) (tableau_readings (length counts) outer inner)
+    filter (λ w. same (content (length counts) w) counts)
+    (tableau_readings (length counts) outer inner)
 
 -- the lists that come after w in a list of lists; none where w is not among them
 abbrev pub later_than : List ℕ → List (List ℕ) → List (List ℕ)
@@ -26,13 +28,15 @@ later_than w (v ∷ vs) = cond (same w v) vs (later_than w vs)
 -- the cells of column j of outer/inner as pairs (row, column), from top to bottom
 abbrev pub column_cells : List ℕ → List ℕ → ℕ → List (ℕ × ℕ)
 column_cells outer inner j =
-    map (λ i. (i, j)) (select (λ i. nat_lt (part inner i) j && nat_le j (part outer i)) (after 0 (rows outer)))
+    map (λ i. (i, j)) (filter (λ i. nat_lt (part inner i) j && nat_le j (part outer i))
+    (after 0 (rows outer)))
 
 -- the cells of outer/inner in the order of the column reading
 abbrev pub reading_cells : List ℕ → List ℕ → List (ℕ × ℕ)
-reading_cells outer inner = each (column_cells outer inner) (reverse (after 0 (columns outer)))
+reading_cells outer inner = flat_map (column_cells outer inner) (reverse (after 0 (columns outer)))
 
--- the letter that the cell (row, column) gets where the letters of a word are put into these cells one by one
+-- the letter that the cell (row, column) gets where the letters of a word are put into these cells
+-- one by one
 abbrev pub letter_of_cell : ℕ → ℕ → List (ℕ × ℕ) → List ℕ → ℕ
 letter_of_cell row column [] w = 0
 letter_of_cell row column (c ∷ cells) [] = 0

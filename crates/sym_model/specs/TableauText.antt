@@ -1,6 +1,5 @@
--- The printed forms of words, tableaux, lists of tableaux and growth grids (this project's own).
-use Rattle.std.specs.Prelude.{ℕ, List, [], ◌∷◌, ◌++◌, map, codes, decimal}
-use Rattle.sym_model.specs.Sum.{each}
+-- The printed forms of words, tableaux, lists of tableaux and growth grids.
+use Rattle.std.specs.Prelude.{ℕ, List, [], ◌∷◌, ◌++◌, map, codes, decimal, flat_map}
 use Rattle.sym_model.specs.TableauList.{filling_of}
 use Rattle.sym_model.specs.Growth.{grid_lines}
 use Rattle.sym_model.specs.NumberText.{label_text}
@@ -9,7 +8,8 @@ use Rattle.sym_model.specs.NumberText.{label_text}
 abbrev pub separated : List ℕ → List (List ℕ) → List ℕ
 separated separator [] = []
 separated separator (piece ∷ []) = piece
-separated separator (piece ∷ next ∷ pieces) = piece ++ (separator ++ separated separator (next ∷ pieces))
+separated separator (piece ∷ next ∷ pieces) =
+    piece ++ (separator ++ separated separator (next ∷ pieces))
 
 -- numbers with one space between them
 abbrev pub spaced : List ℕ → List ℕ
@@ -37,10 +37,12 @@ pair_text p q = (codes "P " ++ tableau_line p) ++ (codes "Q " ++ tableau_line q)
 abbrev pub word_line : List ℕ → List ℕ
 word_line w = spaced w ++ codes "\n"
 
--- the lines of the tableaux of outer/inner with these column readings, and the line 0 where there is none
+-- the lines of the tableaux of outer/inner with these column readings,
+-- and the line 0 where there is none
 abbrev pub readings_text : List ℕ → List ℕ → List (List ℕ) → List ℕ
 readings_text outer inner [] = codes "0\n"
-readings_text outer inner (w ∷ readings) = each (λ v. tableau_line (filling_of outer inner v)) (w ∷ readings)
+readings_text outer inner (w ∷ readings) =
+    flat_map (λ v. tableau_line (filling_of outer inner v)) (w ∷ readings)
 
 -- a line of a growth grid: the labels of its shapes with one space between them
 abbrev pub shapes_line : List (List ℕ) → List ℕ
@@ -48,4 +50,4 @@ shapes_line shapes = separated (codes " ") (map label_text shapes) ++ codes "\n"
 
 -- the growth grid of a permutation, a line after another
 abbrev pub grid_text : List ℕ → List ℕ
-grid_text w = each shapes_line (grid_lines w)
+grid_text w = flat_map shapes_line (grid_lines w)

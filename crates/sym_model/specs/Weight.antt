@@ -1,7 +1,8 @@
--- The weight of an expression, which bounds every number that its conversion meets (this project's own).
+-- The weight of an expression, which bounds every number that its conversion meets.
 use Rattle.std.specs.Prelude.{ℕ, zero, suc, ◌+◌, ◌*◌, ◌/◌, ◌^◌, max}
 use Rattle.sym_model.specs.Expansion.{Basis, monomials, schurs}
-use Rattle.sym_model.specs.Expression.{Tree, number, fraction, atom, negation, sum, difference, product, degree, denominator, lcm}
+use Rattle.sym_model.specs.Expression.{Tree, number, fraction, atom, negation, sum, difference}
+use Rattle.sym_model.specs.Expression.{product, degree, denominator, lcm}
 
 -- N, which bounds the sum of the absolute values of the coefficients times D, an atom counting as 1
 abbrev pub numerator : Tree → ℕ

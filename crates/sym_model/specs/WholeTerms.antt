@@ -1,6 +1,7 @@
 -- Lists of terms with whole coefficients, and the polynomial that such a list stands for.
-use Rattle.std.specs.Prelude.{◌≡◌, ℕ, ◌+◌, ℤ, pos, nat_abs, ◌==◌, Bool, ◌&&◌, cond, List, [], ◌∷◌, map}
-use Rattle.sym_model.specs.Sum.{total, each}
+use Rattle.std.specs.Prelude.{◌≡◌, ℕ, ◌+◌, ℤ, pos, nat_abs, ◌==◌, Bool, ◌&&◌, cond, List, [], ◌∷◌}
+use Rattle.std.specs.Prelude.{map, flat_map}
+use Rattle.sym_model.specs.Sum.{total}
 use Rattle.sym_model.specs.Polynomial.{Poly, same, scale}
 use Rattle.sym_model.specs.Expansion.{Terms, Fraction}
 
@@ -8,14 +9,17 @@ use Rattle.sym_model.specs.Expansion.{Terms, Fraction}
 abbrev pub WholeTermsOf : Type 0 → Type 0
 WholeTermsOf Label = List (Label × ℤ)
 
--- the same with partitions as labels. `coefficient terms label` is what all terms of a label come to, and two lists are
+-- the same with partitions as labels. `coefficient terms label` is what all terms of a label come
+-- to, and two lists are
 -- `Same` where they differ by collecting, by zeros and by order only.
 abbrev pub WholeTerms : Type 0
 WholeTerms = WholeTermsOf (List ℕ)
 
 -- what all terms of a label come to, by a test of labels that are the same
-abbrev pub coefficient_by : {Label : Type 0} → (Label → Label → Bool) → WholeTermsOf Label → Label → ℤ
-coefficient_by {Label = Label} test terms label = total (λ (t : Label × ℤ). cond (test t.0 label) t.1 (pos 0)) terms
+abbrev pub coefficient_by : {Label : Type 0} → (Label → Label → Bool) → WholeTermsOf Label → Label
+    → ℤ
+coefficient_by {Label = Label} test terms label =
+    total (λ (t : Label × ℤ). cond (test t.0 label) t.1 (pos 0)) terms
 
 -- whether two pairs of lists are the same
 abbrev pub same_pair : List ℕ × List ℕ → List ℕ × List ℕ → Bool
@@ -27,7 +31,8 @@ same_power first second = (first.0 == second.0) && same first.1 second.1
 
 -- the sum of c·polynomial(label) over the terms (label, c)
 abbrev pub combined : {Label : Type 0} → (Label → Poly) → WholeTermsOf Label → Poly
-combined {Label = Label} polynomial terms = each (λ (t : Label × ℤ). scale t.1 (polynomial t.0)) terms
+combined {Label = Label} polynomial terms =
+    flat_map (λ (t : Label × ℤ). scale t.1 (polynomial t.0)) terms
 
 -- the list with its coefficients written as fractions of denominator 1
 abbrev pub as_fractions : {Label : Type 0} → WholeTermsOf Label → Terms Label

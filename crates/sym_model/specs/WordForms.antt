@@ -1,10 +1,12 @@
--- The forms of the parts that commands are made of, and what their words say (this project's own).
-use Rattle.std.specs.Prelude.{ℕ, ◌+◌, Bool, true, false, cond, List, [], ◌∷◌, map, length, codes, Option, Some, None}
+-- The forms of the parts that commands are made of, and what their words say.
+use Rattle.std.specs.Prelude.{ℕ, ◌+◌, Bool, true, false, cond, List, [], ◌∷◌, map, length, codes}
+use Rattle.std.specs.Prelude.{Option, Some, None}
 use Rattle.std.proofs.Common.{zero, suc, inl, inr}
 use Rattle.sym_model.specs.Partition.{without_last_zeros}
 use Rattle.sym_model.specs.PrintedBlock.{decimal_value}
 use Rattle.sym_model.specs.ExpressionOffence.{shape}
-use Rattle.sym_model.specs.Form.{Form, empty, word, sequence, either, many, exact, number, Written, words_of, taken, are_words_of}
+use Rattle.sym_model.specs.Form.{Form, empty, word, sequence, either, many, exact, number, Written}
+use Rattle.sym_model.specs.Form.{words_of, taken, are_words_of}
 use Rattle.sym_model.specs.CommandOffence.{Offence, offences_by, rows_rule, PlacedRow, entries}
 
 -- exactly this word
@@ -111,7 +113,7 @@ placed_rows k x = placed k (x.0 ∷ map (λ (y : Unit {0} × Written row_words).
 abbrev pub tableau_rows : Written tableau_words → List (List ℕ)
 tableau_rows x = entries (placed_rows 0 x)
 
--- a row of so many entries
+-- a row of this number of entries
 abbrev pub row_of : ℕ → Form
 row_of zero = the (codes ".")
 row_of (suc zero) = word number
@@ -121,10 +123,11 @@ row_of (suc (suc n)) = sequence (word number) (row_of (suc n))
 abbrev pub tableau_of : List ℕ → Form
 tableau_of [] = the (codes ".")
 tableau_of (n ∷ []) = row_of n
-tableau_of (n ∷ m ∷ lengths) = sequence (row_of n) (sequence (the (codes "/")) (tableau_of (m ∷ lengths)))
+tableau_of (n ∷ m ∷ lengths) =
+    sequence (row_of n) (sequence (the (codes "/")) (tableau_of (m ∷ lengths)))
 
--- the words of a tableau that stands last, from the word k on: the first at which they cannot go on to rows of these lengths,
--- or the number of all words where they end too early
+-- the words of a tableau that stands last, from the word k on: the first at which they cannot go on
+-- to rows of these lengths, or the number of all words where they end too early
 abbrev pub shape_offences : ℕ → List ℕ → List (List ℕ) → List Offence
 shape_offences k lengths words =
     cond

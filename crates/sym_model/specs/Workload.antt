@@ -1,5 +1,6 @@
--- The generator of the command `work`: the lines that it runs, and the summary of their blocks (this project's own).
-use Rattle.std.specs.Prelude.{ℕ, zero, suc, ◌+◌, ◌*◌, ◌%◌, List, [], ◌∷◌, ◌++◌, map, length, cond, codes, decimal}
+-- The generator of the command `work`: the lines that it runs, and the summary of their blocks.
+use Rattle.std.specs.Prelude.{ℕ, zero, suc, ◌+◌, ◌*◌, ◌%◌, List, [], ◌∷◌, ◌++◌, map, length, cond}
+use Rattle.std.specs.Prelude.{codes, decimal}
 use Rattle.sym_model.specs.Polynomial.{same}
 use Rattle.sym_model.specs.Partition.{size, without_last_zeros}
 use Rattle.sym_model.specs.PlaceOrders.{places}
@@ -39,14 +40,17 @@ between name first sign second = name ∷ map decimal first ++ (sign ∷ map dec
 
 -- the words of a line, by the state after the draw that picks its kind, and that draw modulo 5
 abbrev pub words_drawn : ℕ → ℕ → List (List ℕ)
-words_drawn zero x = between (codes "mult") (partition_drawn 3 x) (codes "-") (partition_drawn 3 (after_draws 3 x))
-words_drawn (suc zero) x = between (codes "skew") (partition_drawn 4 x) (codes "/") (partition_drawn 2 (after_draws 3 x))
+words_drawn zero x =
+    between (codes "mult") (partition_drawn 3 x) (codes "-") (partition_drawn 3 (after_draws 3 x))
+words_drawn (suc zero) x =
+    between (codes "skew") (partition_drawn 4 x) (codes "/") (partition_drawn 2 (after_draws 3 x))
 words_drawn (suc (suc zero)) x = codes "coprod" ∷ map decimal (partition_drawn 3 x)
 words_drawn (suc (suc (suc zero))) x =
     between (codes "schubmult") (letters_by_code (code_drawn x) (places 4)) (codes "-")
     (letters_by_code (code_drawn (after_draws 3 x)) (places 4))
 words_drawn kind x =
-    codes "expand" ∷ codes "p" ∷ (codes "m[" ++ (numbers_text (partition_drawn 3 x) ++ codes "]")) ∷ []
+    codes "expand" ∷ codes "p" ∷ (codes "m[" ++ (numbers_text (partition_drawn 3 x) ++ codes "]"))
+    ∷ []
 
 -- how many draws a line of that kind makes after the first one
 abbrev pub draws_of : ℕ → ℕ

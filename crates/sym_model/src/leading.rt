@@ -2,7 +2,8 @@
 
 ghost use Rattle.std.specs.Prelude.{◌≡◌, ℕ, ℤ, pos, neg_ℤ, ◌⊎◌, List, [], ◌∷◌};
 ghost use Rattle.sym_model.specs.Sum.{Among};
-ghost use Rattle.sym_model.specs.Polynomial.{Term, Poly, Same, In, nothing, join, coefficient, times};
+ghost use Rattle.sym_model.specs.Polynomial.{Term, Poly, Same, In, nothing, join, coefficient};
+ghost use Rattle.sym_model.specs.Polynomial.{times};
 ghost use Rattle.sym_model.specs.Leading.{Above, Leads};
 
 /// In n variables a polynomial whose greatest monomial, in the lexicographic order of exponent
@@ -22,6 +23,7 @@ pub fn leading_cancel_law()
         → ((t : Term) → Among t f → Above top t.0) → Leads ((top, c) ∷ f) top }
     ensures example { let difference = ((1 ∷ 0 ∷ []), pos 1) ∷ ((0 ∷ 1 ∷ []), neg_ℤ (pos 1)) ∷ [] in
         Leads difference (1 ∷ 0 ∷ []) }
-    ensures example_product { let difference = ((1 ∷ 0 ∷ []), pos 1) ∷ ((0 ∷ 1 ∷ []), neg_ℤ (pos 1)) ∷ [] in
+    ensures example_product { let difference = ((1 ∷ 0 ∷ []), pos 1) ∷ ((0 ∷ 1 ∷ []), neg_ℤ (pos 1))
+        ∷ [] in
         coefficient (times difference difference) (2 ∷ 0 ∷ []) ≡ pos 1 }
 {}

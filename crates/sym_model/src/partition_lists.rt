@@ -7,8 +7,10 @@ ghost use Rattle.sym_model.specs.PartitionList.{partitions_of, FallsLexicographi
 
 /// The list of the partitions of d has exactly these, each once, in falling lexicographic order.
 pub fn partitions_of_law()
-    ensures exactly { (d : ℕ) (parts : List ℕ) → Among parts (partitions_of d) ↔ (IsPartition parts × (size parts ≡ d)) }
+    ensures exactly { (d : ℕ) (parts : List ℕ) → Among parts (partitions_of d)
+        ↔ (IsPartition parts × (size parts ≡ d)) }
     ensures once { (d : ℕ) → Once (partitions_of d) }
     ensures order { (d : ℕ) → FallsLexicographically (partitions_of d) }
-    ensures of_4 { partitions_of 4 ≡ (4 ∷ []) ∷ (3 ∷ 1 ∷ []) ∷ (2 ∷ 2 ∷ []) ∷ (2 ∷ 1 ∷ 1 ∷ []) ∷ (1 ∷ 1 ∷ 1 ∷ 1 ∷ []) ∷ [] }
+    ensures of_4 { partitions_of 4
+        ≡ (4 ∷ []) ∷ (3 ∷ 1 ∷ []) ∷ (2 ∷ 2 ∷ []) ∷ (2 ∷ 1 ∷ 1 ∷ []) ∷ (1 ∷ 1 ∷ 1 ∷ 1 ∷ []) ∷ [] }
 {}

@@ -9,10 +9,14 @@ ghost use Rattle.sym_model.specs.Bases.{monomial, elementary, complete, power_su
 /// monomial symmetric polynomial with more parts than variables is 0. The parts of a power sum are
 /// positive; the others may be any list of numbers.
 pub fn restriction_law()
-    ensures monomial { (parts : List ℕ) (k n : ℕ) → k ≤ n → Same (restrict k (monomial parts n)) (monomial parts k) }
-    ensures elementary { (parts : List ℕ) (k n : ℕ) → k ≤ n → Same (restrict k (elementary parts n)) (elementary parts k) }
-    ensures complete { (parts : List ℕ) (k n : ℕ) → k ≤ n → Same (restrict k (complete parts n)) (complete parts k) }
+    ensures monomial { (parts : List ℕ) (k n : ℕ) → k ≤ n
+        → Same (restrict k (monomial parts n)) (monomial parts k) }
+    ensures elementary { (parts : List ℕ) (k n : ℕ) → k ≤ n
+        → Same (restrict k (elementary parts n)) (elementary parts k) }
+    ensures complete { (parts : List ℕ) (k n : ℕ) → k ≤ n
+        → Same (restrict k (complete parts n)) (complete parts k) }
     ensures power_sum { (parts : List ℕ) (k n : ℕ) → ArePositive parts → k ≤ n
         → Same (restrict k (power_sum parts n)) (power_sum parts k) }
-    ensures few_variables { (parts : List ℕ) (n : ℕ) → n < rows parts → Same (monomial parts n) nothing }
+    ensures few_variables { (parts : List ℕ) (n : ℕ) → n < rows parts
+        → Same (monomial parts n) nothing }
 {}

@@ -8,10 +8,11 @@ use Rattle.sym_model.specs.Polynomial.{same}
 use Rattle.sym_model.specs.Schur.{row_lengths}
 use Rattle.sym_model.specs.TableauList.{filling_of}
 use Rattle.sym_model.proofs.Exponents.{same_true}
-pub use Rattle.tableau_iter.proofs.GoodWords.{AreWithin, RowsWithin}
-use Rattle.tableau_iter.proofs.GoodWords.{filling-within, letter_of, rows-by_cells, word_tells}
+pub use Rattle.tableau_iter.proofs.GoodWords.{RowsWithin}
+use Rattle.tableau_iter.proofs.GoodWords.{filling-within, letter_of, rows-by_cells}
 use Rattle.tableau_iter.proofs.Orders.{filling_of-reading, length-reading}
 use Rattle.tableau_iter.proofs.Membership.{listed_tells}
+use Rattle.sym_model.proofs.Tableaux.{word_tells}
 
 -- a filling is that of its reading
 pub filling_back : (outer inner : List ℕ) (rows : List (List ℕ)) → Falls outer → map length rows ≡ row_lengths outer inner

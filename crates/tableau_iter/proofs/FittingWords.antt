@@ -1,8 +1,8 @@
 -- The lists of readings are the words whose letters fit, one after the other.
-use Rattle.std.proofs.Common.{◌≡◌, ℕ, zero, suc, ◌-◌, ◌<◌, ◌≤◌, min, Bool, true, false, ◌&&◌, ◌==◌, cond, nat_le, nat_lt, List, [], ◌∷◌, ◌++◌, map, length, take, get_or, ◌∙◌, ap, ap₂, sym, refl, arith, append-nil, append_assoc}
+use Rattle.std.proofs.Common.{◌≡◌, ℕ, zero, suc, ◌-◌, ◌<◌, ◌≤◌, min, Bool, true, false, ◌&&◌, ◌==◌, cond, nat_le, nat_lt, List, [], ◌∷◌, ◌++◌, map, length, take, get_or, ◌∙◌, ap, ap₂, sym, refl, arith, append-nil, append_assoc, filter}
 use Rattle.std.proofs.lemmas.Bool.{and_parts, le-leb, leb-true, lt-ltb, ltb-true}
 use Rattle.std.proofs.lemmas.List.{length-take, get_or-take}
-use Rattle.sym_model.specs.Sum.{select, Among}
+use Rattle.sym_model.specs.Sum.{Among}
 use Rattle.sym_model.specs.Partition.{Falls, after, cells, columns, size}
 use Rattle.sym_model.specs.Polynomial.{join, same}
 use Rattle.sym_model.specs.Schur.{content, contains, tableaux, words}
@@ -18,12 +18,15 @@ use Rattle.tableau_iter.specs.Fits.{Neighbours, AreCells, AreNear, all_fit, allo
 use Rattle.tableau_iter.specs.declared.rule.Rule.{Rule}
 use Rattle.tableau_iter.specs.declared.rule.Rule.TheVariants.{Free, Falling, Limited}
 use Rattle.tableau_iter.proofs.Walking.{select-select}
-use Rattle.tableau_iter.proofs.GoodWords.{AreWithin, good-listed, select-among, tableau-listed, word_tells}
+use Rattle.tableau_iter.proofs.GoodWords.{good-listed, select-among, tableau-listed}
 use Rattle.tableau_iter.proofs.Orders.{length-reading}
 use Rattle.tableau_iter.proofs.Sums.{AreWithinLength, ends-within, falls_at, is_good-ends}
 use Rattle.tableau_iter.proofs.Tableaux.{Stands, lines-length, stands-tableau, tableau-stands, within-at}
 use Rattle.tableau_iter.proofs.FrontContents.{falls_at-from, good-allows}
-use Rattle.tableau_iter.proofs.LetterCounts.{content-allows, content-from, size-content}
+use Rattle.tableau_iter.proofs.LetterCounts.{content-allows, content-from}
+use Rattle.sym_model.specs.Bounded.{AreLetters}
+use Rattle.sym_model.proofs.Contents.{size-content}
+use Rattle.sym_model.proofs.Tableaux.{word_tells}
 
 -- ---- words whose letters fit, place by place
 
@@ -109,7 +112,7 @@ back k outer inner lines ranks near p a h =
 -- a tableau whose letters the rule allows
 fits-from :
     (rule : Rule) (counts start : List ℕ) (k : ℕ) (outer inner lines ranks : List ℕ) (near : Neighbours) (w : List ℕ)
-    → Around k outer inner lines ranks near → length w ≡ length (reading_cells outer inner) → AreWithin k w → is_tableau (filled_with outer inner w) ≡ true
+    → Around k outer inner lines ranks near → length w ≡ length (reading_cells outer inner) → AreLetters k w → is_tableau (filled_with outer inner w) ≡ true
     → ((p : ℕ) → p < length w → allows rule counts (join start (content k (take p w))) (get_or w p 0) ≡ true) → all_fit (fits_by rule counts start k near) [] w ≡ true
 fits-from rule counts start k outer inner lines ranks near w a l within tableau allowed =
     all_fit-from (fits_by rule counts start k near) [] w
@@ -218,7 +221,7 @@ tableau_readings-fits counts start k outer inner lines ranks near a =
 content-listed :
     (counts outer inner : List ℕ)
     → readings_with_content counts outer inner
-    ≡ select (λ w. is_among w (map (column_reading outer inner) (tableaux (length counts) outer inner)) && same (content (length counts) w) counts)
+    ≡ filter (λ w. is_among w (map (column_reading outer inner) (tableaux (length counts) outer inner)) && same (content (length counts) w) counts)
     (words (length counts) (length (cells outer inner)))
 content-listed counts outer inner =
     select-select (λ w. is_among w (map (column_reading outer inner) (tableaux (length counts) outer inner))) (λ w. same (content (length counts) w) counts)

@@ -1,8 +1,8 @@
 -- Start plus the content of the fronts of a word, letter by letter: where it falls, and where it is limited.
-use Rattle.std.proofs.Common.{◌≡◌, ℕ, zero, suc, ◌+◌, ◌-◌, ◌<◌, ◌≤◌, true, false, ◌&&◌, ◌||◌, ◌==◌, cond, nat_le, nat_lt, List, [], ◌∷◌, ◌++◌, map, length, take, get_or, reverse, ◌∙◌, ap, ap₂, sym, refl, subst, inl, inr, arith, length-append}
+use Rattle.std.proofs.Common.{◌≡◌, ℕ, zero, suc, ◌+◌, ◌-◌, ◌<◌, ◌≤◌, true, false, ◌&&◌, ◌||◌, ◌==◌, cond, nat_le, nat_lt, List, [], ◌∷◌, ◌++◌, map, length, take, get_or, reverse, ◌∙◌, ap, ap₂, sym, refl, subst, inl, inr, arith, length-append, filter, flat_map}
 use Rattle.std.proofs.lemmas.Bool.{cases_eq, eq-eqb, ne_eqb, and_parts, le-leb, leb-true, lt-ltb, ltb-true}
 use Rattle.std.proofs.lemmas.List.{length-map, map-append, take_more}
-use Rattle.sym_model.specs.Sum.{each, select, Among, Once}
+use Rattle.sym_model.specs.Sum.{Among, Once}
 use Rattle.sym_model.specs.Partition.{IsCell, Falls, part, rows, columns, after}
 use Rattle.sym_model.specs.Polynomial.{join}
 use Rattle.sym_model.specs.Schur.{content, times_in, semistandard, letters_of}
@@ -153,7 +153,7 @@ down f outer inner r j (suc d) e fo fi c h =
 below_tells :
     (outer inner : List ℕ) (j r : ℕ) (c : ℕ × ℕ) → Among c (cells_below outer inner j r) → (i : ℕ) × (r < i) × IsCell outer inner i j × (c ≡ (i, j))
 below_tells outer inner j r c m =
-    let found = Among_from_map {B = ℕ × ℕ} (λ row. (row, j)) c (select (reaches outer inner j) (after r (rows outer - r))) m in
+    let found = Among_from_map {B = ℕ × ℕ} (λ row. (row, j)) c (filter (reaches outer inner j) (after r (rows outer - r))) m in
     let row = Among_from_select (reaches outer inner j) found.0 (after r (rows outer - r)) found.1 in
     let past = after_among r (rows outer - r) found.0 row.0 in
     let low : r < found.0 = past.0 in
@@ -190,8 +190,8 @@ good_allows-cell k start outer inner w p r j few fo fi l tableau good h high low
     let letter : get_or w p 0 ≡ letter_of_cell (r + 1) j (reading_cells outer inner) w = letter-at outer inner w p (r + 1) j l h at in
     let front = front_of outer inner j r in
     let below = cells_below outer inner j r in
-    let later = each (column_cells outer inner) (reverse (after 0 (j - 1))) in
-    let rest = (r + 1, j) ∷ (cells_below outer inner j (r + 1) ++ each (column_cells outer inner) (reverse (after 0 (j - 1)))) in
+    let later = flat_map (column_cells outer inner) (reverse (after 0 (j - 1))) in
+    let rest = (r + 1, j) ∷ (cells_below outer inner j (r + 1) ++ flat_map (column_cells outer inner) (reverse (after 0 (j - 1)))) in
     let place : p ≡ length (front_of outer inner j r) = place_of_cell outer inner r j p fo c (omega arith) at in
     let here : take p w ≡ map (λ (c : ℕ × ℕ). letter_of_cell c.0 c.1 (reading_cells outer inner) w) (front_of outer inner j r) =
     ap (λ n. take n w) place ∙ first-letters outer inner w front rest (reading_around outer inner r j fo c) l in

@@ -1,4 +1,4 @@
--- Steps of a walk over the words of a shape: the letters up to a place stay, and what is behind them changes.
+-- Steps of a walk over the words of a shape: the letters up to a place stay, and what comes after them changes.
 use Rattle.std.proofs.Common.{◌≡◌, ℕ, suc, ◌+◌, ◌-◌, ◌<◌, ◌≤◌, Bool, true, false, List, [], ◌∷◌, ◌++◌, length, take, drop, get_or, ◌∙◌, ap, ap₂, sym, refl, subst, inl, inr, arith}
 use Rattle.std.proofs.lemmas.Bool.{cases_lt}
 use Rattle.std.proofs.lemmas.List.{length-drop, length-take, take_more, take-take, take_all, get_or-take}
@@ -219,7 +219,7 @@ next-inside old new place h s found =
     (ap (later (passes old) old.setting.letters front) (drop-next old.word place h) ∙ later-same (passes old) old.setting.letters front v w a long inner)
     same (letters-same (place + 1) old new s) less.front (drop-next new.word place within ∙ ap (λ b. b ∷ w) letter)
 
--- where nothing comes next behind the letter at the place
+-- where nothing comes next after the letter at the place
 pub next-outside :
     (old b : Position) (place : ℕ) → place < length old.word → IsSameUpTo (place + 1) old b
     → later (passes old) old.setting.letters (take (place + 1) old.word) (drop (place + 1) old.word) ≡ []

@@ -1,8 +1,8 @@
 -- The words that are the column readings of good tableaux: by a test of the filling of the word.
-use Rattle.std.proofs.Common.{◌≡◌, ◌⊎◌, ℕ, zero, suc, ◌+◌, ◌-◌, ◌<◌, ◌≤◌, Bool, true, false, ◌&&◌, ◌==◌, cond, List, [], ◌∷◌, map, length, get_or, ◌∙◌, ap, ap₂, sym, refl, subst, inl, inr, arith}
+use Rattle.std.proofs.Common.{◌≡◌, ◌⊎◌, ℕ, zero, suc, ◌+◌, ◌-◌, ◌<◌, ◌≤◌, Bool, true, false, ◌&&◌, ◌==◌, cond, List, [], ◌∷◌, map, length, get_or, ◌∙◌, ap, ap₂, sym, refl, subst, inl, inr, arith, filter}
 use Rattle.std.proofs.lemmas.Bool.{and_parts, le-leb, eq-eqb, true≢false}
 use Rattle.std.proofs.lemmas.List.{length-map}
-use Rattle.sym_model.specs.Sum.{select, Among}
+use Rattle.sym_model.specs.Sum.{Among}
 use Rattle.sym_model.specs.Partition.{IsCell, Falls, part, rows, after, cells}
 use Rattle.sym_model.specs.Schur.{words, row_lengths, fillings_of, semistandard, contains, tableaux, letters_of}
 use Rattle.sym_model.specs.GoodTableau.{column_reading, is_among, is_good, good_tableaux}
@@ -10,39 +10,22 @@ use Rattle.sym_model.specs.Tableau.{are_letters}
 use Rattle.sym_model.specs.TableauList.{reading_cells, letter_of_cell, filling_of}
 use Rattle.sym_model.proofs.Exponents.{tests_agree}
 use Rattle.sym_model.proofs.Sums.{Among-map, Among_from_map, Among-each, Among_from_each, Among-select, Among_from_select}
-use Rattle.sym_model.proofs.AfterLists.{after_among, among_after, length_after}
-use Rattle.sym_model.proofs.Tableaux.{are_letters-append}
+use Rattle.sym_model.proofs.AfterLists.{among_after, length_after}
+use Rattle.sym_model.proofs.Tableaux.{are_letters-append, word_tells}
 use Rattle.skew_shapes.specs.CellFillings.{filled_with, is_tableau}
 use Rattle.skew_shapes.specs.Rows.{row_by, rows_by}
 use Rattle.skew_shapes.proofs.CellRows.{lengths-rows_by, map_after-at}
 use Rattle.tableau_laws.proofs.GoodReadings.{is_among-from, is_among-tells}
 use Rattle.tableau_iter.proofs.Orders.{Among-reading, length-reading, reading-whole, filling_of-reading}
+use Rattle.sym_model.specs.Bounded.{AreLetters}
 
 -- ---- letters from 1 to n
 
--- each letter is from 1 to n
-abbrev pub AreWithin : ℕ → List ℕ → Type 0
-AreWithin n [] = Unit {0}
-AreWithin n (a ∷ w) = ((1 ≤ a) × (a ≤ n)) × AreWithin n w
-
 abbrev pub RowsWithin : ℕ → List (List ℕ) → Type 0
 RowsWithin n [] = Unit {0}
-RowsWithin n (row ∷ rows) = AreWithin n row × RowsWithin n rows
+RowsWithin n (row ∷ rows) = AreLetters n row × RowsWithin n rows
 
-pub word_tells : (n k : ℕ) (w : List ℕ) → Among w (words n k) → (length w ≡ k) × AreWithin n w
-word_tells n zero w (inl e) = (ap length e, subst (AreWithin n) (sym e) tt)
-word_tells n zero w (inr m) = absurd m
-word_tells n (suc k) w m =
-    let found = Among_from_each (λ a. map (λ v. a ∷ v) (words n k)) w (after 0 n) m in
-    let a = found.0 in
-    let past = after_among 0 n a found.1 in
-    let tail = Among_from_map (λ v. a ∷ v) w (words n k) found.2 in
-    let rest = word_tells n k tail.0 tail.1 in
-    let low : 1 ≤ found.0 = omega (arith, past.0) in
-    let high : found.0 ≤ n = omega (arith, past.1) in
-    (ap length tail.2 ∙ ap suc rest.0, subst (AreWithin n) (sym tail.2) ((low, high), rest.1))
-
-pub word_from : (n k : ℕ) (w : List ℕ) → length w ≡ k → AreWithin n w → Among w (words n k)
+pub word_from : (n k : ℕ) (w : List ℕ) → length w ≡ k → AreLetters n w → Among w (words n k)
 word_from n zero [] l h = inl refl
 word_from n (suc k) [] l h = absurd (omega arith)
 word_from n zero (a ∷ w) l h = absurd (omega arith)
@@ -72,7 +55,7 @@ filling_from n (k ∷ lengths) (row ∷ T) l h =
 
 -- ---- the letters of the filling of a word
 
-letter_within : (n i j : ℕ) (cells : List (ℕ × ℕ)) (w : List ℕ) → length w ≡ length cells → AreWithin n w → Among (i, j) cells → (1 ≤ letter_of_cell i j cells w) × (letter_of_cell i j cells w ≤ n)
+letter_within : (n i j : ℕ) (cells : List (ℕ × ℕ)) (w : List ℕ) → length w ≡ length cells → AreLetters n w → Among (i, j) cells → (1 ≤ letter_of_cell i j cells w) × (letter_of_cell i j cells w ≤ n)
 letter_within n i j [] w l h m = absurd m
 letter_within n i j (c ∷ cells) [] l h m = absurd (omega arith)
 letter_within n i j (c ∷ cells) (a ∷ w) l h m =
@@ -88,15 +71,15 @@ letter_within n i j (c ∷ cells) (a ∷ w) l h m =
         absurd (true≢false (sym (ap₂ (λ x y. x && y) (eq-eqb c.0 i first) (eq-eqb c.1 j second)) ∙ e))
     by false e (inr k) r = r k
 
-row_within : (n : ℕ) (g : ℕ → ℕ) (a k : ℕ) → ((j : ℕ) → a < j → j ≤ a + k → (1 ≤ g j) × (g j ≤ n)) → AreWithin n (map g (after a k))
+row_within : (n : ℕ) (g : ℕ → ℕ) (a k : ℕ) → ((j : ℕ) → a < j → j ≤ a + k → (1 ≤ g j) × (g j ≤ n)) → AreLetters n (map g (after a k))
 row_within n g a zero h = tt
 row_within n g a (suc k) h = (h (a + 1) (omega arith) (omega arith), row_within n g (a + 1) k (λ j l m. h j (omega arith) (omega arith)))
 
-rows_within : (n : ℕ) (g : ℕ → List ℕ) (a k : ℕ) → ((i : ℕ) → a < i → AreWithin n (g i)) → RowsWithin n (map g (after a k))
+rows_within : (n : ℕ) (g : ℕ → List ℕ) (a k : ℕ) → ((i : ℕ) → a < i → AreLetters n (g i)) → RowsWithin n (map g (after a k))
 rows_within n g a zero h = tt
 rows_within n g a (suc k) h = (h (a + 1) (omega arith), rows_within n g (a + 1) k (λ i l. h i (omega arith)))
 
-pub filling-within : (n : ℕ) (outer inner w : List ℕ) → Falls outer → length w ≡ length (reading_cells outer inner) → AreWithin n w → RowsWithin n (filling_of outer inner w)
+pub filling-within : (n : ℕ) (outer inner w : List ℕ) → Falls outer → length w ≡ length (reading_cells outer inner) → AreLetters n w → RowsWithin n (filling_of outer inner w)
 filling-within n outer inner w f l h =
     let g : ℕ → ℕ → ℕ = λ row column. letter_of_cell row column (reading_cells outer inner) w in
     rows_within n (row_by g outer inner) 0 (length outer)
@@ -148,7 +131,7 @@ rows-by_cells outer inner T l =
 
 -- ---- the words of the list
 
-letters_positive : (n : ℕ) (w : List ℕ) → AreWithin n w → are_letters w ≡ true
+letters_positive : (n : ℕ) (w : List ℕ) → AreLetters n w → are_letters w ≡ true
 letters_positive n [] h = refl
 letters_positive n (a ∷ w) h = ap₂ (λ x y. x && y) (le-leb 1 a h.0.0) (letters_positive n w h.1)
 
@@ -156,7 +139,7 @@ rows_positive : (n : ℕ) (rows : List (List ℕ)) → RowsWithin n rows → are
 rows_positive n [] h = refl
 rows_positive n (row ∷ rows) h = are_letters-append row (letters_of rows) (letters_positive n row h.0) (rows_positive n rows h.1)
 
-pub select-among : (test other : List ℕ → Bool) (xs : List (List ℕ)) → ((x : List ℕ) → Among x xs → test x ≡ other x) → select test xs ≡ select other xs
+pub select-among : (test other : List ℕ → Bool) (xs : List (List ℕ)) → ((x : List ℕ) → Among x xs → test x ≡ other x) → filter test xs ≡ filter other xs
 select-among test other [] h = refl
 select-among test other (x ∷ xs) h = ap₂ (λ b l. cond b (x ∷ l) l) (h x (inl refl)) (select-among test other xs (λ y m. h y (inr m)))
 
@@ -164,18 +147,18 @@ select-among test other (x ∷ xs) h = ap₂ (λ b l. cond b (x ∷ l) l) (h x (
 selected-listed :
     (k : ℕ) (test : List (List ℕ) → Bool) (outer inner w : List ℕ) → Falls outer → contains outer inner ≡ true
     → Among w (words k (length (cells outer inner)))
-    → is_among w (map (column_reading outer inner) (select test (tableaux k outer inner))) ≡ (is_tableau (filled_with outer inner w) && test (filling_of outer inner w))
+    → is_among w (map (column_reading outer inner) (filter test (tableaux k outer inner))) ≡ (is_tableau (filled_with outer inner w) && test (filling_of outer inner w))
 selected-listed k test outer inner w f holds m =
-    let readings = map (column_reading outer inner) (select test (tableaux k outer inner)) in
-    let all = select (semistandard inner) (fillings_of k (row_lengths outer inner)) in
-    let tableaux_are : tableaux k outer inner ≡ select (semistandard inner) (fillings_of k (row_lengths outer inner)) =
+    let readings = map (column_reading outer inner) (filter test (tableaux k outer inner)) in
+    let all = filter (semistandard inner) (fillings_of k (row_lengths outer inner)) in
+    let tableaux_are : tableaux k outer inner ≡ filter (semistandard inner) (fillings_of k (row_lengths outer inner)) =
     ap (λ b. cond b all []) holds in
     let word = word_tells k (length (cells outer inner)) w m in
     let long : length w ≡ length (reading_cells outer inner) = word.0 ∙ sym (length-reading outer inner f) in
     let T = filling_of outer inner w in
     tests_agree (is_among w readings) (is_tableau (filled_with outer inner w) && test T)
     (λ e.
-    let found = Among_from_map (column_reading outer inner) w (select test (tableaux k outer inner)) (is_among-tells w readings e) in
+    let found = Among_from_map (column_reading outer inner) w (filter test (tableaux k outer inner)) (is_among-tells w readings e) in
     let S = found.0 in
     let good = Among_from_select test S (tableaux k outer inner) found.1 in
     let tableau = Among_from_select (semistandard inner) S (fillings_of k (row_lengths outer inner)) (subst (Among S) tableaux_are good.0) in
@@ -193,7 +176,7 @@ selected-listed k test outer inner w f holds m =
     let tableau = subst (Among T) (sym tableaux_are) (Among-select (semistandard inner) T (fillings_of k (row_lengths outer inner)) filling order.1) in
     is_among-from w readings
     (subst (λ v. Among v readings) (reading-whole outer inner w long)
-    (Among-map (column_reading outer inner) T (select test (tableaux k outer inner)) (Among-select test T (tableaux k outer inner) tableau both.1))))
+    (Among-map (column_reading outer inner) T (filter test (tableaux k outer inner)) (Among-select test T (tableaux k outer inner) tableau both.1))))
 
 pub good-listed :
     (k : ℕ) (start outer inner w : List ℕ) → Falls outer → contains outer inner ≡ true → rows start ≤ k
@@ -201,7 +184,7 @@ pub good-listed :
     → is_among w (map (column_reading outer inner) (good_tableaux k start outer inner))
     ≡ (is_tableau (filled_with outer inner w) && is_good k start outer inner (filling_of outer inner w))
 good-listed k start outer inner w f holds few m =
-    let listed = select (is_good k start outer inner) (tableaux k outer inner) in
+    let listed = filter (is_good k start outer inner) (tableaux k outer inner) in
     ap (λ l. is_among w (map (column_reading outer inner) l)) (ap (λ b. cond b listed []) (le-leb (rows start) k few))
     ∙ selected-listed k (is_good k start outer inner) outer inner w f holds m
 
@@ -212,7 +195,7 @@ tableau-listed k outer inner w f holds m =
     ap (λ l. is_among w (map (column_reading outer inner) l)) (sym (all (tableaux k outer inner)))
     ∙ selected-listed k (λ T. true) outer inner w f holds m ∙ and_true (is_tableau (filled_with outer inner w))
   where
-    all : (xs : List (List (List ℕ))) → select (λ T. true) xs ≡ xs
+    all : (xs : List (List (List ℕ))) → filter (λ T. true) xs ≡ xs
     all [] = refl
     all (x ∷ xs) = ap (λ l. x ∷ l) (all xs)
 

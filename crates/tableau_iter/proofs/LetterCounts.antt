@@ -1,5 +1,5 @@
 -- Words with no more of each letter than there shall be, letter by letter.
-use Rattle.std.proofs.Common.{◌≡◌, ℕ, zero, suc, ◌+◌, ◌-◌, ◌<◌, ◌≤◌, true, ◌==◌, cond, eqb, List, [], ◌∷◌, ◌++◌, map, length, take, drop, get_or, ◌∙◌, ap, ap₂, sym, refl, inl, inr, arith}
+use Rattle.std.proofs.Common.{◌≡◌, ℕ, zero, suc, ◌+◌, ◌-◌, ◌<◌, ◌≤◌, true, ◌==◌, cond, List, [], ◌∷◌, ◌++◌, length, take, drop, get_or, ◌∙◌, ap, ap₂, sym, refl, inl, inr, arith}
 use Rattle.std.proofs.lemmas.Bool.{cases_eq, eq-eqb, ne_eqb, lt-ltb, ltb-true}
 use Rattle.std.proofs.lemmas.List.{length-map, take_more, take_all, take-append-drop}
 use Rattle.sym_model.specs.Partition.{after, size}
@@ -7,53 +7,14 @@ use Rattle.sym_model.specs.Polynomial.{join, same}
 use Rattle.sym_model.specs.Schur.{content, times_in}
 use Rattle.sym_model.proofs.AfterLists.{length_after}
 use Rattle.sym_model.proofs.Exponents.{same_true, same_from}
-use Rattle.sym_model.proofs.Parts.{size-map_add}
-use Rattle.sym_model.proofs.Contents.{times_in-append}
+use Rattle.sym_model.proofs.Contents.{times_in-append, size-content}
 use Rattle.skew_shapes.proofs.CellRows.{map_after-at}
 use Rattle.tableau_iter.specs.Fits.{allows}
 use Rattle.tableau_iter.specs.declared.rule.Rule.TheVariants.{Limited}
-use Rattle.tableau_iter.proofs.GoodWords.{AreWithin}
 use Rattle.tableau_iter.proofs.FrontContents.{sum-at, times_in-one}
+use Rattle.sym_model.specs.Bounded.{AreLetters}
 
 -- ---- the content of a word has as many letters as the word
-
-one_at : ℕ → ℕ → ℕ
-one_at a j = cond (eqb a j) 1 0
-
-none-after : (a m k : ℕ) → a ≤ m → size (map (one_at a) (after m k)) ≡ 0
-unfolding one_at
-none-after a m zero h = refl
-none-after a m (suc k) h =
-    let rest = none-after a (m + 1) k (omega arith) in
-    let first : cond {A = ℕ} (eqb a (m + 1)) 1 0 ≡ 0 = ap (λ b. cond b 1 0) (ne_eqb a (m + 1) (λ e. omega arith)) in
-    omega arith
-
-one-after : (a m k : ℕ) → m < a → a ≤ m + k → size (map (one_at a) (after m k)) ≡ 1
-unfolding one_at
-one-after a m zero h l = absurd (omega arith)
-one-after a m (suc k) h l = elim (cases_eq a (m + 1)) [
-  | inl e ↦
-      let first : cond {A = ℕ} (eqb a (m + 1)) 1 0 ≡ 1 = ap (λ b. cond b 1 0) (eq-eqb a (m + 1) e) in
-      let rest = none-after a (m + 1) k (omega arith) in
-      omega arith
-  | inr n ↦
-      let first : cond {A = ℕ} (eqb a (m + 1)) 1 0 ≡ 0 = ap (λ b. cond b 1 0) (ne_eqb a (m + 1) n) in
-      let rest = one-after a (m + 1) k (omega (arith, n)) (omega arith) in
-      omega arith
-]
-
-pub size-content : (k : ℕ) (w : List ℕ) → AreWithin k w → size (content k w) ≡ length w
-unfolding one_at
-size-content k [] h = zeros (after 0 k)
-  where
-    zeros : (ks : List ℕ) → size (map (λ j. times_in j []) ks) ≡ 0
-    zeros [] = refl
-    zeros (j ∷ ks) = let e = zeros ks in omega arith
-size-content k (a ∷ w) h =
-    let low = h.0.0 in
-    let high = h.0.1 in
-    let one = one-after a 0 k (omega arith) (omega arith) in
-    omega (arith, size-map_add (one_at a) (λ j. times_in j w) (after 0 k), one, size-content k w h.1)
 
 -- ---- numbers that are not greater, and add up to the same, are the same
 
@@ -141,7 +102,7 @@ fronts_limited k counts w (suc e) i l allowed h m =
     ]
 
 pub content-from :
-    (k : ℕ) (counts w : List ℕ) → length counts ≡ k → length w ≡ size counts → AreWithin k w
+    (k : ℕ) (counts w : List ℕ) → length counts ≡ k → length w ≡ size counts → AreLetters k w
     → ((p : ℕ) → p < length w → (1 ≤ get_or w p 0) × (get_or w p 0 ≤ k) × (allows Limited counts (join [] (content k (take p w))) (get_or w p 0) ≡ true))
     → same (content k w) counts ≡ true
 content-from k counts w l s within allowed =

@@ -1,7 +1,7 @@
 -- Which fillings are in the list of the lattice tableaux.
-use Rattle.std.proofs.Common.{◌≡◌, ℕ, suc, ◌<◌, ◌≤◌, Bool, true, false, ◌&&◌, cond, nat_le, List, [], ◌∷◌, map, length, take, get_or, ◌∙◌, ap, ap₂, sym, refl, arith}
+use Rattle.std.proofs.Common.{◌≡◌, ℕ, suc, ◌<◌, ◌≤◌, Bool, true, false, ◌&&◌, cond, nat_le, List, [], ◌∷◌, map, length, take, get_or, ◌∙◌, ap, ap₂, sym, refl, arith, filter}
 use Rattle.std.proofs.lemmas.Bool.{and_parts, le-leb, leb-true, true≢false, false_from_ne_true}
-use Rattle.sym_model.specs.Sum.{Among, select}
+use Rattle.sym_model.specs.Sum.{Among}
 use Rattle.sym_model.specs.Partition.{Falls, after, cells, columns}
 use Rattle.sym_model.specs.Polynomial.{join}
 use Rattle.sym_model.specs.Schur.{content, contains, fillings_of, row_lengths, semistandard, words}
@@ -16,11 +16,13 @@ use Rattle.tableau_iter.specs.Fits.{allows}
 use Rattle.tableau_iter.specs.declared.rule.Rule.TheVariants.{Falling}
 use Rattle.tableau_iter.proofs.FittingWords.{all_fit-at, all_fit-from, every-within}
 use Rattle.tableau_iter.proofs.FrontContents.{falls_at-from, good-allows}
-use Rattle.tableau_iter.proofs.GoodWords.{AreWithin, good-listed, word_from, word_tells}
+use Rattle.tableau_iter.proofs.GoodWords.{good-listed, word_from}
 use Rattle.tableau_iter.proofs.Orders.{length-reading}
 use Rattle.tableau_iter.proofs.Sums.{ends-within, falls_at, is_good-ends}
 use Rattle.tableau_iter.proofs.Tableaux.{within-at}
 use Rattle.tableau_iter.specs.LatticeWords.{is_lattice_word, may_follow}
+use Rattle.sym_model.specs.Bounded.{AreLetters}
+use Rattle.sym_model.proofs.Tableaux.{word_tells}
 
 -- a word is in the list where it is a word over the letters and the reading of a good tableau
 pub listed_tells : (outer inner w : List ℕ) → is_among w (lattice_readings outer inner) ≡ true
@@ -55,7 +57,7 @@ none_outside outer inner w n =
         is_among w
         (map (column_reading outer inner)
         (cond (nat_le 0 (length outer))
-        (select (is_good (length outer) [] outer inner) (cond b (select (semistandard inner) (fillings_of (length outer) (row_lengths outer inner))) [])) [])))
+        (filter (is_good (length outer) [] outer inner) (cond b (filter (semistandard inner) (fillings_of (length outer) (row_lengths outer inner))) [])) [])))
         n
         ∙ empty (nat_le 0 (length outer))
 
@@ -86,7 +88,7 @@ letter_at k w p e h =
     let within = and_parts (nat_le 1 (get_or w p 0)) (nat_le (get_or w p 0) k) both.0 in
     (leb-true 1 (get_or w p 0) within.0, leb-true (get_or w p 0) k within.1, both.1)
 
-pub all_within : (k : ℕ) (w : List ℕ) → ((p : ℕ) → p < length w → (1 ≤ get_or w p 0) × (get_or w p 0 ≤ k)) → AreWithin k w
+pub all_within : (k : ℕ) (w : List ℕ) → ((p : ℕ) → p < length w → (1 ≤ get_or w p 0) × (get_or w p 0 ≤ k)) → AreLetters k w
 all_within k [] h = tt
 all_within k (a ∷ w) h = (h 0 (omega arith), all_within k w (λ p l. h (suc p) (omega arith)))
 

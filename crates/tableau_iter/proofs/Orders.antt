@@ -1,20 +1,19 @@
 -- The cells of a skew shape in the order of the column reading: each once, and the letters of a word in them.
-use Rattle.std.proofs.Common.{◌≡◌, ◌⊎◌, ℕ, ◌+◌, ◌-◌, ◌≤◌, true, false, ◌&&◌, ◌==◌, cond, leb, ltb, List, [], ◌∷◌, ◌++◌, map, length, take, reverse, ◌∙◌, ap, ap₂, sym, refl, subst, inl, inr, arith, append-nil, length-append}
+use Rattle.std.proofs.Common.{◌≡◌, ◌⊎◌, ℕ, ◌+◌, ◌-◌, ◌≤◌, true, false, ◌&&◌, ◌==◌, cond, leb, ltb, List, [], ◌∷◌, ◌++◌, map, length, take, reverse, ◌∙◌, ap, ap₂, sym, refl, subst, inl, inr, arith, append-nil, length-append, filter, flat_map}
 use Rattle.std.proofs.lemmas.Bool.{cases_eq, eq-eqb, ne_eqb, and_from, lt-ltb, le-leb}
 use Rattle.std.proofs.lemmas.List.{reverse-append, take_all}
-use Rattle.sym_model.specs.Sum.{each, select, Among, Once}
-use Rattle.sym_model.specs.Partition.{IsCell, Falls, part, rows, columns, after, cells}
+use Rattle.sym_model.specs.Sum.{Among, Once}
+use Rattle.sym_model.specs.Partition.{IsCell, Falls, part, rows, columns, after, cells, row_cells}
 use Rattle.sym_model.specs.GoodTableau.{reading_right_of, column_reading}
 use Rattle.sym_model.specs.TableauList.{column_cells, reading_cells, letter_of_cell, filling_of}
-use Rattle.sym_model.proofs.Sums.{Among-map, Among_from_map, Among-each, Among_from_each, Among-select, Among_from_select, Once-map, Once-select, Once-append, Once-each, length_within}
+use Rattle.sym_model.proofs.Sums.{Among-map, Among_from_map, Among-each, Among_from_each, Among-select, Among_from_select, Once-map, Once-select, Once-append, Once-each, length_within, among_reverse}
 use Rattle.sym_model.proofs.AfterLists.{after_among, among_after, once_after, after-append}
 use Rattle.sym_model.proofs.Lists.{each-append}
 use Rattle.strip_laws.proofs.Strips.{falls_far}
 use Rattle.skew_shapes.specs.Rows.{reaches, cells_right_of, rows_by}
-use Rattle.skew_shapes.proofs.CellReadings.{each-cells, reading-rows_by, Among-reverse}
+use Rattle.skew_shapes.proofs.CellReadings.{each-cells, reading-rows_by}
 use Rattle.skew_shapes.proofs.CellRows.{cell_row, rows_by-ext}
 use Rattle.skew_shapes.proofs.KeptRows.{is_cell-tells}
-use Rattle.skew_shapes.proofs.CellCounts.{row_cells}
 
 -- ---- the cells of the reading
 
@@ -43,12 +42,12 @@ Once-reverse (x ∷ xs) o =
     (λ z m n. by z n m))
   where
     by : (z : ℕ) → (z ≡ x) ⊎ ⊥ → Among z (reverse xs) → ⊥
-    by z (inl e) m = o.0 (subst (λ y. Among y xs) e (Among-reverse z xs m))
+    by z (inl e) m = o.0 (subst (λ y. Among y xs) e (among_reverse z xs m))
     by z (inr n) m = n
 
 column_cell : (outer inner : List ℕ) (j : ℕ) (c : ℕ × ℕ) → Among c (column_cells outer inner j) → IsCell outer inner c.0 c.1 × (c.1 ≡ j)
 column_cell outer inner j c m =
-    let found = Among_from_map {B = ℕ × ℕ} (λ i. (i, j)) c (select (reaches outer inner j) (after 0 (rows outer))) m in
+    let found = Among_from_map {B = ℕ × ℕ} (λ i. (i, j)) c (filter (reaches outer inner j) (after 0 (rows outer))) m in
     let row = Among_from_select (reaches outer inner j) found.0 (after 0 (rows outer)) found.1 in
     let past = after_among 0 (rows outer) found.0 row.0 in
     let cell = is_cell-tells outer inner found.0 j (and_from (leb 1 found.0) (reaches outer inner j found.0) (le-leb 1 found.0 (omega (arith, past.0))) row.1) in
@@ -76,14 +75,14 @@ Among-reading outer inner i j f c =
     let row : Among i (after 0 (rows outer)) = among_after 0 (rows outer) i (omega arith) (omega (arith, cell_row outer inner i j c)) in
     let reached = and_from (ltb (part inner i) j) (leb j (part outer i)) (lt-ltb (part inner i) j b) (le-leb j (part outer i) d) in
     Among-each (column_cells outer inner) j (i, j) (reverse (after 0 (columns outer))) column
-    (Among-map {B = ℕ × ℕ} (λ r. (r, j)) i (select (reaches outer inner j) (after 0 (rows outer)))
+    (Among-map {B = ℕ × ℕ} (λ r. (r, j)) i (filter (reaches outer inner j) (after 0 (rows outer)))
     (Among-select (reaches outer inner j) i (after 0 (rows outer)) row reached))
 
 pub Once-reading : (outer inner : List ℕ) → Once (reading_cells outer inner)
 Once-reading outer inner =
     Once-each (column_cells outer inner) (reverse (after 0 (columns outer))) (Once-reverse (after 0 (columns outer)) (once_after 0 (columns outer)))
     (λ j m.
-    Once-map {B = ℕ × ℕ} (λ i. (i, j)) (select (reaches outer inner j) (after 0 (rows outer)))
+    Once-map {B = ℕ × ℕ} (λ i. (i, j)) (filter (reaches outer inner j) (after 0 (rows outer)))
     (λ x y p q e. ap (λ (c : ℕ × ℕ). c.0) e) (Once-select (reaches outer inner j) (after 0 (rows outer)) (once_after 0 (rows outer))))
     (λ x z c m n p q. sym (column_cell outer inner x c p).1 ∙ (column_cell outer inner z c q).1)
 
@@ -193,13 +192,13 @@ letter-read f (d ∷ cells) c m = elim (cases_eq d.0 c.0) [
 
 pub reading_split :
     (outer inner : List ℕ) (j : ℕ) → j ≤ columns outer
-    → reading_cells outer inner ≡ cells_right_of outer inner j ++ each (column_cells outer inner) (reverse (after 0 j))
+    → reading_cells outer inner ≡ cells_right_of outer inner j ++ flat_map (column_cells outer inner) (reverse (after 0 j))
 reading_split outer inner j h =
     let e : columns outer ≡ j + (columns outer - j) = omega arith in
     let f : 0 + j ≡ j = omega arith in
-    ap (λ n. each (column_cells outer inner) (reverse (after 0 n))) e
-    ∙ ap (λ l. each (column_cells outer inner) (reverse l)) (after-append 0 j (columns outer - j) ∙ ap (λ x. after 0 j ++ after x (columns outer - j)) f)
-    ∙ ap (each (column_cells outer inner)) (reverse-append (after 0 j) (after j (columns outer - j)))
+    ap (λ n. flat_map (column_cells outer inner) (reverse (after 0 n))) e
+    ∙ ap (λ l. flat_map (column_cells outer inner) (reverse l)) (after-append 0 j (columns outer - j) ∙ ap (λ x. after 0 j ++ after x (columns outer - j)) f)
+    ∙ ap (flat_map (column_cells outer inner)) (reverse-append (after 0 j) (after j (columns outer - j)))
     ∙ each-append (column_cells outer inner) (reverse (after j (columns outer - j))) (reverse (after 0 j))
 
 -- the filling of a word
@@ -208,7 +207,7 @@ pub reading-prefix :
     → reading_right_of j outer inner (filling_of outer inner w) ≡ take (length (cells_right_of outer inner j)) w
 reading-prefix outer inner w j h l =
     let right = cells_right_of outer inner j in
-    let rest = each (column_cells outer inner) (reverse (after 0 j)) in
+    let rest = flat_map (column_cells outer inner) (reverse (after 0 j)) in
     let split = reading_split outer inner j h in
     let few : length right ≤ length w =
     omega (arith, ap (λ (cells : List (ℕ × ℕ)). length cells) split, length-append right rest) in

@@ -1,8 +1,8 @@
 -- Where a cell stands in the column reading: what is read before it, and what after it.
-use Rattle.std.proofs.Common.{◌≡◌, ℕ, zero, suc, ◌+◌, ◌-◌, ◌<◌, ◌≤◌, true, cond, leb, ltb, List, [], ◌∷◌, ◌++◌, map, length, get_or, reverse, ◌∙◌, ap, sym, refl, subst, inl, inr, arith, append_assoc, length-append}
+use Rattle.std.proofs.Common.{◌≡◌, ℕ, zero, suc, ◌+◌, ◌-◌, ◌<◌, ◌≤◌, true, cond, leb, ltb, List, [], ◌∷◌, ◌++◌, map, length, get_or, reverse, ◌∙◌, ap, sym, refl, subst, inl, inr, arith, append_assoc, length-append, filter, flat_map}
 use Rattle.std.proofs.lemmas.Bool.{and_from, lt-ltb, le-leb}
 use Rattle.std.proofs.lemmas.List.{map-append, get_or_append_left}
-use Rattle.sym_model.specs.Sum.{each, select, Among, Once}
+use Rattle.sym_model.specs.Sum.{Among, Once}
 use Rattle.sym_model.specs.Partition.{IsCell, Falls, part, rows, columns, after}
 use Rattle.sym_model.specs.TableauList.{column_cells, reading_cells}
 use Rattle.sym_model.proofs.Sums.{Among-append_left, Among-append_right, Among-each, Among-map, Among-select}
@@ -58,7 +58,7 @@ front_of outer inner j r = cells_right_of outer inner j ++ cells_above outer inn
 
 -- the cells of column j below row r
 abbrev pub cells_below : List ℕ → List ℕ → ℕ → ℕ → List (ℕ × ℕ)
-cells_below outer inner j r = map (λ row. (row, j)) (select (reaches outer inner j) (after r (rows outer - r)))
+cells_below outer inner j r = map (λ row. (row, j)) (filter (reaches outer inner j) (after r (rows outer - r)))
 
 pub cell_reaches : (outer inner : List ℕ) (i j : ℕ) → IsCell outer inner i j → reaches outer inner j i ≡ true
 cell_reaches outer inner i j c =
@@ -72,18 +72,18 @@ column_split outer inner r j h =
     let all : length outer ≡ r + (length outer - r) = omega arith in
     let from : 0 + r ≡ r = omega arith in
     let test = reaches outer inner j in
-    ap (λ n. map {B = ℕ × ℕ} (λ row. (row, j)) (select (reaches outer inner j) (after 0 n))) all
-    ∙ ap (λ l. map {B = ℕ × ℕ} (λ row. (row, j)) (select (reaches outer inner j) l)) (after-append 0 r (length outer - r) ∙ ap (λ a. after 0 r ++ after a (length outer - r)) from)
+    ap (λ n. map {B = ℕ × ℕ} (λ row. (row, j)) (filter (reaches outer inner j) (after 0 n))) all
+    ∙ ap (λ l. map {B = ℕ × ℕ} (λ row. (row, j)) (filter (reaches outer inner j) l)) (after-append 0 r (length outer - r) ∙ ap (λ a. after 0 r ++ after a (length outer - r)) from)
     ∙ ap (map {B = ℕ × ℕ} (λ row. (row, j))) (select-append test (after 0 r) (after r (length outer - r)))
-    ∙ map-append {B = ℕ × ℕ} (λ row. (row, j)) (select test (after 0 r)) (select test (after r (length outer - r)))
+    ∙ map-append {B = ℕ × ℕ} (λ row. (row, j)) (filter test (after 0 r)) (filter test (after r (length outer - r)))
 
 pub below-cell :
     (outer inner : List ℕ) (r j : ℕ) → IsCell outer inner (r + 1) j → cells_below outer inner j r ≡ (r + 1, j) ∷ cells_below outer inner j (r + 1)
 below-cell outer inner r j c =
     let few = cell_row outer inner (r + 1) j c in
     let more : length outer - r ≡ suc (length outer - (r + 1)) = omega arith in
-    let rest = select (reaches outer inner j) (after (r + 1) (length outer - (r + 1))) in
-    ap (λ n. map {B = ℕ × ℕ} (λ row. (row, j)) (select (reaches outer inner j) (after r n))) more
+    let rest = filter (reaches outer inner j) (after (r + 1) (length outer - (r + 1))) in
+    ap (λ n. map {B = ℕ × ℕ} (λ row. (row, j)) (filter (reaches outer inner j) (after r n))) more
     ∙ ap (λ b. map {B = ℕ × ℕ} (λ row. (row, j)) (cond b ((r + 1) ∷ rest) rest)) (cell_reaches outer inner (r + 1) j c)
 
 -- all up to column j
@@ -103,13 +103,13 @@ right-split outer inner r j f c =
 pub reading_around :
     (outer inner : List ℕ) (r j : ℕ) → Falls outer → IsCell outer inner (r + 1) j
     → reading_cells outer inner
-    ≡ front_of outer inner j r ++ ((r + 1, j) ∷ (cells_below outer inner j (r + 1) ++ each (column_cells outer inner) (reverse (after 0 (j - 1)))))
+    ≡ front_of outer inner j r ++ ((r + 1, j) ∷ (cells_below outer inner j (r + 1) ++ flat_map (column_cells outer inner) (reverse (after 0 (j - 1)))))
 reading_around outer inner r j f c =
     let inside = c.within in
     let wide = columns_far outer (r + 1) f (omega arith) in
-    let rest = each (column_cells outer inner) (reverse (after 0 (j - 1))) in
+    let rest = flat_map (column_cells outer inner) (reverse (after 0 (j - 1))) in
     reading_split outer inner (j - 1) (omega arith)
-    ∙ ap (λ l. l ++ each (column_cells outer inner) (reverse (after 0 (j - 1))))
+    ∙ ap (λ l. l ++ flat_map (column_cells outer inner) (reverse (after 0 (j - 1))))
     (right-split outer inner r j f c ∙ ap (λ l. front_of outer inner j r ++ l) (below-cell outer inner r j c))
     ∙ append_assoc (front_of outer inner j r) ((r + 1, j) ∷ cells_below outer inner j (r + 1)) rest
 
@@ -118,7 +118,7 @@ pub place_of_cell :
     → get_or (reading_cells outer inner) p (r + 1, j) ≡ (r + 1, j) → p ≡ length (front_of outer inner j r)
 place_of_cell outer inner r j p f c h e =
     let around = reading_around outer inner r j f c in
-    let rest = cells_below outer inner j (r + 1) ++ each (column_cells outer inner) (reverse (after 0 (j - 1))) in
+    let rest = cells_below outer inner j (r + 1) ++ flat_map (column_cells outer inner) (reverse (after 0 (j - 1))) in
     place_behind (front_of outer inner j r) rest p (r + 1, j) (subst (λ (l : List (ℕ × ℕ)). Once l) around (Once-reading outer inner))
     (subst (λ (l : List (ℕ × ℕ)). p < length l) around h) (subst (λ (l : List (ℕ × ℕ)). get_or l p (r + 1, j) ≡ (r + 1, j)) around e)
 
@@ -128,7 +128,7 @@ earlier :
     → Among d (front_of outer inner j r) → q < p
 earlier outer inner r j p q d f c h l e g m =
     let around = reading_around outer inner r j f c in
-    let rest = (r + 1, j) ∷ (cells_below outer inner j (r + 1) ++ each (column_cells outer inner) (reverse (after 0 (j - 1)))) in
+    let rest = (r + 1, j) ∷ (cells_below outer inner j (r + 1) ++ flat_map (column_cells outer inner) (reverse (after 0 (j - 1)))) in
     let here = place_of_cell outer inner r j p f c h e in
     let there =
     place_in_front (front_of outer inner j r) rest q d (subst (λ (l : List (ℕ × ℕ)). Once l) around (Once-reading outer inner)) m
@@ -161,5 +161,5 @@ right_before outer inner r j p q f c right h l g e =
     earlier outer inner r j p q (r + 1, j + 1) f c h l e g
     (Among-append_left (r + 1, j + 1) (cells_right_of outer inner j) (cells_above outer inner j r)
     (Among-each (column_cells outer inner) (j + 1) (r + 1, j + 1) (reverse (after j (columns outer - j))) column
-    (Among-map {B = ℕ × ℕ} (λ i. (i, j + 1)) (r + 1) (select (reaches outer inner (j + 1)) (after 0 (rows outer)))
+    (Among-map {B = ℕ × ℕ} (λ i. (i, j + 1)) (r + 1) (filter (reaches outer inner (j + 1)) (after 0 (rows outer)))
     (Among-select (reaches outer inner (j + 1)) (r + 1) (after 0 (rows outer)) row (cell_reaches outer inner (r + 1) (j + 1) right)))))

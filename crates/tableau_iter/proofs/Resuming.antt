@@ -10,13 +10,15 @@ use Rattle.sym_model.proofs.Exponents.{same_false}
 use Rattle.sym_model.proofs.Sums.{Among-select, Among_from_select}
 use Rattle.tableau_laws.proofs.GoodReadings.{is_among-tells}
 use Rattle.tableau_iter.specs.Walks.{completions, continued, later}
-use Rattle.tableau_iter.proofs.GoodWords.{AreWithin, word_tells, word_from}
+use Rattle.tableau_iter.proofs.GoodWords.{word_from}
 use Rattle.tableau_iter.proofs.Walking.{completions-first, continued-next}
+use Rattle.sym_model.specs.Bounded.{AreLetters}
+use Rattle.sym_model.proofs.Tableaux.{word_tells}
 
 -- ---- whether a word is in the list
 
 pub not_among-completions :
-    (test : List ℕ → Bool) (k n : ℕ) (w : List ℕ) → ((length w ≡ n) × AreWithin k w → ⊥) → is_among w (completions test k n []) ≡ false
+    (test : List ℕ → Bool) (k n : ℕ) (w : List ℕ) → ((length w ≡ n) × AreLetters k w → ⊥) → is_among w (completions test k n []) ≡ false
 not_among-completions test k n w h =
     never (is_among w (completions test k n []))
     (λ e. h (word_tells k n w (Among_from_select (λ v. test ([] ++ v)) w (words k n) (is_among-tells w (completions test k n []) e)).0))

@@ -15,13 +15,14 @@ use Rattle.tableau_iter.specs.declared.rule.Rule.{Rule}
 use Rattle.tableau_iter.specs.declared.rule.Rule.TheVariants.{Free, Falling, Limited}
 use Rattle.tableau_iter.specs.Fits.{Neighbours, all_fit, allows, fits_by, stands_right}
 use Rattle.tableau_iter.specs.Positions.{IsNearIn, IsNewBoard, IsSameUpTo, Position, Setting, fits_in, passes}
-use Rattle.tableau_iter.proofs.GoodWords.{AreWithin, word_from}
+use Rattle.tableau_iter.proofs.GoodWords.{word_from}
 use Rattle.tableau_iter.proofs.Orders.{length-reading}
 use Rattle.tableau_iter.proofs.Tableaux.{lines-length}
 use Rattle.tableau_iter.proofs.FittingWords.{Around, all_fit-at, content_readings-fits, front-stands, good_readings-fits, tableau_readings-fits}
 use Rattle.tableau_iter.proofs.Boards.{ceiling-most}
 use Rattle.tableau_iter.proofs.Resuming.{later_than-completions, not_among-completions}
 use Rattle.tableau_iter.proofs.Membership.{all_within}
+use Rattle.sym_model.specs.Bounded.{AreLetters}
 
 around :
     (k : ℕ) (outer inner : List ℕ) (near : Neighbours) → IsSkew outer inner → (n : IsNearIn k outer inner near) → Around k outer inner n.lines n.ranks near
@@ -68,7 +69,7 @@ content-list counts outer inner p b all =
 -- its letters are within the letters
 fitting-within :
     (rule : Rule) (counts start : List ℕ) (k : ℕ) (outer inner w : List ℕ) (p : Position) → IsNewBoard rule counts start k outer inner p
-    → length w ≡ length p.word → passes p w ≡ true → AreWithin p.setting.letters w
+    → length w ≡ length p.word → passes p w ≡ true → AreLetters p.setting.letters w
 fitting-within rule counts start k outer inner w p b l e =
     let n = b.near_in in
     let near = p.setting.near in

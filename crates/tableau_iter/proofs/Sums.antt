@@ -1,6 +1,5 @@
 -- Start plus the content of the fronts of a word.
-use Rattle.std.proofs.Common.{◌≡◌, ℕ, zero, suc, ◌+◌, ◌-◌, ◌<◌, ◌≤◌, Bool, ◌&&◌, List, [], ◌∷◌, map, length, get_or, reverse, ◌∙◌, ap, ap₂, sym, refl, arith, length-append, take}
-use Rattle.sym_model.specs.Sum.{each}
+use Rattle.std.proofs.Common.{◌≡◌, ℕ, zero, suc, ◌+◌, ◌-◌, ◌<◌, ◌≤◌, Bool, ◌&&◌, List, [], ◌∷◌, map, length, get_or, reverse, ◌∙◌, ap, ap₂, sym, refl, arith, length-append, take, flat_map}
 use Rattle.sym_model.specs.Partition.{columns, rows, after}
 use Rattle.sym_model.specs.Polynomial.{join}
 use Rattle.sym_model.specs.Schur.{content, times_in}
@@ -59,7 +58,7 @@ ends-within outer inner word l =
     let below : (j : ℕ) → j ≤ 0 + columns outer → length (cells_right_of outer inner j) ≤ length word =
     λ j h.
     let split = reading_split outer inner j (omega arith) in
-    let rest = each (column_cells outer inner) (reverse (after 0 j)) in
+    let rest = flat_map (column_cells outer inner) (reverse (after 0 j)) in
     omega (arith, l, ap (λ (cells : List (ℕ × ℕ)). length cells) split, length-append (cells_right_of outer inner j) rest) in
     (below 0 (omega arith), within_map g 0 (columns outer) (length word) below)
 
@@ -86,5 +85,3 @@ is_good-ends k start outer inner word l =
     ∙ ap₂ (λ x y. x && y) (same 0 (omega arith))
     (every-after (λ j. falls_at k start word (length (cells_right_of outer inner j)))
     (λ j. is_falling (join start (content k (reading_right_of j outer inner (filling_of outer inner word))))) 0 (columns outer) same)
-
--- ---- words of which none passes

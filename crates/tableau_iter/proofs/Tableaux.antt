@@ -10,20 +10,20 @@ use Rattle.sym_model.specs.Tableau.{are_letters}
 use Rattle.sym_model.specs.TableauList.{reading_cells, letter_of_cell}
 use Rattle.sym_model.proofs.AfterLists.{length_after}
 use Rattle.strip_laws.proofs.Strips.{falls_part}
-use Rattle.strip_laws.proofs.ClosedShapes.{cell}
+use Rattle.strip_laws.proofs.Containment.{cell}
 use Rattle.skew_shapes.specs.CellFillings.{filled_with, is_tableau, row_of}
 use Rattle.skew_shapes.specs.Rows.{row_by, rows_by}
 use Rattle.skew_shapes.specs.RowTests.{row_passes, stands_below}
 use Rattle.skew_shapes.proofs.CellRows.{row_of-rows_by}
 use Rattle.skew_shapes.proofs.RowOrder.{tests-rows}
 use Rattle.tableau_iter.specs.Fits.{Neighbours, floor_at, ceiling_at, IsNeighbour, AreCells, AreNear}
-use Rattle.tableau_iter.proofs.GoodWords.{AreWithin}
 use Rattle.tableau_iter.proofs.Orders.{Among-reading}
 use Rattle.tableau_iter.proofs.Neighbours.{get-map, cell-at, letter-at, no_above, no_right}
 use Rattle.tableau_iter.proofs.Orders.{Once-reading}
 use Rattle.tableau_iter.proofs.Places.{place_among, place_unique, above_before, right_before}
+use Rattle.sym_model.specs.Bounded.{AreLetters}
 
-pub within-at : (k : ℕ) (w : List ℕ) (p : ℕ) → AreWithin k w → p < length w → (1 ≤ get_or w p 0) × (get_or w p 0 ≤ k)
+pub within-at : (k : ℕ) (w : List ℕ) (p : ℕ) → AreLetters k w → p < length w → (1 ≤ get_or w p 0) × (get_or w p 0 ≤ k)
 within-at k [] p h l = absurd (omega arith)
 within-at k (a ∷ w) zero h l = h.0
 within-at k (a ∷ w) (suc p) h l = within-at k w p h.1 (omega arith)
@@ -36,7 +36,7 @@ lines-length outer inner lines ranks c =
 
 floors :
     (k : ℕ) (outer inner w lines ranks : List ℕ) (near : Neighbours) (p : ℕ) → Falls inner → length w ≡ length (reading_cells outer inner)
-    → AreCells outer inner lines ranks → AreNear k lines ranks near → AreWithin k w → is_tableau (filled_with outer inner w) ≡ true → p < length w
+    → AreCells outer inner lines ranks → AreNear k lines ranks near → AreLetters k w → is_tableau (filled_with outer inner w) ≡ true → p < length w
     → floor_at near.above w p < get_or w p 0
 floors k outer inner w lines ranks near p falls l cells n within good h =
     let count = lines-length outer inner lines ranks cells in
@@ -109,7 +109,7 @@ chain above w p count (suc d) f run l h =
     omega (arith, before, floor, f (p + suc d) (omega (arith, step.0)))
 
 mosts :
-    (k : ℕ) (w lines ranks : List ℕ) (near : Neighbours) (p : ℕ) → AreNear k lines ranks near → length lines ≡ length w → AreWithin k w
+    (k : ℕ) (w lines ranks : List ℕ) (near : Neighbours) (p : ℕ) → AreNear k lines ranks near → length lines ≡ length w → AreLetters k w
     → ((q : ℕ) → q < length w → floor_at near.above w q < get_or w q 0) → p < length w → get_or w p 0 ≤ get_or near.most p 0
 mosts k w lines ranks near p n l within f h =
     let g = n.most p (omega arith) in
@@ -132,7 +132,7 @@ Stands near w p = (floor_at near.above w p < get_or w p 0) × (get_or w p 0 ≤ 
 
 pub stands-tableau :
     (k : ℕ) (outer inner w lines ranks : List ℕ) (near : Neighbours) (p : ℕ) → Falls inner → length w ≡ length (reading_cells outer inner)
-    → AreCells outer inner lines ranks → AreNear k lines ranks near → AreWithin k w → is_tableau (filled_with outer inner w) ≡ true → p < length w
+    → AreCells outer inner lines ranks → AreNear k lines ranks near → AreLetters k w → is_tableau (filled_with outer inner w) ≡ true → p < length w
     → Stands near w p
 stands-tableau k outer inner w lines ranks near p falls l cells n within good h =
     let count = lines-length outer inner lines ranks cells in

@@ -1,18 +1,17 @@
 -- The words that pass a test, one after the other.
-use Rattle.std.proofs.Common.{◌≡◌, ℕ, zero, suc, ◌+◌, ◌-◌, ◌<◌, ◌≤◌, Bool, true, false, ◌&&◌, cond, List, [], ◌∷◌, ◌++◌, map, length, ◌∙◌, ap, ap₂, sym, refl, arith, append_assoc, append-nil}
-use Rattle.sym_model.specs.Sum.{each, select}
+use Rattle.std.proofs.Common.{◌≡◌, ℕ, zero, suc, ◌+◌, ◌-◌, ◌<◌, ◌≤◌, Bool, true, false, ◌&&◌, cond, List, [], ◌∷◌, ◌++◌, map, length, ◌∙◌, ap, ap₂, sym, refl, arith, append_assoc, append-nil, filter, flat_map}
 use Rattle.sym_model.specs.Partition.{after}
 use Rattle.sym_model.specs.Schur.{words}
 use Rattle.sym_model.proofs.Lists.{select-each, select-map, select-ext, each-ext}
 use Rattle.tableau_iter.specs.Fits.{all_fit}
 use Rattle.tableau_iter.specs.Walks.{completions, continued, later}
 
-pub select-select : {A : Type 0} (f g : A → Bool) (xs : List A) → select g (select f xs) ≡ select (λ (x : A). f x && g x) xs
+pub select-select : {A : Type 0} (f g : A → Bool) (xs : List A) → filter g (filter f xs) ≡ filter (λ (x : A). f x && g x) xs
 select-select f g [] = refl
 select-select f g (x ∷ xs) = by (f x) (select-select f g xs)
   where
-    by : (b : Bool) → select g (select f xs) ≡ select (λ x. f x && g x) xs
-        → select g (cond b (x ∷ select f xs) (select f xs)) ≡ cond (b && g x) (x ∷ select (λ x. f x && g x) xs) (select (λ x. f x && g x) xs)
+    by : (b : Bool) → filter g (filter f xs) ≡ filter (λ x. f x && g x) xs
+        → filter g (cond b (x ∷ filter f xs) (filter f xs)) ≡ cond (b && g x) (x ∷ filter (λ x. f x && g x) xs) (filter (λ x. f x && g x) xs)
     by true e = ap (λ l. cond (g x) (x ∷ l) l) e
     by false e = e
 
@@ -23,13 +22,13 @@ completions-first test k n front =
     let all : k ≡ k - 0 = omega arith in
     let passes = λ (w : List ℕ). test (front ++ w) in
     select-each passes (λ a. map (λ w. a ∷ w) (words k n)) (after 0 k)
-    ∙ each-ext (λ a. select passes (map (λ w. a ∷ w) (words k n))) (λ b. map (λ w. b ∷ w) (completions test k n (front ++ b ∷ []))) (after 0 k)
+    ∙ each-ext (λ a. filter passes (map (λ w. a ∷ w) (words k n))) (λ b. map (λ w. b ∷ w) (completions test k n (front ++ b ∷ []))) (after 0 k)
     (λ a.
     select-map passes (λ w. a ∷ w) (words k n)
     ∙ ap (map (λ w. a ∷ w))
     (select-ext (λ w. test (front ++ (a ∷ w))) (λ w. test ((front ++ a ∷ []) ++ w)) (words k n)
     (λ w. ap test (sym (append_assoc front (a ∷ []) w)))))
-    ∙ ap (λ m. each (λ b. map (λ w. b ∷ w) (completions test k n (front ++ b ∷ []))) (after 0 m)) all
+    ∙ ap (λ m. flat_map (λ b. map (λ w. b ∷ w) (completions test k n (front ++ b ∷ []))) (after 0 m)) all
 
 -- one letter after the other
 pub continued-next :
@@ -38,12 +37,12 @@ pub continued-next :
     ≡ map (λ w. (a + 1) ∷ w) (completions test k n (front ++ (a + 1) ∷ [])) ++ continued test k n front (a + 1)
 continued-next test k n front a h =
     let count : k - a ≡ suc (k - (a + 1)) = omega arith in
-    ap (λ m. each (λ b. map (λ w. b ∷ w) (completions test k n (front ++ b ∷ []))) (after a m)) count
+    ap (λ m. flat_map (λ b. map (λ w. b ∷ w) (completions test k n (front ++ b ∷ []))) (after a m)) count
 
 pub continued-none : (test : List ℕ → Bool) (k n : ℕ) (front : List ℕ) (a : ℕ) → k ≤ a → continued test k n front a ≡ []
 continued-none test k n front a h =
     let count : k - a ≡ 0 = omega arith in
-    ap (λ m. each (λ b. map (λ w. b ∷ w) (completions test k n (front ++ b ∷ []))) (after a m)) count
+    ap (λ m. flat_map (λ b. map (λ w. b ∷ w) (completions test k n (front ++ b ∷ []))) (after a m)) count
 
 -- where the first letter a + 1 can be continued
 pub continued-found :
@@ -114,9 +113,9 @@ misfit fits k n front b e =
     ∙ ap (λ x. x && all_fit fits (front ++ b ∷ []) w)
     (all_fit-append fits [] front (b ∷ []) ∙ ap (λ y. all_fit fits [] front && (y && true)) e ∙ never (all_fit fits [] front)))
   where
-    none : (test : List ℕ → Bool) (xs : List (List ℕ)) → ((w : List ℕ) → test w ≡ false) → select test xs ≡ []
+    none : (test : List ℕ → Bool) (xs : List (List ℕ)) → ((w : List ℕ) → test w ≡ false) → filter test xs ≡ []
     none test [] h = refl
-    none test (x ∷ xs) h = ap (λ b. cond b (x ∷ select test xs) (select test xs)) (h x) ∙ none test xs h
+    none test (x ∷ xs) h = ap (λ b. cond b (x ∷ filter test xs) (filter test xs)) (h x) ∙ none test xs h
 
     never : (b : Bool) → (b && false) ≡ false
     never true = refl

@@ -1,4 +1,4 @@
--- What a lister of tableaux has before it, and what is current (this project's own).
+-- What a lister of tableaux has before it, and what is current.
 use Rattle.std.specs.Prelude.{ℕ, List, [], length, Option, Some, None}
 use Rattle.tableau_iter.specs.declared.stage.Stage.{Stage}
 use Rattle.tableau_iter.specs.declared.stage.Stage.TheVariants.{New, Listing, Passed, Ended}
@@ -27,7 +27,13 @@ item_at Passed p = None
 item_at Ended p = None
 
 abbrev pub listed_at : Stage → Position → Listed
-listed_at stage p = record { rest = rest_at stage p; item = item_at stage p; start = p.setting.start; letters = p.setting.letters }
+listed_at stage p =
+    record {
+      rest = rest_at stage p;
+      item = item_at stage p;
+      start = p.setting.start;
+      letters = p.setting.letters;
+    }
 
 -- the numbers are those of no letter where a lister is new, and else those of the whole word
 abbrev pub IsReadyAt : Stage → Position → Type 0

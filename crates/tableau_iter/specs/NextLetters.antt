@@ -1,4 +1,4 @@
--- The next letter that passes a test (this project's own).
+-- The next letter that passes a test.
 use Rattle.std.specs.Prelude.{◌≡◌, ℕ, ◌<◌, ◌≤◌, Bool, true, false}
 
 -- the letter is greater than one and at most another, passes the test, and none between does

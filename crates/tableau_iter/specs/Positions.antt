@@ -1,5 +1,7 @@
--- A word in the cells of a skew shape that is changed letter by letter, and the letters that fit in it (this project's own).
-use Rattle.std.specs.Prelude.{◌≡◌, ℕ, ◌+◌, ◌<◌, ◌≤◌, Bool, true, slice_index, List, [], ◌∷◌, length, take, drop}
+-- A word in the cells of a skew shape that is changed letter by letter,
+-- and the letters that fit in it.
+use Rattle.std.specs.Prelude.{◌≡◌, ℕ, ◌+◌, ◌<◌, ◌≤◌, Bool, true, slice_index, List, [], ◌∷◌, length}
+use Rattle.std.specs.Prelude.{take, drop}
 use Rattle.sym_model.specs.Partition.{rows, size}
 use Rattle.sym_model.specs.Polynomial.{join}
 use Rattle.sym_model.specs.Schur.{content}
@@ -9,7 +11,8 @@ use Rattle.tableau_iter.specs.declared.rule.Rule.{Rule}
 use Rattle.tableau_iter.specs.Fits.{Neighbours, AreCells, AreNear, all_fit, fits_by}
 use Rattle.tableau_iter.specs.Walks.{later}
 
--- what says which letters fit behind a front: the rule and its numbers, the start, the number of letters, the neighbours
+-- what says which letters fit after a front: the rule and its numbers, the start,
+-- the number of letters, the neighbours
 pub record Setting : Type 0 where
   pub rule : Rule
   pub counts : List ℕ
@@ -41,10 +44,12 @@ pub record IsSameUpTo (place : ℕ) (old new : Position) : Type 0 where
   pub length : length new.word ≡ length old.word
   pub front : take place new.word ≡ take place old.word
 
--- the words behind the front of a position, from the place on, are listed as this one and then what comes after it
+-- the words after the front of a position, from the place on,
+-- are listed as this one and then what comes after it
 abbrev pub Begins : ℕ → Position → List (List ℕ) → Type 0
 Begins place p list =
-    list ≡ drop place p.word ∷ later (passes p) p.setting.letters (take place p.word) (drop place p.word)
+    list ≡ drop place p.word ∷ later (passes p) p.setting.letters (take place p.word)
+    (drop place p.word)
 
 -- what a board holds
 pub record IsBoard (near : Neighbours) (start sums word : List ℕ) : Type 0 where
@@ -77,7 +82,8 @@ pub record IsNearIn (k : ℕ) (outer inner : List ℕ) (near : Neighbours) : Typ
   pub near_cells : AreNear k lines ranks near
 
 -- a board for a shape with no letter in it
-pub record IsNewBoard (rule : Rule) (counts start : List ℕ) (k : ℕ) (outer inner : List ℕ) (p : Position) : Type 0 where
+pub record IsNewBoard (rule : Rule) (counts start : List ℕ) (k : ℕ) (outer inner : List ℕ)
+    (p : Position) : Type 0 where
   pub shape : IsSkew outer inner
   pub setting : p.setting ≡ setting_of rule counts start k p.setting.near
   pub near_in : IsNearIn k outer inner p.setting.near

@@ -1,4 +1,4 @@
--- The letters of rows that were read, cell by cell (this project's own).
+-- The letters of rows that were read, cell by cell.
 use Rattle.std.specs.Prelude.{ℕ, ◌+◌, ◌-◌, List, [], slice_index, slice_index_or}
 use Rattle.sym_model.specs.Partition.{part}
 

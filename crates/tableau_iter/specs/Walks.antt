@@ -1,20 +1,20 @@
--- Words that pass a test, listed one after the other in rising lexicographic order: those that continue a front, and
--- what comes after a word (this project's own).
-use Rattle.std.specs.Prelude.{ℕ, ◌-◌, Bool, List, [], ◌∷◌, ◌++◌, map, length}
-use Rattle.sym_model.specs.Sum.{each, select}
+-- Words that pass a test, listed one after the other in rising lexicographic order: those that
+-- continue a front, and what comes after a word.
+use Rattle.std.specs.Prelude.{ℕ, ◌-◌, Bool, List, [], ◌∷◌, ◌++◌, map, length, filter, flat_map}
 use Rattle.sym_model.specs.Partition.{after}
 use Rattle.sym_model.specs.Schur.{words}
 
--- the words of n letters from 1 to k behind a front with which it passes the test
+-- the words of n letters from 1 to k after a front with which it passes the test
 abbrev pub completions : (List ℕ → Bool) → ℕ → ℕ → List ℕ → List (List ℕ)
-completions test k n front = select (λ w. test (front ++ w)) (words k n)
+completions test k n front = filter (λ w. test (front ++ w)) (words k n)
 
 -- those of n + 1 letters whose first letter is greater than a
 abbrev pub continued : (List ℕ → Bool) → ℕ → ℕ → List ℕ → ℕ → List (List ℕ)
 continued test k n front a =
-    each (λ b. map (λ w. b ∷ w) (completions test k n (front ++ b ∷ []))) (after a (k - a))
+    flat_map (λ b. map (λ w. b ∷ w) (completions test k n (front ++ b ∷ []))) (after a (k - a))
 
--- those of the same length that come after this one: first those with the same first letter, then those with a greater one
+-- those of the same length that come after this one: first those with the same first letter, then
+-- those with a greater one
 unfoldable pub later : (List ℕ → Bool) → ℕ → List ℕ → List ℕ → List (List ℕ)
 later test k front [] = []
 later test k front (a ∷ w) =

@@ -1,10 +1,12 @@
 //! A word in the cells of a skew shape.
-ghost use Rattle.std.specs.Prelude.{◌≡◌, ℕ, ◌+◌, ◌-◌, ◌<◌, ◌≤◌, false, true, [], ◌∷◌, ◌++◌, length, take, slice_index, IfOk, MatchOption};
+ghost use Rattle.std.specs.Prelude.{◌≡◌, ℕ, ◌+◌, ◌-◌, ◌<◌, ◌≤◌, false, true, [], ◌∷◌, ◌++◌, length};
+ghost use Rattle.std.specs.Prelude.{take, slice_index, IfOk, MatchOption};
 ghost use Rattle.sym_model.specs.Partition.{cells, rows, size};
 ghost use Rattle.sym_model.specs.Polynomial.{join};
 ghost use Rattle.sym_model.specs.Schur.{content};
 ghost use Rattle.tableau_iter.specs.NextLetters.{IsNextLetter};
-ghost use Rattle.tableau_iter.specs.Positions.{IsNearIn, IsNewBoard, IsReady, IsSameUpTo, fits_in, near_of};
+ghost use Rattle.tableau_iter.specs.Positions.{IsNearIn, IsNewBoard, IsReady, IsSameUpTo, fits_in};
+ghost use Rattle.tableau_iter.specs.Positions.{near_of};
 
 use crate::cells::cell_numbers;
 use crate::near::{ceiling, earlier_places, floor, greatest_letters};
@@ -14,8 +16,9 @@ use skew_shapes::Skew;
 use std::alloc::{AllocError, Global};
 use std::marker::Model;
 
-/// For each place of the column reading one more than the place of the cell above and of the cell on the right, 0 where
-/// there is none; and the greatest letter that leaves letters for the cells below.
+/// For each place of the column reading one more than the place of the cell above and of the cell
+/// on the right, 0 where there is none; and the greatest letter that leaves letters for the cells
+/// below.
 #[derive(Drop)]
 struct Near {
     above: Vec<u16>,
@@ -23,8 +26,8 @@ struct Near {
     most: Vec<u16>,
 }
 
-/// A word with a letter for each cell of a skew shape, in the order of the column reading, that is changed letter by
-/// letter; and start plus the content of its front up to a place.
+/// A word with a letter for each cell of a skew shape, in the order of the column reading, that is
+/// changed letter by letter; and start plus the content of its front up to a place.
 #[derive(Drop)]
 pub(crate) struct Board {
     rule: Rule,
@@ -41,7 +44,8 @@ impl Model for Board {
     ghost Value = { Position };
 
     ghost view = { λ b. position_of b.rule b.counts.items b.start.items
-        (near_of b.near.above.items b.near.right.items b.near.most.items) b.sums.items b.word.items };
+        (near_of b.near.above.items b.near.right.items b.near.most.items) b.sums.items
+        b.word.items };
 
     ghost invariant = { λ b. IsBoard (near_of b.near.above.items b.near.right.items b.near.most.items)
         b.start.items b.sums.items b.word.items };
@@ -60,7 +64,8 @@ impl Board {
         requires rows { rows start.now ≤ letters }
         requires few { letters ≤ 4096 }
         requires small { size start.now + length (cells shape.now.0 shape.now.1) ≤ 4096 }
-        ensures { IfOk result (λ b. IsNewBoard rule counts.now start.now letters shape.now.0 shape.now.1 b) }
+        ensures { IfOk result (λ b. IsNewBoard rule counts.now start.now letters shape.now.0
+            shape.now.1 b) }
     {
         let near = near_cells(alloc, shape, letters)?;
         let sums = start_sums(alloc, start, letters)?;
@@ -104,8 +109,10 @@ impl Board {
         requires place { place < length self.now.word }
         requires ready { IsReady place self.now }
         ensures { MatchOption result
-            ((b : ℕ) → tried < b → b ≤ self.now.setting.letters → fits_in self.now.setting (take place self.now.word) b ≡ false)
-            (IsNextLetter (fits_in self.now.setting (take place self.now.word)) tried self.now.setting.letters) }
+            ((b : ℕ) → tried < b → b ≤ self.now.setting.letters
+            → fits_in self.now.setting (take place self.now.word) b ≡ false)
+            (IsNextLetter (fits_in self.now.setting (take place self.now.word)) tried
+            self.now.setting.letters) }
     {
         let least = floor(&self.near.above, &self.word, place);
         let most = ceiling(&self.near.right, &self.near.most, &self.word, place);
@@ -153,9 +160,10 @@ impl Board {
     }
 }
 
-/// The neighbours of the cells of a shape, where there are so many letters.
+/// The neighbours of the cells of a shape, for the letters 1 to `letters`.
 fn near_cells(alloc: Global, shape: &Skew, letters: u16) -> Result<Near, AllocError>
-    ensures { IfOk result (λ n. IsNearIn letters shape.now.0 shape.now.1 (near_of n.above.items n.right.items n.most.items)) }
+    ensures { IfOk result (λ n. IsNearIn letters shape.now.0 shape.now.1
+        (near_of n.above.items n.right.items n.most.items)) }
 {
     let lines = cell_numbers(alloc, shape, true)?;
     let ranks = cell_numbers(alloc, shape, false)?;

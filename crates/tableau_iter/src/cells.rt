@@ -12,7 +12,8 @@ pub(crate) fn cell_numbers(
     shape: &Skew,
     of_row: bool,
 ) -> Result<Vec<u16>, AllocError>
-    ensures value { IfOk result (λ v. v.items ≡ map (λ (c : ℕ × ℕ). cond of_row c.0 c.1) (reading_cells shape.now.0 shape.now.1)) }
+    ensures value { IfOk result (λ v. v.items
+        ≡ map (λ (c : ℕ × ℕ). cond of_row c.0 c.1) (reading_cells shape.now.0 shape.now.1)) }
     ensures few { IfOk result (λ v. length v.items ≤ 4096) }
 {
     let mut numbers = Vec::with_capacity(alloc, usize::from(shape.cells()))?;
@@ -33,7 +34,8 @@ fn push_columns(
 ) -> Result<(), AllocError>
     requires few { length outer.now ≤ 512 }
     ensures { OnOk result (numbers.new.items
-        ≡ numbers.old.items ++ map (λ (c : ℕ × ℕ). cond of_row c.0 c.1) (reading_cells outer.now inner.now)) }
+        ≡ numbers.old.items ++ map (λ (c : ℕ × ℕ). cond of_row c.0 c.1)
+        (reading_cells outer.now inner.now)) }
 {
     let mut column = outer.first().copied().unwrap_or(0);
     while column > 0 {
@@ -53,7 +55,8 @@ fn push_column(
     requires few { length outer.now ≤ 512 }
     requires column { 1 ≤ column }
     ensures { OnOk result (numbers.new.items
-        ≡ numbers.old.items ++ map (λ (c : ℕ × ℕ). cond of_row c.0 c.1) (column_cells outer.now inner.now column)) }
+        ≡ numbers.old.items ++ map (λ (c : ℕ × ℕ). cond of_row c.0 c.1)
+        (column_cells outer.now inner.now column)) }
 {
     for row in 0..outer.len() {
         if !has_cell(outer, inner, row, column) {

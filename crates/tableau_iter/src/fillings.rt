@@ -12,8 +12,9 @@ use skew_shapes::Skew;
 use std::alloc::Global;
 use std::marker::Model;
 
-/// The semistandard tableaux of a skew shape, all or those of one content, by their column readings in rising
-/// lexicographic order, each once: a `Lister` that works in place. Rows rise weakly and columns strictly (Fulton).
+/// The semistandard tableaux of a skew shape, all or those of one content, by their column readings
+/// in rising lexicographic order, each once: a `Lister` that works in place. Rows are weakly
+/// increasing, columns strictly (Fulton).
 #[derive(Drop)]
 pub struct Fillings {
     walker: Walker,
@@ -28,11 +29,13 @@ impl Model for Fillings {
 }
 
 impl Fillings {
-    /// The semistandard tableaux of `shape` with entries from 1 to `n`, none of them current. `n` is at most 4,096.
-    /// It fails for want of memory alone.
+    /// The semistandard tableaux of `shape` with entries from 1 to `n`,
+    /// none of them current. `n` is at most 4,096.
+    /// It fails for out of memory alone.
     pub fn all(alloc: Global, shape: &Skew, n: u16) -> Result<Fillings, NoMemory>
         requires { n ≤ 4096 }
-        ensures rest { IfOk result (λ f. ⟦<Fillings as Lister>⟧.rest f ≡ tableau_readings n shape.now.0 shape.now.1) }
+        ensures rest { IfOk result (λ f. ⟦<Fillings as Lister>⟧.rest f
+            ≡ tableau_readings n shape.now.0 shape.now.1) }
         ensures item { IfOk result (λ f. ⟦<Fillings as Lister>⟧.item f ≡ None) }
     {
         // This tells the proof that the shape has no more cells than its outer partition.
@@ -43,11 +46,13 @@ impl Fillings {
         })
     }
 
-    /// The semistandard tableaux of `shape` with exactly this content, none of them current: as many of each entry from 1
-    /// on as its numbers say, of which there are at most 4,096. It fails for want of memory alone.
+    /// The semistandard tableaux of `shape` with exactly this content, none of them current: as
+    /// many of each entry from 1 on as its numbers say, of which there are at most 4,096. It fails
+    /// for out of memory alone.
     pub fn with_content(alloc: Global, shape: &Skew, content: &[u16]) -> Result<Fillings, NoMemory>
         requires { length content.now ≤ 4096 }
-        ensures rest { IfOk result (λ f. ⟦<Fillings as Lister>⟧.rest f ≡ readings_with_content content.now shape.now.0 shape.now.1) }
+        ensures rest { IfOk result (λ f. ⟦<Fillings as Lister>⟧.rest f
+            ≡ readings_with_content content.now shape.now.0 shape.now.1) }
         ensures item { IfOk result (λ f. ⟦<Fillings as Lister>⟧.item f ≡ None) }
     {
         let cells = shape.cells();

@@ -1,5 +1,6 @@
 //! Good tableaux, one at a time.
-ghost use Rattle.std.specs.Prelude.{◌≡◌, ◌++◌, ◌↔◌, ℕ, ◌+◌, ◌<◌, ◌≤◌, [], ◌∷◌, IsTrue, false, true, length, IfOk, IfSome, IsErrOf, IsSome, None, OnOk};
+ghost use Rattle.std.specs.Prelude.{◌≡◌, ◌++◌, ◌↔◌, ℕ, ◌+◌, ◌<◌, ◌≤◌, [], ◌∷◌, IsTrue, false, true};
+ghost use Rattle.std.specs.Prelude.{length, IfOk, IfSome, IsErrOf, IsSome, None, OnOk};
 ghost use Rattle.std.specs.Option.{option_to_list};
 ghost use Rattle.std.specs.Bool.{OnFalse};
 ghost use Rattle.sym_model.specs.GoodTableau.{good_readings, is_among};
@@ -20,9 +21,10 @@ use skew_shapes::Skew;
 use std::alloc::Global;
 use std::marker::Model;
 
-/// The good tableaux of a skew shape for a start, with entries from 1 to a number of rows, by their column readings in
-/// rising lexicographic order, each once: a `Lister` that works in place. Good is what Stembridge calls so: start plus the
-/// content of the columns from any one to the rightmost is a partition.
+/// The good tableaux of a skew shape for a start, with entries from 1 to a number of rows, by their
+/// column readings in rising lexicographic order, each once: a `Lister` that works in place. Good
+/// is what Stembridge calls so: start plus the content of the columns from any one to the rightmost
+/// is a partition.
 #[derive(Drop)]
 pub struct Lattice {
     walker: Walker,
@@ -37,9 +39,10 @@ impl Model for Lattice {
 }
 
 impl Lattice {
-    /// The good tableaux of `shape` for `start` with entries from 1 to `rows`, none of them current. `start` has at most
-    /// so many rows, there are at most 512, and `start` and the shape have at most 4,096 cells together. It fails for want of
-    /// memory alone.
+    /// The good tableaux of `shape` for `start` with entries from 1 to `rows`,
+    /// none of them current.
+    /// `start` has at most `rows` rows, there are at most 512, and `start` and the shape have at
+    /// most 4,096 cells together. Its only error is out of memory.
     pub fn new(
         alloc: Global,
         shape: &Skew,
@@ -49,7 +52,8 @@ impl Lattice {
         requires start { length start.now ≤ rows }
         requires few { rows ≤ 512 }
         requires small { size start.now + length (cells shape.now.0 shape.now.1) ≤ 4096 }
-        ensures rest { IfOk result (λ l. ⟦<Lattice as Lister>⟧.rest l ≡ good_readings rows start.now shape.now.0 shape.now.1) }
+        ensures rest { IfOk result (λ l. ⟦<Lattice as Lister>⟧.rest l
+            ≡ good_readings rows start.now shape.now.0 shape.now.1) }
         ensures item { IfOk result (λ l. ⟦<Lattice as Lister>⟧.item l ≡ None) }
         ensures start { IfOk result (λ l. l.start ≡ start.now) }
         ensures letters { IfOk result (λ l. l.letters ≡ rows) }
@@ -60,8 +64,10 @@ impl Lattice {
         })
     }
 
-    /// The good tableaux after the one with this column reading, none of them current; the conditions are those of
-    /// `new`. It is refused as `NotInList` where no tableau of the list has that reading, unless memory was refused before.
+    /// The good tableaux after the one with this column reading, none of them current;
+    /// the conditions are those of
+    /// `new`. It is refused as `NotInList` where no tableau of the list has that reading, unless
+    /// memory was refused before.
     /// The tableaux before it are not walked through.
     pub fn resume(
         alloc: Global,
@@ -78,7 +84,8 @@ impl Lattice {
         ensures item { IfOk result (λ l. ⟦<Lattice as Lister>⟧.item l ≡ None) }
         ensures start { IfOk result (λ l. l.start ≡ start.now) }
         ensures letters { IfOk result (λ l. l.letters ≡ rows) }
-        ensures in_list { OnOk result (is_among last.now (good_readings rows start.now shape.now.0 shape.now.1) ≡ true) }
+        ensures in_list { OnOk result
+            (is_among last.now (good_readings rows start.now shape.now.0 shape.now.1) ≡ true) }
         ensures not_in_list { IsErrOf result ResumeFault.NotInList
             → is_among last.now (good_readings rows start.now shape.now.0 shape.now.1) ≡ false }
     {
@@ -97,7 +104,8 @@ impl Lattice {
     /// The start plus the content of the current tableau: a number for each entry from 1 on.
     pub fn content(&self) -> &[u16]
         requires { IsSome self.now.item }
-        ensures { IfSome self.now.item (λ w. result.now ≡ join self.now.start (content self.now.letters w)) }
+        ensures { IfSome self.now.item
+            (λ w. result.now ≡ join self.now.start (content self.now.letters w)) }
     {
         self.walker.sums()
     }

@@ -16,7 +16,8 @@ use std::alloc::Global;
 
 /// Whether rows have as many numbers as those of a shape have cells.
 fn have_lengths(outer: &[u16], inner: &[u16], rows: &[Vec<u16>]) -> bool
-    ensures { result ≡ same (map length (map (λ r. r.items) rows.now)) (row_lengths outer.now inner.now) }
+    ensures { result ≡ same (map length (map (λ r. r.items) rows.now))
+        (row_lengths outer.now inner.now) }
 {
     if rows.len() != outer.len() {
         return false;
@@ -44,8 +45,8 @@ fn is_semistandard(alloc: Global, shape: Skew, reading: &[u16]) -> Result<bool, 
     }
 }
 
-/// Whether a word is the column reading of a lattice tableau of a shape: the filling with that reading is semistandard, and
-/// the word is a lattice word.
+/// Whether a word is the column reading of a lattice tableau of a shape: the filling with that
+/// reading is semistandard, and the word is a lattice word.
 fn is_listed(alloc: Global, shape: Skew, reading: &[u16]) -> Result<bool, NoMemory>
     requires { length reading.now ≡ length (cells shape.0 shape.1) }
     ensures { IfOk result (λ b. b ≡ is_among reading.now (lattice_readings shape.0 shape.1)) }
@@ -59,9 +60,10 @@ fn is_listed(alloc: Global, shape: Skew, reading: &[u16]) -> Result<bool, NoMemo
     is_lattice(alloc, letters, reading)
 }
 
-/// The column reading of the rows where they are a lattice tableau of `outer` over `inner`: rows of that shape that are
-/// semistandard, with entries from 1 to the number of rows of `outer`, and such that the content of the columns from any
-/// one to the rightmost is a partition. None where they are not. It fails for want of memory alone.
+/// The column reading of the rows where they are a lattice tableau of `outer` over `inner`: rows of
+/// that shape that are semistandard, with entries from 1 to the number of rows of `outer`, and such
+/// that the content of the columns from any one to the rightmost is a partition. None where they
+/// are not. It fails for out of memory alone.
 pub fn lattice_reading(
     alloc: Global,
     outer: &Partition,

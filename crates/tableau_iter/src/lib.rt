@@ -1,5 +1,5 @@
-//! Tableaux one at a time, by their column readings: the good ones, and all or those of one content; and whether rows of numbers
-//! are a lattice tableau.
+//! Tableaux one at a time, by their column readings: the good ones, and all or those of one
+//! content; and whether rows of numbers are a lattice tableau.
 //!
 //! What is proved:
 //!

@@ -1,11 +1,13 @@
 //! The neighbours of the cells of a skew shape, by their places in the column reading.
-ghost use Rattle.std.specs.Prelude.{◌≡◌, ℕ, ◌+◌, ◌-◌, ◌<◌, ◌≤◌, ◌==◌, ◌&&◌, length, slice_index, IfOk};
-ghost use Rattle.tableau_iter.specs.Fits.{AreNeighbours, IsNeighbour, IsGreatest, IsRun, ceiling_at, floor_at};
+ghost use Rattle.std.specs.Prelude.{◌≡◌, ℕ, ◌+◌, ◌-◌, ◌<◌, ◌≤◌, ◌==◌, ◌&&◌, length, slice_index};
+ghost use Rattle.std.specs.Prelude.{IfOk};
+ghost use Rattle.tableau_iter.specs.Fits.{AreNeighbours, IsNeighbour, IsGreatest, IsRun};
+ghost use Rattle.tableau_iter.specs.Fits.{ceiling_at, floor_at};
 
 use std::alloc::{AllocError, Global};
 
-/// For each place one more than the earlier place whose cell is so many rows above and so many columns right; 0 where
-/// there is none.
+/// For each place one more than the earlier place whose cell is `down` rows above and `left`
+/// columns right; 0 if there is none.
 pub(crate) fn earlier_places(
     alloc: Global,
     lines: &[u16],
@@ -24,7 +26,8 @@ pub(crate) fn earlier_places(
     Ok(found)
 }
 
-/// One more than the earlier place whose cell is so many rows above and so many columns right; 0 where there is none.
+/// One more than the earlier place whose cell is `down` rows above and `left` columns right; 0 if
+/// there is none.
 fn earlier_place(lines: &[u16], ranks: &[u16], place: usize, down: u16, left: u16) -> u16
     requires place { place < length lines.now }
     requires few { length lines.now ≤ 4096 }
@@ -41,7 +44,7 @@ fn earlier_place(lines: &[u16], ranks: &[u16], place: usize, down: u16, left: u1
     0
 }
 
-/// Whether the cell at another place is so many rows above and so many columns right.
+/// Whether the cell at another place is `down` rows above and `left` columns right.
 fn is_there(lines: &[u16], ranks: &[u16], place: usize, at: usize, down: u16, left: u16) -> bool
     requires place { place < length lines.now }
     requires at { at < length lines.now }
@@ -53,7 +56,7 @@ fn is_there(lines: &[u16], ranks: &[u16], place: usize, at: usize, down: u16, le
         && usize::from(ranks[at]) == usize::from(ranks[place]) + usize::from(left)
 }
 
-/// For each place the greatest of so many letters that leaves letters for the cells below.
+/// For each place the greatest letter that leaves letters for the cells below.
 pub(crate) fn greatest_letters(
     alloc: Global,
     above: &[u16],
@@ -97,7 +100,8 @@ pub(crate) fn floor(above: &[u16], word: &[u16], place: usize) -> u16
     if found == 0 { 0 } else { word[found - 1] }
 }
 
-/// The least of the letter on the right of a place, where there is one, and of the greatest letter that may stand there.
+/// The least of the letter on the right of a place, where there is one,
+/// and of the greatest letter that may stand there.
 pub(crate) fn ceiling(right: &[u16], most: &[u16], word: &[u16], place: usize) -> u16
     requires place { place < length right.now }
     requires most { place < length most.now }

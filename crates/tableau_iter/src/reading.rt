@@ -54,7 +54,9 @@ fn push_column(
 ) -> Result<(), AllocError>
     requires { length rows.now ≡ length outer.now }
     ensures { OnOk result (letters.new.items
-        ≡ letters.old.items ++ map (λ (c : ℕ × ℕ). letter_in_rows inner.now (map (λ r. r.items) rows.now) c.0 c.1) (column_cells outer.now inner.now column)) }
+        ≡ letters.old.items ++ map
+        (λ (c : ℕ × ℕ). letter_in_rows inner.now (map (λ r. r.items) rows.now) c.0 c.1)
+        (column_cells outer.now inner.now column)) }
 {
     for row in 0..outer.len() {
         if !has_cell(outer, inner, row, column) {
@@ -74,7 +76,9 @@ fn push_columns(
 ) -> Result<(), AllocError>
     requires { length rows.now ≡ length outer.now }
     ensures { OnOk result (letters.new.items
-        ≡ letters.old.items ++ map (λ (c : ℕ × ℕ). letter_in_rows inner.now (map (λ r. r.items) rows.now) c.0 c.1) (reading_cells outer.now inner.now)) }
+        ≡ letters.old.items ++ map
+        (λ (c : ℕ × ℕ). letter_in_rows inner.now (map (λ r. r.items) rows.now) c.0 c.1)
+        (reading_cells outer.now inner.now)) }
 {
     let mut column = outer.first().copied().unwrap_or(0);
     while column > 0 {
@@ -84,8 +88,9 @@ fn push_columns(
     Ok(())
 }
 
-/// The column reading of a filling by its rows: the numbers of the columns from the rightmost to the leftmost, each from top
-/// to bottom. The rows have as many numbers as those of the shape have cells.
+/// The column reading of a filling by its rows: the numbers of the columns from the rightmost to
+/// the leftmost, each from top to bottom. The rows have as many numbers as those of the shape have
+/// cells.
 pub fn reading_of_rows(
     alloc: Global,
     outer: &[u16],
@@ -93,7 +98,8 @@ pub fn reading_of_rows(
     rows: &[Vec<u16>],
 ) -> Result<Vec<u16>, NoMemory>
     requires { map length (map (λ r. r.items) rows.now) ≡ row_lengths outer.now inner.now }
-    ensures { IfOk result (λ w. w.items ≡ column_reading outer.now inner.now (map (λ r. r.items) rows.now)) }
+    ensures { IfOk result (λ w. w.items
+        ≡ column_reading outer.now inner.now (map (λ r. r.items) rows.now)) }
 {
     let mut letters = Vec::new(alloc);
     push_columns(&mut letters, rows, outer, inner)?;

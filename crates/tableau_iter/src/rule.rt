@@ -3,7 +3,8 @@ ghost use Rattle.std.specs.Prelude.{◌≡◌, ℕ, ◌<◌, ◌≤◌, false, l
 ghost use Rattle.tableau_iter.specs.Fits.{allows};
 ghost use Rattle.tableau_iter.specs.NextLetters.{IsNextLetter};
 
-/// A letter may stand anywhere; or start plus content has to fall with it; or there may be only so many of each letter.
+/// A letter may occur anywhere; or start plus content has to be a partition with it; or each letter
+/// has a number of times that it may occur.
 #[derive(Clone, Copy)]
 pub(crate) enum Rule {
     Free,
@@ -11,8 +12,8 @@ pub(crate) enum Rule {
     Limited,
 }
 
-/// Whether the rule allows one more of a letter where `sums` are the numbers of the letters and `counts` the greatest
-/// ones that may come of them.
+/// Whether the rule allows one more of a letter where `sums` are the numbers of the letters and
+/// `counts` the greatest ones that may come of them.
 pub(crate) fn allows(rule: Rule, counts: &[u16], sums: &[u16], letter: u16) -> bool
     requires low { 1 ≤ letter }
     requires high { letter ≤ length sums.now }

@@ -1,6 +1,7 @@
 //! How far a lister has come.
 
-/// Whether the words are still to come, one is current, one was passed before the first step, or the last one was passed.
+/// Whether the words are still to come, one is current, one was passed before the first step, or
+/// the last one was passed.
 #[derive(Clone, Copy)]
 pub(crate) enum Stage {
     New,

@@ -13,9 +13,11 @@ pub(crate) fn first(board: &mut Board, place: usize) -> bool
     requires place { place ≤ length board.old.word }
     requires ready { IsReady place board.old }
     ensures found { OnTrue result (Begins place board.new
-        (completions (passes board.old) board.old.setting.letters (length board.old.word - place) (take place board.old.word))) }
+        (completions (passes board.old) board.old.setting.letters (length board.old.word - place)
+        (take place board.old.word))) }
     ensures none { OnFalse result
-        (completions (passes board.old) board.old.setting.letters (length board.old.word - place) (take place board.old.word) ≡ []) }
+        (completions (passes board.old) board.old.setting.letters (length board.old.word - place)
+        (take place board.old.word) ≡ []) }
     ensures same { IsSameUpTo place board.old board.new }
     ensures whole { OnTrue result (IsReady (length board.new.word) board.new) }
     ensures back { OnFalse result (IsReady place board.new) }
@@ -26,17 +28,19 @@ pub(crate) fn first(board: &mut Board, place: usize) -> bool
     first_after(board, place, 0)
 }
 
-/// Finds the first word with these letters up to the place and a greater letter than `least` there; false where there
-/// is none.
+/// Finds the first word with these letters up to the place and a greater letter than `least` there;
+/// false where there is none.
 #[cycle(walk)]
 fn first_after(board: &mut Board, place: usize, least: u16) -> bool
     requires few { length board.old.word ≤ 4096 }
     requires place { place < length board.old.word }
     requires ready { IsReady place board.old }
     ensures found { OnTrue result (Begins place board.new
-        (continued (passes board.old) board.old.setting.letters (length board.old.word - (place + 1)) (take place board.old.word) least)) }
+        (continued (passes board.old) board.old.setting.letters
+        (length board.old.word - (place + 1)) (take place board.old.word) least)) }
     ensures none { OnFalse result
-        (continued (passes board.old) board.old.setting.letters (length board.old.word - (place + 1)) (take place board.old.word) least ≡ []) }
+        (continued (passes board.old) board.old.setting.letters
+        (length board.old.word - (place + 1)) (take place board.old.word) least ≡ []) }
     ensures same { IsSameUpTo place board.old board.new }
     ensures whole { OnTrue result (IsReady (length board.new.word) board.new) }
     ensures back { OnFalse result (IsReady place board.new) }
@@ -53,15 +57,18 @@ fn first_after(board: &mut Board, place: usize, least: u16) -> bool
     false
 }
 
-/// Finds the word that comes next among those with these letters up to the place; false where this is the last one.
+/// Finds the word that comes next among those with these letters up to the place;
+/// false where this is the last one.
 pub(crate) fn next(board: &mut Board, place: usize) -> bool
     requires few { length board.old.word ≤ 4096 }
     requires place { place ≤ length board.old.word }
     requires ready { IsReady (length board.old.word) board.old }
     ensures found { OnTrue result (Begins place board.new
-        (later (passes board.old) board.old.setting.letters (take place board.old.word) (drop place board.old.word))) }
+        (later (passes board.old) board.old.setting.letters (take place board.old.word)
+        (drop place board.old.word))) }
     ensures none { OnFalse result
-        (later (passes board.old) board.old.setting.letters (take place board.old.word) (drop place board.old.word) ≡ []) }
+        (later (passes board.old) board.old.setting.letters (take place board.old.word)
+        (drop place board.old.word) ≡ []) }
     ensures same { IsSameUpTo place board.old board.new }
     ensures whole { OnTrue result (IsReady (length board.new.word) board.new) }
     ensures back { OnFalse result (IsReady place board.new) }

@@ -43,7 +43,8 @@ impl Walker {
     /// Start plus the content of the current word.
     pub(crate) fn sums(&self) -> &[u16]
         requires { IsSome self.now.item }
-        ensures { IfSome self.now.item (λ w. result.now ≡ join self.now.start (content self.now.letters w)) }
+        ensures { IfSome self.now.item
+            (λ w. result.now ≡ join self.now.start (content self.now.letters w)) }
     {
         self.board.sums()
     }
@@ -77,7 +78,9 @@ impl Lister for Walker {
 /// Puts the word that comes next in place of this one; false where none is left.
 fn step(board: &mut Board, stage: Stage) -> bool
     requires { IsReadyAt stage board.old }
-    ensures found { OnTrue result (rest_at stage board.old ≡ board.new.word ∷ later (passes board.new) board.new.setting.letters [] board.new.word) }
+    ensures found { OnTrue result
+        (rest_at stage board.old ≡ board.new.word
+        ∷ later (passes board.new) board.new.setting.letters [] board.new.word) }
     ensures none { OnFalse result (rest_at stage board.old ≡ []) }
     ensures same { IsSameUpTo 0 board.old board.new }
     ensures whole { OnTrue result (IsReady (length board.new.word) board.new) }

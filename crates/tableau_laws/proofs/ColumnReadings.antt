@@ -1,9 +1,9 @@
 -- The columns of a filling and its column reading, by the padded columns.
-use Rattle.std.proofs.Common.{◌≡◌, ℕ, zero, suc, ◌+◌, ◌-◌, ◌<◌, ◌≤◌, ◌⊎◌, ◌==◌, Bool, true, false, cond, ◌&&◌, List, [], ◌∷◌, ◌++◌, append_assoc, length, replicate, reverse, take, drop, get_or, nat_lt, sym, ◌∙◌, ap, ap₂, refl, inl, inr, arith, append-nil}
+use Rattle.std.proofs.Common.{◌≡◌, ℕ, zero, suc, ◌+◌, ◌-◌, ◌<◌, ◌≤◌, ◌⊎◌, ◌==◌, Bool, true, false, cond, ◌&&◌, List, [], ◌∷◌, ◌++◌, append_assoc, length, replicate, reverse, take, drop, get_or, nat_lt, sym, ◌∙◌, ap, ap₂, refl, inl, inr, arith, append-nil, flat_map}
 use Rattle.std.proofs.lemmas.Bool.{lt-ltb, le-ltb, ne_eqb, cases_Bool, ltb-true, ltb-false}
 use Rattle.std.proofs.lemmas.List.{reverse-append}
 use Rattle.std.proofs.Math.Seq.{drop-cons}
-use Rattle.sym_model.specs.Sum.{each, Among}
+use Rattle.sym_model.specs.Sum.{Among}
 use Rattle.sym_model.specs.Partition.{ArePositive, part, columns, after}
 use Rattle.sym_model.specs.Polynomial.{join}
 use Rattle.sym_model.specs.Schur.{times_in, letters_of, content}
@@ -81,13 +81,13 @@ column-padded inner (row ∷ rows) i h =
 
 -- ---- the columns right of one
 
-each_append : (f : ℕ → List ℕ) (xs ys : List ℕ) → each f (xs ++ ys) ≡ each f xs ++ each f ys
+each_append : (f : ℕ → List ℕ) (xs ys : List ℕ) → flat_map f (xs ++ ys) ≡ flat_map f xs ++ flat_map f ys
 each_append f [] ys = refl
-each_append f (x ∷ xs) ys = ap (λ l. f x ++ l) (each_append f xs ys) ∙ sym (append_assoc (f x) (each f xs) (each f ys))
+each_append f (x ∷ xs) ys = ap (λ l. f x ++ l) (each_append f xs ys) ∙ sym (append_assoc (f x) (flat_map f xs) (flat_map f ys))
 
 -- the columns j + 1 to j + k, from the last to the first
 columns_between : (f : ℕ → List ℕ) (lines : List (List ℕ)) (j k : ℕ) → ((i : ℕ) → f (suc i) ≡ filled (line_at i lines)) → j + k ≡ length lines
-    → each f (reverse (after j k)) ≡ reading_of (drop j lines)
+    → flat_map f (reverse (after j k)) ≡ reading_of (drop j lines)
 columns_between f lines j zero e l = ap reading_of (sym (past j lines (omega arith)))
   where
     past : (i : ℕ) (xs : List (List ℕ)) → length xs ≤ i → drop i xs ≡ []
@@ -97,7 +97,7 @@ columns_between f lines j zero e l = ap reading_of (sym (past j lines (omega ari
     past (suc i) (x ∷ xs) h = past i xs (omega arith)
 columns_between f lines j (suc k) e l =
     let n : j + 1 ≡ suc j = omega arith in
-    ap (each f) (reverse-append ((j + 1) ∷ []) (after (j + 1) k))
+    ap (flat_map f) (reverse-append ((j + 1) ∷ []) (after (j + 1) k))
     ∙ each_append f (reverse (after (j + 1) k)) ((j + 1) ∷ [])
     ∙ ap₂ ◌++◌ (columns_between f lines (j + 1) k e (omega arith)) (append-nil (f (j + 1)) ∙ ap f n ∙ e j)
     ∙ ap (λ i. reading_of (drop i lines) ++ filled (line_at j lines)) n

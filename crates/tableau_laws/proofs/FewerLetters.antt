@@ -1,8 +1,8 @@
 -- Fillings with letters up to n in which only letters up to k stand are the fillings with letters up to k; so Schur
 -- polynomials in n variables restricted to k variables are those in k variables.
-use Rattle.std.proofs.Common.{◌≡◌, ℕ, zero, suc, ◌+◌, ◌-◌, ◌<◌, ◌≤◌, ◌⊎◌, ◌==◌, Bool, true, false, cond, ◌&&◌, List, [], ◌∷◌, ◌++◌, map, nat_le, sym, ◌∙◌, ap, ap₂, refl, inl, inr, arith, ℤ, pos, ◌+ℤ◌, ◌*ℤ◌}
+use Rattle.std.proofs.Common.{◌≡◌, ℕ, zero, suc, ◌+◌, ◌-◌, ◌<◌, ◌≤◌, ◌⊎◌, ◌==◌, Bool, true, false, cond, ◌&&◌, List, [], ◌∷◌, ◌++◌, map, nat_le, sym, ◌∙◌, ap, ap₂, refl, inl, inr, arith, ℤ, pos, ◌+ℤ◌, ◌*ℤ◌, filter}
 use Rattle.std.proofs.lemmas.Bool.{and_parts, and_from, leb-true, le-leb, eqb-true, eq-eqb, ne_eqb, cases_eq, cases_lt, cases_Bool}
-use Rattle.sym_model.specs.Sum.{total, select}
+use Rattle.sym_model.specs.Sum.{total}
 use Rattle.sym_model.specs.Partition.{Falls, IsPartition, after}
 use Rattle.sym_model.specs.Polynomial.{Term, Same, pair, resize, all_zero, fits_in, restrict}
 use Rattle.sym_model.specs.Schur.{row_lengths, fillings_of, semistandard, contains, tableaux, times_in, letters_of, content, skew_schur}
@@ -19,6 +19,7 @@ use Rattle.tableau_laws.proofs.PatternFillings.{Fits, AllFit, filling_tells}
 use Rattle.tableau_laws.proofs.RowSums.{of_tableaux, total_tableaux}
 use Rattle.tableau_laws.proofs.Contents.{content-padded}
 use Rattle.tableau_laws.proofs.ColumnSums.{total_under}
+use Rattle.sym_model.specs.Bounded.{AreAtMost}
 
 -- whether no letter is greater than k
 abbrev pub are_up_to : ℕ → List ℕ → Bool
@@ -104,11 +105,6 @@ fits_in_map f a (suc k) (suc n) h =
     let d : n - k ≡ suc n - suc k = omega arith in
     fits_in_map f (a + 1) k n (omega arith) ∙ ap₂ (λ i j. all_zero (map f (after i j))) e d
 
--- letters from 0 to n
-AreWithin : ℕ → List ℕ → Type 0
-AreWithin n [] = Unit {0}
-AreWithin n (a ∷ w) = (a ≤ n) × AreWithin n w
-
 none_greater : (k j : ℕ) (w : List ℕ) → are_up_to k w ≡ true → k < j → times_in j w ≡ 0
 none_greater k j [] e h = refl
 none_greater k j (a ∷ w) e h =
@@ -117,8 +113,7 @@ none_greater k j (a ∷ w) e h =
     let d : (a == j) ≡ false = ne_eqb a j (λ i. absurd (omega arith)) in
     ap (λ (b : Bool). cond {A = ℕ} b 1 0 + times_in j w) d ∙ omega (arith, none_greater k j w p.1 h)
 
-up_to_from : (k n : ℕ) (w : List ℕ) → AreWithin n w → ((j : ℕ) → k < j → j ≤ n → times_in j w ≡ 0) → are_up_to k w ≡ true
-unfolding AreWithin
+up_to_from : (k n : ℕ) (w : List ℕ) → AreAtMost n w → ((j : ℕ) → k < j → j ≤ n → times_in j w ≡ 0) → are_up_to k w ≡ true
 up_to_from k n [] a z = refl
 up_to_from k n (b ∷ w) a z =
     and_from (nat_le b k) (are_up_to k w) (first (cases_lt k b)) (up_to_from k n w a.1 (λ j h l. let e = z j h l in omega arith))
@@ -130,27 +125,24 @@ up_to_from k n (b ∷ w) a z =
         absurd (omega arith)
     first (inr h) = le-leb b k h
 
-fits_in-content : (k n : ℕ) (w : List ℕ) → k ≤ n → AreWithin n w → fits_in k (content n w) ≡ are_up_to k w
+fits_in-content : (k n : ℕ) (w : List ℕ) → k ≤ n → AreAtMost n w → fits_in k (content n w) ≡ are_up_to k w
 fits_in-content k n w h a =
     tests_agree (fits_in k (content n w)) (are_up_to k w)
     (λ e. up_to_from k n w a (λ j g l. all_zero_tells (λ i. times_in i w) (0 + k) (n - k) j (sym (fits_in_map (λ i. times_in i w) 0 k n h) ∙ e) (omega arith) (omega arith)))
     (λ e. fits_in_map (λ i. times_in i w) 0 k n h ∙ all_zero_from (λ i. times_in i w) (0 + k) (n - k) (λ j g. none_greater k j w e (omega arith)))
 
-word_within : (n : ℕ) (line : List Bool) (w : List ℕ) → Fits n line w → AreWithin n w
-unfolding AreWithin
+word_within : (n : ℕ) (line : List Bool) (w : List ℕ) → Fits n line w → AreAtMost n w
 word_within n [] [] f = tt
 word_within n [] (a ∷ w) f = absurd f
 word_within n (p ∷ line) [] f = absurd f
 word_within n (true ∷ line) (a ∷ w) f = (f.0.1, word_within n line w f.1)
 word_within n (false ∷ line) (a ∷ w) f = let e = f.0 in (omega arith, word_within n line w f.1)
 
-within_append : (n : ℕ) (v w : List ℕ) → AreWithin n v → AreWithin n w → AreWithin n (v ++ w)
-unfolding AreWithin
+within_append : (n : ℕ) (v w : List ℕ) → AreAtMost n v → AreAtMost n w → AreAtMost n (v ++ w)
 within_append n [] w a b = b
 within_append n (x ∷ v) w a b = (a.0, within_append n v w a.1 b)
 
-filling_within : (n : ℕ) (pattern : List (List Bool)) (rows : List (List ℕ)) → AllFit n pattern rows → AreWithin n (letters_of rows)
-unfolding AreWithin
+filling_within : (n : ℕ) (pattern : List (List Bool)) (rows : List (List ℕ)) → AllFit n pattern rows → AreAtMost n (letters_of rows)
 filling_within n [] [] f = tt
 filling_within n [] (w ∷ rows) f = absurd f
 filling_within n (line ∷ pattern) [] f = absurd f
@@ -197,7 +189,7 @@ restrict-skew_schur outer inner k n h i =
     ∙ sym (pair-skew_schur k outer inner φ))
   where
     none : (m : ℕ) (f : List (List ℕ) → ℤ) → contains outer inner ≡ false → total f (tableaux m outer inner) ≡ pos 0
-    none m f e = ap (λ (b : Bool). total f (cond b (select (semistandard inner) (fillings_of m (row_lengths outer inner))) [])) e
+    none m f e = ap (λ (b : Bool). total f (cond b (filter (semistandard inner) (fillings_of m (row_lengths outer inner))) [])) e
 
     by : (φ : List ℕ → ℤ) → (contains outer inner ≡ true) ⊎ (contains outer inner ≡ false)
         → total (λ (T : List (List ℕ)). cond (fits_in k (content n (letters_of T))) (φ (resize k (content n (letters_of T)))) (pos 0)) (tableaux n outer inner)

@@ -1,8 +1,8 @@
 -- Sums over the good readings are sums over the good fillings by columns: each reading is that of one tableau.
-use Rattle.std.proofs.Common.{◌≡◌, ℕ, zero, suc, ◌+◌, ◌-◌, ◌≤◌, Bool, true, false, cond, ◌&&◌, List, [], ◌∷◌, ◌++◌, map, length, replicate, drop, nat_le, nat_lt, slice_index, sym, ◌∙◌, ap, ap₂, subst, refl, inl, inr, arith, ℤ, pos}
+use Rattle.std.proofs.Common.{◌≡◌, ℕ, zero, suc, ◌+◌, ◌-◌, ◌≤◌, Bool, true, false, cond, ◌&&◌, List, [], ◌∷◌, ◌++◌, map, length, replicate, drop, nat_le, nat_lt, slice_index, sym, ◌∙◌, ap, ap₂, subst, refl, inl, inr, arith, ℤ, pos, filter, flat_map}
 use Rattle.std.proofs.lemmas.Bool.{or_cases, or_left, or_right, lt-ltb, and_parts}
 use Rattle.std.proofs.lemmas.List.{length-append, length-map, append_cancel_left}
-use Rattle.sym_model.specs.Sum.{total, each, select, Among, Once}
+use Rattle.sym_model.specs.Sum.{total, Among, Once}
 use Rattle.sym_model.specs.Partition.{Falls, part, rows, columns, after, cells}
 use Rattle.sym_model.specs.Polynomial.{same, join}
 use Rattle.sym_model.specs.Schur.{words, row_lengths, fillings_of, semistandard, contains, tableaux, content, letters_of}
@@ -154,13 +154,13 @@ later_part (b ∷ parts) i = refl
 
 length_each : (f : ℕ → List (ℕ × ℕ)) (a : ℕ) (outer inner : List ℕ)
     → ((i : ℕ) → length (f (a + suc i)) ≡ slice_index outer i - slice_index inner i)
-    → length (each f (after a (length outer))) ≡ all_cells (pattern_of outer inner)
+    → length (flat_map f (after a (length outer))) ≡ all_cells (pattern_of outer inner)
 unfolding all_cells
 length_each f a [] inner e = refl
 length_each f a (x ∷ outer) inner e =
     let first : length (f (a + 1)) ≡ x - part inner 1 = e 0 in
     let r = length_each f (a + 1) outer (drop 1 inner) (λ i. later i) in
-    let l = length-append (f (a + 1)) (each f (after (a + 1) (length outer))) in
+    let l = length-append (f (a + 1)) (flat_map f (after (a + 1) (length outer))) in
     let c = cells_of_line (part inner 1) (x - part inner 1) in
     omega arith
   where
@@ -284,7 +284,7 @@ pub total_good_tableaux : (n : ℕ) (start outer inner : List ℕ) (f h : List (
     → total f (good_tableaux n start outer inner)
     ≡ cond (nat_le (rows start) n) (total (of_good n start h) (fillings_over n (transposed (pattern_of outer inner)))) (pos 0)
 total_good_tableaux n start outer inner f h falls inner_falls holds e =
-    total_cond_list (nat_le (rows start) n) f (select (is_good n start outer inner) (tableaux n outer inner))
+    total_cond_list (nat_le (rows start) n) f (filter (is_good n start outer inner) (tableaux n outer inner))
     ∙ ap (λ (x : ℤ). cond (nat_le (rows start) n) x (pos 0)) (
     total_select f (is_good n start outer inner) (tableaux n outer inner)
     ∙ total_columns n outer inner (λ (T : List (List ℕ)). cond (is_good n start outer inner T) (f T) (pos 0)) (λ (cs : List (List ℕ)). cond (is_good_by_columns n start cs) (h cs) (pos 0)) falls inner_falls holds
@@ -298,11 +298,11 @@ total_good_tableaux n start outer inner f h falls inner_falls holds e =
 good_member : (n : ℕ) (start outer inner : List ℕ) (T : List (List ℕ)) → Among T (good_tableaux n start outer inner) → Among T (fillings_of n (row_lengths outer inner))
 good_member n start outer inner T m = by (nat_le (rows start) n) m
   where
-    listed : (b : Bool) → Among T (cond b (select (semistandard inner) (fillings_of n (row_lengths outer inner))) []) → Among T (fillings_of n (row_lengths outer inner))
+    listed : (b : Bool) → Among T (cond b (filter (semistandard inner) (fillings_of n (row_lengths outer inner))) []) → Among T (fillings_of n (row_lengths outer inner))
     listed true k = let r = Among_from_select (semistandard inner) T (fillings_of n (row_lengths outer inner)) k in r.0
     listed false k = absurd k
 
-    by : (b : Bool) → Among T (cond b (select (is_good n start outer inner) (tableaux n outer inner)) []) → Among T (fillings_of n (row_lengths outer inner))
+    by : (b : Bool) → Among T (cond b (filter (is_good n start outer inner) (tableaux n outer inner)) []) → Among T (fillings_of n (row_lengths outer inner))
     by true k = let r = Among_from_select (is_good n start outer inner) T (tableaux n outer inner) k in listed (contains outer inner) r.0
     by false k = absurd k
 
@@ -316,9 +316,9 @@ once_under false xs o = tt
 
 good_once : (n : ℕ) (start outer inner : List ℕ) → Once (good_tableaux n start outer inner)
 good_once n start outer inner =
-    once_under (nat_le (rows start) n) (select (is_good n start outer inner) (tableaux n outer inner))
+    once_under (nat_le (rows start) n) (filter (is_good n start outer inner) (tableaux n outer inner))
     (Once-select (is_good n start outer inner) (tableaux n outer inner)
-    (once_under (contains outer inner) (select (semistandard inner) (fillings_of n (row_lengths outer inner)))
+    (once_under (contains outer inner) (filter (semistandard inner) (fillings_of n (row_lengths outer inner)))
     (Once-select (semistandard inner) (fillings_of n (row_lengths outer inner)) (literal_once n (row_lengths outer inner)))))
 
 reading_injective : (n : ℕ) (outer inner : List ℕ) (T U : List (List ℕ)) → Falls outer → IsFillingOf n outer inner T → IsFillingOf n outer inner U
@@ -382,7 +382,7 @@ pub good_falls : (n : ℕ) (start outer inner : List ℕ) (T : List (List ℕ)) 
     → is_falling (join start (content n (letters_of T))) ≡ true
 good_falls n start outer inner T falls m = by (nat_le (rows start) n) m
   where
-    by : (b : Bool) → Among T (cond b (select (is_good n start outer inner) (tableaux n outer inner)) []) → is_falling (join start (content n (letters_of T))) ≡ true
+    by : (b : Bool) → Among T (cond b (filter (is_good n start outer inner) (tableaux n outer inner)) []) → is_falling (join start (content n (letters_of T))) ≡ true
     by true a =
         let r = Among_from_select (is_good n start outer inner) T (tableaux n outer inner) a in
         let s = tableau_tells n outer inner T r.0 in

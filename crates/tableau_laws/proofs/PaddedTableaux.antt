@@ -7,6 +7,7 @@ use Rattle.sym_model.specs.Schur.{row_rises, columns_rise, semistandard}
 use Rattle.tableau_laws.specs.PaddedRows.{padded}
 use Rattle.tableau_laws.proofs.Grids.{pass-nothing}
 use Rattle.tableau_laws.specs.Grid.{is_chain, pass_by_place, may_stand_above, is_padded_tableau}
+use Rattle.sym_model.proofs.Parts.{falls_after}
 
 -- ---- rows
 
@@ -73,11 +74,6 @@ ArePositiveRows (row ∷ rows) = ArePositive row × ArePositiveRows rows
 second_part : (inner : List ℕ) → part inner 2 ≡ part (drop 1 inner) 1
 second_part [] = refl
 second_part (b ∷ inner) = refl
-
-falls_after : (inner : List ℕ) → Falls inner → Falls (drop 1 inner)
-falls_after [] f = tt
-falls_after (b ∷ []) f = tt
-falls_after (b ∷ c ∷ inner) f = f.1
 
 falls_first : (inner : List ℕ) → Falls inner → part inner 2 ≤ part inner 1
 falls_first [] f = omega arith

@@ -1,17 +1,15 @@
 -- Which words and fillings are listed for a pattern, and that each is listed once.
-use Rattle.std.proofs.Common.{◌≡◌, ℕ, suc, ◌<◌, ◌≤◌, Bool, true, false, List, [], ◌∷◌, map, length, sym, ap, ap₂, subst, refl, inl, inr, arith}
-use Rattle.sym_model.specs.Sum.{each, Among, Once}
+use Rattle.std.proofs.Common.{◌≡◌, ℕ, suc, ◌<◌, ◌≤◌, Bool, true, false, List, [], ◌∷◌, map, length, sym, ap, ap₂, subst, refl, inl, inr, arith, flat_map}
+use Rattle.sym_model.specs.Sum.{Among, Once}
 use Rattle.sym_model.proofs.Sums.{Among-map, Among_from_map, Among-each, Among_from_each, Once-map, Once-each}
 use Rattle.tableau_laws.specs.PaddedRows.{letters_at, words_over, fillings_over}
 use Rattle.sym_model.proofs.AfterLists.{after_among, among_after, once_after}
-
--- ---- the numbers from a + 1 to a + k
 
 -- ---- lists of a first element and a rest
 
 -- each of the firsts in front of each of the rests
 abbrev pub fronts : {A : Type 0} → List A → List (List A) → List (List A)
-fronts {A} firsts rests = each (λ (x : A). map (λ (ys : List A). x ∷ ys) rests) firsts
+fronts {A} firsts rests = flat_map (λ (x : A). map (λ (ys : List A). x ∷ ys) rests) firsts
 
 pub Among-fronts : {A : Type 0} (x : A) (ys : List A) (firsts : List A) (rests : List (List A)) → Among x firsts → Among ys rests → Among (x ∷ ys) (fronts firsts rests)
 Among-fronts {A} x ys firsts rests m n =

@@ -1,8 +1,8 @@
 -- Sums over the semistandard tableaux of a skew shape as sums over padded rows, and as sums over padded columns.
-use Rattle.std.proofs.Common.{◌≡◌, ℕ, zero, suc, ◌-◌, ◌≤◌, Bool, true, false, cond, List, [], ◌∷◌, map, length, replicate, drop, nat_le, sym, ◌∙◌, ap, ap₂, subst, refl, inl, inr, arith, ℤ, pos}
+use Rattle.std.proofs.Common.{◌≡◌, ℕ, zero, suc, ◌-◌, ◌≤◌, Bool, true, false, cond, List, [], ◌∷◌, map, length, replicate, drop, nat_le, sym, ◌∙◌, ap, ap₂, subst, refl, inl, inr, arith, ℤ, pos, filter}
 use Rattle.std.proofs.lemmas.Bool.{and_parts, leb-true}
 use Rattle.std.proofs.lemmas.List.{length-append, length-replicate}
-use Rattle.sym_model.specs.Sum.{total, select, Among}
+use Rattle.sym_model.specs.Sum.{total, Among}
 use Rattle.sym_model.specs.Partition.{Falls, ArePositive, part, after}
 use Rattle.sym_model.specs.Schur.{words, row_lengths, fillings_of, semistandard, contains, tableaux}
 use Rattle.sym_model.proofs.Sums.{total_among, total_map, total_select, Among_from_select}
@@ -38,7 +38,7 @@ pub tableau_tells : (n : ℕ) (outer inner : List ℕ) (T : List (List ℕ)) →
     → Among T (fillings_of n (row_lengths outer inner)) × ((semistandard inner T ≡ true) × (contains outer inner ≡ true))
 tableau_tells n outer inner T m = by (contains outer inner) refl m
   where
-    by : (b : Bool) → contains outer inner ≡ b → Among T (cond b (select (semistandard inner) (fillings_of n (row_lengths outer inner))) [])
+    by : (b : Bool) → contains outer inner ≡ b → Among T (cond b (filter (semistandard inner) (fillings_of n (row_lengths outer inner))) [])
         → Among T (fillings_of n (row_lengths outer inner)) × ((semistandard inner T ≡ true) × (contains outer inner ≡ true))
     by true e a = let r = Among_from_select (semistandard inner) T (fillings_of n (row_lengths outer inner)) a in (r.0, (r.1, e))
     by false e a = absurd a
@@ -53,7 +53,7 @@ pub total_tableaux : (n : ℕ) (outer inner : List ℕ) (f g : List (List ℕ) �
     → ((rows : List (List ℕ)) → Among rows (fillings_of n (row_lengths outer inner)) → f rows ≡ g (padded inner rows))
     → total f (tableaux n outer inner) ≡ total (of_tableaux g) (fillings_over n (pattern_of outer inner))
 total_tableaux n outer inner f g falls holds e =
-    ap (λ (b : Bool). total f (cond b (select (semistandard inner) (fillings_of n (row_lengths outer inner))) [])) holds
+    ap (λ (b : Bool). total f (cond b (filter (semistandard inner) (fillings_of n (row_lengths outer inner))) [])) holds
     ∙ total_select f (semistandard inner) (fillings_of n (row_lengths outer inner))
     ∙ total_among (λ (rows : List (List ℕ)). cond (semistandard inner rows) (f rows) (pos 0)) (λ (rows : List (List ℕ)). of_tableaux g (padded inner rows))
     (fillings_of n (row_lengths outer inner))

@@ -1,7 +1,8 @@
--- Tableaux built column by column from the rightmost on: a further column looks only at the sum reached, start plus the
--- content so far, and at the column to its right (this project's own).
+-- Tableaux built column by column from the rightmost on: a further column looks only at the sum
+-- reached, start plus the content so far, and at the column to its right.
 use Rattle.std.specs.Prelude.{ℕ, nat_le, nat_lt, Bool, ◌&&◌, cond, ℤ, pos, List, [], ◌∷◌, ◌++◌}
-use Rattle.sym_model.specs.Sum.{total, select}
+use Rattle.std.specs.Prelude.{filter}
+use Rattle.sym_model.specs.Sum.{total}
 use Rattle.sym_model.specs.Polynomial.{same, join}
 use Rattle.sym_model.specs.Partition.{without_last_zeros}
 use Rattle.sym_model.specs.Schur.{content, letters_of}
@@ -11,7 +12,7 @@ use Rattle.tableau_laws.specs.Grid.{is_chain, pass_by_place, may_stand_above}
 
 -- the letters of a padded word that are not zeros
 abbrev pub filled : List ℕ → List ℕ
-filled w = select (λ a. nat_lt 0 a) w
+filled w = filter (λ a. nat_lt 0 a) w
 
 -- the column reading by the padded columns, which are listed from the leftmost on
 abbrev pub reading_of : List (List ℕ) → List ℕ
@@ -25,24 +26,31 @@ sum_reached n start columns = join start (content n (letters_of columns))
 -- whether start plus the content of the columns from each one on falls, and start alone
 abbrev pub is_good_by_columns : ℕ → List ℕ → List (List ℕ) → Bool
 is_good_by_columns n start [] = is_falling (sum_reached n start [])
-is_good_by_columns n start (c ∷ columns) = is_falling (sum_reached n start (c ∷ columns)) && is_good_by_columns n start columns
+is_good_by_columns n start (c ∷ columns) =
+    is_falling (sum_reached n start (c ∷ columns)) && is_good_by_columns n start columns
 
--- whether a column may stand left of the column right, where ν is the sum reached: its letters rise, none is greater than
--- its right neighbour, and the sum with it falls
+-- whether a column may stand left of the column right, where ν is the sum reached: its letters
+-- rise, none is greater than its right neighbour, and the sum with it falls
 abbrev pub may_be_next : ℕ → List ℕ → List ℕ → List ℕ → Bool
-may_be_next n ν right c = is_chain may_stand_above c && (pass_by_place nat_le c right && is_falling (join ν (content n c)))
+may_be_next n ν right c =
+    is_chain may_stand_above c
+    && (pass_by_place nat_le c right && is_falling (join ν (content n c)))
 
--- the sum over the columns of a line that may be next of f of the sum that is then reached and the column
+-- the sum over the columns of a line that may be next of f of the sum that is then reached and the
+-- column
 abbrev pub next_columns : ℕ → List Bool → (List ℕ → List ℕ → ℤ) → List ℕ → List ℕ → ℤ
-next_columns n line f ν right = total (λ c. cond (may_be_next n ν right c) (f (join ν (content n c)) c) (pos 0)) (words_over n line)
+next_columns n line f ν right =
+    total (λ c. cond (may_be_next n ν right c) (f (join ν (content n c)) c) (pos 0))
+    (words_over n line)
 
--- the sum over all ways to add columns of these lines, listed from the leftmost on and added from the rightmost on, of f of
--- the sum that is reached at the end and the last column added
+-- the sum over all ways to add columns of these lines, listed from the leftmost on and added from
+-- the rightmost on, of f of the sum that is reached at the end and the last column added
 abbrev pub over_columns : ℕ → List (List Bool) → (List ℕ → List ℕ → ℤ) → List ℕ → List ℕ → ℤ
 over_columns n [] f ν right = f ν right
 over_columns n (line ∷ lines) f ν right = over_columns n lines (next_columns n line f) ν right
 
--- the lines of the columns of outer/inner, from the leftmost on: a cell or a place outside for each row that reaches the column
+-- the lines of the columns of outer/inner, from the leftmost on: a cell or a place outside for each
+-- row that reaches the column
 abbrev pub column_lines : List ℕ → List ℕ → List (List Bool)
 column_lines outer inner = transposed (pattern_of outer inner)
 

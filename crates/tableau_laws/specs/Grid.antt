@@ -1,5 +1,5 @@
--- Grids of letters in which neighbours in a row and neighbours in a column stand in a relation: semistandard tableaux are
--- those with ≤ along the rows and < down the columns (this project's own).
+-- Grids of letters in which neighbours in a row and neighbours in a column stand in a relation:
+-- semistandard tableaux are those with ≤ along the rows and < down the columns.
 use Rattle.std.specs.Prelude.{ℕ, ◌+◌, ◌-◌, nat_le, nat_lt, Bool, true, ◌&&◌, List, [], ◌∷◌}
 
 -- whether a letter may stand before the first letter of a word
@@ -23,14 +23,16 @@ abbrev pub first_line : List (List ℕ) → List ℕ
 first_line [] = []
 first_line (line ∷ lines) = line
 
--- whether neighbours in a line pass the first test, and neighbours of two lines at one place the second
+-- whether neighbours in a line pass the first test,
+-- and neighbours of two lines at one place the second
 abbrev pub is_grid : (ℕ → ℕ → Bool) → (ℕ → ℕ → Bool) → List (List ℕ) → Bool
 is_grid along between [] = true
 is_grid along between (line ∷ lines) =
-    is_chain along line && (pass_by_place between line (first_line lines) && is_grid along between lines)
+    is_chain along line && (pass_by_place between line (first_line lines)
+    && is_grid along between lines)
 
--- whether a letter may stand above another: a zero, which stands outside the shape, above any, and a letter above a
--- greater one
+-- whether a letter may stand above another: a zero, which stands outside the shape, above any, and
+-- a letter above a greater one
 abbrev pub may_stand_above : ℕ → ℕ → Bool
 may_stand_above a b = nat_lt a (b + (1 - a))
 

@@ -1,3 +1,4 @@
 pub mod PaddedRows
 pub mod Grid
 pub mod ColumnFold
+pub mod Rows

@@ -1,10 +1,11 @@
--- Fillings as rows that are padded with zeros at the cells of the inner shape, so that every column begins in the first
--- row; their columns; and the fillings over a pattern of cells (this project's own).
+-- Fillings as rows that are padded with zeros at the cells of the inner shape, so that every column
+-- begins in the first row; their columns; and the fillings over a pattern of cells.
 use Rattle.std.specs.Prelude.{ℕ, ◌-◌, Bool, true, false, List, [], ◌∷◌, ◌++◌, map, replicate, drop}
-use Rattle.sym_model.specs.Sum.{each}
+use Rattle.std.specs.Prelude.{flat_map}
 use Rattle.sym_model.specs.Partition.{part, after}
 
--- a row on top of columns: each entry in front of the column at its place, a missing column being empty
+-- a row on top of columns: each entry in front of the column at its place,
+-- a missing column being empty
 abbrev pub put_row : {A : Type 0} → List A → List (List A) → List (List A)
 put_row [] columns = columns
 put_row (x ∷ row) [] = (x ∷ []) ∷ put_row row []
@@ -23,12 +24,13 @@ letters_at n false = 0 ∷ []
 -- the words with a letter for each place of a line
 abbrev pub words_over : ℕ → List Bool → List (List ℕ)
 words_over n [] = [] ∷ []
-words_over n (p ∷ line) = each (λ a. map (λ w. a ∷ w) (words_over n line)) (letters_at n p)
+words_over n (p ∷ line) = flat_map (λ a. map (λ w. a ∷ w) (words_over n line)) (letters_at n p)
 
 -- the fillings with a word for each line of a pattern
 abbrev pub fillings_over : ℕ → List (List Bool) → List (List (List ℕ))
 fillings_over n [] = [] ∷ []
-fillings_over n (line ∷ pattern) = each (λ w. map (λ rest. w ∷ rest) (fillings_over n pattern)) (words_over n line)
+fillings_over n (line ∷ pattern) =
+    flat_map (λ w. map (λ rest. w ∷ rest) (fillings_over n pattern)) (words_over n line)
 
 -- the line of a row: b places outside and k cells
 abbrev pub line_of : ℕ → ℕ → List Bool
@@ -37,7 +39,8 @@ line_of b k = replicate b false ++ replicate k true
 -- the pattern of the rows of outer/inner
 abbrev pub pattern_of : List ℕ → List ℕ → List (List Bool)
 pattern_of [] inner = []
-pattern_of (a ∷ outer) inner = line_of (part inner 1) (a - part inner 1) ∷ pattern_of outer (drop 1 inner)
+pattern_of (a ∷ outer) inner =
+    line_of (part inner 1) (a - part inner 1) ∷ pattern_of outer (drop 1 inner)
 
 -- a filling with each row padded to the left with zeros at the cells of the inner shape
 abbrev pub padded : List ℕ → List (List ℕ) → List (List ℕ)

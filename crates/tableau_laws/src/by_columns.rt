@@ -1,48 +1,36 @@
 //! Fillings read by columns.
 
-ghost use Rattle.std.specs.Prelude.{◌≡◌, ◌≤◌, ℕ, ℤ, pos, Bool, true, List, [], ◌∷◌, ◌++◌, map, length};
+ghost use Rattle.std.specs.Prelude.{◌≡◌, ◌≤◌, ℕ, ℤ, pos, Bool, true, List, [], ◌∷◌, ◌++◌};
 ghost use Rattle.sym_model.specs.Sum.{total};
-ghost use Rattle.sym_model.specs.Partition.{Falls, IsPartition, rows};
+ghost use Rattle.sym_model.specs.Partition.{IsPartition, rows};
 ghost use Rattle.sym_model.specs.Polynomial.{join, resize};
-ghost use Rattle.sym_model.specs.Schur.{row_lengths, fillings_of, contains, content};
+ghost use Rattle.sym_model.specs.Schur.{contains, content};
 ghost use Rattle.sym_model.specs.GoodTableau.{good_readings, product_count, skew_count};
 ghost use Rattle.tableau_laws.specs.ColumnFold.{next_columns, over_columns, column_lines, is_sum};
-ghost use Rattle.tableau_laws.specs.Grid.{is_grid};
-ghost use Rattle.tableau_laws.specs.PaddedRows.{transposed, fillings_over, pattern_of, padded};
 
-/// The sum of any numbers over the fillings of a pattern is the sum over the fillings of its
-/// columns; and the fillings of a skew shape, padded with zeros, are the fillings of its pattern.
-pub fn transposing_law()
-    ensures exchange { (n : ℕ) (pattern : List (List Bool)) (f : List (List ℕ) → ℤ)
-        → total (λ (rows : List (List ℕ)). f (transposed rows)) (fillings_over n pattern)
-        ≡ total f (fillings_over n (transposed pattern)) }
-    ensures padded { (n : ℕ) (outer inner : List ℕ)
-        → map (padded inner) (fillings_of n (row_lengths outer inner)) ≡ fillings_over n (pattern_of outer inner) }
-{}
-
-/// A grid by its rows is a grid by its columns: where no row is longer than the one above, the tests
-/// of neighbours in a row and in a column change places.
-pub fn grid_law()
-    ensures { (along between : ℕ → ℕ → Bool) (rows : List (List ℕ)) → Falls (map length rows)
-        → is_grid along between rows ≡ is_grid between along (transposed rows) }
-{}
-
-/// The good tableaux of a skew shape counted column by column from the rightmost on, where a further
-/// column looks only at the sum reached and at its right neighbours: sums over the good readings of
-/// what start plus the content is, and so the counts of products and of skews.
+/// The good tableaux of a skew shape counted column by column from the rightmost on, where a
+/// further column looks only at the sum reached and at its right neighbours: sums over the good
+/// readings of what start plus the content is, and so the counts of products and of skews.
 ///
 /// Example: two of the good tableaux of the shape (2,1) for the start (2,1) reach the sum (3,2,1).
 pub fn column_counting_law()
     ensures readings { (n : ℕ) (start outer inner : List ℕ) (f : List ℕ → ℤ)
-        → IsPartition start → IsPartition outer → IsPartition inner → contains outer inner ≡ true → rows start ≤ n
+        → IsPartition start → IsPartition outer → IsPartition inner → contains outer inner ≡ true
+        → rows start ≤ n
         → total (λ w. f (join start (content n w))) (good_readings n start outer inner)
         ≡ over_columns n (column_lines outer inner) (λ ν right. f ν) (resize n start) [] }
     ensures product { (k : ℕ) (λ' μ ν : List ℕ) → IsPartition λ' → IsPartition μ → rows λ' ≤ k
-        → pos (product_count k λ' μ ν) ≡ over_columns k (column_lines μ []) (is_sum ν) (resize k λ') [] }
-    ensures skew { (outer inner κ : List ℕ) → IsPartition outer → IsPartition inner → contains outer inner ≡ true
+        → pos (product_count k λ' μ ν)
+        ≡ over_columns k (column_lines μ []) (is_sum ν) (resize k λ') [] }
+    ensures skew { (outer inner κ : List ℕ) → IsPartition outer → IsPartition inner
+        → contains outer inner ≡ true
         → pos (skew_count outer inner κ)
-        ≡ over_columns (rows outer) (column_lines outer inner) (is_sum κ) (resize (rows outer) []) [] }
-    ensures rightmost { (n : ℕ) (lines : List (List Bool)) (line : List Bool) (f : List ℕ → List ℕ → ℤ) (ν right : List ℕ)
-        → over_columns n (lines ++ (line ∷ [])) f ν right ≡ next_columns n line (over_columns n lines f) ν right }
-    ensures example { over_columns 3 (column_lines (2 ∷ 1 ∷ []) []) (is_sum (3 ∷ 2 ∷ 1 ∷ [])) (2 ∷ 1 ∷ 0 ∷ []) [] ≡ pos 2 }
+        ≡ over_columns (rows outer) (column_lines outer inner) (is_sum κ)
+        (resize (rows outer) []) [] }
+    ensures rightmost { (n : ℕ) (lines : List (List Bool)) (line : List Bool)
+        (f : List ℕ → List ℕ → ℤ) (ν right : List ℕ)
+        → over_columns n (lines ++ (line ∷ [])) f ν right
+        ≡ next_columns n line (over_columns n lines f) ν right }
+    ensures example { over_columns 3 (column_lines (2 ∷ 1 ∷ []) []) (is_sum (3 ∷ 2 ∷ 1 ∷ []))
+        (2 ∷ 1 ∷ 0 ∷ []) [] ≡ pos 2 }
 {}

@@ -15,7 +15,8 @@ use Rattle.tableau_words.specs.FoundOffences.{kind_of, kind_by, left_at, is_diso
 use Rattle.calc_words.specs.NumberRuns.{narrow}
 use Rattle.calc_words.specs.PartRules.{range_or_shape}
 use Rattle.calc_words.proofs.Judging.{number_at, counted, narrow_none, narrow_some}
-use Rattle.calc_words.proofs.FirstOffences.{of_kind, first-kind, first_of_three, lowest, Behind, within, or_true}
+use Rattle.calc_words.proofs.FirstOffences.{first-kind, first_of_three, lowest, Behind, within, or_true}
+use Rattle.word_laws.proofs.JudgedRows.{of_kind}
 
 -- ---- the first of the kinds of a cell
 

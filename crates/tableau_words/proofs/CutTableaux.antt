@@ -1,78 +1,68 @@
 -- Tableaux among the words of a command that have been cut into parts, and their rows.
-use Rattle.std.proofs.Common.{◌≡◌, ℕ, ◌<◌, List, [], ◌∷◌, ◌++◌, append_assoc, length, refl, sym, ap, ◌∙◌, subst, arith, inl, inr}
+use Rattle.std.proofs.Common.{◌≡◌, ℕ, ◌<◌, List, [], ◌∷◌, ◌++◌, append_assoc, length, refl, sym, ap, ◌∙◌, subst, arith, inl, inr, flat_map}
 use Rattle.std.specs.Prelude.{codes}
 use Rattle.std.proofs.lemmas.List.{append-nil}
-use Rattle.sym_model.specs.Sum.{each}
 use Rattle.sym_model.specs.Form.{Written, EachOf, May, words_of, sequence, is_number_word}
 use Rattle.sym_model.specs.WordForms.{the, optional, row_words, tableau_words, from_words}
 use Rattle.word_laws.specs.Words.{Words}
-use Rattle.word_laws.specs.WrittenRows.{row_text, further_text, rows_text}
+use Rattle.word_laws.specs.WrittenRows.{row_text, further_text, rows_text, written_row, later_rows, written_rows}
 use Rattle.word_laws.proofs.Classes.{number_complete}
 use Rattle.calc_words.specs.NumberRuns.{IsNumber, BeginsOtherwise}
 use Rattle.calc_words.specs.Parts.{AreCut}
 use Rattle.calc_words.specs.declared.word_parts.Part.TheVariants.{Minus, Slash, Shape, Tableau, MaybeFrom}
 use Rattle.calc_words.proofs.Commands.{singles}
-use Rattle.calc_words.proofs.CutCommands.{cut_spelled}
+use Rattle.calc_words.proofs.CutCommands.{has_of}
 use Rattle.calc_words.proofs.FactorCuts.{one_run}
 use Rattle.calc_words.proofs.PartValues.{are_numbers}
 use Rattle.tableau_words.specs.SkewWords.{AreSkewWords}
 use Rattle.tableau_words.specs.TableauWords.{AreTwoTableaux}
-use Rattle.tableau_words.specs.TabWords.{AreTabWords, from_text}
+use Rattle.tableau_words.specs.TabWords.{AreTabWords, from_text, from_rows}
 
 -- ---- rows as they are written
 
-abbrev pub row_of : Written row_words → Words
-row_of (inl x) = []
-row_of (inr x) = x.0 ∷ x.1
-
-abbrev pub further_of : List (Written (sequence (the (codes "/")) row_words)) → List Words
-further_of [] = []
-further_of (x ∷ xs) = row_of x.1 ∷ further_of xs
-
-abbrev pub rows_of : Written tableau_words → List Words
-rows_of x = row_of x.0 ∷ further_of x.1
-
-row_spelled : (x : Written row_words) → words_of row_words x ≡ row_text (row_of x)
+pub row_spelled : (x : Written row_words) → words_of row_words x ≡ row_text (written_row x)
 row_spelled (inl x) = refl
 row_spelled (inr x) = ap (λ ws. x.0 ∷ ws) (singles x.1)
 
-further_spelled : (xs : List (Written (sequence (the (codes "/")) row_words))) → each (words_of (sequence (the (codes "/")) row_words)) xs ≡ further_text (further_of xs)
+further_spelled : (xs : List (Written (sequence (the (codes "/")) row_words))) → flat_map (words_of (sequence (the (codes "/")) row_words)) xs ≡ further_text (later_rows xs)
 further_spelled [] = refl
 further_spelled (x ∷ xs) =
-    ap (λ ws. codes "/" ∷ (ws ++ each (words_of (sequence (the (codes "/")) row_words)) xs)) (row_spelled x.1)
-    ∙ ap (λ ws. codes "/" ∷ (row_text (row_of x.1) ++ ws)) (further_spelled xs)
+    ap (λ ws. codes "/" ∷ (ws ++ flat_map (words_of (sequence (the (codes "/")) row_words)) xs)) (row_spelled x.1)
+    ∙ ap (λ ws. codes "/" ∷ (row_text (written_row x.1) ++ ws)) (further_spelled xs)
 
-pub rows_spelled : (x : Written tableau_words) → words_of tableau_words x ≡ rows_text (rows_of x)
+pub rows_spelled : (x : Written tableau_words) → words_of tableau_words x ≡ rows_text (written_rows x)
 rows_spelled x =
-    ap (λ ws. ws ++ each (words_of (sequence (the (codes "/")) row_words)) x.1) (row_spelled x.0) ∙ ap (λ ws. row_text (row_of x.0) ++ ws) (further_spelled x.1)
+    ap (λ ws. ws ++ flat_map (words_of (sequence (the (codes "/")) row_words)) x.1) (row_spelled x.0) ∙ ap (λ ws. row_text (written_row x.0) ++ ws) (further_spelled x.1)
 
-row_numbers : (x : Written row_words) → May row_words x → EachOf IsNumber (row_of x)
+row_numbers : (x : Written row_words) → May row_words x → EachOf IsNumber (written_row x)
 row_numbers (inl x) m = tt
 row_numbers (inr x) m = (number_complete x.0 m.0, are_numbers x.1 m.1)
 
-further_numbers : (xs : List (Written (sequence (the (codes "/")) row_words))) → EachOf (May (sequence (the (codes "/")) row_words)) xs → EachOf (EachOf IsNumber) (further_of xs)
+further_numbers : (xs : List (Written (sequence (the (codes "/")) row_words))) → EachOf (May (sequence (the (codes "/")) row_words)) xs → EachOf (EachOf IsNumber) (later_rows xs)
 further_numbers [] m = tt
 further_numbers (x ∷ xs) m = (row_numbers x.1 m.0.1, further_numbers xs m.1)
 
-pub rows_numbers : (x : Written tableau_words) → May tableau_words x → EachOf (EachOf IsNumber) (rows_of x)
+pub rows_numbers : (x : Written tableau_words) → May tableau_words x → EachOf (EachOf IsNumber) (written_rows x)
 rows_numbers x m = (row_numbers x.0 m.0, further_numbers x.1 m.1)
 
-pub some_row : (x : Written tableau_words) → 0 < length (rows_of x)
+pub some_row : (x : Written tableau_words) → 0 < length (written_rows x)
 some_row x = omega arith
 
 -- ---- the words of commands that have been cut
 
 pub pair_cut : (words : Words) (places : List ℕ) (k : AreCut (codes "unrsk") (Tableau ∷ Minus ∷ Tableau ∷ []) places words) (first second : List Words)
-    → first ≡ rows_of k.parts.0 → second ≡ rows_of k.parts.3.3.0 → AreTwoTableaux first second words
+    → first ≡ written_rows k.parts.0 → second ≡ written_rows k.parts.3.3.0 → AreTwoTableaux first second words
 pair_cut words places k first second e f =
     subst (λ xs. AreTwoTableaux xs second words) (sym e)
-    (subst (λ ys. AreTwoTableaux (rows_of k.parts.0) ys words) (sym f)
+    (subst (λ ys. AreTwoTableaux (written_rows k.parts.0) ys words) (sym f)
     (record {
+      has = has_of (codes "unrsk") (Tableau ∷ Minus ∷ Tableau ∷ []) places words k;
+      first_is = refl;
+      second_is = refl;
       words_are =
-          k.named
-          ∙ ap (λ ws. codes "unrsk" ∷ ws) (cut_spelled (Tableau ∷ Minus ∷ Tableau ∷ []) 0 1 places words k.parts)
+          (has_of (codes "unrsk") (Tableau ∷ Minus ∷ Tableau ∷ []) places words k).spelled
           ∙ ap (λ ws. codes "unrsk" ∷ (ws ++ codes "-" ∷ words_of tableau_words k.parts.3.3.0)) (rows_spelled k.parts.0)
-          ∙ ap (λ ws. codes "unrsk" ∷ (rows_text (rows_of k.parts.0) ++ codes "-" ∷ ws)) (rows_spelled k.parts.3.3.0);
+          ∙ ap (λ ws. codes "unrsk" ∷ (rows_text (written_rows k.parts.0) ++ codes "-" ∷ ws)) (rows_spelled k.parts.3.3.0);
       first_some = some_row k.parts.0;
       first_numbers = rows_numbers k.parts.0 k.parts.1;
       second_some = some_row k.parts.3.3.0;
@@ -80,68 +70,65 @@ pair_cut words places k first second e f =
     }))
 
 lists_spelled : (name : List ℕ) (outer inner more : Words)
-    → ◌≡◌ {A = Words} (name ∷ (each (λ t. t ∷ []) outer ++ (codes "/" ∷ (each (λ t. t ∷ []) inner ++ more)))) (name ∷ (outer ++ codes "/" ∷ (inner ++ more)))
+    → ◌≡◌ {A = Words} (name ∷ (flat_map (λ t. t ∷ []) outer ++ (codes "/" ∷ (flat_map (λ t. t ∷ []) inner ++ more)))) (name ∷ (outer ++ codes "/" ∷ (inner ++ more)))
 lists_spelled name outer inner more =
-    ap (λ ws. name ∷ (ws ++ codes "/" ∷ (each (λ t. t ∷ []) inner ++ more))) (singles outer) ∙ ap (λ ws. name ∷ (outer ++ (codes "/" ∷ (ws ++ more)))) (singles inner)
+    ap (λ ws. name ∷ (ws ++ codes "/" ∷ (flat_map (λ t. t ∷ []) inner ++ more))) (singles outer) ∙ ap (λ ws. name ∷ (outer ++ (codes "/" ∷ (ws ++ more)))) (singles inner)
 
 pub skew_cut : (words : Words) (places : List ℕ) (k : AreCut (codes "rect") (Shape ∷ Slash ∷ Shape ∷ Minus ∷ Tableau ∷ []) places words) (outer inner : Words) (rows : List Words)
-    → outer ≡ each (λ t. t ∷ []) k.parts.0 → inner ≡ each (λ t. t ∷ []) k.parts.3.3.0 → rows ≡ rows_of k.parts.3.3.3.3.0 → AreSkewWords outer inner rows words
+    → outer ≡ flat_map (λ t. t ∷ []) k.parts.0 → inner ≡ flat_map (λ t. t ∷ []) k.parts.3.3.0 → rows ≡ written_rows k.parts.3.3.3.3.0 → AreSkewWords outer inner rows words
 skew_cut words places k outer inner rows e f g =
     let x = k.parts.3.3.3.3.0 in
     subst (λ us. AreSkewWords us inner rows words) (sym (e ∙ singles k.parts.0))
     (subst (λ us. AreSkewWords k.parts.0 us rows words) (sym (f ∙ singles k.parts.3.3.0))
     (subst (λ xs. AreSkewWords k.parts.0 k.parts.3.3.0 xs words) (sym g)
     (record {
+      has = has_of (codes "rect") (Shape ∷ Slash ∷ Shape ∷ Minus ∷ Tableau ∷ []) places words k;
+      outer_is = refl;
+      inner_is = refl;
+      rows_are = refl;
       words_are =
-          k.named
-          ∙ ap (λ ws. codes "rect" ∷ ws) (cut_spelled (Shape ∷ Slash ∷ Shape ∷ Minus ∷ Tableau ∷ []) 0 1 places words k.parts)
+          (has_of (codes "rect") (Shape ∷ Slash ∷ Shape ∷ Minus ∷ Tableau ∷ []) places words k).spelled
           ∙ lists_spelled (codes "rect") k.parts.0 k.parts.3.3.0 (codes "-" ∷ words_of tableau_words x)
           ∙ ap (λ ws. codes "rect" ∷ (k.parts.0 ++ codes "/" ∷ (k.parts.3.3.0 ++ codes "-" ∷ ws))) (rows_spelled x);
-      outer_numbers = are_numbers k.parts.0 k.parts.1;
-      inner_numbers = are_numbers k.parts.3.3.0 k.parts.3.3.1;
       rows_some = some_row x;
       rows_numbers = rows_numbers x k.parts.3.3.3.3.1;
     })))
 
--- the rows behind `-from`, where they are there
-abbrev pub rows_from : Written (optional from_words) → List Words
-rows_from (inl x) = []
-rows_from (inr x) = rows_of x.1
-
-from_spelled : (x : Written (optional from_words)) → words_of (optional from_words) x ≡ from_text (rows_from x)
+from_spelled : (x : Written (optional from_words)) → words_of (optional from_words) x ≡ from_text (from_rows x)
 from_spelled (inl x) = refl
 from_spelled (inr x) = ap (λ ws. codes "-from" ∷ ws) (rows_spelled x.1)
 
-from_numbers : (x : Written (optional from_words)) → May (optional from_words) x → EachOf (EachOf IsNumber) (rows_from x)
+from_numbers : (x : Written (optional from_words)) → May (optional from_words) x → EachOf (EachOf IsNumber) (from_rows x)
 from_numbers (inl x) m = tt
 from_numbers (inr x) m = rows_numbers x.1 m.1
 
-pub none_from : (x : Written (optional from_words)) (words : Words) → words ≡ words_of (optional from_words) x → BeginsOtherwise (λ t. t ≡ codes "-from") words → [] ≡ rows_from x
+pub none_from : (x : Written (optional from_words)) (words : Words) → words ≡ words_of (optional from_words) x → BeginsOtherwise (λ t. t ≡ codes "-from") words → [] ≡ from_rows x
 none_from (inl x) words e b = refl
 none_from (inr x) words e b = absurd (subst (BeginsOtherwise (λ t. t ≡ codes "-from")) e b refl)
 
 -- the rows of a tableau that begins behind `-from`
 pub some_from : (x : Written (optional from_words)) (words more : Words) → May (optional from_words) x → words ≡ words_of (optional from_words) x → words ≡ codes "-from" ∷ more
-    → (0 < length (rows_from x)) × EachOf (EachOf IsNumber) (rows_from x) × (more ≡ rows_text (rows_from x))
+    → (0 < length (from_rows x)) × EachOf (EachOf IsNumber) (from_rows x) × (more ≡ rows_text (from_rows x))
 some_from (inl x) words more m e f = let z = sym e ∙ f in cc
 some_from (inr x) words more m e f =
     let z = sym f ∙ e in let k : more ≡ words_of tableau_words x.1 = cc in (omega arith, rows_numbers x.1 m.1, k ∙ rows_spelled x.1)
 
 pub tab_cut : (words : Words) (places : List ℕ) (k : AreCut (codes "tab") (Shape ∷ Slash ∷ Shape ∷ MaybeFrom ∷ []) places words) (outer inner : Words) (rows : List Words)
-    → outer ≡ each (λ t. t ∷ []) k.parts.0 → inner ≡ each (λ t. t ∷ []) k.parts.3.3.0 → rows ≡ rows_from k.parts.3.3.3.0 → AreTabWords outer inner rows words
+    → outer ≡ flat_map (λ t. t ∷ []) k.parts.0 → inner ≡ flat_map (λ t. t ∷ []) k.parts.3.3.0 → rows ≡ from_rows k.parts.3.3.3.0 → AreTabWords outer inner rows words
 tab_cut words places k outer inner rows e f g =
     let x = k.parts.3.3.3.0 in
     subst (λ us. AreTabWords us inner rows words) (sym (e ∙ singles k.parts.0))
     (subst (λ us. AreTabWords k.parts.0 us rows words) (sym (f ∙ singles k.parts.3.3.0))
     (subst (λ xs. AreTabWords k.parts.0 k.parts.3.3.0 xs words) (sym g)
     (record {
+      has = has_of (codes "tab") (Shape ∷ Slash ∷ Shape ∷ MaybeFrom ∷ []) places words k;
+      outer_is = refl;
+      inner_is = refl;
+      rows_are = refl;
       words_are =
-          k.named
-          ∙ ap (λ ws. codes "tab" ∷ ws) (cut_spelled (Shape ∷ Slash ∷ Shape ∷ MaybeFrom ∷ []) 0 1 places words k.parts)
+          (has_of (codes "tab") (Shape ∷ Slash ∷ Shape ∷ MaybeFrom ∷ []) places words k).spelled
           ∙ lists_spelled (codes "tab") k.parts.0 k.parts.3.3.0 (words_of (optional from_words) x)
           ∙ ap (λ ws. codes "tab" ∷ (k.parts.0 ++ codes "/" ∷ (k.parts.3.3.0 ++ ws))) (from_spelled x);
-      outer_numbers = are_numbers k.parts.0 k.parts.1;
-      inner_numbers = are_numbers k.parts.3.3.0 k.parts.3.3.1;
       rows_numbers = from_numbers x k.parts.3.3.3.1;
     })))
 

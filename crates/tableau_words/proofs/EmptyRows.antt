@@ -1,7 +1,7 @@
 -- Rows without numbers, one after another.
-use Rattle.std.proofs.Common.{◌≡◌, ℕ, ◌+◌, ◌<◌, ◌≤◌, ◌==◌, false, cond, List, [], ◌∷◌, ◌++◌, length, refl, ap, subst, arith, Some, inl, inr}
+use Rattle.std.proofs.Common.{◌≡◌, ℕ, ◌+◌, ◌<◌, ◌≤◌, ◌==◌, false, cond, List, [], ◌∷◌, ◌++◌, length, refl, ap, subst, arith, Some, inl, inr, flat_map}
 use Rattle.std.proofs.lemmas.Bool.Decides.{nat_tests}
-use Rattle.sym_model.specs.Sum.{Among, each}
+use Rattle.sym_model.specs.Sum.{Among}
 use Rattle.sym_model.specs.ExpressionOffence.{shape}
 use Rattle.sym_model.specs.CommandOffence.{Offence, PlacedRow, first_offence, empty_row_offences}
 use Rattle.sym_model.specs.WordForms.{numbers}
@@ -10,7 +10,7 @@ use Rattle.word_laws.specs.WrittenRows.{row_text, rows_at}
 use Rattle.calc_words.proofs.FirstOffences.{first-head, no_later_word}
 
 abbrev pub empties : List PlacedRow → List Offence
-empties rows = each (λ (r : PlacedRow). cond (length r.1 == 0) ((r.0, 0, shape) ∷ []) []) rows
+empties rows = flat_map (λ (r : PlacedRow). cond (length r.1 == 0) ((r.0, 0, shape) ∷ []) []) rows
 
 pub two_rows : (k : ℕ) (ws : List Words) → 2 ≤ length ws → empty_row_offences (rows_at k ws) ≡ empties (rows_at k ws)
 two_rows k [] h = absurd (omega (arith, h))

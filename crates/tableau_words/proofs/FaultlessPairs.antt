@@ -6,7 +6,7 @@ use Rattle.sym_model.specs.Partition.{part, size, after, Falls, ArePositive}
 use Rattle.sym_model.specs.Schur.{row_lengths, letters_of, times_in, content}
 use Rattle.sym_model.specs.Tableau.{IsStraightTableau}
 use Rattle.sym_model.specs.ExpressionOffence.{shape, range, literal, is_wide}
-use Rattle.sym_model.specs.CommandOffence.{Offence, first_offence, offences_by, offences_after, entry_rule, row_offences, count_offences, length_offences, empty_row_offences, order_offences, standard_offences, when, is_outside, greatest_letter, falls, stays, left_of, stands_in, entry_above, most_letters, rows_in}
+use Rattle.sym_model.specs.CommandOffence.{first_offence, offences_by, offences_after, entry_rule, row_offences, count_offences, length_offences, empty_row_offences, order_offences, standard_offences, when, is_outside, greatest_letter, falls, stays, left_of, stands_in, entry_above, most_letters, rows_in}
 use Rattle.sym_model.specs.Grammar.{insertion_offences, filled_offences}
 use Rattle.sym_model.specs.WordForms.{numbers}
 use Rattle.sym_model.proofs.Contents.{times_in-append}
@@ -23,7 +23,10 @@ use Rattle.tableau_words.specs.WrittenPairs.{IsWrittenPair}
 use Rattle.tableau_words.proofs.EmptyRows.{empties}
 use Rattle.tableau_words.proofs.FaultlessRows.{faultless_letters, faultless_order, faultless_lengths}
 use Rattle.tableau_words.proofs.PairJudging.{number_lengths}
-use Rattle.calc_words.proofs.WrittenLists.{none_append, none_next, not_when, inside}
+use Rattle.calc_words.proofs.WrittenLists.{inside}
+use Rattle.word_laws.proofs.NoOffences.{none_append, none_next, not_when}
+use Rattle.calc_words.proofs.WrittenCommands.{not_ninth}
+use Rattle.word_laws.proofs.EarlierOffences.{one_if}
 
 -- ---- the first: lengths
 
@@ -49,15 +52,11 @@ lengths_fall upper k (w ∷ ws) h =
     let n = none_append (offences_by (λ before a. when (nat_le (length upper) (length before)) shape) k (numbers w)) (length_offences (numbers w) (rows_at (k + length (row_text w) + 1) ws)) h in
     (short (length upper) k (numbers w) n.0, lengths_fall (numbers w) (k + length (row_text w) + 1) ws n.1)
 
-some_length : (b : Bool) (o : Offence) → cond b (o ∷ []) [] ≡ [] → b ≡ false
-some_length true o h = cc
-some_length false o h = refl
-
 all_some : (k : ℕ) (ws : List Words) → empties (rows_at k ws) ≡ [] → ArePositive (map length (map numbers ws))
 all_some k [] h = tt
 all_some k (w ∷ ws) h =
     let n = none_append (cond (length (numbers w) == 0) ((k, 0, shape) ∷ []) []) (empties (rows_at (k + length (row_text w) + 1) ws)) h in
-    let z = eqb-false (length (numbers w)) 0 (some_length (length (numbers w) == 0) (k, 0, shape) n.0) in
+    let z = eqb-false (length (numbers w)) 0 (not_ninth (length (numbers w) == 0) (k, 0, shape) n.0) in
     (omega (arith, z), all_some (k + length (row_text w) + 1) ws n.1)
 
 straight_lengths : (ls : List ℕ) → ls ≡ row_lengths ls []
@@ -140,9 +139,6 @@ order_from cells earlier upper k (w ∷ ws) h =
     ∙ order_from cells (numbers w ++ earlier) (numbers w) (k + length (row_text w) + 1) ws n.1
 
 -- ---- the second: each number once
-
-abbrev one_if : Bool → ℕ
-one_if b = cond b 1 0
 
 absent : (a : ℕ) (ns : List ℕ) → stands_in a ns ≡ false → times_in a ns ≡ 0
 absent a [] h = refl

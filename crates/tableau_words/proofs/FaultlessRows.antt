@@ -10,12 +10,13 @@ use Rattle.sym_model.specs.Tableau.{are_letters}
 use Rattle.sym_model.specs.ExpressionOffence.{shape, literal, range, is_wide}
 use Rattle.sym_model.specs.CommandOffence.{Offence, offences_by, offences_after, entry_rule, row_offences, order_offences, when, is_outside, greatest_letter, falls, stays, left_of, entry_above}
 use Rattle.sym_model.specs.WordForms.{numbers}
-use Rattle.sym_model.proofs.Parts.{part-drop}
+use Rattle.sym_model.proofs.Parts.{part-drop, falls_after}
 use Rattle.calc_words.proofs.Judging.{or_both}
 use Rattle.word_laws.specs.JudgedRows.{is_disordered}
 use Rattle.word_laws.specs.Words.{Words}
 use Rattle.word_laws.specs.WrittenRows.{row_text, rows_at, left_at, left_behind}
-use Rattle.calc_words.proofs.WrittenLists.{none_append, none_next, not_when, inside}
+use Rattle.calc_words.proofs.WrittenLists.{inside}
+use Rattle.word_laws.proofs.NoOffences.{none_append, none_next, not_when}
 
 -- ---- letters
 
@@ -144,11 +145,6 @@ falling_next [] f = omega arith
 falling_next (x ∷ []) f = omega arith
 falling_next (x ∷ y ∷ xs) f = f.0
 
-falls_next : (xs : List ℕ) → Falls xs → Falls (drop 1 xs)
-falls_next [] f = tt
-falls_next (x ∷ []) f = tt
-falls_next (x ∷ y ∷ xs) f = f.1
-
 pub faultless_order : (c : ℕ) (upper inner : List ℕ) (k : ℕ) (ws : List Words) → Falls inner → order_offences c upper inner (rows_at k ws) ≡ []
     → semistandard inner (map numbers ws) ≡ true
 faultless_order c upper inner k [] f h = refl
@@ -166,7 +162,7 @@ faultless_order c upper inner k (w ∷ v ∷ ws) f h =
     (row_fine c upper d k (numbers w) p.0)
     (ap (λ n. columns_rise (numbers w) (drop n (numbers v))) (ap (λ x. d - x) (sym (part-drop inner)) ∙ (let z : d - e ≡ d - e - 0 = omega arith in z))
     ∙ columns_from d (numbers w) e [] m (numbers v) (falling_next inner f) (omega arith) q.0)
-    (faultless_order d (numbers w) (drop 1 inner) m (v ∷ ws) (falls_next inner f) p.1)
+    (faultless_order d (numbers w) (drop 1 inner) m (v ∷ ws) (falls_after inner f) p.1)
   where
     all : (a b c : Bool) → a ≡ true → b ≡ true → c ≡ true → (a && b && c) ≡ true
     all true true true h k l = refl

@@ -4,7 +4,8 @@ use Rattle.sym_model.specs.Partition.{part}
 use Rattle.sym_model.specs.ExpressionOffence.{shape}
 use Rattle.sym_model.specs.CommandOffence.{Offence, first_offence, offences_after, inside_rule, when}
 use Rattle.tableau_words.proofs.CellJudging.{before_of, before_next, before_length, from_place}
-use Rattle.calc_words.proofs.FirstOffences.{of_kind, first-kind, Behind, within}
+use Rattle.calc_words.proofs.FirstOffences.{first-kind, Behind, within}
+use Rattle.word_laws.proofs.JudgedRows.{of_kind}
 
 one_kind : (k : ℕ) (b : Bool) (rest : List Offence) → Behind k rest → first_offence (map (of_kind k) (when b shape) ++ rest) ≡ cond b (Some (k, 0, shape)) (first_offence rest)
 one_kind k true rest l = first-kind k shape [] rest (λ q m. absurd m) l

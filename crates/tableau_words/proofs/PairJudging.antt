@@ -1,6 +1,5 @@
 -- The first offence of two tableaux that are a pair.
 use Rattle.std.proofs.Common.{◌≡◌, ℕ, ◌+◌, ◌<◌, ◌≤◌, ◌==◌, min, Bool, true, false, cond, List, [], ◌∷◌, ◌++◌, map, length, refl, sym, ap, ◌∙◌, subst, arith, Option, Some, None, Result, ◌⊎◌, inl, inr}
-use Rattle.std.specs.Prelude.{codes}
 use Rattle.std.proofs.lemmas.List.{length-map, append-nil}
 use Rattle.sym_model.specs.Sum.{Among}
 use Rattle.sym_model.proofs.Sums.{Among_from_append}
@@ -16,7 +15,7 @@ use Rattle.sym_model.specs.Form.{words_of}
 use Rattle.tableau_words.proofs.RowJudging.{further_length, numbers_fit}
 use Rattle.word_laws.specs.Words.{Words}
 use Rattle.word_laws.proofs.FirstOffences.{first-among, first_none}
-use Rattle.word_laws.specs.WrittenRows.{row_text, further_text, rows_text, tableau_written, rows_at, left_at}
+use Rattle.word_laws.specs.WrittenRows.{row_text, further_text, rows_text, written_rows, rows_at, left_at}
 use Rattle.word_laws.specs.JudgedRows.{earlier, inserted, recorded, cell_rule, is_disordered}
 use Rattle.word_laws.proofs.EarlierOffences.{first_of_both, tally_append, first_alike}
 use Rattle.word_laws.proofs.JudgedRows.{inserted_first, recorded_first}
@@ -36,8 +35,10 @@ use Rattle.calc_commands.specs.declared.command.Command.{Command as Read}
 use Rattle.calc_words.proofs.Commands.{read_standing}
 use Rattle.tableau_words.proofs.EmptyRows.{empties}
 use Rattle.calc_words.proofs.FirstOffences.{within, no_later_word}
-use Rattle.calc_words.proofs.WrittenLists.{none_append, none_next, none_judged, not_when, inside}
-use Rattle.tableau_words.proofs.WrittenTableaux.{written_words, written_may, written_rows, written_entries}
+use Rattle.calc_words.proofs.WrittenLists.{inside}
+use Rattle.word_laws.proofs.NoOffences.{none_append, none_next, none_judged, not_when}
+use Rattle.tableau_words.proofs.WrittenTableaux.{rows_placed, rows_entered}
+use Rattle.tableau_words.proofs.CutTableaux.{rows_spelled}
 
 -- ---- where offences of rows stand
 
@@ -280,42 +281,32 @@ lengths_twice f h (r ∷ rows) =
 abbrev offends_so : List PlacedRow → List (List ℕ) → Words → Words → (ℕ → List PlacedRow) → List Offence
 offends_so first nss words more second = offences_of_pair first nss (2 + length words) more (second (2 + length words))
 
-pub pair_read : (words : Words) (first second : List Words) (r : Result Read WordsFault) → words ≡ codes "unrsk" ∷ (rows_text first ++ codes "-" ∷ rows_text second)
-    → 0 < length first → EachOf (EachOf IsNumber) first → 0 < length second → EachOf (EachOf IsNumber) second
+pub pair_read : (words : Words) (first second : List Words) (r : Result Read WordsFault) → AreTwoTableaux first second words
     → IsJudged (StandsFor (unrsk (rows_in [] (map numbers first)) (rows_in [] (map numbers second)))) (first_offence (pair_offences first second)) r
     → IsRead (unrsk_entry ∷ []) words r
-pair_read words [] second r e s a t b j = absurd (omega (arith, s))
-pair_read words (row ∷ rows) [] r e s a t b j = absurd (omega (arith, t))
-pair_read words (row ∷ rows) (other ∷ others) r e s a t b j =
-    let x = tableau_written row rows in
-    let y = tableau_written other others in
-    let first = row ∷ rows in
-    let second = other ∷ others in
-    let offends : unrsk_offends (tt, (x, (tt, y))) ≡ pair_offences first second =
-    ap (λ p. offends_so p (tableau_rows x) (words_of tableau_words x) (words_of tableau_words y) (λ k. placed_rows k y)) (written_rows 1 row rows)
-    ∙ ap (λ p. offends_so (rows_at 1 first) p (words_of tableau_words x) (words_of tableau_words y) (λ k. placed_rows k y)) (written_entries row rows)
-    ∙ ap (λ p. offends_so (rows_at 1 first) (map numbers first) p (words_of tableau_words y) (λ k. placed_rows k y)) (written_words row rows)
-    ∙ ap (λ p. offends_so (rows_at 1 first) (map numbers first) (rows_text first) p (λ k. placed_rows k y)) (written_words other others)
-    ∙ ap (λ p. offences_of_pair (rows_at 1 first) (map numbers first) (2 + length (rows_text first)) (rows_text second) p)
-    (written_rows (2 + length (rows_text first)) other others) in
-    read_standing unrsk_entry words
-    (record {
-      written = (tt, (x, (tt, y)));
-      allowed = (tt, (written_may row rows a, (tt, written_may other others b)));
-      spelled =
-          e
-          ∙ ap (λ ws. codes "unrsk" ∷ (ws ++ codes "-" ∷ rows_text second)) (sym (written_words row rows))
-          ∙ ap (λ ws. codes "unrsk" ∷ (words_of tableau_words x ++ codes "-" ∷ ws)) (sym (written_words other others));
-    })
-    (unrsk (rows_in [] (map numbers first)) (rows_in [] (map numbers second)))
-    (ap (λ p. unrsk (rows_in [] p) (rows_in [] (map numbers second))) (sym (written_entries row rows))
-    ∙ ap (λ p. unrsk (rows_in [] (tableau_rows x)) (rows_in [] p)) (sym (written_entries other others)))
-    r (subst (λ os. IsJudged (StandsFor (unrsk (rows_in [] (map numbers first)) (rows_in [] (map numbers second)))) (first_offence os) r) (sym offends) j)
+pair_read words first second r t j =
+    let x = t.has.written.1.0 in
+    let y = t.has.written.1.1.1 in
+    let u = written_rows x in
+    let v = written_rows y in
+    let offends : unrsk_offends t.has.written ≡ pair_offences u v =
+    ap (λ p. offends_so p (tableau_rows x) (words_of tableau_words x) (words_of tableau_words y) (λ k. placed_rows k y)) (rows_placed 1 x)
+    ∙ ap (λ p. offends_so (rows_at 1 u) p (words_of tableau_words x) (words_of tableau_words y) (λ k. placed_rows k y)) (rows_entered x)
+    ∙ ap (λ p. offends_so (rows_at 1 u) (map numbers u) p (words_of tableau_words y) (λ k. placed_rows k y)) (rows_spelled x)
+    ∙ ap (λ p. offends_so (rows_at 1 u) (map numbers u) (rows_text u) p (λ k. placed_rows k y)) (rows_spelled y)
+    ∙ ap (λ p. offences_of_pair (rows_at 1 u) (map numbers u) (2 + length (rows_text u)) (rows_text v) p) (rows_placed (2 + length (rows_text u)) y) in
+    read_standing unrsk_entry words t.has (unrsk (rows_in [] (map numbers u)) (rows_in [] (map numbers v)))
+    (ap (λ p. unrsk (rows_in [] p) (rows_in [] (map numbers v))) (sym (rows_entered x))
+    ∙ ap (λ p. unrsk (rows_in [] (tableau_rows x)) (rows_in [] p)) (sym (rows_entered y)))
+    r
+    (subst (λ os. IsJudged (StandsFor (unrsk (rows_in [] (map numbers u)) (rows_in [] (map numbers v)))) (first_offence os) r) (sym offends)
+    (subst (λ w. IsJudged (StandsFor (unrsk (rows_in [] (map numbers u)) (rows_in [] (map numbers w)))) (first_offence (pair_offences u w)) r) t.second_is
+    (subst (λ w. IsJudged (StandsFor (unrsk (rows_in [] (map numbers w)) (rows_in [] (map numbers second)))) (first_offence (pair_offences w second)) r) t.first_is j)))
 
 pub pair_read_rows : {A : Type 0} (f : A → Words) (words : Words) (xs ys : List A) (r : Result Read WordsFault) → AreTwoTableaux (map f xs) (map f ys) words
     → IsJudged (StandsFor (unrsk (rows_in [] (map (λ r. numbers (f r)) xs)) (rows_in [] (map (λ r. numbers (f r)) ys)))) (first_offence (pair_offences (map f xs) (map f ys))) r
     → IsRead (unrsk_entry ∷ []) words r
 pair_read_rows f words xs ys r t j =
-    pair_read words (map f xs) (map f ys) r t.words_are t.first_some t.first_numbers t.second_some t.second_numbers
+    pair_read words (map f xs) (map f ys) r t
     (subst (λ ns. IsJudged (StandsFor (unrsk (rows_in [] ns) (rows_in [] (map numbers (map f ys))))) (first_offence (pair_offences (map f xs) (map f ys))) r) (sym (map_twice f numbers xs))
     (subst (λ ns. IsJudged (StandsFor (unrsk (rows_in [] (map (λ r. numbers (f r)) xs)) (rows_in [] ns))) (first_offence (pair_offences (map f xs) (map f ys))) r) (sym (map_twice f numbers ys)) j))

@@ -1,22 +1,21 @@
 -- The first offence of two shapes and a tableau.
 use Rattle.std.proofs.Common.{◌≡◌, ℕ, zero, suc, ◌+◌, ◌-◌, ◌<◌, ◌||◌, nat_lt, ◌⊎◌, inl, inr, List, [], ◌∷◌, ◌++◌, map, length, drop, refl, sym, ap, ◌∙◌, subst, arith, Some, None, Result}
-use Rattle.std.specs.Prelude.{codes}
 use Rattle.std.proofs.lemmas.List.{length-map, append-nil}
-use Rattle.sym_model.specs.Sum.{each, Among}
+use Rattle.sym_model.specs.Sum.{Among}
 use Rattle.sym_model.proofs.Sums.{Among_from_append}
 use Rattle.sym_model.specs.Partition.{part, in_front, without_last_zeros}
 use Rattle.sym_model.specs.PrintedBlock.{decimal_value}
 use Rattle.sym_model.specs.Schur.{row_lengths}
 use Rattle.sym_model.specs.ExpressionOffence.{shape}
-use Rattle.sym_model.specs.Form.{EachOf, words_of}
+use Rattle.sym_model.specs.Form.{EachOf}
 use Rattle.sym_model.specs.Command.{rect}
 use Rattle.sym_model.specs.CommandOffence.{Offence, PlacedRow, first_offence, offences_by, offences_after, part_offences, part_rule, inside_rule, judged_against, entry_rule, row_offences, order_offences, when, falls, stays, left_of, entry_above, rows_in}
 use Rattle.sym_model.specs.Grammar.{rect_entry, rect_offends, inner_offences}
-use Rattle.sym_model.specs.WordForms.{tableau_words, numbers, partition, placed_rows, shape_offences}
+use Rattle.sym_model.specs.WordForms.{numbers, partition, placed_rows, shape_offences}
 use Rattle.sym_model.proofs.Parts.{get_or-without_last_zeros, part-in_front}
 use Rattle.word_laws.specs.Words.{Words}
 use Rattle.word_laws.proofs.FirstOffences.{first-among, first_none}
-use Rattle.word_laws.specs.WrittenRows.{rows_text, tableau_written, rows_at, left_at}
+use Rattle.word_laws.specs.WrittenRows.{rows_text, written_rows, rows_at, left_at}
 use Rattle.word_laws.specs.JudgedRows.{earlier, skewed}
 use Rattle.word_laws.proofs.EarlierOffences.{first_of_both, tally_append, first_alike}
 use Rattle.word_laws.proofs.JudgedRows.{skewed_first}
@@ -28,11 +27,12 @@ use Rattle.tableau_words.specs.SkewTotals.{offences_of_skew, all_skew_offences}
 use Rattle.calc_commands.specs.Commands.{StandsFor}
 use Rattle.calc_commands.specs.declared.command.Command.{Command as Read}
 use Rattle.tableau_words.specs.SkewWords.{AreSkewWords, skew_offences}
-use Rattle.calc_words.proofs.Commands.{read_standing, may_be, singles}
+use Rattle.calc_words.proofs.Commands.{read_standing}
 use Rattle.calc_words.proofs.FirstOffences.{within}
-use Rattle.calc_words.proofs.WrittenLists.{none_append, none_judged}
+use Rattle.word_laws.proofs.NoOffences.{none_append, none_judged}
 use Rattle.tableau_words.proofs.PairJudging.{After, entries_after, earlier_word, some_judged, left_shape_of, map_twice, after_append}
-use Rattle.tableau_words.proofs.WrittenTableaux.{written_words, written_may, written_rows, written_entries}
+use Rattle.tableau_words.proofs.WrittenTableaux.{rows_placed, rows_entered}
+use Rattle.tableau_words.proofs.CutTableaux.{rows_spelled}
 
 -- ---- the rows
 
@@ -186,41 +186,30 @@ neither_first outer inner rows parts e n h =
 
 -- ---- the words
 
-lists_spelled : (outer inner more : Words)
-    → ◌≡◌ {A = Words} (outer ++ codes "/" ∷ (inner ++ codes "-" ∷ more)) (each (λ t. t ∷ []) outer ++ (codes "/" ∷ (each (λ t. t ∷ []) inner ++ (codes "-" ∷ more))))
-lists_spelled outer inner more =
-    ap (λ ws. ws ++ codes "/" ∷ (inner ++ codes "-" ∷ more)) (sym (singles outer))
-    ∙ ap (λ ws. each (λ t. t ∷ []) outer ++ (codes "/" ∷ (ws ++ codes "-" ∷ more))) (sym (singles inner))
-
-pub skew_read : (words outer inner : Words) (rows : List Words) (r : Result Read WordsFault)
-    → words ≡ codes "rect" ∷ (outer ++ codes "/" ∷ (inner ++ codes "-" ∷ rows_text rows)) → EachOf IsNumber outer → EachOf IsNumber inner
-    → 0 < length rows → EachOf (EachOf IsNumber) rows
+pub skew_read : (words outer inner : Words) (rows : List Words) (r : Result Read WordsFault) → AreSkewWords outer inner rows words
     → IsJudged (StandsFor (rect (partition outer) (partition inner) (rows_in (partition outer) (map numbers rows)))) (first_offence (all_skew_offences outer inner rows)) r
     → IsRead (rect_entry ∷ []) words r
-skew_read words outer inner [] r e o i s a j = absurd (omega (arith, s))
-skew_read words outer inner (row ∷ rows) r e o i s a j =
-    let x = tableau_written row rows in
-    let k = 3 + length outer + length inner in
-    let offends : rect_offends (tt, (outer, (tt, (inner, (tt, x))))) ≡ all_skew_offences outer inner (row ∷ rows) =
-    ap (λ p. offences_of_skew outer inner k p (placed_rows k x)) (written_words row rows)
-    ∙ ap (λ p. offences_of_skew outer inner k (rows_text (row ∷ rows)) p) (written_rows k row rows) in
-    read_standing rect_entry words
-    (record {
-      written = (tt, (outer, (tt, (inner, (tt, x)))));
-      allowed = (tt, (may_be outer o, (tt, (may_be inner i, (tt, written_may row rows a)))));
-      spelled =
-          e
-          ∙ ap (λ ws. codes "rect" ∷ (outer ++ codes "/" ∷ (inner ++ codes "-" ∷ ws))) (sym (written_words row rows))
-          ∙ ap (λ ws. codes "rect" ∷ ws) (lists_spelled outer inner (words_of tableau_words x));
-    })
-    (rect (partition outer) (partition inner) (rows_in (partition outer) (map numbers (row ∷ rows))))
-    (ap (λ p. rect (partition outer) (partition inner) (rows_in (partition outer) p)) (sym (written_entries row rows))) r
-    (subst (λ os. IsJudged (StandsFor (rect (partition outer) (partition inner) (rows_in (partition outer) (map numbers (row ∷ rows))))) (first_offence os) r) (sym offends) j)
+skew_read words outer inner rows r t j =
+    let o = t.has.written.1.0 in
+    let i = t.has.written.1.1.1.0 in
+    let x = t.has.written.1.1.1.1.1 in
+    let k = 3 + length o + length i in
+    let offends : rect_offends t.has.written ≡ all_skew_offences o i (written_rows x) =
+    ap (λ p. offences_of_skew o i k p (placed_rows k x)) (rows_spelled x)
+    ∙ ap (λ p. offences_of_skew o i k (rows_text (written_rows x)) p) (rows_placed k x) in
+    read_standing rect_entry words t.has (rect (partition o) (partition i) (rows_in (partition o) (map numbers (written_rows x))))
+    (ap (λ p. rect (partition o) (partition i) (rows_in (partition o) p)) (sym (rows_entered x))) r
+    (subst (λ os. IsJudged (StandsFor (rect (partition o) (partition i) (rows_in (partition o) (map numbers (written_rows x))))) (first_offence os) r) (sym offends)
+    (subst (λ w. Judged o i w) t.rows_are (subst (λ w. Judged o w rows) t.inner_is (subst (λ w. Judged w inner rows) t.outer_is j))))
+  where
+    Judged : Words → Words → List Words → Type 0
+    Judged outer inner rows =
+        IsJudged (StandsFor (rect (partition outer) (partition inner) (rows_in (partition outer) (map numbers rows)))) (first_offence (all_skew_offences outer inner rows)) r
 
 pub skew_read_rows : {A : Type 0} (f : A → Words) (words outer inner : Words) (xs : List A) (r : Result Read WordsFault) → AreSkewWords outer inner (map f xs) words
     → IsJudged (StandsFor (rect (partition outer) (partition inner) (rows_in (partition outer) (map (λ r. numbers (f r)) xs)))) (first_offence (all_skew_offences outer inner (map f xs))) r
     → IsRead (rect_entry ∷ []) words r
 skew_read_rows f words outer inner xs r t j =
-    skew_read words outer inner (map f xs) r t.words_are t.outer_numbers t.inner_numbers t.rows_some t.rows_numbers
+    skew_read words outer inner (map f xs) r t
     (subst (λ ns. IsJudged (StandsFor (rect (partition outer) (partition inner) (rows_in (partition outer) ns))) (first_offence (all_skew_offences outer inner (map f xs))) r)
     (sym (map_twice f numbers xs)) j)

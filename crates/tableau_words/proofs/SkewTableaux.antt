@@ -18,7 +18,7 @@ use Rattle.tableau_words.specs.SkewWords.{skew_offences}
 use Rattle.tableau_words.proofs.FaultlessRows.{faultless_letters, faultless_order, faultless_lengths}
 use Rattle.tableau_words.proofs.PairJudging.{left_shape_of, number_lengths}
 use Rattle.tableau_words.proofs.SkewJudging.{asked_shape, asked_some}
-use Rattle.calc_words.proofs.WrittenLists.{none_append, none_next, not_when}
+use Rattle.word_laws.proofs.NoOffences.{none_append, none_next, not_when}
 use Rattle.strip_laws.proofs.Containment.{contains_from_places}
 
 -- ---- an inner shape whose numbers do not exceed the outer parts

@@ -1,37 +1,36 @@
 -- The first offence of two shapes and a tableau behind `-from`.
 use Rattle.std.proofs.Common.{◌≡◌, ℕ, ◌+◌, ◌<◌, ◌≤◌, nat_lt, ◌==◌, min, Bool, true, false, cond, ◌⊎◌, inl, inr, List, [], ◌∷◌, ◌++◌, map, length, refl, sym, ap, ap₂, ◌∙◌, subst, arith, append_assoc, Option, Some, None, Result, Ok}
-use Rattle.std.specs.Prelude.{codes}
 use Rattle.std.proofs.lemmas.Bool.{eqb-false}
 use Rattle.std.proofs.lemmas.Bool.Decides.{nat_tests}
 use Rattle.std.proofs.lemmas.List.{length-map}
-use Rattle.sym_model.specs.Sum.{each, Among}
+use Rattle.sym_model.specs.Sum.{Among}
 use Rattle.sym_model.proofs.Sums.{Among_from_append}
 use Rattle.sym_model.proofs.Exponents.{tests_agree}
 use Rattle.sym_model.specs.GoodTableau.{column_reading}
 use Rattle.sym_model.specs.Partition.{Falls}
 use Rattle.sym_model.specs.PrintedBlock.{decimal_value}
 use Rattle.sym_model.specs.ExpressionOffence.{shape, is_wide}
-use Rattle.sym_model.specs.Form.{EachOf, words_of}
+use Rattle.sym_model.specs.Form.{Written}
 use Rattle.sym_model.specs.Command.{tab}
 use Rattle.sym_model.specs.CommandOffence.{Offence, first_offence, offences_after, part_offences, part_rule, judged_against, entry_rule, greatest_letter, row_offences, rows_in, is_lattice_tableau}
 use Rattle.sym_model.specs.Grammar.{tab_entry, tab_offends, two_partitions, last_reading}
-use Rattle.sym_model.specs.WordForms.{tableau_words, numbers, partition, placed_rows}
+use Rattle.sym_model.specs.WordForms.{optional, from_words, numbers, partition, placed_rows}
 use Rattle.word_laws.specs.Words.{Words}
-use Rattle.word_laws.specs.WrittenRows.{row_text, tableau_written, rows_at}
-use Rattle.tableau_iter.proofs.EntryLimits.{AreWithin, RowsWithin, rows_within}
+use Rattle.word_laws.specs.WrittenRows.{row_text, written_rows, rows_at}
+use Rattle.tableau_iter.proofs.EntryLimits.{RowsWithin, rows_within}
 use Rattle.calc_base.specs.declared.words.WordsFault.{WordsFault}
 use Rattle.calc_words.specs.declared.offence.Kind.TheVariants.{Shape as Misshapen}
 use Rattle.calc_words.specs.Faults.{fault_of}
 use Rattle.tableau_words.specs.FoundOffences.{at_most_entry}
-use Rattle.calc_words.specs.NumberRuns.{IsNumber}
 use Rattle.calc_words.specs.Reading.{IsJudged, IsRead, IsFirst}
-use Rattle.tableau_words.specs.TabWords.{AreTabWords, from_text, last_of, unlisted, from_offences, all_tab_offences}
+use Rattle.tableau_words.specs.TabWords.{AreTabWords, from_rows, last_of, unlisted, from_offences, all_tab_offences}
 use Rattle.calc_commands.specs.declared.command.Command.{Command as Read}
 use Rattle.calc_commands.specs.declared.command.Command.TheVariants.{Tab}
-use Rattle.calc_words.proofs.Commands.{read_judged, may_be, singles, judged_err}
+use Rattle.calc_words.proofs.Commands.{read_judged, judged_err}
 use Rattle.calc_words.proofs.FirstOffences.{AllBefore, first-append, within}
 use Rattle.tableau_words.proofs.PairJudging.{entries_after, map_twice}
-use Rattle.tableau_words.proofs.WrittenTableaux.{written_words, written_may, written_rows, written_entries}
+use Rattle.tableau_words.proofs.WrittenTableaux.{rows_placed, rows_entered}
+use Rattle.sym_model.specs.Bounded.{AreLetters as AreWithin}
 
 -- ---- entries from 1 to a number that is no greater than the greatest entry
 
@@ -218,56 +217,45 @@ shapes_faulty outer inner rows fault h =
 
 -- ---- the words
 
-lists_spelled : (outer inner more : Words)
-    → ◌≡◌ {A = Words} (outer ++ codes "/" ∷ (inner ++ more)) (each (λ t. t ∷ []) outer ++ (codes "/" ∷ (each (λ t. t ∷ []) inner ++ more)))
-lists_spelled outer inner more =
-    ap (λ ws. ws ++ codes "/" ∷ (inner ++ more)) (sym (singles outer))
-    ∙ ap (λ ws. each (λ t. t ∷ []) outer ++ (codes "/" ∷ (ws ++ more))) (sym (singles inner))
-
-tab_read : (words outer inner : Words) (rows : List Words) (r : Result Read WordsFault)
-    → words ≡ codes "tab" ∷ (outer ++ codes "/" ∷ (inner ++ from_text rows)) → EachOf IsNumber outer → EachOf IsNumber inner → EachOf (EachOf IsNumber) rows
-    → IsJudged (IsTab (partition outer) (partition inner) (last_of (partition outer) (partition inner) (map numbers rows)))
+abbrev IsTabJudged : Words → Words → List Words → Result Read WordsFault → Type 0
+IsTabJudged outer inner rows r =
+    IsJudged (IsTab (partition outer) (partition inner) (last_of (partition outer) (partition inner) (map numbers rows)))
     (first_offence (all_tab_offences outer inner rows)) r
-    → IsRead (tab_entry ∷ []) words r
-tab_read words outer inner [] r e o i a j =
-    read_judged tab_entry words
-    (record {
-      written = (tt, (outer, (tt, (inner, inl tt))));
-      allowed = (tt, (may_be outer o, (tt, (may_be inner i, tt))));
-      spelled = e ∙ ap (λ ws. codes "tab" ∷ ws) (lists_spelled outer inner []);
-    })
-    (Tab (partition outer) (partition inner) None) refl tt r j
-tab_read words outer inner (row ∷ rows) r e o i a j =
-    let x = tableau_written row rows in
+
+-- what words say and offend by where the tableau behind `-from` is this one
+tab_said : (P Q : List ℕ) (x : Written (optional from_words)) → last_reading P Q x ≡ last_of P Q (map numbers (from_rows x))
+tab_said P Q (inl x) = refl
+tab_said P Q (inr x) = ap (λ ns. Some (column_reading P Q (rows_in P ns))) (rows_entered x.1)
+
+tab_offended : (outer inner : Words) (x : Written (optional from_words)) → tab_offends (tt, (outer, (tt, (inner, x)))) ≡ all_tab_offences outer inner (from_rows x)
+tab_offended outer inner (inl x) = refl
+tab_offended outer inner (inr x) =
     let k = 2 + length outer + length inner in
     let lists = two_partitions 1 outer inner in
     let P = partition outer in
     let Q = partition inner in
-    let offends : tab_offends (tt, (outer, (tt, (inner, inr (tt, x))))) ≡ all_tab_offences outer inner (row ∷ rows) =
-    ap (λ ns. (lists ++ judged_against lists (cond (is_lattice_tableau P Q (rows_in P ns)) [] ((k, 0, shape) ∷ []))) ++ row_offences entry_rule (placed_rows (k + 1) x))
-    (written_entries row rows)
-    ∙ ap (λ p. (lists ++ judged_against lists (unlisted k P Q (map numbers (row ∷ rows)))) ++ row_offences entry_rule p) (written_rows (k + 1) row rows) in
-    let last : last_reading P Q (inr (tt, x)) ≡ last_of P Q (map numbers (row ∷ rows)) = ap (λ ns. Some (column_reading P Q (rows_in P ns))) (written_entries row rows) in
-    read_judged tab_entry words
-    (record {
-      written = (tt, (outer, (tt, (inner, inr (tt, x)))));
-      allowed = (tt, (may_be outer o, (tt, (may_be inner i, (tt, written_may row rows a)))));
-      spelled =
-          e
-          ∙ ap (λ ws. codes "tab" ∷ (outer ++ codes "/" ∷ (inner ++ codes "-from" ∷ ws))) (sym (written_words row rows))
-          ∙ ap (λ ws. codes "tab" ∷ ws) (lists_spelled outer inner (codes "-from" ∷ words_of tableau_words x));
-    })
-    (Tab P Q (last_of P Q (map numbers (row ∷ rows)))) (ap (tab P Q) (sym last)) tt r
-    (subst
-    (λ os. IsJudged (IsTab (partition outer) (partition inner) (last_of (partition outer) (partition inner) (map numbers (row ∷ rows)))) (first_offence os) r)
-    (sym offends) j)
+    ap (λ ns. (lists ++ judged_against lists (cond (is_lattice_tableau P Q (rows_in P ns)) [] ((k, 0, shape) ∷ []))) ++ row_offences entry_rule (placed_rows (k + 1) x.1))
+    (rows_entered x.1)
+    ∙ ap (λ p. (lists ++ judged_against lists (unlisted k P Q (map numbers (written_rows x.1)))) ++ row_offences entry_rule p) (rows_placed (k + 1) x.1)
+
+tab_read : (words outer inner : Words) (rows : List Words) (r : Result Read WordsFault) → AreTabWords outer inner rows words
+    → IsTabJudged outer inner rows r → IsRead (tab_entry ∷ []) words r
+tab_read words outer inner rows r t j =
+    let o = t.has.written.1.0 in
+    let i = t.has.written.1.1.1.0 in
+    let x = t.has.written.1.1.1.1 in
+    let P = partition o in
+    let Q = partition i in
+    read_judged tab_entry words t.has (Tab P Q (last_of P Q (map numbers (from_rows x)))) (ap (tab P Q) (sym (tab_said P Q x))) tt r
+    (subst (λ os. IsJudged (IsTab P Q (last_of P Q (map numbers (from_rows x)))) (first_offence os) r) (sym (tab_offended o i x))
+    (subst (λ w. IsTabJudged o i w r) t.rows_are (subst (λ w. IsTabJudged o w rows r) t.inner_is (subst (λ w. IsTabJudged w inner rows r) t.outer_is j))))
 
 pub tab_read_rows : {A : Type 0} (f : A → Words) (words outer inner : Words) (xs : List A) (r : Result Read WordsFault) → AreTabWords outer inner (map f xs) words
     → IsJudged (IsTab (partition outer) (partition inner) (last_of (partition outer) (partition inner) (map (λ r. numbers (f r)) xs)))
     (first_offence (all_tab_offences outer inner (map f xs))) r
     → IsRead (tab_entry ∷ []) words r
 tab_read_rows f words outer inner xs r t j =
-    tab_read words outer inner (map f xs) r t.words_are t.outer_numbers t.inner_numbers t.rows_numbers
+    tab_read words outer inner (map f xs) r t
     (subst
     (λ ns. IsJudged (IsTab (partition outer) (partition inner) (last_of (partition outer) (partition inner) ns)) (first_offence (all_tab_offences outer inner (map f xs))) r)
     (sym (map_twice f numbers xs)) j)

@@ -1,4 +1,5 @@
--- How many numbers are asked for in each row of a skew tableau as it is written (this project's own).
+-- How many numbers are asked for in each row of a skew tableau as it is written (this project's
+-- own).
 use Rattle.std.specs.Prelude.{ℕ, List, [], ◌∷◌}
 use Rattle.sym_model.specs.Schur.{row_lengths}
 

@@ -1,7 +1,10 @@
--- Offences that were found, and how the numbers of a row are judged where they stand (this project's own).
-use Rattle.std.specs.Prelude.{ℕ, ◌+◌, ◌-◌, ◌==◌, nat_lt, min, Bool, ◌||◌, cond, List, [], ◌∷◌, ◌++◌, take, slice_get, Option, Some, None}
+-- Offences that were found, and how the numbers of a row are judged where they stand (this
+-- project's own).
+use Rattle.std.specs.Prelude.{ℕ, ◌+◌, ◌-◌, ◌==◌, nat_lt, min, Bool, ◌||◌, cond, List, [], ◌∷◌, ◌++◌}
+use Rattle.std.specs.Prelude.{take, slice_get, Option, Some, None}
 use Rattle.sym_model.specs.ExpressionOffence.{OffenceKind, literal, range, shape}
-use Rattle.sym_model.specs.CommandOffence.{Offence, greatest_letter, falls, stays, stands_in, entry_above}
+use Rattle.sym_model.specs.CommandOffence.{Offence, greatest_letter, falls, stays, stands_in}
+use Rattle.sym_model.specs.CommandOffence.{entry_above}
 use Rattle.calc_words.specs.declared.offence.Kind.{Kind}
 use Rattle.calc_words.specs.declared.offence.Kind.TheVariants.{Literal, Range, Shape}
 use Rattle.tableau_words.specs.declared.found.Found.{Found}
@@ -30,16 +33,18 @@ kind_by x y z = cond x (Some Literal) (range_or_shape y z)
 abbrev pub left_at : List ℕ → ℕ → Option ℕ
 left_at ns i = cond (i == 0) None (slice_get ns (i - 1))
 
--- whether a number at the place of a row that begins at column d, below a row that begins at column c, is smaller than its
--- left neighbour, or not greater than the entry above it
+-- whether a number at the place of a row that begins at column d, below a row that begins at column
+-- c, is smaller than its left neighbour, or not greater than the entry above it
 abbrev pub is_disordered_at : ℕ → List ℕ → ℕ → List ℕ → ℕ → ℕ → Bool
 is_disordered_at c upper d ns i a = falls (left_at ns i) a || stays (entry_above upper c (d + i)) a
 
--- whether a number at the place of a row of a tableau of so many cells that records, below a row and after these entries, is
--- past their number, not greater than its left neighbour or the entry above, or stands earlier
+-- whether a number at the place of a row of a tableau of so many cells that records, below a row
+-- and after these entries, is past their number, not greater than its left neighbour or the entry
+-- above, or stands earlier
 abbrev pub is_no_record_at : ℕ → List ℕ → List ℕ → List ℕ → ℕ → ℕ → Bool
 is_no_record_at cells earlier upper ns i a =
-    nat_lt cells a || stays (left_at ns i) a || stays (slice_get upper i) a || stands_in a (take i ns) || stands_in a earlier
+    nat_lt cells a || stays (left_at ns i) a || stays (slice_get upper i) a
+    || stands_in a (take i ns) || stands_in a earlier
 
 -- the entries of rows, those of the last row first, before others
 abbrev pub gathered : List ℕ → List (List ℕ) → List ℕ

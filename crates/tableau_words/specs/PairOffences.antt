@@ -1,18 +1,22 @@
 -- The offences of two tableaux that are a pair, by their rows (this project's own).
 use Rattle.std.specs.Prelude.{ℕ, ◌+◌, List, [], ◌++◌, map, length}
 use Rattle.sym_model.specs.Partition.{size}
-use Rattle.sym_model.specs.CommandOffence.{Offence, PlacedRow, judged_against, standard_offences, rows_in}
+use Rattle.sym_model.specs.CommandOffence.{Offence, PlacedRow, judged_against, standard_offences}
+use Rattle.sym_model.specs.CommandOffence.{rows_in}
 use Rattle.sym_model.specs.Grammar.{insertion_offences, filled_offences}
 use Rattle.sym_model.specs.WordForms.{numbers, shape_offences}
 use Rattle.word_laws.specs.WrittenRows.{rows_text, rows_at}
 
--- of the rows of the first and their entries, and of the words and the rows of the second, which begin at the word
-abbrev pub offences_of_pair : List PlacedRow → List (List ℕ) → ℕ → List (List ℕ) → List PlacedRow → List Offence
+-- of the rows of the first and their entries, and of the words and the rows of the second,
+-- which begin at the word
+abbrev pub offences_of_pair : List PlacedRow → List (List ℕ) → ℕ → List (List ℕ) → List PlacedRow
+    → List Offence
 offences_of_pair first nss k words second =
     insertion_offences first
     ++ filled_offences second
     ++ judged_against (insertion_offences first)
-    (shape_offences k (map length (rows_in [] nss)) words ++ standard_offences (size (map length (rows_in [] nss))) [] [] second)
+    (shape_offences k (map length (rows_in [] nss)) words
+    ++ standard_offences (size (map length (rows_in [] nss))) [] [] second)
 
 -- of the number words of their rows, the first of which begin at the second word
 abbrev pub pair_offences : List (List (List ℕ)) → List (List (List ℕ)) → List Offence

@@ -1,12 +1,15 @@
 -- Two shapes and a tableau behind `-from` among the words of a command (this project's own).
-use Rattle.std.specs.Prelude.{◌≡◌, ℕ, ◌+◌, cond, List, [], ◌∷◌, ◌++◌, map, length, codes, Option, Some, None}
-use Rattle.sym_model.specs.CommandOffence.{Offence, judged_against, row_offences, entry_rule, rows_in, is_lattice_tableau}
+use Rattle.std.specs.Prelude.{◌≡◌, ℕ, ◌+◌, cond, List, [], ◌∷◌, ◌++◌, map, length, codes, Option}
+use Rattle.std.specs.Prelude.{Some, None}
+use Rattle.sym_model.specs.CommandOffence.{Offence, judged_against, row_offences, entry_rule}
+use Rattle.sym_model.specs.CommandOffence.{rows_in, is_lattice_tableau}
 use Rattle.sym_model.specs.ExpressionOffence.{shape}
-use Rattle.sym_model.specs.Form.{EachOf}
+use Rattle.std.proofs.Common.{inl, inr}
+use Rattle.sym_model.specs.Form.{Written, EachOf, Has}
 use Rattle.sym_model.specs.GoodTableau.{column_reading}
-use Rattle.sym_model.specs.Grammar.{two_partitions}
-use Rattle.sym_model.specs.WordForms.{numbers, partition}
-use Rattle.word_laws.specs.WrittenRows.{rows_text, rows_at}
+use Rattle.sym_model.specs.Grammar.{tab_words, two_partitions}
+use Rattle.sym_model.specs.WordForms.{optional, from_words, numbers, partition}
+use Rattle.word_laws.specs.WrittenRows.{rows_text, rows_at, written_rows}
 use Rattle.calc_words.specs.NumberRuns.{IsNumber}
 
 -- the words of a tableau behind `-from`; no word where there is no row
@@ -14,11 +17,20 @@ abbrev pub from_text : List (List (List ℕ)) → List (List ℕ)
 from_text [] = []
 from_text (row ∷ rows) = codes "-from" ∷ rows_text (row ∷ rows)
 
--- the words are `tab` and two lists of numbers with `/` between them, and what may stand behind them
-pub record AreTabWords (outer inner : List (List ℕ)) (rows : List (List (List ℕ))) (words : List (List ℕ)) : Type 0 where
+-- the rows behind `-from`, where they are there
+abbrev pub from_rows : Written (optional from_words) → List (List (List ℕ))
+from_rows (inl x) = []
+from_rows (inr x) = written_rows x.1
+
+-- the words are `tab` and two lists of numbers with `/` between them,
+-- and what may stand behind them
+pub record AreTabWords (outer inner : List (List ℕ)) (rows : List (List (List ℕ)))
+    (words : List (List ℕ)) : Type 0 where
+  pub has : Has tab_words words
+  pub outer_is : outer ≡ has.written.1.0
+  pub inner_is : inner ≡ has.written.1.1.1.0
+  pub rows_are : rows ≡ from_rows has.written.1.1.1.1
   pub words_are : words ≡ codes "tab" ∷ (outer ++ codes "/" ∷ (inner ++ from_text rows))
-  pub outer_numbers : EachOf IsNumber outer
-  pub inner_numbers : EachOf IsNumber inner
   pub rows_numbers : EachOf (EachOf IsNumber) rows
 
 -- the column reading of the tableau with rows of these numbers, where there is one
@@ -29,16 +41,19 @@ last_of outer inner (row ∷ rows) = Some (column_reading outer inner (rows_in o
 -- the word `-from`, where the tableau with rows of these numbers is not in the list
 abbrev pub unlisted : ℕ → List ℕ → List ℕ → List (List ℕ) → List Offence
 unlisted k outer inner [] = []
-unlisted k outer inner (row ∷ rows) = cond (is_lattice_tableau outer inner (rows_in outer (row ∷ rows))) [] ((k, 0, shape) ∷ [])
+unlisted k outer inner (row ∷ rows) =
+    cond (is_lattice_tableau outer inner (rows_in outer (row ∷ rows))) [] ((k, 0, shape) ∷ [])
 
 -- the offences of a tableau behind `-from`, which is the word
 abbrev pub from_offences : ℕ → List ℕ → List ℕ → List (List (List ℕ)) → List Offence
-from_offences k outer inner rows = unlisted k outer inner (map numbers rows) ++ row_offences entry_rule (rows_at (k + 1) rows)
+from_offences k outer inner rows =
+    unlisted k outer inner (map numbers rows) ++ row_offences entry_rule (rows_at (k + 1) rows)
 
 -- all of them, where the first shape begins at the second word
 abbrev pub all_tab_offences : List (List ℕ) → List (List ℕ) → List (List (List ℕ)) → List Offence
 all_tab_offences outer inner rows =
     let lists = two_partitions 1 outer inner in
     let k = 2 + length outer + length inner in
-    lists ++ judged_against lists (unlisted k (partition outer) (partition inner) (map numbers rows))
+    lists ++ judged_against lists
+    (unlisted k (partition outer) (partition inner) (map numbers rows))
     ++ row_offences entry_rule (rows_at (k + 1) rows)

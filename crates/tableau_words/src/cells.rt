@@ -1,11 +1,16 @@
 //! The numbers of the rows of a tableau, each judged where it stands.
-ghost use Rattle.std.specs.Prelude.{◌≡◌, ◌<◌, ◌≤◌, ◌+◌, ◌-◌, ◌^◌, ◌==◌, ◌||◌, ℕ, List, [], map, length, take, string_bytes, slice_get, slice_index, Some, None};
-ghost use Rattle.sym_model.specs.CommandOffence.{first_offence, offences_by, is_outside, greatest_letter, falls, stays, stands_in as stands_in_list};
+ghost use Rattle.std.specs.Prelude.{◌≡◌, ◌<◌, ◌≤◌, ◌+◌, ◌-◌, ◌^◌, ◌==◌, ◌||◌, ℕ, List, [], map};
+ghost use Rattle.std.specs.Prelude.{length, take, string_bytes, slice_get, slice_index, Some, None};
+ghost use Rattle.sym_model.specs.CommandOffence.{first_offence, offences_by, is_outside};
+ghost use Rattle.sym_model.specs.CommandOffence.{greatest_letter, falls, stays};
+ghost use Rattle.sym_model.specs.CommandOffence.{stands_in as stands_in_list};
 ghost use Rattle.sym_model.specs.ExpressionOffence.{is_wide};
 ghost use Rattle.sym_model.specs.PrintedBlock.{decimal_value};
 ghost use Rattle.sym_model.specs.WordForms.{numbers as numbers_of};
-ghost use Rattle.word_laws.specs.JudgedRows.{is_too_much, is_too_long, cell_rule, is_disordered, is_no_record};
-ghost use Rattle.tableau_words.specs.FoundOffences.{found_of, kind_by, is_disordered_at, is_no_record_at, gathered, left_at};
+ghost use Rattle.word_laws.specs.JudgedRows.{is_too_much, is_too_long, cell_rule, is_disordered};
+ghost use Rattle.word_laws.specs.JudgedRows.{is_no_record};
+ghost use Rattle.tableau_words.specs.FoundOffences.{found_of, kind_by, is_disordered_at};
+ghost use Rattle.tableau_words.specs.FoundOffences.{is_no_record_at, gathered, left_at};
 ghost use Rattle.calc_words.specs.PartRules.{range_or_shape};
 
 use crate::found::Found;
@@ -16,8 +21,8 @@ const GREATEST_ENTRY: u128 = 65_535;
 
 const MOST_ENTRIES: usize = 256;
 
-/// How many entries stand in the rows before, where they are counted, and how many numbers the row may have, where that is
-/// bounded.
+/// How many entries stand in the rows before, where they are counted, and how many numbers the row
+/// may have, where that is bounded.
 #[derive(Clone, Copy, Debug)]
 pub(crate) struct Bounds {
     pub(crate) counted: Option<usize>,
@@ -106,7 +111,8 @@ fn stands_in(words: &[String], value: u128) -> bool
 /// Whether a value is among the numbers of some row.
 fn stands_in_some(rows: &[&[String]], value: u128) -> bool
     requires { value < 2 ^ 127 }
-    ensures { result ≡ stands_in_list value (gathered [] (map (λ r. numbers_of (map string_bytes r.now)) rows.now)) }
+    ensures { result ≡ stands_in_list value
+        (gathered [] (map (λ r. numbers_of (map string_bytes r.now)) rows.now)) }
 {
     for row in rows {
         if stands_in(row, value) {
@@ -119,7 +125,8 @@ fn stands_in_some(rows: &[&[String]], value: u128) -> bool
 /// The first words.
 fn front(words: &[String], count: usize) -> &[String]
     requires { count ≤ length words.now }
-    ensures { numbers_of (map string_bytes result.now) ≡ take count (numbers_of (map string_bytes words.now)) }
+    ensures { numbers_of (map string_bytes result.now)
+        ≡ take count (numbers_of (map string_bytes words.now)) }
 {
     &words[..count]
 }
@@ -134,7 +141,9 @@ fn is_out_of_order(
 ) -> bool
     requires value { value < 2 ^ 127 }
     requires columns { columns.here + place < 2 ^ 64 }
-    ensures { result ≡ is_disordered_at columns.above (numbers_of (map string_bytes above.now)) columns.here (numbers_of (map string_bytes row.now)) place value }
+    ensures { result ≡ is_disordered_at columns.above
+        (numbers_of (map string_bytes above.now)) columns.here
+        (numbers_of (map string_bytes row.now)) place value }
 {
     if place > 0 && is_smaller(row, place - 1, value) {
         return true;
@@ -143,7 +152,8 @@ fn is_out_of_order(
     column >= columns.above && is_not_greater(above, column - columns.above, value)
 }
 
-/// Whether a value is no entry of a tableau that records, where it stands in its row, below the rows before.
+/// Whether a value is no entry of a tableau that records, where it stands in its row,
+/// below the rows before.
 fn is_no_entry(
     row: &[String],
     place: usize,
@@ -154,7 +164,10 @@ fn is_no_entry(
 ) -> bool
     requires value { value < 2 ^ 127 }
     requires place { place < length row.now }
-    ensures { result ≡ is_no_record_at cells (gathered [] (map (λ r. numbers_of (map string_bytes r.now)) earlier.now)) (numbers_of (map string_bytes above.now)) (numbers_of (map string_bytes row.now)) place value }
+    ensures { result ≡ is_no_record_at cells
+        (gathered [] (map (λ r. numbers_of (map string_bytes r.now)) earlier.now))
+        (numbers_of (map string_bytes above.now))
+        (numbers_of (map string_bytes row.now)) place value }
 {
     value > cells as u128
         || (place > 0 && is_not_greater(row, place - 1, value))
@@ -165,7 +178,9 @@ fn is_no_entry(
 
 /// What a value offends by at a place of its row, but for the other numbers.
 fn kind_within(bounds: Bounds, place: usize, value: u128) -> Option<Kind>
-    ensures { result ≡ range_or_shape (is_outside greatest_letter value || is_too_much bounds.counted place) (is_too_long bounds.most place) }
+    ensures { result ≡ range_or_shape
+        (is_outside greatest_letter value || is_too_much bounds.counted place)
+        (is_too_long bounds.most place) }
 {
     if value == 0 || value > GREATEST_ENTRY || is_past_the_most(bounds.counted, place) {
         return Some(Kind::Range);
@@ -187,9 +202,11 @@ fn ordered_kind(
     requires place { place < length row.now }
     requires columns { columns.here + place < 2 ^ 64 }
     ensures { (a : ℕ) → a ≡ slice_index (numbers_of (map string_bytes row.now)) place
-        → result ≡ kind_by (is_wide a) (is_outside greatest_letter a || is_too_much bounds.counted place)
+        → result ≡ kind_by (is_wide a)
+        (is_outside greatest_letter a || is_too_much bounds.counted place)
         (is_too_long bounds.most place
-        || is_disordered_at columns.above (numbers_of (map string_bytes above.now)) columns.here (numbers_of (map string_bytes row.now)) place a) }
+        || is_disordered_at columns.above (numbers_of (map string_bytes above.now)) columns.here
+        (numbers_of (map string_bytes row.now)) place a) }
 {
     let Some(value) = value_of(row[place].as_bytes()) else {
         return Some(Kind::Literal);
@@ -214,8 +231,11 @@ fn recorded_kind(
 ) -> Option<Kind>
     requires place { place < length row.now }
     ensures { (a : ℕ) → a ≡ slice_index (numbers_of (map string_bytes row.now)) place
-        → result ≡ kind_by (is_wide a) (is_outside greatest_letter a || is_too_much (Some count) place)
-        (is_no_record_at cells (gathered [] (map (λ r. numbers_of (map string_bytes r.now)) earlier.now)) (numbers_of (map string_bytes above.now)) (numbers_of (map string_bytes row.now)) place a) }
+        → result ≡ kind_by (is_wide a)
+        (is_outside greatest_letter a || is_too_much (Some count) place)
+        (is_no_record_at cells (gathered []
+        (map (λ r. numbers_of (map string_bytes r.now)) earlier.now))
+        (numbers_of (map string_bytes above.now)) (numbers_of (map string_bytes row.now)) place a) }
 {
     let Some(value) = value_of(row[place].as_bytes()) else {
         return Some(Kind::Literal);
@@ -244,7 +264,8 @@ pub(crate) fn ordered_offence(
     requires room { at + length row.now < 2 ^ 64 }
     requires columns { columns.here + length row.now < 2 ^ 64 }
     ensures { found_of result ≡ first_offence (offences_by
-        (cell_rule bounds.counted bounds.most (is_disordered columns.above (numbers_of (map string_bytes above.now)) columns.here))
+        (cell_rule bounds.counted bounds.most
+        (is_disordered columns.above (numbers_of (map string_bytes above.now)) columns.here))
         at (numbers_of (map string_bytes row.now))) }
 {
     for place in 0..row.len() {
@@ -269,7 +290,10 @@ pub(crate) fn recorded_offence(
 ) -> Option<Found>
     requires room { at + length row.now < 2 ^ 64 }
     ensures { found_of result ≡ first_offence (offences_by
-        (cell_rule (Some count) None (is_no_record cells (gathered [] (map (λ r. numbers_of (map string_bytes r.now)) earlier.now)) (numbers_of (map string_bytes above.now))))
+        (cell_rule (Some count) None
+        (is_no_record cells (gathered []
+        (map (λ r. numbers_of (map string_bytes r.now)) earlier.now))
+        (numbers_of (map string_bytes above.now))))
         at (numbers_of (map string_bytes row.now))) }
 {
     for place in 0..row.len() {

@@ -44,7 +44,8 @@ pub(crate) fn earlier(first: Option<Found>, second: Option<Found>) -> Option<Fou
     }
 }
 
-/// Whether an offence at a place comes before one that was found, or is at the same place of the same kind.
+/// Whether an offence at a place comes before one that was found,
+/// or is at the same place of the same kind.
 pub(crate) fn stands_first(at: Place, kind: Kind, found: Found) -> bool
     ensures { result ≡ is_no_later (at.word, at.byte, kind_of kind) (offence_of found) }
 {

@@ -1,6 +1,8 @@
 //! An inner partition as it is written, which is to lie inside an outer one.
-ghost use Rattle.std.specs.Prelude.{◌≡◌, ◌<◌, ◌+◌, ◌++◌, ◌^◌, nat_lt, true, IfOk, Option, Some, map, length, string_bytes};
-ghost use Rattle.sym_model.specs.CommandOffence.{Offence, first_offence, offences_by, inside_rule, part_offences};
+ghost use Rattle.std.specs.Prelude.{◌≡◌, ◌<◌, ◌+◌, ◌++◌, ◌^◌, nat_lt, true, IfOk, Option, Some};
+ghost use Rattle.std.specs.Prelude.{map, length, string_bytes};
+ghost use Rattle.sym_model.specs.CommandOffence.{Offence, first_offence, offences_by, inside_rule};
+ghost use Rattle.sym_model.specs.CommandOffence.{part_offences};
 ghost use Rattle.sym_model.specs.Partition.{part};
 ghost use Rattle.sym_model.specs.Schur.{contains};
 ghost use Rattle.sym_model.specs.PrintedBlock.{decimal_value};
@@ -30,7 +32,8 @@ fn exceeds(outer: &[u16], place: usize, word: &String) -> bool
 /// The first number that is greater than the outer part of the same row.
 fn outside_offence(at: u64, outer: &[u16], words: &[String]) -> Option<Found>
     requires { at + length words.now < 2 ^ 64 }
-    ensures { found_of result ≡ first_offence (offences_by (inside_rule outer.now) at (numbers_of (map string_bytes words.now))) }
+    ensures { found_of result ≡ first_offence
+        (offences_by (inside_rule outer.now) at (numbers_of (map string_bytes words.now))) }
 {
     for place in 0..words.len() {
         if exceeds(outer, place, &words[place]) {
@@ -45,7 +48,8 @@ fn outside_offence(at: u64, outer: &[u16], words: &[String]) -> Option<Found>
 
 /// The refusal of an offence or of the one that was found, which of them comes first.
 fn earlier_refusal(fault: WordsFault, found: Option<Found>) -> WordsFault
-    ensures { (first : Option Offence) → IsFirst first fault → IsFirst (earlier_of_both first (found_of found)) result }
+    ensures { (first : Option Offence) → IsFirst first fault
+        → IsFirst (earlier_of_both first (found_of found)) result }
 {
     let Some(found) = found else {
         return fault;
@@ -60,7 +64,8 @@ fn earlier_refusal(fault: WordsFault, found: Option<Found>) -> WordsFault
 
 /// The refusal of an offence at the place, or of the one that was found where it comes first.
 fn sooner(at: Place, kind: Kind, found: Found) -> WordsFault
-    ensures { IsFirst (earlier_of_both (Some (at.word, at.byte, kind_of kind)) (Some (offence_of found))) result }
+    ensures { IsFirst (earlier_of_both (Some (at.word, at.byte, kind_of kind))
+        (Some (offence_of found))) result }
 {
     if !stands_first(at, kind, found) {
         return offence(found.word, found.kind);
@@ -72,7 +77,8 @@ fn sooner(at: Place, kind: Kind, found: Found) -> WordsFault
     }
 }
 
-/// The inner partition of the numbers that are these words, the first of which is the word `at`, or their first offence.
+/// The inner partition of the numbers that are these words, the first of which is the word `at`,
+/// or their first offence.
 pub(crate) fn read_inner(
     alloc: Global,
     at: u64,
@@ -81,7 +87,9 @@ pub(crate) fn read_inner(
 ) -> Result<Partition, WordsFault>
     requires { at + length words.now < 2 ^ 64 }
     ensures judged { IsJudged (λ p. p ≡ partition (map string_bytes words.now))
-        (first_offence (part_offences at (numbers_of (map string_bytes words.now)) ++ offences_by (inside_rule outer.now) at (numbers_of (map string_bytes words.now)))) result }
+        (first_offence (part_offences at (numbers_of (map string_bytes words.now))
+        ++ offences_by (inside_rule outer.now) at (numbers_of (map string_bytes words.now))))
+        result }
     ensures inside { IfOk result (λ p. contains outer.now p ≡ true) }
 {
     let outside = outside_offence(at, outer, words);

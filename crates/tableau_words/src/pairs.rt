@@ -1,7 +1,9 @@
 //! The words of `unrsk`.
-ghost use Rattle.std.specs.Prelude.{◌≡◌, ◌≤◌, ◌<◌, ◌+◌, ◌++◌, ◌^◌, IfOk, IfErr, [], ◌∷◌, Some, length, map, string_bytes};
+ghost use Rattle.std.specs.Prelude.{◌≡◌, ◌≤◌, ◌<◌, ◌+◌, ◌++◌, ◌^◌, IfOk, IfErr, [], ◌∷◌, Some};
+ghost use Rattle.std.specs.Prelude.{length, map, string_bytes};
 ghost use Rattle.sym_model.specs.Command.{unrsk};
-ghost use Rattle.sym_model.specs.CommandOffence.{first_offence, standard_offences, rows_in, most_letters};
+ghost use Rattle.sym_model.specs.CommandOffence.{first_offence, standard_offences, rows_in};
+ghost use Rattle.sym_model.specs.CommandOffence.{most_letters};
 ghost use Rattle.sym_model.specs.Form.{EachOf};
 ghost use Rattle.sym_model.specs.Grammar.{unrsk_entry, filled_offences};
 ghost use Rattle.sym_model.specs.Partition.{size};
@@ -41,14 +43,18 @@ struct TwoFillings {
     second: Vec<Vec<u16>>,
 }
 
-/// The first offence of a tableau that begins at the word and is to record the insertions into a shape with rows of these lengths.
+/// The first offence of a tableau that begins at the word and is to record the insertions into a
+/// shape with rows of these lengths.
 fn recording_offence(at: u64, lengths: &[usize], rows: &[&[String]]) -> Option<Found>
     requires some { 0 < length lengths.now }
     requires few { size lengths.now < 2 ^ 64 }
-    requires room { at + length (further_text (map (λ r. map string_bytes r.now) rows.now)) < 2 ^ 64 }
-    ensures { found_of result ≡ first_offence (filled_offences (rows_at at (map (λ r. map string_bytes r.now) rows.now))
+    requires room { at + length (further_text (map (λ r. map string_bytes r.now) rows.now))
+        < 2 ^ 64 }
+    ensures { found_of result ≡ first_offence
+        (filled_offences (rows_at at (map (λ r. map string_bytes r.now) rows.now))
         ++ (left_at at lengths.now (map (λ r. map string_bytes r.now) rows.now)
-        ++ standard_offences (size lengths.now) [] [] (rows_at at (map (λ r. map string_bytes r.now) rows.now)))) }
+        ++ standard_offences (size lengths.now) [] []
+        (rows_at at (map (λ r. map string_bytes r.now) rows.now)))) }
 {
     earlier(
         recorded_number(at, rows, total(lengths)),
@@ -58,7 +64,9 @@ fn recording_offence(at: u64, lengths: &[usize], rows: &[&[String]]) -> Option<F
 
 /// The rows, where one row without numbers is no row.
 pub(crate) fn rows_of_tableau(alloc: Global, rows: &[&[String]]) -> Result<Vec<Vec<u16>>, NoMemory>
-    ensures { IfOk result (λ v. map (λ r. r.items) v.items ≡ rows_in [] (map (λ r. map at_most_entry (numbers_of (map string_bytes r.now))) rows.now)) }
+    ensures { IfOk result (λ v. map (λ r. r.items) v.items
+        ≡ rows_in [] (map (λ r. map at_most_entry (numbers_of (map string_bytes r.now)))
+        rows.now)) }
 {
     if let [row] = rows {
         if row.is_empty() {
@@ -74,11 +82,17 @@ fn judge_pair(
     first: &[&[String]],
     second: &[&[String]],
 ) -> Result<TwoFillings, WordsFault>
-    requires first { (0 < length first.now) × EachOf (EachOf IsNumber) (map (λ r. map string_bytes r.now) first.now) }
-    requires second { (0 < length second.now) × EachOf (EachOf IsNumber) (map (λ r. map string_bytes r.now) second.now) }
-    requires room { 2 + length (further_text (map (λ r. map string_bytes r.now) first.now)) + length (further_text (map (λ r. map string_bytes r.now) second.now)) < 2 ^ 64 }
-    ensures judged { IsJudged (AreFillings (rows_in [] (map (λ r. numbers_of (map string_bytes r.now)) first.now)) (rows_in [] (map (λ r. numbers_of (map string_bytes r.now)) second.now)))
-        (first_offence (pair_offences (map (λ r. map string_bytes r.now) first.now) (map (λ r. map string_bytes r.now) second.now))) result }
+    requires first { (0 < length first.now)
+        × EachOf (EachOf IsNumber) (map (λ r. map string_bytes r.now) first.now) }
+    requires second { (0 < length second.now)
+        × EachOf (EachOf IsNumber) (map (λ r. map string_bytes r.now) second.now) }
+    requires room { 2 + length (further_text (map (λ r. map string_bytes r.now) first.now))
+        + length (further_text (map (λ r. map string_bytes r.now) second.now)) < 2 ^ 64 }
+    ensures judged { IsJudged (AreFillings
+        (rows_in [] (map (λ r. numbers_of (map string_bytes r.now)) first.now))
+        (rows_in [] (map (λ r. numbers_of (map string_bytes r.now)) second.now)))
+        (first_offence (pair_offences (map (λ r. map string_bytes r.now) first.now)
+        (map (λ r. map string_bytes r.now) second.now))) result }
     ensures pair { IfOk result (λ s. IsWrittenPair (first_rows_of s) (second_rows_of s)) }
 {
     if let Some(found) = insertion_offence(1, first) {
@@ -121,11 +135,17 @@ fn read_tableaux(
     first: &[&[String]],
     second: &[&[String]],
 ) -> Result<Command, WordsFault>
-    requires first { (0 < length first.now) × EachOf (EachOf IsNumber) (map (λ r. map string_bytes r.now) first.now) }
-    requires second { (0 < length second.now) × EachOf (EachOf IsNumber) (map (λ r. map string_bytes r.now) second.now) }
-    requires room { 2 + length (further_text (map (λ r. map string_bytes r.now) first.now)) + length (further_text (map (λ r. map string_bytes r.now) second.now)) < 2 ^ 64 }
-    ensures { IsJudged (StandsFor (unrsk (rows_in [] (map (λ r. numbers_of (map string_bytes r.now)) first.now)) (rows_in [] (map (λ r. numbers_of (map string_bytes r.now)) second.now))))
-        (first_offence (pair_offences (map (λ r. map string_bytes r.now) first.now) (map (λ r. map string_bytes r.now) second.now))) result }
+    requires first { (0 < length first.now)
+        × EachOf (EachOf IsNumber) (map (λ r. map string_bytes r.now) first.now) }
+    requires second { (0 < length second.now)
+        × EachOf (EachOf IsNumber) (map (λ r. map string_bytes r.now) second.now) }
+    requires room { 2 + length (further_text (map (λ r. map string_bytes r.now) first.now))
+        + length (further_text (map (λ r. map string_bytes r.now) second.now)) < 2 ^ 64 }
+    ensures { IsJudged (StandsFor
+        (unrsk (rows_in [] (map (λ r. numbers_of (map string_bytes r.now)) first.now))
+        (rows_in [] (map (λ r. numbers_of (map string_bytes r.now)) second.now))))
+        (first_offence (pair_offences (map (λ r. map string_bytes r.now) first.now)
+        (map (λ r. map string_bytes r.now) second.now))) result }
 {
     let TwoFillings { first, second } = judge_pair(alloc, first, second)?;
     let (p, q) = tableaux_of(alloc, first.as_slice(), second.as_slice())?;
@@ -136,7 +156,12 @@ fn read_tableaux(
 fn straight(alloc: Global, rows: &[Vec<u16>]) -> Result<Tableau, NoMemory>
     requires tableau { IsStraightTableau (map (λ r. r.items) rows.now) }
     requires few { length (letters_of (map (λ r. r.items) rows.now)) ≤ most_letters }
-    ensures { IfOk result (λ t. t ≡ record { outer = shape_of (map (λ r. r.items) rows.now); inner = []; rows = map (λ r. r.items) rows.now }) }
+    ensures { IfOk result (λ t. t
+        ≡ record {
+          outer = shape_of (map (λ r. r.items) rows.now);
+          inner = [];
+          rows = map (λ r. r.items) rows.now;
+        }) }
 {
     let mut parts = Vec::new(alloc);
     for row in rows {
@@ -152,8 +177,11 @@ fn two_tableaux(
     alloc: Global,
     words: &[String],
 ) -> Result<(Vec<&[String]>, Vec<&[String]>), WordsFault>
-    ensures ok { IfOk result (λ p. AreTwoTableaux (map (λ r. map string_bytes r.now) p.0.items) (map (λ r. map string_bytes r.now) p.1.items) (map string_bytes words.now)) }
-    ensures wrong { IfErr result (λ fault. IsRefusal (unrsk_entry ∷ []) (map string_bytes words.now) fault) }
+    ensures ok { IfOk result (λ p.
+        AreTwoTableaux (map (λ r. map string_bytes r.now) p.0.items)
+        (map (λ r. map string_bytes r.now) p.1.items) (map string_bytes words.now)) }
+    ensures wrong { IfErr result (λ fault.
+        IsRefusal (unrsk_entry ∷ []) (map string_bytes words.now) fault) }
 {
     let parts = &[Part::Tableau, Part::Minus, Part::Tableau];
     let places = cut(words, "unrsk", parts)?;
@@ -164,15 +192,16 @@ fn two_tableaux(
     Ok((first, second))
 }
 
-/// Reads the words of `unrsk`: that word and two tableaux with `-` between them, whose rows stand between words `/`; `.` is a
-/// row without numbers.
+/// Reads the words of `unrsk`: that word and two tableaux with `-` between them, whose rows stand
+/// between words `/`; `.` is a row without numbers.
 ///
-/// Words that are no such command are refused as `Syntax`, at the word where they go wrong. Otherwise the first offence is
-/// refused: a number past 2^127 - 1 as `Literal`; an entry that is 0 or past 65,535, and the 257th of a tableau, as `Range`;
-/// as `Shape` in the first tableau a number that makes its row longer than the row above, a `.` that is not the whole tableau,
-/// a number smaller than its left neighbour or not greater than the entry above it, and in the second one the word at which it
-/// leaves the shape of the first, a number past the number of cells, not greater than its left neighbour or the entry above
-/// it, or that stands earlier in it.
+/// Words that are no such command are refused as `Syntax`, at the word where they go wrong.
+/// Otherwise the first offence is refused: a number past 2^127 - 1 as `Literal`; an entry that is 0
+/// or past 65,535, and the 257th of a tableau, as `Range`; as `Shape` in the first tableau a number
+/// that makes its row longer than the row above, a `.` that is not the whole tableau, a number
+/// smaller than its left neighbour or not greater than the entry above it, and in the second one
+/// the word at which it leaves the shape of the first, a number past the number of cells, not
+/// greater than its left neighbour or the entry above it, or that stands earlier in it.
 pub fn read_unrsk(alloc: Global, words: &[String]) -> Result<Command, WordsFault>
     ensures { IsRead (unrsk_entry ∷ []) (map string_bytes words.now) result }
 {

@@ -23,7 +23,8 @@ fn entry(word: &String) -> u16
 
 /// The numbers of a row.
 fn row_numbers(alloc: Global, row: &[String]) -> Result<Vec<u16>, NoMemory>
-    ensures { IfOk result (λ v. v.items ≡ map at_most_entry (numbers_of (map string_bytes row.now))) }
+    ensures { IfOk result (λ v. v.items
+        ≡ map at_most_entry (numbers_of (map string_bytes row.now))) }
 {
     let mut numbers = Vec::new(alloc);
     for word in row {
@@ -34,7 +35,8 @@ fn row_numbers(alloc: Global, row: &[String]) -> Result<Vec<u16>, NoMemory>
 
 /// The numbers of rows, row by row.
 pub(crate) fn rows_numbers(alloc: Global, rows: &[&[String]]) -> Result<Vec<Vec<u16>>, NoMemory>
-    ensures { IfOk result (λ v. map (λ r. r.items) v.items ≡ map (λ r. map at_most_entry (numbers_of (map string_bytes r.now))) rows.now) }
+    ensures { IfOk result (λ v. map (λ r. r.items) v.items
+        ≡ map (λ r. map at_most_entry (numbers_of (map string_bytes r.now))) rows.now) }
 {
     let mut numbers = Vec::new(alloc);
     for row in rows {

@@ -1,5 +1,6 @@
 //! What the rows of a tableau offend by, row after row.
-ghost use Rattle.std.specs.Prelude.{◌≡◌, ◌<◌, ◌+◌, ◌++◌, ◌^◌, map, length, drop, cond, string_bytes, [], Some, None, IfOk};
+ghost use Rattle.std.specs.Prelude.{◌≡◌, ◌<◌, ◌+◌, ◌++◌, ◌^◌, map, length, drop, cond};
+ghost use Rattle.std.specs.Prelude.{string_bytes, [], Some, None, IfOk};
 ghost use Rattle.sym_model.specs.ExpressionOffence.{shape};
 ghost use Rattle.sym_model.specs.Partition.{part, size};
 ghost use Rattle.sym_model.specs.CommandOffence.{first_offence, empty_row_offences};
@@ -26,10 +27,12 @@ fn width(row: &[String]) -> u64
     row.len() as u64
 }
 
-/// The first number that offends in the rows of a tableau that is inserted, the first of which begins at the word.
+/// The first number that offends in the rows of a tableau that is inserted,
+/// the first of which begins at the word.
 fn inserted_number(at: u64, rows: &[&[String]]) -> Option<Found>
     requires { at + length (further_text (map (λ r. map string_bytes r.now) rows.now)) < 2 ^ 64 }
-    ensures { found_of result ≡ first_offence (inserted 0 None [] (rows_at at (map (λ r. map string_bytes r.now) rows.now))) }
+    ensures { found_of result ≡ first_offence
+        (inserted 0 None [] (rows_at at (map (λ r. map string_bytes r.now) rows.now))) }
 {
     let mut place = at;
     let mut count = 0usize;
@@ -55,7 +58,8 @@ fn inserted_number(at: u64, rows: &[&[String]]) -> Option<Found>
 /// The first row without numbers that is not the whole tableau.
 fn empty_row(at: u64, rows: &[&[String]]) -> Option<Found>
     requires { at + length (further_text (map (λ r. map string_bytes r.now) rows.now)) < 2 ^ 64 }
-    ensures { found_of result ≡ first_offence (empty_row_offences (rows_at at (map (λ r. map string_bytes r.now) rows.now))) }
+    ensures { found_of result ≡ first_offence
+        (empty_row_offences (rows_at at (map (λ r. map string_bytes r.now) rows.now))) }
 {
     if rows.len() < 2 {
         return None;
@@ -73,10 +77,12 @@ fn empty_row(at: u64, rows: &[&[String]]) -> Option<Found>
     None
 }
 
-/// The first offence of the rows of a tableau that is inserted, the first of which begins at the word.
+/// The first offence of the rows of a tableau that is inserted,
+/// the first of which begins at the word.
 pub(crate) fn insertion_offence(at: u64, rows: &[&[String]]) -> Option<Found>
     requires { at + length (further_text (map (λ r. map string_bytes r.now) rows.now)) < 2 ^ 64 }
-    ensures { found_of result ≡ first_offence (insertion_offences (rows_at at (map (λ r. map string_bytes r.now) rows.now))) }
+    ensures { found_of result ≡ first_offence
+        (insertion_offences (rows_at at (map (λ r. map string_bytes r.now) rows.now))) }
 {
     earlier(inserted_number(at, rows), empty_row(at, rows))
 }
@@ -84,7 +90,8 @@ pub(crate) fn insertion_offence(at: u64, rows: &[&[String]]) -> Option<Found>
 /// The first number that offends in the rows of a tableau of so many cells that records.
 pub(crate) fn recorded_number(at: u64, rows: &[&[String]], cells: usize) -> Option<Found>
     requires { at + length (further_text (map (λ r. map string_bytes r.now) rows.now)) < 2 ^ 64 }
-    ensures { found_of result ≡ first_offence (recorded cells 0 [] [] (rows_at at (map (λ r. map string_bytes r.now) rows.now))) }
+    ensures { found_of result ≡ first_offence
+        (recorded cells 0 [] [] (rows_at at (map (λ r. map string_bytes r.now) rows.now))) }
 {
     let mut place = at;
     let mut count = 0usize;
@@ -114,7 +121,8 @@ pub(crate) fn part_at(parts: &[u16], place: usize) -> usize
 /// The first number that offends in the rows of a skew tableau with these inner parts.
 pub(crate) fn skewed_number(at: u64, rows: &[&[String]], inner: &[u16]) -> Option<Found>
     requires { at + length (further_text (map (λ r. map string_bytes r.now) rows.now)) < 2 ^ 64 }
-    ensures { found_of result ≡ first_offence (skewed 0 [] inner.now (rows_at at (map (λ r. map string_bytes r.now) rows.now))) }
+    ensures { found_of result ≡ first_offence
+        (skewed 0 [] inner.now (rows_at at (map (λ r. map string_bytes r.now) rows.now))) }
 {
     let mut place = at;
     let mut columns = Columns { above: 0, here: 0 };
@@ -153,8 +161,10 @@ fn shape_unless(is_fine: bool, word: u64) -> Option<Found>
 /// Where the rows leave the shape with rows of these lengths.
 pub(crate) fn left_shape(at: u64, lengths: &[usize], rows: &[&[String]]) -> Option<Found>
     requires some { 0 < length lengths.now }
-    requires room { at + length (further_text (map (λ r. map string_bytes r.now) rows.now)) < 2 ^ 64 }
-    ensures { found_of result ≡ first_offence (left_at at lengths.now (map (λ r. map string_bytes r.now) rows.now)) }
+    requires room { at + length (further_text (map (λ r. map string_bytes r.now) rows.now))
+        < 2 ^ 64 }
+    ensures { found_of result ≡ first_offence
+        (left_at at lengths.now (map (λ r. map string_bytes r.now) rows.now)) }
 {
     let mut place = at;
     let mut left = lengths;

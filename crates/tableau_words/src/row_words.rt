@@ -10,8 +10,10 @@ use std::alloc::Global;
 
 /// The numbers of the row at the front, and the words behind it.
 fn row_first(words: &[String]) -> (&[String], &[String])
-    ensures is { (row : List (List ℕ)) (rows : List (List (List ℕ))) → EachOf IsNumber row → map string_bytes words.now ≡ row_text row ++ further_text rows
-        → (map string_bytes result.0.now ≡ row) × (map string_bytes result.1.now ≡ further_text rows) }
+    ensures is { (row : List (List ℕ)) (rows : List (List (List ℕ))) → EachOf IsNumber row
+        → map string_bytes words.now ≡ row_text row ++ further_text rows
+        → (map string_bytes result.0.now ≡ row)
+        × (map string_bytes result.1.now ≡ further_text rows) }
     ensures shorter { length result.1.now ≤ length words.now }
 {
     match behind(words, ".") {
@@ -22,7 +24,8 @@ fn row_first(words: &[String]) -> (&[String], &[String])
 
 /// The numbers of each row of the tableau that these words are.
 pub(crate) fn rows_of_words(alloc: Global, words: &[String]) -> Result<Vec<&[String]>, NoMemory>
-    ensures { (rows : List (List (List ℕ))) → 0 < length rows → EachOf (EachOf IsNumber) rows → map string_bytes words.now ≡ rows_text rows
+    ensures { (rows : List (List (List ℕ))) → 0 < length rows → EachOf (EachOf IsNumber) rows
+        → map string_bytes words.now ≡ rows_text rows
         → IfOk result (λ v. map (λ r. map string_bytes r.now) v.items ≡ rows) }
 {
     let (first, mut rest) = row_first(words);

@@ -1,5 +1,6 @@
 //! The words of `rect`.
-ghost use Rattle.std.specs.Prelude.{◌≡◌, ◌<◌, ◌+◌, ◌^◌, IfOk, IfErr, true, [], ◌∷◌, Some, length, map, string_bytes};
+ghost use Rattle.std.specs.Prelude.{◌≡◌, ◌<◌, ◌+◌, ◌^◌, IfOk, IfErr, true, [], ◌∷◌, Some, length};
+ghost use Rattle.std.specs.Prelude.{map, string_bytes};
 ghost use Rattle.sym_model.specs.Schur.{contains};
 ghost use Rattle.sym_model.specs.Tableau.{IsTableau};
 ghost use Rattle.sym_model.specs.Command.{rect};
@@ -37,7 +38,8 @@ struct SkewRows {
     rows: Vec<Vec<u16>>,
 }
 
-/// How many numbers are asked for in each row of a shape over another; one row without numbers where there is none.
+/// How many numbers are asked for in each row of a shape over another;
+/// one row without numbers where there is none.
 fn skew_lengths(alloc: Global, outer: &[u16], inner: &[u16]) -> Result<Vec<usize>, NoMemory>
     ensures { IfOk result (λ v. v.items ≡ asked_lengths outer.now inner.now) }
 {
@@ -57,7 +59,9 @@ pub(crate) fn rows_of_shape(
     outer: &[u16],
     rows: &[&[String]],
 ) -> Result<Vec<Vec<u16>>, NoMemory>
-    ensures { IfOk result (λ v. map (λ r. r.items) v.items ≡ rows_in outer.now (map (λ r. map at_most_entry (numbers_of (map string_bytes r.now))) rows.now)) }
+    ensures { IfOk result (λ v. map (λ r. r.items) v.items
+        ≡ rows_in outer.now (map (λ r. map at_most_entry (numbers_of (map string_bytes r.now)))
+        rows.now)) }
 {
     if outer.is_empty() {
         rows_of_tableau(alloc, rows)
@@ -66,7 +70,8 @@ pub(crate) fn rows_of_shape(
     }
 }
 
-/// The rows of a tableau of outer over inner of which the first begins at the word, or the first offence.
+/// The rows of a tableau of outer over inner of which the first begins at the word,
+/// or the first offence.
 fn judge_rows(
     alloc: Global,
     at: u64,
@@ -75,10 +80,14 @@ fn judge_rows(
     rows: &[&[String]],
 ) -> Result<SkewRows, WordsFault>
     requires holds { contains outer inner ≡ true }
-    requires some { (0 < length rows.now) × EachOf (EachOf IsNumber) (map (λ r. map string_bytes r.now) rows.now) }
-    requires room { at + length (further_text (map (λ r. map string_bytes r.now) rows.now)) < 2 ^ 64 }
-    ensures judged { IsJudged (AreSkewRows outer inner (rows_in outer (map (λ r. numbers_of (map string_bytes r.now)) rows.now)))
-        (first_offence (skew_offences at outer inner (map (λ r. map string_bytes r.now) rows.now))) result }
+    requires some { (0 < length rows.now)
+        × EachOf (EachOf IsNumber) (map (λ r. map string_bytes r.now) rows.now) }
+    requires room { at + length (further_text (map (λ r. map string_bytes r.now) rows.now))
+        < 2 ^ 64 }
+    ensures judged { IsJudged (AreSkewRows outer inner
+        (rows_in outer (map (λ r. numbers_of (map string_bytes r.now)) rows.now)))
+        (first_offence (skew_offences at outer inner (map (λ r. map string_bytes r.now) rows.now)))
+        result }
     ensures tableau { IfOk result (λ s. IsTableau s.outer s.inner (rows_of s)) }
 {
     let lengths = skew_lengths(alloc, outer.parts(), inner.parts())?;
@@ -97,18 +106,24 @@ fn judge_rows(
     })
 }
 
-/// The two shapes and the rows of a tableau, the first of which begins at the second word, or the first offence.
+/// The two shapes and the rows of a tableau, the first of which begins at the second word,
+/// or the first offence.
 fn judge_skew(
     alloc: Global,
     outer: &[String],
     inner: &[String],
     rows: &[&[String]],
 ) -> Result<SkewRows, WordsFault>
-    requires some { (0 < length rows.now) × EachOf (EachOf IsNumber) (map (λ r. map string_bytes r.now) rows.now) }
-    requires room { 3 + length outer.now + length inner.now + length (further_text (map (λ r. map string_bytes r.now) rows.now)) < 2 ^ 64 }
-    ensures judged { IsJudged (AreSkewRows (partition (map string_bytes outer.now)) (partition (map string_bytes inner.now))
-        (rows_in (partition (map string_bytes outer.now)) (map (λ r. numbers_of (map string_bytes r.now)) rows.now)))
-        (first_offence (all_skew_offences (map string_bytes outer.now) (map string_bytes inner.now) (map (λ r. map string_bytes r.now) rows.now))) result }
+    requires some { (0 < length rows.now)
+        × EachOf (EachOf IsNumber) (map (λ r. map string_bytes r.now) rows.now) }
+    requires room { 3 + length outer.now + length inner.now
+        + length (further_text (map (λ r. map string_bytes r.now) rows.now)) < 2 ^ 64 }
+    ensures judged { IsJudged (AreSkewRows (partition (map string_bytes outer.now))
+        (partition (map string_bytes inner.now))
+        (rows_in (partition (map string_bytes outer.now))
+        (map (λ r. numbers_of (map string_bytes r.now)) rows.now)))
+        (first_offence (all_skew_offences (map string_bytes outer.now) (map string_bytes inner.now)
+        (map (λ r. map string_bytes r.now) rows.now))) result }
     ensures tableau { IfOk result (λ s. IsTableau s.outer s.inner (rows_of s)) }
 {
     let behind_outer = 2 + outer.len() as u64;
@@ -125,24 +140,33 @@ fn read_skew_tableau(
     inner: &[String],
     rows: &[&[String]],
 ) -> Result<Command, WordsFault>
-    requires some { (0 < length rows.now) × EachOf (EachOf IsNumber) (map (λ r. map string_bytes r.now) rows.now) }
-    requires room { 3 + length outer.now + length inner.now + length (further_text (map (λ r. map string_bytes r.now) rows.now)) < 2 ^ 64 }
-    ensures { IsJudged (StandsFor (rect (partition (map string_bytes outer.now)) (partition (map string_bytes inner.now))
-        (rows_in (partition (map string_bytes outer.now)) (map (λ r. numbers_of (map string_bytes r.now)) rows.now))))
-        (first_offence (all_skew_offences (map string_bytes outer.now) (map string_bytes inner.now) (map (λ r. map string_bytes r.now) rows.now))) result }
+    requires some { (0 < length rows.now)
+        × EachOf (EachOf IsNumber) (map (λ r. map string_bytes r.now) rows.now) }
+    requires room { 3 + length outer.now + length inner.now
+        + length (further_text (map (λ r. map string_bytes r.now) rows.now)) < 2 ^ 64 }
+    ensures { IsJudged (StandsFor
+        (rect (partition (map string_bytes outer.now)) (partition (map string_bytes inner.now))
+        (rows_in (partition (map string_bytes outer.now))
+        (map (λ r. numbers_of (map string_bytes r.now)) rows.now))))
+        (first_offence (all_skew_offences (map string_bytes outer.now) (map string_bytes inner.now)
+        (map (λ r. map string_bytes r.now) rows.now))) result }
 {
     let SkewRows { outer, inner, rows } = judge_skew(alloc, outer, inner, rows)?;
     let tableau = tableau_of(alloc, outer, inner, rows.as_slice())?;
     Ok(Command::Rect { tableau })
 }
 
-/// The numbers of the two shapes of a `rect`, and the rows of its tableau; else where its words go wrong.
+/// The numbers of the two shapes of a `rect`, and the rows of its tableau;
+/// else where its words go wrong.
 fn skew_parts(
     alloc: Global,
     words: &[String],
 ) -> Result<(&[String], &[String], Vec<&[String]>), WordsFault>
-    ensures ok { IfOk result (λ p. AreSkewWords (map string_bytes p.0.now) (map string_bytes p.1.now) (map (λ r. map string_bytes r.now) p.2.items) (map string_bytes words.now)) }
-    ensures wrong { IfErr result (λ fault. IsRefusal (rect_entry ∷ []) (map string_bytes words.now) fault) }
+    ensures ok { IfOk result (λ p.
+        AreSkewWords (map string_bytes p.0.now) (map string_bytes p.1.now)
+        (map (λ r. map string_bytes r.now) p.2.items) (map string_bytes words.now)) }
+    ensures wrong { IfErr result (λ fault.
+        IsRefusal (rect_entry ∷ []) (map string_bytes words.now) fault) }
 {
     let parts = &[
         Part::Shape,
@@ -159,13 +183,16 @@ fn skew_parts(
     Ok((outer.words, inner.words, rows))
 }
 
-/// Reads the words of `rect`: that word, an outer and an inner partition with `/` between them, and, behind `-`, a tableau of
-/// the first over the second, whose rows stand between words `/`; `.` is a row without numbers.
+/// Reads the words of `rect`: that word, an outer and an inner partition with `/` between them,
+/// and, behind `-`, a tableau of the first over the second, whose rows stand between words `/`; `.`
+/// is a row without numbers.
 ///
-/// Words that are no such command are refused as `Syntax`, at the word where they go wrong. Otherwise the first offence is
-/// refused: those of the partitions as `read_skew` says, and as `Shape` an inner number greater than the outer part of its
-/// row; an entry past 2^127 - 1 as `Literal`, one that is 0 or past 65,535 as `Range`; as `Shape` the word at which the tableau
-/// leaves the shape, an entry smaller than its left neighbour, and one not greater than the entry above it.
+/// Words that are no such command are refused as `Syntax`, at the word where they go wrong.
+/// Otherwise the first offence is refused: those of the partitions as `read_skew` says, and as
+/// `Shape` an inner number greater than the outer part of its row; an entry past 2^127 - 1 as
+/// `Literal`, one that is 0 or past 65,535 as `Range`; as `Shape` the word at which the tableau
+/// leaves the shape, an entry smaller than its left neighbour,
+/// and one not greater than the entry above it.
 pub fn read_rect(alloc: Global, words: &[String]) -> Result<Command, WordsFault>
     ensures { IsRead (rect_entry ∷ []) (map string_bytes words.now) result }
 {

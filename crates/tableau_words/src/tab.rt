@@ -1,12 +1,14 @@
 //! The words of `tab`.
-ghost use Rattle.std.specs.Prelude.{◌≡◌, ◌<◌, ◌+◌, ◌^◌, [], ◌∷◌, Some, IfOk, IfErr, length, map, string_bytes};
+ghost use Rattle.std.specs.Prelude.{◌≡◌, ◌<◌, ◌+◌, ◌^◌, [], ◌∷◌, Some, IfOk, IfErr, length, map};
+ghost use Rattle.std.specs.Prelude.{string_bytes};
 ghost use Rattle.sym_model.specs.CommandOffence.{first_offence};
 ghost use Rattle.sym_model.specs.Form.{EachOf};
 ghost use Rattle.sym_model.specs.Grammar.{tab_entry};
 ghost use Rattle.sym_model.specs.WordForms.{numbers as numbers_of, partition};
 ghost use Rattle.calc_words.specs.NumberRuns.{IsNumber};
 ghost use Rattle.calc_words.specs.Reading.{IsRead, IsRefusal, IsJudged};
-ghost use Rattle.tableau_words.specs.TabWords.{AreTabWords, last_of, from_offences, all_tab_offences};
+ghost use Rattle.tableau_words.specs.TabWords.{AreTabWords, last_of, from_offences};
+ghost use Rattle.tableau_words.specs.TabWords.{all_tab_offences};
 
 use crate::row_words::rows_of_words;
 use crate::skew_tableaux::rows_of_shape;
@@ -17,8 +19,8 @@ use partitions::Partition;
 use std::alloc::Global;
 use tableau_iter::lattice_reading;
 
-/// The shapes with the tableau of these rows, which stands behind this word, `-from`; or its first offence, where it is not in
-/// the list of the shapes. No rows are no tableau.
+/// The shapes with the tableau of these rows, which stands behind this word, `-from`; or its first
+/// offence, where it is not in the list of the shapes. No rows are no tableau.
 fn judge_last(
     alloc: Global,
     at: u64,
@@ -27,8 +29,10 @@ fn judge_last(
     rows: &[&[String]],
 ) -> Result<Command, WordsFault>
     requires { EachOf (EachOf IsNumber) (map (λ r. map string_bytes r.now) rows.now) }
-    ensures { IsJudged (λ c. c ≡ Command.Tab outer inner (last_of outer inner (map (λ r. numbers_of (map string_bytes r.now)) rows.now)))
-        (first_offence (from_offences at outer inner (map (λ r. map string_bytes r.now) rows.now))) result }
+    ensures { IsJudged (λ c. c ≡ Command.Tab outer inner
+        (last_of outer inner (map (λ r. numbers_of (map string_bytes r.now)) rows.now)))
+        (first_offence (from_offences at outer inner (map (λ r. map string_bytes r.now) rows.now)))
+        result }
 {
     if rows.is_empty() {
         return Ok(Command::Tab {
@@ -48,7 +52,8 @@ fn judge_last(
     }
 }
 
-/// The shapes and the last tableau, the first of which begins at the second word, or the first offence.
+/// The shapes and the last tableau, the first of which begins at the second word,
+/// or the first offence.
 fn judge_tab(
     alloc: Global,
     outer: &[String],
@@ -57,23 +62,29 @@ fn judge_tab(
 ) -> Result<Command, WordsFault>
     requires some { EachOf (EachOf IsNumber) (map (λ r. map string_bytes r.now) rows.now) }
     requires room { 2 + length outer.now + length inner.now < 2 ^ 64 }
-    ensures { IsJudged (λ c. c ≡ Command.Tab (partition (map string_bytes outer.now)) (partition (map string_bytes inner.now))
-        (last_of (partition (map string_bytes outer.now)) (partition (map string_bytes inner.now)) (map (λ r. numbers_of (map string_bytes r.now)) rows.now)))
-        (first_offence (all_tab_offences (map string_bytes outer.now) (map string_bytes inner.now) (map (λ r. map string_bytes r.now) rows.now))) result }
+    ensures { IsJudged (λ c. c ≡ Command.Tab (partition (map string_bytes outer.now))
+        (partition (map string_bytes inner.now))
+        (last_of (partition (map string_bytes outer.now)) (partition (map string_bytes inner.now))
+        (map (λ r. numbers_of (map string_bytes r.now)) rows.now)))
+        (first_offence (all_tab_offences (map string_bytes outer.now) (map string_bytes inner.now)
+        (map (λ r. map string_bytes r.now) rows.now))) result }
 {
     let at = 2 + outer.len() as u64 + inner.len() as u64;
     let (outer, inner) = read_two(alloc, 1, outer, inner)?;
     judge_last(alloc, at, outer, inner, rows)
 }
 
-/// The numbers of the two shapes of a `tab`, and the rows behind `-from`, none where it is not there; else where its words go
-/// wrong.
+/// The numbers of the two shapes of a `tab`, and the rows behind `-from`, none where it is not
+/// there; else where its words go wrong.
 fn tab_parts(
     alloc: Global,
     words: &[String],
 ) -> Result<(&[String], &[String], Vec<&[String]>), WordsFault>
-    ensures ok { IfOk result (λ p. AreTabWords (map string_bytes p.0.now) (map string_bytes p.1.now) (map (λ r. map string_bytes r.now) p.2.items) (map string_bytes words.now)) }
-    ensures wrong { IfErr result (λ fault. IsRefusal (tab_entry ∷ []) (map string_bytes words.now) fault) }
+    ensures ok { IfOk result (λ p.
+        AreTabWords (map string_bytes p.0.now) (map string_bytes p.1.now)
+        (map (λ r. map string_bytes r.now) p.2.items) (map string_bytes words.now)) }
+    ensures wrong { IfErr result (λ fault.
+        IsRefusal (tab_entry ∷ []) (map string_bytes words.now) fault) }
 {
     let parts = &[Part::Shape, Part::Slash, Part::Shape, Part::MaybeFrom];
     let places = cut(words, "tab", parts)?;
@@ -87,12 +98,14 @@ fn tab_parts(
     Ok((outer.words, inner.words, rows))
 }
 
-/// Reads the words of `tab`: that word, an outer and an inner partition with `/` between them and, where the list is to go on
-/// behind a tableau, `-from` and that tableau, whose rows stand between words `/`; `.` is a row without numbers.
+/// Reads the words of `tab`: that word, an outer and an inner partition with `/` between them and,
+/// where the list is to go on behind a tableau, `-from` and that tableau, whose rows stand between
+/// words `/`; `.` is a row without numbers.
 ///
-/// Words that are no such command are refused as `Syntax`, at the word where they go wrong. Otherwise the first offence is
-/// refused: those of the partitions as `read_mult` says, and as `Shape`, at the word `-from`, a tableau that is none of the list
-/// of the lattice tableaux of the outer over the inner partition.
+/// Words that are no such command are refused as `Syntax`, at the word where they go wrong.
+/// Otherwise the first offence is refused: those of the partitions as `read_mult` says, and as
+/// `Shape`, at the word `-from`, a tableau that is none of the list of the lattice tableaux of the
+/// outer over the inner partition.
 pub fn read_tab(alloc: Global, words: &[String]) -> Result<Command, WordsFault>
     ensures { IsRead (tab_entry ∷ []) (map string_bytes words.now) result }
 {

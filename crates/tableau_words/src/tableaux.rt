@@ -16,7 +16,8 @@ pub(crate) fn tableau_of(
     rows: &[Vec<u16>],
 ) -> Result<Tableau, NoMemory>
     requires { IsTableau outer inner (map (λ r. r.items) rows.now) }
-    ensures { IfOk result (λ t. t ≡ record { outer = outer; inner = inner; rows = map (λ r. r.items) rows.now }) }
+    ensures { IfOk result (λ t. t
+        ≡ record { outer = outer; inner = inner; rows = map (λ r. r.items) rows.now }) }
 {
     let Some(shape) = Skew::new(outer, inner) else {
         unreachable!()

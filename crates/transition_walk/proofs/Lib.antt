@@ -1,4 +1,15 @@
+pub mod Ranks
+pub mod Descents
+pub mod TodoLists
+pub mod SortedKeys
+pub mod WaitingOrder
+pub mod Weights
+pub mod Covers
+pub mod Labels
+pub mod Monomials
+pub mod Weighed
 pub mod Shares
 pub mod JoinedLists
 pub mod Steps
 pub mod UnderWay
+pub mod Answering

@@ -2,7 +2,8 @@
 --     ones_positive, ones_step    it is positive, and the sum of those that the rule makes
 --     share_step                  so what waits grows by no step of the rule
 --     ones_limit                  it does not depend on how many variables there are
-use Rattle.std.proofs.Common.{◌≡◌, ℕ, suc, zero, ◌+◌, ◌*◌, ◌^◌, ◌≤◌, true, cond, List, [], ◌∷◌, length, refl, sym, ap, ◌∙◌, inl, inr, arith, ℤ, pos, negsuc, ◌*ℤ◌, ◌≤ℤ◌}
+--     limit_share                 what waits comes to no more than its share of a bound
+use Rattle.std.proofs.Common.{◌≡◌, ℕ, suc, zero, ◌+◌, ◌-◌, ◌*◌, ◌^◌, ◌≤◌, true, cond, List, [], ◌∷◌, length, refl, sym, ap, ◌∙◌, inl, inr, arith, ℤ, pos, negsuc, ◌*ℤ◌, ◌≤ℤ◌}
 use Rattle.std.specs.Prelude.{nat_abs}
 use Rattle.std.proofs.lemmas.Int.{ints}
 use Rattle.sym_model.specs.Sum.{Among, total}
@@ -17,14 +18,23 @@ use Rattle.sym_model.proofs.Sums.{total_ext}
 use Rattle.sym_model.proofs.Exponents.{fits_in_length}
 use Rattle.schubert_laws.proofs.FixedLetters.{In_schubert}
 use Rattle.schubert_laws.proofs.Members.{short_cover, short_transition, place_within, cover_inversions}
-use Rattle.schubert_transition.specs.Todo.{weigh}
-use Rattle.schubert_transition.specs.Transitions.{IsShort}
+use Rattle.transition_walk.specs.Todo.{weigh}
+use Rattle.transition_walk.specs.Transitions.{IsShort}
 use Rattle.schubert_laws.proofs.LowerPermutations.{transition_inversions}
-use Rattle.schubert_transition.proofs.FinalSums.{restrict_pair}
-use Rattle.schubert_transition.proofs.Monomials.{unit, length-unit, pair_transition, pair_variable, schubert_monomials}
-use Rattle.transition_walk.specs.Growth.{ones, share}
+use Rattle.transition_walk.proofs.Monomials.{unit, length-unit, pair_transition, pair_variable, restrict_pair, schubert_monomials}
+use Rattle.linear_combinations.specs.Gains.{WholeTermsOf, mass}
+use Rattle.transition_walk.specs.Growth.{GrowsBy, IsShare}
+use Rattle.transition_walk.proofs.Weighed.{weighed_all}
 use native.Mathlib.Nat.{mul-le-mul_left, pow-suc}
 use Rattle.std.proofs.Math.Nat.{pow-zero}
+
+-- the value of the Schubert polynomial of a permutation where each of n variables is 1
+abbrev pub ones : ℕ → List ℕ → ℕ
+ones n w = nat_abs (value_at_ones (schubert_in w n))
+
+-- what a term can grow to, where each of the inversions makes up to `base` terms of one
+abbrev pub share : ℕ → ℕ → List ℕ → ℕ
+share n base w = ones n w * base ^ inversions w
 
 pair_one_value : (f : Poly) → pair f (λ α. pos 1) ≡ value_at_ones f
 pair_one_value f = total_ext (λ (t : Term). t.1 *ℤ pos 1) (λ (t : Term). t.1) (λ t. product-one t.1) f
@@ -33,7 +43,7 @@ some_ones : (xs : List (List ℕ)) → pos 0 ≤ℤ total (λ (x : List ℕ). po
 some_ones [] = omega (arith, ints)
 some_ones (x ∷ xs) = let h = some_ones xs in omega (arith, ints)
 
-natural : (z : ℤ) → pos 0 ≤ℤ z → z ≡ pos (nat_abs z)
+pub natural : (z : ℤ) → pos 0 ≤ℤ z → z ≡ pos (nat_abs z)
 natural (pos n) h = refl
 natural (negsuc n) h = absurd (omega (arith, ints))
 
@@ -92,12 +102,16 @@ power_positive base (suc k) h =
     let m = mul-le-mul_left (base ^ k) h in
     omega arith
 
-pub share_positive : (n base : ℕ) (w : List ℕ) → IsShort n w → 1 ≤ base → 1 ≤ share n base w
-share_positive n base w short some =
-    by (ones n w) (base ^ inversions w) (ones_positive n w short) (power_positive base (inversions w) some)
+pub share_positive : (n base : ℕ) (w : List ℕ) → IsShort n w → n ≤ base → 1 ≤ share n base w
+share_positive n base w short some = by (ones n w) (base ^ inversions w) (ones_positive n w short) (power n w short.few some)
   where
     by : (a b : ℕ) → 1 ≤ a → 1 ≤ b → 1 ≤ a * b
     by a b h k = let m = mul-le-mul_left a k in omega arith
+
+    power : (n : ℕ) (w : List ℕ) → length w ≤ n → n ≤ base → 1 ≤ base ^ inversions w
+    power zero [] h k = let e = pow-zero base in omega arith
+    power zero (a ∷ w) h k = absurd (omega arith)
+    power (suc n) w h k = power_positive base (inversions w) (omega arith)
 
 -- permutations with as many inversions
 share_sum : (n base k : ℕ) (xs : List (List ℕ)) → ((x : List ℕ) → Among x xs → inversions x ≡ k) → weigh (share n base) xs ≡ weigh (ones n) xs * base ^ k
@@ -128,4 +142,29 @@ share_step n r s base few m w short t h =
         let q = ap (λ u. m * u) g in
         let r = ap (λ u. m * (u * y)) e in
         let s : m * ((a + b) * y) ≡ m * (a * y) + m * (b * y) = omega arith in
+        omega arith
+
+-- the shares of a bound of all lists
+pub limit_share : {L : Type 0} (images : ℕ → List ℕ → L → WholeTermsOf L) (extent : L → ℕ) (takes : ℕ → List ℕ → L → Type 0) (most extra n top : ℕ) → top ≤ most + 1
+    → ((k r : ℕ) (v : List ℕ) (label : L) → IsShort k v → 1 ≤ r → r ≤ k → r ≤ 255 → k ≤ most → extent label ≤ k → GrowsBy extent (takes r v) (images r v) k extra label)
+    → IsShare images extent n top (λ w label. share n (top + extra) w)
+limit_share images extent takes most extra n top high law = record {
+  falls = λ r s w label short small t inside extents.
+      let place = place_within w r s short.one_line t in
+      let p1 = place.1 in
+      let lower = short_transition n w r s short t in
+      let lf = lower.few in
+      let few = short.few in
+      let i = transition_inversions w r s short.one_line t in
+      let grown = law (top - inversions w) r (times_swap r s w) label (record { one_line = lower.one_line; few = omega arith }) place.0 (omega arith) (omega arith) (omega arith) (omega arith) in
+      let a = weighed_all (share n (top + extra) (times_swap r s w)) (images r (times_swap r s w) label) in
+      let b = share_step n r s (top + extra) (top - inversions w + extra) 1 w short t (omega arith) in
+      let c = mul-le-mul_left (share n (top + extra) (times_swap r s w)) grown.few in
+      by (mass (images r (times_swap r s w) label)) (top - inversions w + extra) (share n (top + extra) (times_swap r s w)) _ _ _ a c b;
+}
+  where
+    by : (m few s all covers whole : ℕ) → all ≡ m * s → s * m ≤ s * few → 1 * few * s + 1 * covers ≤ 1 * whole → all + covers ≤ whole
+    by m few s all covers whole e f g =
+        let p : s * m ≡ m * s = omega arith in
+        let q : 1 * few * s ≡ s * few = omega arith in
         omega arith

@@ -1,14 +1,13 @@
 -- What the transition rule puts in the place of a permutation that waits (specs/Waiting).
 --     step_value        the products add up to that of the permutation
---     step_growth       they weigh no more than it
+--     step_growth       their shares come to no more than its share
 --     step_waiting      they keep the bounds
 --     step_load         and are lower
-use Rattle.std.proofs.Common.{◌≡◌, ℕ, ◌+◌, ◌-◌, ◌*◌, ◌^◌, ◌<◌, ◌≤◌, Bool, true, List, [], ◌∷◌, ◌++◌, length, refl, sym, ap, ◌∙◌, subst, inl, inr, arith, ℤ, ◌+ℤ◌, ◌*ℤ◌}
-use Rattle.std.specs.List.{IsDistinct}
+use Rattle.std.proofs.Common.{◌≡◌, ℕ, ◌+◌, ◌-◌, ◌*◌, ◌^◌, ◌<◌, ◌≤◌, Bool, true, List, [], ◌∷◌, ◌++◌, length, sym, ap, ◌∙◌, subst, inl, inr, arith, ℤ, ◌+ℤ◌, ◌*ℤ◌}
 use Rattle.std.proofs.lemmas.Int.{ints}
 use Rattle.std.proofs.lemmas.Bool.{and_parts}
 use Rattle.coeff_rings.specs.Fractions.{whole}
-use Rattle.sym_model.specs.Permutation.{IsTransition, times_swap, covers_down}
+use Rattle.sym_model.specs.Permutation.{IsOneLine, IsTransition, times_swap, covers_down}
 use Rattle.sym_model.specs.PlaceOrders.{inversions}
 use Rattle.sym_model.specs.Sum.{total, Among}
 use Rattle.sym_model.proofs.Ring.{distributes_left}
@@ -17,20 +16,20 @@ use Rattle.schubert_laws.proofs.LowerPermutations.{transition_inversions, transi
 use Rattle.schubert_laws.proofs.Members.{short_cover, short_transition, place_within, cover_inversions}
 use Rattle.schubert_laws.proofs.Ranks.{rank_lower}
 use Rattle.linear_combinations.specs.Entries.{IsCombination}
-use Rattle.linear_combinations.specs.Gains.{WholeTermsOf, over, mass, replaced, HaveLabels}
+use Rattle.linear_combinations.specs.Gains.{WholeTermsOf, over, replaced, HaveLabels}
 use Rattle.linear_combinations.proofs.Gains.{replaced_over}
-use Rattle.linear_combinations.proofs.Masses.{mass_replaced, labels_replaced}
+use Rattle.linear_combinations.proofs.Masses.{labels_replaced}
 use Rattle.linear_combinations.proofs.Totals.{term-among}
-use Rattle.schubert_transition.specs.Todo.{load, weigh}
-use Rattle.schubert_transition.specs.Transitions.{IsShort, rank, weight}
-use Rattle.schubert_transition.proofs.Covers.{count_covers_down}
-use Rattle.schubert_transition.proofs.Ranks.{pow_below, weights_less}
-use Rattle.schubert_transition.proofs.TodoLists.{load_append}
-use Rattle.schubert_transition.proofs.Weights.{weigh_append, weigh_most}
-use Rattle.transition_walk.specs.Growth.{GrowsBy, share}
-use Rattle.transition_walk.specs.Waiting.{WithList, value_of, growth, IsWaiting, AreWaiting, each_waits, stepped}
+use Rattle.transition_walk.specs.Todo.{load, weigh}
+use Rattle.transition_walk.specs.Transitions.{IsShort, rank, weight}
+use Rattle.transition_walk.proofs.Covers.{count_covers_down}
+use Rattle.transition_walk.proofs.Ranks.{pow_below, weights_less}
+use Rattle.transition_walk.proofs.TodoLists.{load_append}
+use Rattle.transition_walk.proofs.Weights.{weigh_append, weigh_most}
+use Rattle.transition_walk.specs.Growth.{GrowsBy, IsShare}
+use Rattle.transition_walk.specs.Waiting.{WithList, value_of, weighed, growth, IsWaiting, AreWaiting, each_waits, stepped}
 use Rattle.transition_walk.proofs.JoinedLists.{each_value, each_growth, each_load, each_among}
-use Rattle.transition_walk.proofs.Shares.{share_positive, share_step}
+use Rattle.transition_walk.proofs.Weighed.{weighed_add, weighed_replaced, weighed_within}
 use native.Mathlib.Nat.{mul-le-mul_left}
 use lib.IntN.{+ℤ_idr}
 
@@ -41,10 +40,6 @@ are_labels {L} {eq} {is_label} list is t m = (and_parts _ (is_label t.0) (term-a
 -- the empty list
 pub no_labels : {L : Type 0} (P : L → Type 0) (list : WholeTermsOf L) → list ≡ [] → HaveLabels P list
 no_labels {L} P list empty = subst (λ (l : WholeTermsOf L). HaveLabels P l) (sym empty) (λ t m. absurd m)
-
-pub no_terms : {L : Type 0} (eq : L → L → Bool) (is_label : L → Bool) (list : WholeTermsOf L) → list ≡ [] → IsCombination eq is_label whole list
-unfolding IsDistinct
-no_terms {L} eq is_label list empty = subst (λ (l : WholeTermsOf L). IsCombination eq is_label whole l) (sym empty) (record { distinct = tt; proper = refl })
 
 -- a sum over a table of sums
 over_sum : {L : Type 0} (f : L → ℤ) (g : List ℕ → L → ℤ) (xs : List (List ℕ)) (terms : WholeTermsOf L)
@@ -75,7 +70,10 @@ module _ {L : Type 0} (image : List ℕ → L → WholeTermsOf L) (r s : ℕ) (w
 
   -- ---- bounds
 
-  module _ (extent : L → ℕ) (extra n top : ℕ) (is : IsWaiting extent n top w) (high : top ≤ 255) (t : IsTransition w.perm r s) where
+  module _ (extent : L → ℕ) (n top : ℕ) (is : IsWaiting extent n top w) (one_line : IsOneLine w.perm) (t : IsTransition w.perm r s) where
+    short : IsShort n w.perm
+    short = record { one_line = one_line; few = is.few }
+
     -- what is known of the permutation that is lower
     record IsLowered : Type 0 where
       lower : IsShort n (times_swap r s w.perm)
@@ -85,15 +83,42 @@ module _ {L : Type 0} (image : List ℕ → L → WholeTermsOf L) (r s : ℕ) (w
 
     lowered : IsLowered
     lowered =
-        let place = place_within w.perm r s is.short.one_line t in
+        let place = place_within w.perm r s one_line t in
         let p1 = place.1 in
-        let few = is.short.few in
+        let few = is.few in
         record {
-          lower = short_transition n w.perm r s is.short t;
-          inverted = transition_inversions w.perm r s is.short.one_line t;
+          lower = short_transition n w.perm r s short t;
+          inverted = transition_inversions w.perm r s one_line t;
           first = place.0;
           place = omega arith;
         }
+
+    -- those that are put in its place have at most n letters
+    pub step_short : (x : WithList L) → Among x (stepped image r s w) → IsShort n x.perm
+    step_short x m = elim (Among_from_append x (each_waits w.factor (covers_down r (times_swap r s w.perm))) ((record { perm = times_swap r s w.perm; factor = replaced (image (times_swap r s w.perm)) w.factor }) ∷ []) m) [
+      | inl l ↦
+          each_among (λ (y : WithList L). IsShort n y.perm) w.factor (covers_down r (times_swap r s w.perm))
+          (λ y i. let k = lowered in let f = k.place in short_cover n r (times_swap r s w.perm) y k.lower (omega arith) i) x l
+      | inr q ↦ elim q [
+        | inl e ↦ subst (λ (y : WithList L). IsShort n y.perm) (sym e) lowered.lower
+        | inr k ↦ absurd k
+      ]
+    ]
+
+    pub step_growth : (images : ℕ → List ℕ → L → WholeTermsOf L) → images r ≡ image → (share : List ℕ → L → ℕ) → IsShare images extent n top share → length w.perm ≤ 255
+        → growth share (stepped image r s w) ≤ weighed (share w.perm) w.factor
+    step_growth images at_r share falls small =
+        let a = weigh_append (λ (x : WithList L). weighed (share x.perm) x.factor) (each_waits w.factor (covers_down r (times_swap r s w.perm)))
+        ((record { perm = times_swap r s w.perm; factor = replaced (image (times_swap r s w.perm)) w.factor }) ∷ []) in
+        let b = each_growth share w.factor (covers_down r (times_swap r s w.perm)) in
+        let c = weighed_replaced (image (times_swap r s w.perm)) (share (times_swap r s w.perm)) w.factor in
+        let d = weighed_add (λ e. weighed (share (times_swap r s w.perm)) (image (times_swap r s w.perm) e))
+        (λ e. weigh (λ (x : List ℕ). share x e) (covers_down r (times_swap r s w.perm))) w.factor in
+        let f = weighed_within (λ e. weighed (share (times_swap r s w.perm)) (image (times_swap r s w.perm) e) + weigh (λ (x : List ℕ). share x e) (covers_down r (times_swap r s w.perm)))
+        (share w.perm) w.factor
+        (λ u m. subst (λ (i : List ℕ → L → WholeTermsOf L). weighed (share (times_swap r s w.perm)) (i (times_swap r s w.perm) u.0) + weigh (λ (x : List ℕ). share x u.0) (covers_down r (times_swap r s w.perm)) ≤ share w.perm u.0)
+        at_r (falls.falls r s w.perm u.0 short small t is.inside (is.labels u m))) in
+        omega arith
 
     pub cover_waits : (x : List ℕ) → Among x (covers_down r (times_swap r s w.perm)) → IsWaiting extent n top (record { perm = x; factor = w.factor })
     cover_waits x m =
@@ -102,14 +127,15 @@ module _ {L : Type 0} (image : List ℕ → L → WholeTermsOf L) (r s : ℕ) (w
         let j = k.inverted in
         let f = k.place in
         let g = is.inside in
+        let h = short_cover n r (times_swap r s w.perm) x k.lower (omega arith) m in
         record {
-          short = short_cover n r (times_swap r s w.perm) x k.lower (omega arith) m;
+          few = h.few;
           inside = omega arith;
           labels = λ u q. let l = is.labels u q in omega arith;
         }
 
-    module _ (takes : List ℕ → L → Type 0)
-        (law : (k : ℕ) (v : List ℕ) (label : L) → IsShort k v → 1 ≤ r → r ≤ k → k ≤ 254 → extent label ≤ k → GrowsBy extent (takes v) (image v) k extra label) where
+    module _ (most extra : ℕ) (high : top ≤ most + 1) (small : length w.perm ≤ 255) (takes : List ℕ → L → Type 0)
+        (law : (k : ℕ) (v : List ℕ) (label : L) → IsShort k v → 1 ≤ r → r ≤ k → r ≤ 255 → k ≤ most → extent label ≤ k → GrowsBy extent (takes v) (image v) k extra label) where
       grown : (u : L × ℤ) → Among u w.factor → GrowsBy extent (takes (times_swap r s w.perm)) (image (times_swap r s w.perm)) (top - inversions w.perm) extra u.0
       grown u m =
           let k = lowered in
@@ -119,24 +145,9 @@ module _ {L : Type 0} (image : List ℕ → L → WholeTermsOf L) (r s : ℕ) (w
           let place = k.place in
           let inside = is.inside in
           let l = is.labels u m in
-          law (top - inversions w.perm) (times_swap r s w.perm) u.0 (record { one_line = lower.one_line; few = omega arith }) k.first (omega arith) (omega arith) (omega arith)
-
-      pub step_growth : growth (share n (top + extra)) (stepped image r s w) ≤ mass w.factor * share n (top + extra) w.perm
-      step_growth =
-          let a = weigh_append (λ (x : WithList L). mass x.factor * share n (top + extra) x.perm) (each_waits w.factor (covers_down r (times_swap r s w.perm)))
-          ((record { perm = times_swap r s w.perm; factor = replaced (image (times_swap r s w.perm)) w.factor }) ∷ []) in
-          let b = each_growth (share n (top + extra)) w.factor (covers_down r (times_swap r s w.perm)) in
-          let c = mass_replaced (image (times_swap r s w.perm)) (top - inversions w.perm + extra) w.factor (λ u m. (grown u m).few) in
-          let d = share_step n r s (top + extra) (top - inversions w.perm + extra) (mass w.factor) w.perm is.short t (omega arith) in
-          let e = mul-le-mul_left (share n (top + extra) (times_swap r s w.perm)) c in
-          by (mass (replaced (image (times_swap r s w.perm)) w.factor)) (mass w.factor * (top - inversions w.perm + extra)) (share n (top + extra) (times_swap r s w.perm))
-          (growth (share n (top + extra)) (stepped image r s w)) _ _ _ e a b d
-        where
-          by : (a b s all x y z : ℕ) → s * a ≤ s * b → all ≡ x + (a * s + 0) → x ≡ y → b * s + y ≤ z → all ≤ z
-          by a b s all x y z e f g h =
-              let p : s * a ≡ a * s = omega arith in
-              let q : s * b ≡ b * s = omega arith in
-              omega arith
+          let p = place_within w.perm r s one_line t in
+          let p1 = p.1 in
+          law (top - inversions w.perm) (times_swap r s w.perm) u.0 (record { one_line = lower.one_line; few = omega arith }) k.first (omega arith) (omega arith) (omega arith) (omega arith)
 
       pub step_waiting : AreWaiting extent n top (stepped image r s w)
       step_waiting x m = elim (Among_from_append x (each_waits w.factor (covers_down r (times_swap r s w.perm))) ((record { perm = times_swap r s w.perm; factor = replaced (image (times_swap r s w.perm)) w.factor }) ∷ []) m) [
@@ -145,10 +156,11 @@ module _ {L : Type 0} (image : List ℕ → L → WholeTermsOf L) (r s : ℕ) (w
           | inl e ↦
               subst (IsWaiting extent n top) (sym e)
               (let k = lowered in
+              let lower = k.lower in
               let inverted = k.inverted in
               let inside = is.inside in
               record {
-                short = k.lower;
+                few = lower.few;
                 inside = omega arith;
                 labels = labels_replaced (image (times_swap r s w.perm)) (λ label. extent label + inversions (times_swap r s w.perm) ≤ top) w.factor
                     (λ u i z j. let g = (grown u i).labels z j in omega arith);
@@ -157,11 +169,8 @@ module _ {L : Type 0} (image : List ℕ → L → WholeTermsOf L) (r s : ℕ) (w
         ]
       ]
 
-      pub step_shares : 1 ≤ top → (x : WithList L) → Among x (stepped image r s w) → 1 ≤ share n (top + extra) x.perm
-      step_shares some x m = share_positive n (top + extra) x.perm (step_waiting x m).short (omega arith)
-
 -- the permutations that the rule makes weigh less than the one that they come of
-covers_weigh_less : (n r s : ℕ) (w : List ℕ) → n ≤ 254 → IsShort n w → IsTransition w r s → weigh weight (covers_down r (times_swap r s w)) + weight (times_swap r s w) < weight w
+pub covers_weigh_less : (n r s : ℕ) (w : List ℕ) → n ≤ 255 → IsShort n w → IsTransition w r s → weigh weight (covers_down r (times_swap r s w)) + weight (times_swap r s w) < weight w
 covers_weigh_less n r s w small short t =
     let o = short.one_line in
     let few = short.few in
@@ -187,11 +196,11 @@ covers_weigh_less n r s w small short t =
         let g : p * b ≡ b * p = omega arith in
         omega arith
 
-pub step_load : {L : Type 0} (image : List ℕ → L → WholeTermsOf L) (r s : ℕ) (w : WithList L) → IsShort 254 w.perm → IsTransition w.perm r s → load (stepped image r s w) < weight w.perm
+pub step_load : {L : Type 0} (image : List ℕ → L → WholeTermsOf L) (r s : ℕ) (w : WithList L) → IsShort 255 w.perm → IsTransition w.perm r s → load (stepped image r s w) < weight w.perm
 step_load {L} image r s w short t =
     let a = load_append (each_waits w.factor (covers_down r (times_swap r s w.perm))) ((record { perm = times_swap r s w.perm; factor = replaced (image (times_swap r s w.perm)) w.factor }) ∷ []) in
     let b = each_load w.factor (covers_down r (times_swap r s w.perm)) in
-    let c = covers_weigh_less 254 r s w.perm (omega arith) short t in
+    let c = covers_weigh_less 255 r s w.perm (omega arith) short t in
     omega arith
 
 -- what is put in its place, as it is computed

@@ -1,55 +1,44 @@
 -- The product as the transition rule works it off: its start, one step and its end.
-use Rattle.std.proofs.Common.{◌≡◌, ℕ, ◌+◌, ◌*◌, ◌^◌, ◌<◌, ◌≤◌, max, List, [], ◌∷◌, ◌++◌, length, refl, sym, ap, ◌∙◌, subst, inl, inr, arith, ℤ, ◌+ℤ◌}
+use Rattle.std.proofs.Common.{◌≡◌, ℕ, ◌+◌, ◌*◌, ◌^◌, ◌<◌, ◌≤◌, List, [], ◌∷◌, ◌++◌, length, refl, sym, ap, ◌∙◌, subst, inl, inr, arith, ℤ, ◌+ℤ◌}
 use Rattle.std.proofs.lemmas.Int.{ints}
-use Rattle.sym_model.specs.Permutation.{IsOneLine}
 use Rattle.sym_model.specs.PlaceOrders.{inversions}
 use Rattle.sym_model.specs.Sum.{Among}
 use Rattle.sym_model.proofs.Sums.{total_append, Among-append_left, Among-append_right}
-use Rattle.linear_combinations.specs.Gains.{WholeTermsOf, over, mass, HaveLabels}
-use Rattle.schubert_transition.specs.Todo.{load, AreInOrder}
-use Rattle.schubert_transition.specs.Transitions.{IsShort, weight}
-use Rattle.schubert_transition.proofs.TodoLists.{load_append}
-use Rattle.schubert_transition.proofs.WaitingOrder.{order_rest, order_one}
-use Rattle.schubert_transition.proofs.Weights.{weigh_append}
-use Rattle.transition_walk.specs.Growth.{IsSingle, WorksOff, OverflowsAt, share, limit_of}
-use Rattle.transition_walk.specs.Waiting.{WithList, value_of, growth, IsWaiting, AreWaiting}
-use Rattle.transition_walk.proofs.Shares.{ones_limit}
-use native.Mathlib.Nat.{mul-le-mul_left}
+use Rattle.linear_combinations.specs.Gains.{WholeTermsOf, over, HaveLabels}
+use Rattle.transition_walk.specs.Todo.{load, AreInOrder}
+use Rattle.transition_walk.specs.Transitions.{IsShort, weight}
+use Rattle.transition_walk.specs.Growth.{GrowsBy, IsSingle, IsShare, SharesOverflow, WorksOff, OverflowsAt, all_of, limit_of, top_of}
+use Rattle.transition_walk.specs.Waiting.{WithList, value_of, weighed, growth, IsWaiting, AreWaiting}
+use Rattle.transition_walk.proofs.TodoLists.{load_append}
+use Rattle.transition_walk.proofs.WaitingOrder.{order_rest, order_one}
+use Rattle.transition_walk.proofs.Weights.{weigh_append}
+use Rattle.transition_walk.proofs.Shares.{share, share_positive, ones_limit, limit_share}
 use lib.IntN.{+ℤ_idr, +ℤ_idl}
 
--- the greatest number of letters with the inversions
-abbrev pub top_of : List ℕ → ℕ → ℕ
-top_of w extent = max (length w) extent + inversions w
-
-module _ {L : Type 0} (product : ℕ → (List ℕ → ℤ) → List ℕ → L → ℤ) (extent : L → ℕ) (extra : ℕ) (w : List ℕ) (label : L) where
+module _ {L : Type 0} (product : ℕ → (List ℕ → ℤ) → List ℕ → L → ℤ) (images : ℕ → List ℕ → L → WholeTermsOf L) (extent : L → ℕ) (most : ℕ) (w : List ℕ) (label : L) where
   -- what waits and the sum so far are the product, and no permutation waits twice
   pub record IsUnderWay (todo : List (WithList L)) (sum : WholeTermsOf L) : Type 0 where
     pub value : (n : ℕ) (φ : List ℕ → ℤ) → over (product n φ (1 ∷ [])) sum +ℤ value_of (product n φ) todo ≡ product n φ w label
-    pub grows : mass sum + growth (share (length w) (top_of w (extent label) + extra)) todo ≤ limit_of w (extent label) extra
+    pub grows : (share : List ℕ → L → ℕ) → IsShare images extent (length w) (top_of w (extent label)) share → weighed (share (1 ∷ [])) sum + growth share todo ≤ share w label
     pub waiting : AreWaiting extent (length w) (top_of w (extent label)) todo
     pub ordered : AreInOrder todo
 
-  pub start : (perm : List ℕ) (factor : WholeTermsOf L) (before todo : List (WithList L)) (sum : WholeTermsOf L) → IsOneLine w → perm ≡ w
-      → ((φ : L → ℤ) → over φ factor ≡ φ label) → IsSingle extent label factor
+  pub start : (perm : List ℕ) (factor : WholeTermsOf L) (before todo : List (WithList L)) (sum : WholeTermsOf L) → perm ≡ w
+      → ((φ : L → ℤ) → over φ factor ≡ φ label) → IsSingle label factor
       → before ≡ [] → todo ≡ before ++ (record { perm = perm; factor = factor }) ∷ [] → sum ≡ [] → IsUnderWay todo sum
-  start perm factor before todo sum one_line same one single none pushed empty =
+  start perm factor before todo sum same one single none pushed empty =
       subst (λ (s : WholeTermsOf L). IsUnderWay todo s) (sym empty)
       (subst (λ (l : List (WithList L)). IsUnderWay l []) (sym (pushed ∙ ap (λ (b : List (WithList L)). b ++ first ∷ []) none))
       (record {
         value = λ n φ. +ℤ_idl (value_of (product n φ) (first ∷ [])) ∙ +ℤ_idr (over (product n φ perm) factor) ∙ one (product n φ perm) ∙ ap (λ v. product n φ v label) same;
-        grows =
-            let a = mul-le-mul_left (share (length w) (top_of w (extent label) + extra) perm) single.one in
-            let b = ap (share (length w) (top_of w (extent label) + extra)) same in
-            let c = ap (λ k. k * (top_of w (extent label) + extra) ^ inversions w) (ones_limit w) in
-            let d : share (length w) (top_of w (extent label) + extra) perm * mass factor ≡ mass factor * share (length w) (top_of w (extent label) + extra) perm = omega arith in
-            omega arith;
+        grows = λ share falls. let a = single.one (share perm) in let b = ap (λ p. share p label) same in omega arith;
         waiting = λ x m. elim m [
           | inl e ↦
               subst (IsWaiting extent (length w) (top_of w (extent label))) (sym e)
               (let l = ap length same in let i = ap inversions same in record {
-                short = record { one_line = subst IsOneLine (sym same) one_line; few = omega arith };
+                few = omega arith;
                 inside = omega arith;
-                labels = λ t j. let u = single.labels t j in omega arith;
+                labels = λ t j. subst (λ x. extent x + inversions perm ≤ top_of w (extent label)) (sym (single.labels t j)) (omega arith);
               })
           | inr k ↦ absurd k
         ];
@@ -77,36 +66,61 @@ module _ {L : Type 0} (product : ℕ → (List ℕ → ℤ) → List ℕ → L �
         let d = +ℤ_idr (over (product n φ last.perm) last.factor) in
         omega (arith, ints)
 
-    popped_growth : mass sum + growth (share (length w) (top_of w (extent label) + extra)) rest + mass last.factor * share (length w) (top_of w (extent label) + extra) last.perm ≤ limit_of w (extent label) extra
-    popped_growth =
-        let a = ap (growth (share (length w) (top_of w (extent label) + extra))) popped in
-        let b = weigh_append (λ (x : WithList L). mass x.factor * share (length w) (top_of w (extent label) + extra) x.perm) rest (last ∷ []) in
-        let c = is.grows in
+    popped_growth : (share : List ℕ → L → ℕ) → IsShare images extent (length w) (top_of w (extent label)) share → all_of sum rest last share ≤ share w label
+    popped_growth share falls =
+        let a = ap (growth share) popped in
+        let b = weigh_append (λ (x : WithList L). weighed (share x.perm) x.factor) rest (last ∷ []) in
+        let c = is.grows share falls in
         omega arith
 
-    -- where it is not the identity, it has at most 254 letters
-    pub popped_short : top_of w (extent label) ≤ 255 → 0 < inversions last.perm → IsShort 254 last.perm
-    popped_short high some = let p = popped_last in let s = p.short in let f = s.few in let i = p.inside in record { one_line = s.one_line; few = omega arith }
+    module _ (high : top_of w (extent label) ≤ most + 1) where
+      -- where it is not the identity, its letters and the extents of its labels keep the bound
+      pub popped_few : 0 < inversions last.perm → length last.perm ≤ most
+      popped_few some = let p = popped_last in let f = p.few in let i = p.inside in omega arith
 
-    pub popped_labels : top_of w (extent label) ≤ 255 → 0 < inversions last.perm → HaveLabels (λ x. extent x ≤ 254) last.factor
-    popped_labels high some t m = let p = popped_last.labels t m in omega arith
+      pub popped_labels : 0 < inversions last.perm → HaveLabels (λ x. extent x ≤ most) last.factor
+      popped_labels some t m = let p = popped_last.labels t m in omega arith
 
-    module _ (high : top_of w (extent label) ≤ 255) where
-      pub next : (sum2 : WholeTermsOf L) (todo2 : List (WithList L)) → WorksOff product extent extra sum rest last sum2 todo2 → IsUnderWay todo2 sum2
+      pub next : (sum2 : WholeTermsOf L) (todo2 : List (WithList L)) → WorksOff product images extent most sum rest last sum2 todo2 → IsUnderWay todo2 sum2
       next sum2 todo2 step = record {
         value = λ n φ. step.value n φ ∙ popped_value n φ;
-        grows = let a = popped_growth in let b = step.grows (length w) (top_of w (extent label)) popped_last high in omega arith;
+        grows = λ share falls.
+            let a = popped_growth share falls in let b = step.grows (length w) (top_of w (extent label)) share popped_last falls in omega arith;
         waiting = step.waiting (length w) (top_of w (extent label)) popped_last high popped_rest;
         ordered = step.ordered (order_rest todo rest last popped is.ordered);
       }
 
-      pub past : 1 ≤ length w → OverflowsAt extent extra sum rest last → 2 ^ 127 ≤ limit_of w (extent label) extra
-      past some o = let a = popped_growth in let b = o (length w) (top_of w (extent label)) popped_last (omega arith) high in omega arith
+      pub overflow : OverflowsAt images extent most sum rest last → SharesOverflow images extent (length w) (top_of w (extent label)) (λ share. share w label)
+      overflow o =
+          let p = o (length w) (top_of w (extent label)) popped_last high in
+          record {
+            perm = p.perm;
+            label = p.label;
+            short = p.short;
+            large = λ share falls some. let a = popped_growth share falls in let b = p.large share falls some in omega arith;
+          }
 
   -- where nothing waits any more, the sum is the product
-  pub finished : (todo rest : List (WithList L)) (sum : WholeTermsOf L) → IsUnderWay todo sum → todo ≡ rest ++ [] → rest ≡ []
-      → (n : ℕ) (φ : List ℕ → ℤ) → over (product n φ (1 ∷ [])) sum ≡ product n φ w label
-  finished todo rest sum is popped none n φ =
-      sym (+ℤ_idr (over (product n φ (1 ∷ [])) sum))
-      ∙ ap (λ (l : List (WithList L)). over (product n φ (1 ∷ [])) sum +ℤ value_of (product n φ) l) (sym (popped ∙ ap (λ (l : List (WithList L)). l ++ []) none))
-      ∙ is.value n φ
+  module _ (todo rest : List (WithList L)) (sum : WholeTermsOf L) (is : IsUnderWay todo sum) (popped : todo ≡ rest ++ []) (none : rest ≡ []) where
+    nothing : todo ≡ []
+    nothing = popped ∙ ap (λ (l : List (WithList L)). l ++ []) none
+
+    pub finished : (n : ℕ) (φ : List ℕ → ℤ) → over (product n φ (1 ∷ [])) sum ≡ product n φ w label
+    finished n φ =
+        sym (+ℤ_idr (over (product n φ (1 ∷ [])) sum))
+        ∙ ap (λ (l : List (WithList L)). over (product n φ (1 ∷ [])) sum +ℤ value_of (product n φ) l) (sym nothing)
+        ∙ is.value n φ
+
+    pub shared : (share : List ℕ → L → ℕ) → IsShare images extent (length w) (top_of w (extent label)) share → weighed (share (1 ∷ [])) sum ≤ share w label
+    shared share falls = let a = is.grows share falls in omega arith
+
+  -- an overflow is one of the bound
+  pub limited : (takes : ℕ → List ℕ → L → Type 0) (extra : ℕ) → top_of w (extent label) ≤ most + 1
+      → ((k r : ℕ) (v : List ℕ) (label : L) → IsShort k v → 1 ≤ r → r ≤ k → r ≤ 255 → k ≤ most → extent label ≤ k → GrowsBy extent (takes r v) (images r v) k extra label)
+      → SharesOverflow images extent (length w) (top_of w (extent label)) (λ share. share w label) → 2 ^ 127 ≤ limit_of w (extent label) extra
+  limited takes extra high law o =
+      let a = o.large (λ v x. share (length w) (top_of w (extent label) + extra) v)
+      (limit_share images extent takes most extra (length w) (top_of w (extent label)) high law)
+      (share_positive (length w) (top_of w (extent label) + extra) o.perm o.short (omega arith)) in
+      let b = ap (λ k. k * (top_of w (extent label) + extra) ^ inversions w) (ones_limit w) in
+      omega arith

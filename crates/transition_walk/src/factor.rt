@@ -3,21 +3,23 @@ ghost use Rattle.std.specs.Prelude.{◌≡◌, ℕ, ◌≤◌, ◌+ℤ◌, ℤ, 
 ghost use Rattle.sym_model.specs.Permutation.{IsOneLine, IsTransition, times_swap, covers_down};
 ghost use Rattle.sym_model.specs.Sum.{total};
 ghost use Rattle.linear_combinations.specs.Gains.{over};
-ghost use Rattle.schubert_transition.specs.Transitions.{IsShort};
+ghost use Rattle.transition_walk.specs.Transitions.{IsShort};
 ghost use Rattle.transition_walk.specs.Growth.{GrowsBy};
 
-use linear_combinations::Rule;
+use linear_combinations::{Label, Rule};
 use perm_codes::Perm;
-use sparse_polys::Label;
 
-/// The factor by which the transition rule multiplies a list of labels: S_w is the factor times S_v, for v = w·t_rs, and
-/// the sum over the covers v·t_ir with i < r.
+/// The factor by which the transition rule multiplies a list of labels: S_w is the factor times
+/// S_v, for v = w·t_rs, and the sum over the covers v·t_ir with i < r.
 pub trait Factor<L: Label>: Rule<L, L> + Drop {
     // The factor of the place r for the permutation v.
     ghost made: { ℕ → List ℕ → Self };
 
     // A measure of a label, which each factor raises by 1 at most.
     ghost extent: { L → ℕ };
+
+    // The greatest extent of a label that a factor takes.
+    ghost most: { ℕ };
 
     // A label of extent k becomes at most k + `extra` terms.
     ghost extra: { ℕ };
@@ -30,11 +32,14 @@ pub trait Factor<L: Label>: Rule<L, L> + Drop {
         requires { 1 ≤ r }
         ensures { result ≡ made r lower.now };
 
-    ghost step: { (n r s : ℕ) (φ : List ℕ → ℤ) (w : List ℕ) (label : L) → IsOneLine w → IsTransition w r s
+    ghost step: { (n r s : ℕ) (φ : List ℕ → ℤ) (w : List ℕ) (label : L) → IsOneLine w
+        → IsTransition w r s
         → IsTrue (L.is_label label) → product n φ w label
         ≡ over (product n φ (times_swap r s w)) (Self.image (made r (times_swap r s w)) label)
         +ℤ total (λ (x : List ℕ). product n φ x label) (covers_down r (times_swap r s w)) };
 
-    ghost grows: { (k r : ℕ) (v : List ℕ) (label : L) → IsShort k v → 1 ≤ r → r ≤ k → k ≤ 254 → extent label ≤ k
-        → GrowsBy extent (Self.takes (made r v)) (Self.image (made r v)) k extra label };
+    ghost grows: { (k r : ℕ) (v : List ℕ) (label : L) → IsShort k v → 1 ≤ r → r ≤ k → r ≤ 255
+        → k ≤ most
+        → extent label ≤ k → GrowsBy extent (Self.takes (made r v))
+        (Self.image (made r v)) k extra label };
 }

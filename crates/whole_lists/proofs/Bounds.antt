@@ -3,22 +3,19 @@
 --     coefficient-higher_label   past the degree there is none, so no label of a table is larger
 --     greatest-within            the greatest size of a label is within the limit
 --     past-weight                a coefficient of 2^127 or more is one of a weight of 2^127 or more
-use Rattle.std.proofs.Common.{◌≡◌, ◌⊎◌, inl, inr, true, ℕ, ◌*◌, ◌^◌, ◌<◌, ◌≤◌, List, [], ◌∷◌, length, sym, ◌∙◌, ap, subst, refl, arith, pos}
-use Rattle.std.proofs.lemmas.Bool.{cases_lt, and_parts}
-use Rattle.sym_model.specs.Canonical.{is_reduced}
-use Rattle.sym_model.specs.LabelLimits.{is_label}
-use Rattle.sym_model.proofs.CanonicalLists.{each_term-among}
-use Rattle.sym_model.proofs.Orders.{is_label-tells, is_reduced-tells}
-use Rattle.whole_lists.specs.Tables.{IsTable}
+use Rattle.std.proofs.Common.{◌≡◌, ◌⊎◌, inl, inr, ℕ, ◌*◌, ◌^◌, ◌<◌, ◌≤◌, List, [], ◌∷◌, length, sym, ◌∙◌, ap, subst, refl, arith, pos}
+use Rattle.std.proofs.lemmas.Bool.{cases_lt}
+use Rattle.linear_combinations.proofs.Found.{coefficient_of_term}
+use Rattle.whole_lists.specs.Tables.{IsWholeTable}
 use Rattle.whole_lists.specs.LabelSizes.{AreWithin}
-use Rattle.whole_lists.proofs.WholeLists.{coefficient-numerators, found-among}
+use Rattle.whole_lists.proofs.WholeLists.{label-partition, not_zero}
 use Rattle.std.specs.Prelude.{nat_abs}
 use Rattle.sym_model.specs.Polynomial.{Poly, coefficient}
 use Rattle.sym_model.specs.Partition.{IsPartition, size}
-use Rattle.sym_model.specs.Expansion.{Basis, Fraction, Terms}
+use Rattle.sym_model.specs.Expansion.{Basis}
 use Rattle.sym_model.specs.Expression.{Tree, degree, cleared_value}
 use Rattle.sym_model.specs.Weight.{growth, numerator, weight}
-use Rattle.sym_model.specs.WholeTerms.{WholeTerms, numerators}
+use Rattle.sym_model.specs.WholeTerms.{WholeTerms}
 use Rattle.sym_model.proofs.SortedParts.{sorted_parts-partition}
 use Rattle.monomial_laws.specs.ExpressionTerms.{IsList, IsCleared, HasDenominators}
 use Rattle.sparse_polys.specs.MonomialProducts.{greatest_size}
@@ -46,24 +43,17 @@ coefficient-higher_label N d W f h b label p high =
     ∙ coefficient-higher N d (length label) (f (length label)) (b (length label)) label refl high
 
 -- so no label of a table is larger
-pub AreWithin-list : (N d : ℕ) (terms : Terms (List ℕ)) (f : ℕ → Poly) → IsTable terms → IsList (numerators terms) f → ((n : ℕ) → IsBounded N d n (f n)) → AreWithin d terms
+pub AreWithin-list : (N d : ℕ) (terms : WholeTerms) (f : ℕ → Poly) → IsWholeTable terms → IsList terms f → ((n : ℕ) → IsBounded N d n (f n)) → AreWithin d terms
 AreWithin-list N d terms f is h b t m = by (cases_lt d (size t.0))
   where
-    tests : (is_reduced t.1 ≡ true) × (is_label t.0 ≡ true)
-    tests = let p = and_parts (is_reduced t.1) (is_label t.0) (each_term-among _ terms is.proper t m) in (p.0, p.1)
-
-    numerator_of : coefficient (numerators terms) t.0 ≡ t.1.0
-    numerator_of = coefficient-numerators terms is.distinct t.0 ∙ ap (λ (x : Fraction). x.0) (found-among terms is.distinct t m)
-
     by : (d < size t.0) ⊎ (size t.0 ≤ d) → size t.0 ≤ d
     by (inl high) =
         absurd
-        (let zero = ap nat_abs (sym numerator_of ∙ coefficient-higher_label N d (numerators terms) f h b t.0 (is_label-tells t.0 tests.1).partition high) in
-        let some = (is_reduced-tells t.1 tests.0).nonzero in
-        omega arith)
+        (not_zero terms is t m
+        (sym (coefficient_of_term terms is.distinct t m) ∙ coefficient-higher_label N d terms f h b t.0 (label-partition terms is t m) high))
     by (inr low) = low
 
-pub AreWithin-cleared : (e : Tree) (terms : Terms (List ℕ)) → IsTable terms → IsCleared (numerators terms) e → AreWithin (degree e) terms
+pub AreWithin-cleared : (e : Tree) (terms : WholeTerms) → IsWholeTable terms → IsCleared terms e → AreWithin (degree e) terms
 AreWithin-cleared e terms is h = AreWithin-list (numerator e) (degree e) terms (cleared_value e) is h (bounded_value e)
 
 pub past-weight : (e : Tree) (W : WholeTerms) → HasDenominators e → IsCleared W e → (label : List ℕ) → IsPartition label → 2 ^ 127 ≤ nat_abs (coefficient W label)
@@ -77,6 +67,6 @@ past-weight e W d h label p large =
     three a b c d h k l = omega arith
 
 -- the greatest size of a label is within the limit
-pub greatest-within : (limit : ℕ) (terms : Terms (List ℕ)) → AreWithin limit terms → greatest_size terms ≤ limit
+pub greatest-within : {R : Type 0} (limit : ℕ) (terms : List (List ℕ × R)) → AreWithin limit terms → greatest_size terms ≤ limit
 greatest-within limit [] h = omega arith
 greatest-within limit (t ∷ terms) h = let a = h t (inl refl) in let b = greatest-within limit terms (λ u m. h u (inr m)) in omega arith

@@ -1,13 +1,13 @@
 -- What a list that is divided by a number says of the polynomials that it stands for.
 --     within-multiple, bounded-multiple      its labels and its bounds are theirs
 --     expansion-, within-, bounded-quotients the same of an expression with its denominator
-use Rattle.std.proofs.Common.{◌≡◌, ◌⊎◌, ℕ, ◌*◌, ◌/◌, ◌<◌, ◌≤◌, true, List, [], ◌∷◌, length, sym, ◌∙◌, ap, ap₂, subst, refl, inl, inr, arith, pos, ◌*ℤ◌}
+use Rattle.std.proofs.Common.{◌≡◌, ◌⊎◌, ℕ, ◌*◌, ◌/◌, ◌<◌, ◌≤◌, true, List, length, sym, ◌∙◌, ap, ap₂, subst, refl, inl, inr, arith, pos, ◌*ℤ◌}
 use Rattle.std.specs.Prelude.{nat_abs}
 use Rattle.std.proofs.lemmas.Bool.{cases_lt, and_parts}
 use Rattle.std.proofs.lemmas.Int.{unsigned_abs-mul}
 use Rattle.std.proofs.lemmas.Nat.Gcd.{mod-eq-zero_of_dvd}
 use Rattle.coeff_rings.specs.Fractions.{whole, lowest_terms}
-use Rattle.coeff_rings.specs.Proved.Fractions.{Stands, Stands-lowest_terms, product_cancel}
+use Rattle.coeff_rings.specs.Proved.Fractions.{Stands, Stands-lowest_terms}
 use Rattle.coeff_rings.specs.Proved.Cleared.{scaled-Stands}
 use Rattle.sym_model.specs.Sum.{Among}
 use Rattle.sym_model.specs.Partition.{size}
@@ -16,7 +16,7 @@ use Rattle.sym_model.specs.Expansion.{Basis, Fraction, Terms, IsExpansionOf}
 use Rattle.sym_model.specs.Expression.{Tree, degree, denominator, cleared_value}
 use Rattle.sym_model.specs.Weight.{factorial, numerator}
 use Rattle.sym_model.specs.WholeTerms.{WholeTerms}
-use Rattle.sym_model.specs.ListWeight.{IsBounded, factorials}
+use Rattle.sym_model.specs.ListWeight.{IsBounded}
 use Rattle.sym_model.specs.Canonical.{is_reduced}
 use Rattle.sym_model.specs.LabelLimits.{is_label}
 use Rattle.sym_model.proofs.Ring.{one-product, product_assoc}
@@ -32,12 +32,9 @@ use Rattle.whole_lists.specs.LabelSizes.{AreWithin}
 use Rattle.whole_lists.proofs.WholeLists.{found-among}
 use Rattle.whole_lists.proofs.Bounds.{coefficient-list}
 use Rattle.whole_lists.proofs.Quotients.{Quotients, IsDivided-quotients, lowest-zero}
+use Rattle.sym_model.proofs.Integers.{product_cancel}
 use native.Mathlib.Nat.{mul-pos}
 use lib.IntN.{*ℤ_comm, *ℤ-zero}
-
-pub same_factorials : (parts : List ℕ) → majorant.factorials parts ≡ factorials parts
-same_factorials [] = refl
-same_factorials (a ∷ parts) = ap (λ n. factorial a * n) (same_factorials parts)
 
 -- the list is W divided by D·k, and W is k times the polynomials f, of which each is bounded
 module _ (N top D k : ℕ) (W : WholeTerms) (terms : Terms (List ℕ)) (f : ℕ → Poly) (some : 0 < D) (more : 0 < k) (is : IsTable terms) (q : Quotients (D * k) terms W)
@@ -80,7 +77,7 @@ module _ (N top D k : ℕ) (W : WholeTerms) (terms : Terms (List ℕ)) (f : ℕ 
       let s = scaled-Stands D (coefficient (f (length t.0)) t.0) t.1 (stands t m) in
       let e : nat_abs t.1.0 * (D / t.1.1) ≡ nat_abs (coefficient (f (length t.0)) t.0) = sym (unsigned_abs-mul t.1.0 (pos (D / t.1.1))) ∙ ap nat_abs s.1 in (
         mod-eq-zero_of_dvd t.1.1 s.0,
-        subst (λ n. n ≤ N * factorial (size t.0)) (sym (ap₂ ◌*◌ e (sym (same_factorials t.0))))
+        subst (λ n. n ≤ N * factorial (size t.0)) (sym (ap₂ ◌*◌ e refl))
             (coefficient_bound N top (length t.0) (f (length t.0)) (b (length t.0)) t.0 refl),
       )
 

@@ -1,18 +1,18 @@
 -- The partitions of a number one after another, as terms with the coefficient 1.
-use Rattle.std.proofs.Common.{◌≡◌, ℕ, zero, suc, ◌≤◌, List, [], ◌∷◌, ◌++◌, map, replicate, sym, ◌∙◌, ap, subst, refl, inl, inr, arith, append_assoc, pos, cond}
+use Rattle.std.proofs.Common.{◌≡◌, ℕ, ◌≤◌, List, [], ◌∷◌, ◌++◌, map, replicate, sym, ◌∙◌, ap, subst, refl, inl, inr, arith, append_assoc, pos, cond}
 use Rattle.std.specs.Prelude.{Option, Some}
 use Rattle.std.specs.Option.{option_to_list}
 use Rattle.std.proofs.lemmas.List.{map-append}
 use Rattle.sym_model.specs.Sum.{Among, Once}
 use Rattle.sym_model.specs.Polynomial.{Term, same, coefficient}
-use Rattle.sym_model.specs.Partition.{IsPartition, ArePositive, size}
+use Rattle.sym_model.specs.Partition.{IsPartition, size}
 use Rattle.sym_model.specs.PartitionList.{partitions_of}
 use Rattle.sym_model.specs.WholeTerms.{WholeTerms}
 use Rattle.sym_model.proofs.Sums.{total_map, total_none}
 use Rattle.sym_model.proofs.Exponents.{same_apart}
 use Rattle.sym_model.proofs.SortedParts.{rows_within_size}
 use Rattle.sym_model.proofs.PartitionLists.{partitions_of-tells, Once-FallsLexicographically, FallsLexicographically-partitions_within}
-use Rattle.sym_model.proofs.Parts.{size-ones}
+use Rattle.sym_model.proofs.Parts.{size-ones, ArePositive-ones}
 use Rattle.monomial_laws.proofs.AtomTerms.{Falls-ones}
 use Rattle.partitions.specs.Limits.{IsWithinLimits}
 
@@ -70,11 +70,6 @@ coefficient-listed before new d label e =
 pub listed_next : (before new all : List (List ℕ)) (label : List ℕ) → before ++ (label ∷ new) ≡ all → (before ++ label ∷ []) ++ new ≡ all
 listed_next before new all label e = append_assoc before (label ∷ []) new ∙ e
 
--- k ones
-positive-ones : (k : ℕ) → ArePositive (replicate k 1)
-positive-ones zero = tt
-positive-ones (suc k) = (omega arith, positive-ones k)
-
 pub IsWithinLimits-ones : (k : ℕ) → k ≤ 512 → IsWithinLimits (replicate k 1)
 IsWithinLimits-ones k h =
-    IsWithinLimits-low (replicate k 1) (record { falls = Falls-ones k; positive = positive-ones k }) (omega (arith, size-ones k))
+    IsWithinLimits-low (replicate k 1) (record { falls = Falls-ones k; positive = ArePositive-ones k }) (omega (arith, size-ones k))

@@ -13,19 +13,18 @@ use Rattle.sym_model.specs.Polynomial.{Term, same, coefficient}
 use Rattle.sym_model.specs.Expansion.{Fraction, Terms, denominators}
 use Rattle.sym_model.specs.Canonical.{is_reduced}
 use Rattle.sym_model.specs.LabelLimits.{is_label}
-use Rattle.sym_model.specs.WholeTerms.{WholeTerms, numerators, labels}
+use Rattle.sym_model.specs.WholeTerms.{WholeTerms, labels}
 use Rattle.sym_model.proofs.Ring.{ring}
 use Rattle.sym_model.proofs.Sums.{total_none, Among-map}
 use Rattle.sym_model.proofs.Exponents.{same_from, same_apart, same_or_not}
 use Rattle.sym_model.proofs.Orders.{is_reduced-tells}
 use Rattle.sym_model.proofs.Polynomials.{coefficient_plus}
 use Rattle.std.proofs.lemmas.Bool.{and_parts}
-use Rattle.sparse_polys.specs.Combination.{terms_of, are_terms, HasMoreAt}
+use Rattle.sparse_polys.specs.Combination.{are_terms, HasMoreAt}
 use Rattle.sparse_polys.specs.Refusal.{IsRefused}
 use Rattle.sparse_polys.proofs.Steps.{fits-zero_left}
-use Rattle.sparse_polys.proofs.Coefficients.{numerators-terms}
 use Rattle.monomial_laws.proofs.DividedTerms.{IsDivided}
-use Rattle.whole_lists.specs.Tables.{equal, found, IsTable}
+use Rattle.whole_lists.specs.Tables.{equal, found, IsTable, IsWholeTable}
 use Rattle.whole_lists.proofs.WholeLists.{equal_from, equal_apart, found-among, found-absent, Once-keys, Once-labels}
 use Rattle.whole_lists.proofs.PartitionTerms.{once_before}
 use lib.IntN.{+ℤ_idr}
@@ -76,16 +75,13 @@ Quotients-next d old new W label c h q more l = more l ∙ by (same_or_not label
 -- ---- the list on the way through it
 
 -- a label has no coefficient among those before it
-pub coefficient-before : (terms : Terms (List ℕ)) → IsTable terms → (done rest : WholeTerms) (k : List ℕ) (v : ℤ) → terms_of whole (done ++ (k, v) ∷ rest) ≡ terms → coefficient done k ≡ pos 0
+pub coefficient-before : (terms : WholeTerms) → IsWholeTable terms → (done rest : WholeTerms) (k : List ℕ) (v : ℤ) → done ++ (k, v) ∷ rest ≡ terms → coefficient done k ≡ pos 0
 coefficient-before terms is done rest k v e =
     total_none (λ (t : Term). cond (same t.0 k) t.1 (pos 0)) done
     (λ t m. ap (λ b. cond b t.1 (pos 0)) (same_apart t.0 k (λ i. once_before (labels done) (labels rest) k once (subst (λ l. Among l (labels done)) i (Among-map (λ (u : Term). u.0) t done m)))))
   where
-    entries : numerators terms ≡ done ++ (k, v) ∷ rest
-    entries = ap numerators (sym e) ∙ numerators-terms (done ++ (k, v) ∷ rest)
-
     once : Once (labels done ++ (k ∷ labels rest))
-    once = subst (λ (ls : List (List ℕ)). Once ls) (ap labels entries ∙ map-append (λ (u : Term). u.0) done ((k, v) ∷ rest)) (Once-labels terms is)
+    once = subst (λ (ls : List (List ℕ)). Once ls) (ap labels (sym e) ∙ map-append (λ (u : Term). u.0) done ((k, v) ∷ rest)) (Once-labels terms is)
 
 pub not_refused_quotient : (d : ℕ) (a b : Fraction) (z : ℤ) → 0 < d → z ≡ pos 0 → a ≡ lowest_terms z d → IsRefused IsFraction (λ (r : Fraction). r) checked_fraction_sum a b → ⊥
 not_refused_quotient d a b z h e q r =

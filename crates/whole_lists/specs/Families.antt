@@ -1,4 +1,5 @@
--- The three families of symmetric polynomials that are multiplied over the parts of a partition (Macdonald, I.2).
+-- The three families of symmetric polynomials that are multiplied over the parts of a partition
+-- (Macdonald, I.2).
 use Rattle.std.specs.Prelude.{ℕ}
 use Rattle.sym_model.specs.Polynomial.{Poly}
 use Rattle.sym_model.specs.Bases.{elementary_of, complete_of, power_sum_of}

@@ -15,9 +15,11 @@ pub record HasLarge (terms : WholeTerms) : Type 0 where
 -- a multiple of one of the lists, or the sum of both multiples, has such a coefficient
 abbrev pub SumIsLarge : WholeTerms → WholeTerms → ℤ → ℤ → Type 0
 SumIsLarge first second p q =
-    HasLarge (scale p first) ⊎ HasLarge (scale q second) ⊎ HasLarge (plus (scale p first) (scale q second))
+    HasLarge (scale p first) ⊎ HasLarge (scale q second)
+    ⊎ HasLarge (plus (scale p first) (scale q second))
 
 -- the product of the lists with the absolute values as coefficients has such a coefficient
 abbrev pub ProductIsLarge : WholeTerms → WholeTerms → Type 0
 ProductIsLarge first second =
-    (ν : List ℕ) × IsPartition ν × (pos (2 ^ 127) ≤ℤ product_coefficient (absolute first) (absolute second) ν)
+    (ν : List ℕ) × IsPartition ν × (pos (2 ^ 127)
+    ≤ℤ product_coefficient (absolute first) (absolute second) ν)

@@ -2,10 +2,9 @@
 ghost use Rattle.std.specs.Prelude.{◌≡◌, ℕ, List, ◌<◌, ◌^◌, IfOk, IsErrOf};
 ghost use Rattle.coeff_rings.specs.Fractions.{lowest_terms};
 ghost use Rattle.sym_model.specs.Polynomial.{coefficient};
-ghost use Rattle.sym_model.specs.WholeTerms.{numerators};
 ghost use Rattle.whole_lists.specs.Tables.{found, IsTable};
 
-use crate::whole::{Whole, is_whole};
+use crate::whole::Whole;
 use calc_base::SumFault;
 use coeff_rings::Frac;
 use partitions::Partition;
@@ -13,15 +12,15 @@ use sparse_polys::Lin;
 use std::alloc::Global;
 use whole_numbers::quotient_of;
 
-/// The list with each coefficient divided by the number, which is positive and below 2^127. It is never refused as `Large`.
+/// The list with each coefficient divided by the number, which is positive and below 2^127. It is
+/// never refused as `Large`.
 pub fn divided(alloc: Global, terms: &Whole, den: u128) -> Result<Lin<Partition, Frac>, SumFault>
     requires { (0 < den) × (den < 2 ^ 127) }
     ensures value { IfOk result (λ list. (label : List ℕ)
-        → found list label ≡ lowest_terms (coefficient (numerators terms.now) label) den) }
+        → found list label ≡ lowest_terms (coefficient terms.now label) den) }
     ensures table { IfOk result IsTable }
     ensures small { ¬ IsErrOf result SumFault.Large }
 {
-    is_whole(terms);
     let mut list = Lin::new(alloc);
     for (label, c) in terms.iter() {
         list.add_term(label.copy()?, quotient_of(*c, den))?;

@@ -12,4 +12,4 @@ mod whole;
 
 pub use division::divided;
 pub use family::Family;
-pub use whole::{Whole, is_whole, single, sum_of};
+pub use whole::{Whole, single, sum_of};

@@ -18,11 +18,13 @@ pub struct Common {
     pub from_right: i128,
 }
 
-/// The least common multiple of two denominators, which are below 2^127; none where it is 2^127 or more.
+/// The least common multiple of two denominators, which are below 2^127;
+/// none where it is 2^127 or more.
 pub fn common_denominator(a: u128, b: u128) -> Option<Common>
     requires left { (0 < a) × (a < 2 ^ 127) }
     requires right { (0 < b) × (b < 2 ^ 127) }
-    ensures { MatchOption result (2 ^ 127 ≤ lcm a b) (λ c. (c.den ≡ lcm a b) × (c.den < 2 ^ 127) × (0 < c.den)
+    ensures { MatchOption result (2 ^ 127 ≤ lcm a b)
+        (λ c. (c.den ≡ lcm a b) × (c.den < 2 ^ 127) × (0 < c.den)
         × (c.from_left ≡ pos (lcm a b / a)) × (c.from_right ≡ pos (lcm a b / b))) }
 {
     let divisor = gcd(a, b);

@@ -1,20 +1,17 @@
 -- Each command has words, and the expression of an `expand` without offence is within its target's degree.
-use Rattle.std.proofs.Common.{◌≡◌, ℕ, arith, None, ◌+◌, ◌≤◌, nat_lt, Bool, true, false, cond, List, [], ◌∷◌, ◌++◌, map, length, refl, sym, subst, inl, inr}
-use Rattle.std.proofs.lemmas.Bool.{ltb-false}
+use Rattle.std.proofs.Common.{◌≡◌, arith, None, ◌+◌, ◌≤◌, Bool, List, [], ◌∷◌, length, sym, subst, inl, inr}
 use Rattle.sym_model.specs.Expansion.{Basis, monomials}
 use Rattle.sym_model.specs.Expression.{Tree, number, degree}
-use Rattle.sym_model.specs.Phrase.{Phrase, tree, spelling}
-use Rattle.sym_model.specs.ExpressionOffence.{WordOffence, range, degree_limit, offences_at, marks, offences_of_whole, offences}
-use Rattle.sym_model.specs.Sum.{each}
+use Rattle.sym_model.specs.ExpressionOffence.{degree_limit}
 use Rattle.sym_model.specs.Form.{Written, words_of, EachOf, Has}
 use Rattle.sym_model.specs.WordForms.{optional, form_words}
 use Rattle.sym_model.specs.Command.{Command, expand}
-use Rattle.sym_model.specs.CommandOffence.{Offence, first_offence, expression_offences}
+use Rattle.sym_model.specs.CommandOffence.{first_offence}
 use Rattle.sym_model.specs.Entry.{Entry, SpellsWithoutOffence}
 use Rattle.sym_model.specs.Grammar.{entries_of, expand_entry}
 use Rattle.word_laws.specs.Reading.{forms_of}
 use Rattle.word_laws.proofs.LongestPrefixes.{CanBe, some_words}
-use Rattle.word_laws.proofs.FirstOffences.{first_none}
+use Rattle.word_laws.proofs.NoOffences.{within_degree}
 use Rattle.word_laws.specs.Words.{Words}
 
 each_has : (entries : List Entry) → CanBe (forms_of entries) → EachOf (λ (e : Entry). (words : Words) × Has e.form words) entries
@@ -23,7 +20,7 @@ each_has (e ∷ entries) c = (some_words e.form c.0, each_has entries c.1)
 
 pub has_words : (basis : Basis) (bases : List Basis) → EachOf (λ (e : Entry). (words : Words) × Has e.form words) (entries_of (basis ∷ bases))
 has_words basis bases =
-    each_has (entries_of (basis ∷ bases)) (refl, (refl, (refl, (refl, (refl, (refl, (refl, (refl, (refl, (refl, (refl, (refl, (refl, (refl, (refl, (refl, (refl, (refl, (refl, tt)))))))))))))))))))
+    let can : CanBe (forms_of (entries_of (basis ∷ bases))) = search parts 64 in each_has (entries_of (basis ∷ bases)) can
 
 -- the target and the expression of an expand
 abbrev target_of : Command → Basis
@@ -38,35 +35,9 @@ expression_of _ = number 0
 abbrev Within : Entry → Type 0
 Within e = (x : Written e.form) → first_offence (e.offends x) ≡ None → degree (expression_of (e.says x)) ≤ degree_limit (target_of (e.says x))
 
-no_append : {A : Type 0} (xs ys : List A) → xs ++ ys ≡ [] → (xs ≡ []) × (ys ≡ [])
-no_append [] ys h = (refl, h)
-no_append (x ∷ xs) ys h = cc
-
-no_map : {A B : Type 0} (f : A → B) (os : List A) → map f os ≡ [] → os ≡ []
-no_map f [] h = refl
-no_map f (o ∷ os) h = cc
-
-abbrev placed : ℕ → WordOffence → Offence
-placed k o = (k, o.0, o.1)
-
-not_past : (limit d : ℕ) (o : WordOffence) → cond (nat_lt limit d) (o ∷ []) [] ≡ [] → d ≤ limit
-not_past limit d o h = ltb-false limit d (by (nat_lt limit d) h)
-  where
-    by : (b : Bool) → cond b (o ∷ []) [] ≡ [] → b ≡ false
-    by true h = cc
-    by false h = refl
-
--- an expression without offence is within the degree of its target
-pub within_degree : (target : Basis) (phrase : Phrase) → offences target phrase ≡ [] → degree (tree phrase) ≤ degree_limit target
-within_degree target phrase h =
-    let whole = (no_append (each offences_at (marks 0 0 phrase)) (offences_of_whole target phrase) h).1 in
-    let past = (no_append (cond (nat_lt 4096 (length (spelling phrase))) ((4096, range) ∷ []) []) (cond (nat_lt (degree_limit target) (degree (tree phrase))) ((length (spelling phrase), range) ∷ []) []) whole).1 in
-    not_past (degree_limit target) (degree (tree phrase)) (length (spelling phrase), range) past
-
 expand_within : (bases : List Basis) → Within (expand_entry bases)
 expand_within bases x h =
-    let k = 2 + length (words_of (optional form_words) x.1.0) in
-    within_degree x.1.1.0 x.1.1.1 (no_map (placed k) (offences x.1.1.0 x.1.1.1) (first_none (expression_offences k x.1.1.0 x.1.1.1) h))
+    within_degree (2 + length (words_of (optional form_words) x.1.0)) (degree_limit x.1.1.0) x.1.1.1 h
 
 no_expression : degree (number 0) ≤ degree_limit monomials
 no_expression = omega arith

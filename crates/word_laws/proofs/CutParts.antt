@@ -1,12 +1,14 @@
 -- The parts of commands at the front of words, and where words go wrong in their place.
-use Rattle.std.proofs.Common.{◌≡◌, ℕ, List, [], ◌∷◌, ◌++◌, length, refl, sym, ap, ◌∙◌, subst, arith, inl, inr}
+use Rattle.std.proofs.Common.{◌≡◌, ℕ, true, List, [], ◌∷◌, ◌++◌, length, refl, sym, ap, ◌∙◌, subst, arith, inl, inr, flat_map}
 use Rattle.std.specs.Prelude.{codes}
-use Rattle.sym_model.specs.Sum.{each}
-use Rattle.sym_model.specs.Form.{Class, exact, number, target, formula, WrittenWord, word_of, MayBe, word, EachOf, May}
+use Rattle.sym_model.specs.Expansion.{Basis, monomials, elementaries, completes, power_sums, schurs}
+use Rattle.sym_model.specs.Grammar.{all_bases}
+use Rattle.sym_model.specs.Phrase.{Phrase, SpellsPhrase, letter}
+use Rattle.sym_model.specs.Form.{Class, exact, number, target, formula, WrittenWord, word_of, MayBe, word, SomeOf, EachOf, May, is_letter_of}
 use Rattle.sym_model.specs.WordForms.{the, optional, rows_words, form_words, partition_words, permutation_words}
 use Rattle.word_laws.specs.FirstWords.{IsNumber, BeginsOtherwise}
 use Rattle.word_laws.specs.Words.{Words}
-use Rattle.word_laws.proofs.Classes.{number_sound, number_complete}
+use Rattle.word_laws.proofs.Classes.{number_sound, number_complete, letter_complete}
 use Rattle.word_laws.proofs.Readings.{OfOne, Unlike}
 use Rattle.word_laws.proofs.Cuts.{IsTaken, StopsIn, ends_unlike, stops_first, stops_right, optional_taken, optional_absent, optional_stops}
 
@@ -34,56 +36,85 @@ unlike_nothing words = unlike_kind (λ t. ⊥) [] words (λ t o. o.among) (nothi
     nothing [] = tt
     nothing (t ∷ ws) = λ n. n
 
-of_number : (t : List ℕ) → OfOne (number ∷ []) t → IsNumber t
-of_number t o = elim (o.among) as (λ m. IsNumber t) [
-  | inl e ↦ subst IsNumber (sym o.spelled) (is_number o.class o.written o.allowed e)
+-- a word of a class is of a kind of which each that is written is
+of_class : (c : Class) (P : List ℕ → Type 0) → ((x : WrittenWord c) → MayBe c x → P (word_of c x)) → (t : List ℕ) → OfOne (c ∷ []) t → P t
+of_class c P h t o = elim (o.among) as (λ m. P t) [
+  | inl e ↦ subst P (sym o.spelled) (subst (λ k. (x : WrittenWord k) → MayBe k x → P (word_of k x)) (sym e) h o.written o.allowed)
   | inr m ↦ absurd m
 ]
 
-of_text : (text t : List ℕ) → OfOne (exact text ∷ []) t → t ≡ text
-of_text text t o = elim (o.among) as (λ m. t ≡ text) [ inl e ↦ o.spelled ∙ is_exact o.class o.written text e | inr m ↦ absurd m ]
-
 unlike_numbers : (words : Words) → BeginsOtherwise IsNumber words → Unlike (number ∷ []) words
-unlike_numbers words b = unlike_kind IsNumber (number ∷ []) words of_number b
+unlike_numbers words b = unlike_kind IsNumber (number ∷ []) words (of_class number IsNumber number_complete) b
 
 pub unlike_text : (text : List ℕ) (words : Words) → BeginsOtherwise (λ t. t ≡ text) words → Unlike (exact text ∷ []) words
-unlike_text text words b = unlike_kind (λ t. t ≡ text) (exact text ∷ []) words (of_text text) b
+unlike_text text words b =
+    unlike_kind (λ t. t ≡ text) (exact text ∷ []) words (of_class (exact text) (λ t. t ≡ text) (λ x m. refl)) b
 
 -- number words as what is written of them
 pub may_be : (ns : Words) → EachOf IsNumber ns → EachOf (May (word number)) ns
 may_be [] e = tt
 may_be (t ∷ ns) e = (number_sound t e.0, may_be ns e.1)
 
-pub singles : (ns : Words) → each (λ t. t ∷ []) ns ≡ ns
+pub singles : (ns : Words) → flat_map (λ t. t ∷ []) ns ≡ ns
 singles [] = refl
 singles (t ∷ ns) = ap (λ ws. t ∷ ws) (singles ns)
 
 -- ---- a word, a number, numbers, letters
 
-pub the_taken : (text : List ℕ) (piece rest words : Words) → piece ≡ text ∷ [] → words ≡ text ∷ rest → IsTaken (the text) piece rest words
-the_taken text piece rest words p e = record {
-  written = tt;
-  allowed = tt;
+-- a word of a class
+word_taken : (c : Class) (x : WrittenWord c) (piece rest words : Words) → MayBe c x → piece ≡ word_of c x ∷ [] → words ≡ word_of c x ∷ rest
+    → IsTaken (word c) piece rest words
+word_taken c x piece rest words m p e = record {
+  written = x;
+  allowed = m;
   piece_is = p;
   words_are = e ∙ ap (λ us. us ++ rest) (sym p);
-  ends = ends_unlike (the text) refl tt tt rest (unlike_nothing rest);
+  ends = ends_unlike (word c) refl x m rest (unlike_nothing rest);
 }
+
+pub the_taken : (text : List ℕ) (piece rest words : Words) → piece ≡ text ∷ [] → words ≡ text ∷ rest → IsTaken (the text) piece rest words
+the_taken text piece rest words p e = word_taken (exact text) tt piece rest words tt p e
 
 pub the_wrong : (text : List ℕ) (words : Words) → BeginsOtherwise (λ t. t ≡ text) words → StopsIn (the text) words (length words)
 the_wrong text words b = stops_first (the text) words refl refl (unlike_text text words b)
 
 pub number_taken : (digits : List ℕ) (piece rest words : Words) → IsNumber digits → piece ≡ digits ∷ [] → words ≡ digits ∷ rest
     → IsTaken (word number) piece rest words
-number_taken digits piece rest words n p e = record {
-  written = digits;
-  allowed = number_sound digits n;
-  piece_is = p;
-  words_are = e ∙ ap (λ us. us ++ rest) (sym p);
-  ends = ends_unlike (word number) refl digits (number_sound digits n) rest (unlike_nothing rest);
-}
+number_taken digits piece rest words n p e = word_taken number digits piece rest words (number_sound digits n) p e
 
 pub number_wrong : (words : Words) → BeginsOtherwise IsNumber words → StopsIn (word number) words (length words)
 number_wrong words b = stops_first (word number) words refl refl (unlike_numbers words b)
+
+-- the letter of a basis, an expression
+pub is_basis : (t : Basis) → SomeOf (λ b. t ≡ b) all_bases
+is_basis monomials = inl refl
+is_basis elementaries = inr (inl refl)
+is_basis completes = inr (inr (inl refl))
+is_basis power_sums = inr (inr (inr (inl refl)))
+is_basis schurs = inr (inr (inr (inr (inl refl))))
+
+pub letter_taken : (basis : Basis) (rest words : Words) → words ≡ letter basis ∷ rest → IsTaken (word (target all_bases)) (letter basis ∷ []) rest words
+letter_taken basis rest words e = word_taken (target all_bases) basis (letter basis ∷ []) rest words (is_basis basis) refl e
+
+pub letter_wrong : (words : Words) → BeginsOtherwise (λ t. is_letter_of all_bases t ≡ true) words
+    → StopsIn (word (target all_bases)) words (length words)
+letter_wrong words b =
+    stops_first (word (target all_bases)) words refl refl
+    (unlike_kind (λ t. is_letter_of all_bases t ≡ true) (target all_bases ∷ []) words
+    (of_class (target all_bases) (λ t. is_letter_of all_bases t ≡ true) (letter_complete all_bases)) b)
+
+abbrev pub IsExpressionText : List ℕ → Type 0
+IsExpressionText text = (phrase : Phrase) × SpellsPhrase text phrase
+
+pub expression_taken : (text : List ℕ) (rest words : Words) → IsExpressionText text → words ≡ text ∷ rest → IsTaken (word formula) (text ∷ []) rest words
+expression_taken text rest words p e =
+    word_taken formula p.0 (text ∷ []) rest words p.1.allowed (ap (λ t. t ∷ []) p.1.spelled) (e ∙ ap (λ t. t ∷ rest) p.1.spelled)
+
+pub expression_wrong : (words : Words) → BeginsOtherwise IsExpressionText words → StopsIn (word formula) words (length words)
+expression_wrong words b =
+    stops_first (word formula) words refl refl
+    (unlike_kind IsExpressionText (formula ∷ []) words
+    (of_class formula IsExpressionText (λ x m. (x, record { allowed = m; spelled = refl }))) b)
 
 pub numbers_taken : (ns rest words : Words) → words ≡ ns ++ rest → EachOf IsNumber ns → BeginsOtherwise IsNumber rest
     → IsTaken partition_words ns rest words

@@ -1,18 +1,21 @@
 -- Words of one form after another at the front of words, and where words go wrong that are none of a form.
-use Rattle.std.proofs.Common.{◌≡◌, ℕ, zero, suc, ◌+◌, ◌-◌, ◌<◌, ◌≤◌, Bool, true, false, ◌&&◌, cond, List, [], ◌∷◌, ◌++◌, append_assoc, length, length-append, take, refl, sym, ap, ◌∙◌, subst, arith, inl, inr}
+use Rattle.std.proofs.Common.{◌≡◌, ℕ, zero, suc, ◌+◌, ◌-◌, ◌<◌, ◌≤◌, Bool, true, false, ◌&&◌, cond, List, [], ◌∷◌, ◌++◌, append_assoc, length, length-append, take, refl, sym, ap, ◌∙◌, subst, arith, ◌⊎◌, inl, inr}
 use Rattle.std.proofs.lemmas.Bool.{and_parts}
 use Rattle.std.proofs.lemmas.List.{append-nil}
-use Rattle.std.proofs.Math.Seq.{take-append_seam, take-append-add}
+use Rattle.std.proofs.Math.Seq.{take-append_seam, take-append-add, get_or-append_seam}
+use Rattle.std.specs.Prelude.{slice_index_or}
+use Rattle.sym_model.specs.LongestPrefix.{IsLongestPrefix}
+use Rattle.sym_model.specs.Phrase.{Phrase, SpellsPhrase, BeginsExpression}
 use Rattle.sym_model.specs.Entry.{Entry}
 use Rattle.sym_model.specs.Form.{Class, exact, number, target, formula, Form, empty, word, sequence, either, many, Written, words_of, May, Has, Begins, Awaits, is_skippable, can_be}
-use Rattle.sym_model.specs.SyntaxPlace.{IsSyntaxPlace}
+use Rattle.sym_model.specs.SyntaxPlace.{IsExpressionWord, IsSyntaxByte, IsSyntaxPlace}
 use Rattle.sym_model.specs.WordForms.{optional}
 use Rattle.expression_laws.proofs.PhraseRuns.{one_phrase}
 use Rattle.word_laws.specs.OneReading.{are_apart, firsts, continuing, is_unambiguous}
 use Rattle.word_laws.specs.Words.{Words}
 use Rattle.word_laws.proofs.Derivatives.{Parts, has_sequence, sequence_parts, skippable}
 use Rattle.word_laws.proofs.LongestPrefixes.{some_words}
-use Rattle.word_laws.proofs.Readings.{Unlike, View, none, some, view, unlike, unlike_word, of_left, of_right, of_cond, unlike_front, first_word, reads_once}
+use Rattle.word_laws.proofs.Readings.{OfOne, Unlike, View, none, some, view, unlike, unlike_word, of_left, of_right, of_cond, unlike_front, first_word, never_both, reads_once}
 
 -- the list is empty or has the first word of the other
 abbrev pub StartsAs : Words → Words → Type 0
@@ -374,7 +377,7 @@ is_plain (sequence f g) = is_plain f && is_plain g
 is_plain (either f g) = is_plain f && is_plain g
 is_plain (many f) = is_plain f
 
-none_awaited : (f : Form) (ws : Words) → is_plain f ≡ true → Awaits f ws → ⊥
+pub none_awaited : (f : Form) (ws : Words) → is_plain f ≡ true → Awaits f ws → ⊥
 none_awaited empty ws h a = a
 none_awaited (word (exact text)) ws h a = a
 none_awaited (word number) ws h a = a
@@ -386,21 +389,184 @@ none_awaited (either f g) ws h (inl a) = none_awaited f ws (and_parts (is_plain 
 none_awaited (either f g) ws h (inr a) = none_awaited g ws (and_parts (is_plain f) (is_plain g) h).1 a
 none_awaited (many f) ws h a = none_awaited f a.1 h a.4
 
+-- ---- the byte of the wrong word
+
+-- a word follows those before, and an expression is awaited there
+abbrev pub IsAwaited : Form → Words → Words → Type 0
+IsAwaited f before after = (t : List ℕ) × (rest : Words) × (after ≡ t ∷ rest) × Awaits f before
+
+-- the byte at which the word after those before is wrong: after its longest prefix that begins an expression, if one is
+-- awaited there; 0 elsewhere
+abbrev pub IsByte : Form → Words → Words → ℕ → Type 0
+IsByte f before after byte =
+    ((a : IsAwaited f before after) × IsLongestPrefix BeginsExpression a.0 byte) ⊎ ((IsAwaited f before after → ⊥) × (byte ≡ 0))
+
+-- the words are none of the form, and first fail at this byte of the word from which on so many are left
+abbrev pub IsWrongAt : Form → Words → ℕ → ℕ → Type 0
+IsWrongAt f words left byte = (w : GoesWrong f words left) × IsByte f w.before w.after byte
+
+-- in a form with no expression
+pub plain_byte : (f : Form) (before after : Words) → is_plain f ≡ true → IsByte f before after 0
+plain_byte f before after h = inr (λ a. none_awaited f before h a.3, refl)
+
+-- in the place of an expression
+pub expression_byte : (words : Words) (left byte : ℕ) (w : StopsIn (word formula) words left)
+    → ((t : List ℕ) (rest : Words) → words ≡ t ∷ rest → ((phrase : Phrase) × SpellsPhrase t phrase) ⊎ IsLongestPrefix BeginsExpression t byte)
+    → (words ≡ [] → byte ≡ 0) → IsByte (word formula) w.0.before w.0.after byte
+expression_byte words left byte w l z = at (view w.0.before)
+  where
+    none_before : (t : List ℕ) (us : Words) → w.0.before ≡ t ∷ us → ⊥
+    none_before t us e =
+        let k = sym (ap (λ ws. ws ++ w.0.begins.0) e) ∙ w.0.begins.1.spelled in
+        w.1 w.0.before [] (sym (append-nil w.0.before))
+        (record { written = w.0.begins.1.written; allowed = w.0.begins.1.allowed; spelled = e ∙ lone us w.0.begins.0 k }) tt
+      where
+        lone : (us rest : Words) {u : List ℕ} → (t ∷ us) ++ rest ≡ u ∷ [] → t ∷ us ≡ u ∷ []
+        lone [] rest h = cc
+        lone (v ∷ us) rest h = cc
+
+    at : View w.0.before → IsByte (word formula) w.0.before w.0.after byte
+    at (some t us e) = absurd (none_before t us e)
+    at (none e) = by (view words)
+      where
+        all : words ≡ w.0.after
+        all = w.0.words_are ∙ ap (λ us. us ++ w.0.after) e
+
+        by : View words → IsByte (word formula) w.0.before w.0.after byte
+        by (none i) = inr (λ a. let k = sym i ∙ all ∙ a.2 in cc, z i)
+        by (some t rest i) = one (l t rest i)
+          where
+            one : ((phrase : Phrase) × SpellsPhrase t phrase) ⊎ IsLongestPrefix BeginsExpression t byte → IsByte (word formula) w.0.before w.0.after byte
+            one (inr p) = inl ((t, rest, sym all ∙ i, e), p)
+            one (inl p) =
+                absurd (w.0.stops t rest (sym all ∙ i) (
+                  [],
+                  record { written = p.0; allowed = p.1.allowed; spelled = ap (λ us. (us ++ t ∷ []) ++ []) e ∙ ap (λ u. u ∷ []) p.1.spelled },
+                ))
+
+-- the first word of those after which one is awaited
+awaits_first : (g : Form) (ws : Words) → Awaits g ws → (t : List ℕ) (more : Words) → ws ≡ t ∷ more → OfOne (firsts g) t
+awaits_first empty ws a t more e = absurd a
+awaits_first (word (exact text)) ws a t more e = absurd a
+awaits_first (word number) ws a t more e = absurd a
+awaits_first (word (target bases)) ws a t more e = absurd a
+awaits_first (word formula) ws a t more e = cc
+awaits_first (either f g) ws (inl a) t more e = of_left (firsts f) (firsts g) t (awaits_first f ws a t more e)
+awaits_first (either f g) ws (inr a) t more e = of_right (firsts f) (firsts g) t (awaits_first g ws a t more e)
+awaits_first (sequence f g) ws (inl a) t more e =
+    of_left (firsts f) (cond (is_skippable f) (firsts g) []) t (awaits_first f ws a t more e)
+awaits_first (sequence f g) ws (inr (us, vs, i, h, a)) t more e = by (view (words_of f h.written)) (awaits_first g vs a)
+  where
+    by : View (words_of f h.written) → ((t : List ℕ) (more : Words) → vs ≡ t ∷ more → OfOne (firsts g) t) → OfOne (firsts (sequence f g)) t
+    by (none j) again =
+        of_right (firsts f) (cond (is_skippable f) (firsts g) []) t
+        (of_cond (is_skippable f) (firsts g) t (skippable f h.written j) (again t more (sym (i ∙ ap (λ ts. ts ++ vs) (h.spelled ∙ j)) ∙ e)))
+    by (some z zs j) again =
+        let k = sym e ∙ i ∙ ap (λ ts. ts ++ vs) (h.spelled ∙ j) in
+        let same : z ≡ t = cc in
+        of_left (firsts f) (cond (is_skippable f) (firsts g) []) t (first_word f h.written h.allowed t zs (j ∙ ap (λ y. y ∷ zs) same))
+awaits_first (many f) ws (us, vs, i, h, a) t more e = by (view (words_of (many f) h.written)) (awaits_first f vs a)
+  where
+    by : View (words_of (many f) h.written) → ((t : List ℕ) (more : Words) → vs ≡ t ∷ more → OfOne (firsts f) t) → OfOne (firsts f) t
+    by (none j) again = again t more (sym (i ∙ ap (λ ts. ts ++ vs) (h.spelled ∙ j)) ∙ e)
+    by (some z zs j) again =
+        let k = sym e ∙ i ∙ ap (λ ts. ts ++ vs) (h.spelled ∙ j) in
+        let same : z ≡ t = cc in
+        first_word (many f) h.written h.allowed t zs (j ∙ ap (λ y. y ∷ zs) same)
+
+awaits_unlike : (cs : List Class) (g : Form) (ws : Words) → are_apart cs (firsts g) ≡ true → Awaits g ws → Unlike cs ws
+awaits_unlike cs g [] h a = tt
+awaits_unlike cs g (t ∷ ws) h a = λ o. never_both cs (firsts g) t h o (awaits_first g (t ∷ ws) a t ws refl)
+
+byte_on : (f g : Form) (b c after : Words) (byte : ℕ) → (Awaits f b → Awaits g c) → (Awaits g c → Awaits f b) → IsByte f b after byte → IsByte g c after byte
+byte_on f g b c after byte h k (inl (a, l)) = inl ((a.0, a.1, a.2, h a.3), l)
+byte_on f g b c after byte h k (inr (n, z)) = inr (λ a. n (a.0, a.1, a.2, k a.3), z)
+
+-- after words of the form no expression is awaited in it
+abbrev pub IsSettled : Form → Words → Type 0
+IsSettled f p = (us : Words) → Awaits f (p ++ us) → ⊥
+
+pub wrong_at_right : (f g : Form) (p rest ws : Words) (left byte : ℕ) → are_apart (continuing f) (firsts g) ≡ true → IsTaken f p rest ws
+    → IsSettled f p → IsWrongAt g rest left byte → IsWrongAt (sequence f g) ws left byte
+unfolding wrong_right
+wrong_at_right f g p rest ws left byte a k settled (w, b) = (
+  wrong_right f g p rest ws left a k w,
+  byte_on g (sequence f g) w.before (p ++ w.before) w.after byte (λ x. inr (p, w.before, refl, taken_has f p rest ws k, x)) back b,
+)
+  where
+    back : Awaits (sequence f g) (p ++ w.before) → Awaits g w.before
+    back (inl x) = absurd (settled w.before x)
+    back (inr (us, vs, e, h, x)) =
+        let s = k.ends h.written w.before vs h.allowed (subst (StartsAs w.before) (sym w.words_are) (starts_front w.before w.after))
+        (ap (λ ts. ts ++ w.before) (sym k.piece_is) ∙ e ∙ ap (λ ts. ts ++ vs) h.spelled) (awaits_unlike (continuing f) g vs a x) in
+        subst (Awaits g) (sym s) x
+
+pub wrong_at_left : (f g : Form) (words : Words) (left byte : ℕ) → are_apart (continuing f) (firsts g) ≡ true → can_be g ≡ true
+    → (w : StopsIn f words left) → IsByte f w.0.before w.0.after byte → IsWrongAt (sequence f g) words left byte
+unfolding stops_left
+wrong_at_left f g words left byte a c w b = (
+  (stops_left f g words left a c w).0,
+  byte_on f (sequence f g) w.0.before w.0.before w.0.after byte inl back b,
+)
+  where
+    back : Awaits (sequence f g) w.0.before → Awaits f w.0.before
+    back (inl x) = x
+    back (inr (us, vs, e, h, x)) = absurd (w.1 us vs e h (awaits_unlike (continuing f) g vs a x))
+
+pub wrong_at_end : (ws : Words) → 0 < length ws → IsWrongAt empty ws (length ws) 0
+wrong_at_end ws l = (end_wrong ws l, plain_byte empty (end_wrong ws l).before (end_wrong ws l).after refl)
+
+pub left_over_at : (f : Form) (p rest ws : Words) (left byte : ℕ) → IsTaken f p rest ws → IsSettled f p → IsWrongAt empty rest left byte
+    → IsWrongAt f ws left byte
+unfolding left_over
+left_over_at f p rest ws left byte k settled (w, inl (a, l)) = absurd a.3
+left_over_at f p rest ws left byte k settled (w, inr (n, z)) =
+    (left_over f p rest ws left k w, inr (λ a. settled [] (subst (Awaits f) (sym (append-nil p)) a.3), z))
+
 -- words of one command alone go wrong there
-pub wrong_place : (e : Entry) (words : Words) (left : ℕ) → is_plain e.form ≡ true → GoesWrong e.form words left
-    → IsSyntaxPlace (e ∷ []) words (length words - left) 0
-wrong_place e words left p w =
-    subst (λ n. IsSyntaxPlace (e ∷ []) words n 0) place
+pub wrong_place : (e : Entry) (words : Words) (left byte : ℕ) → IsWrongAt e.form words left byte
+    → IsSyntaxPlace (e ∷ []) words (length words - left) byte
+wrong_place e words left byte (w, b) =
+    subst (λ n. IsSyntaxPlace (e ∷ []) words n byte) place
     (record {
       no_command = λ command s. elim s [ inl h ↦ w.is_none h.has | inr h ↦ h ];
       word_is = record {
         within = let l = ap length w.words_are in let n = length-append w.before w.after in omega (arith, l, n);
-        begins = inl (subst (Begins e.form) (sym (ap (take (length w.before)) w.words_are ∙ take-append_seam w.before w.after)) w.begins);
+        begins = inl (subst (Begins e.form) (sym front) w.begins);
         longest = λ j l b. elim b [ inl h ↦ longest j l h | inr h ↦ absurd h ];
       };
-      byte_is = inr ((λ h. elim h.awaited [ inl a ↦ none_awaited e.form (take (length w.before) words) p a | inr a ↦ a ]), refl);
+      byte_is = byte_is b;
     })
   where
+    front : take (length w.before) words ≡ w.before
+    front = ap (take (length w.before)) w.words_are ∙ take-append_seam w.before w.after
+
+    there : (after : Words) → w.after ≡ after → length w.before < length words → (t : List ℕ) × (rest : Words) × (w.after ≡ t ∷ rest)
+    there [] k l =
+        let m = ap length w.words_are in
+        let n = length-append w.before w.after in
+        let o = ap length k in
+        absurd (omega (arith, l, m, n, o))
+    there (t ∷ rest) k l = (t, rest, k)
+
+    byte_is : IsByte e.form w.before w.after byte → IsSyntaxByte (e ∷ []) words (length w.before) byte
+    byte_is (inl (a, l)) =
+        let k = ap length w.words_are in
+        let n = length-append w.before w.after in
+        let o = ap length a.2 in
+        inl (
+          record { is_there = omega (arith, k, n, o); awaited = inl (subst (Awaits e.form) (sym front) a.3) },
+          subst (λ t. IsLongestPrefix BeginsExpression t byte)
+              (sym (ap (λ ws. slice_index_or ws (length w.before) []) (w.words_are ∙ ap (λ us. w.before ++ us) a.2) ∙ get_or-append_seam w.before a.0 a.1 []))
+              l,
+        )
+    byte_is (inr (n, z)) = inr (none, z)
+      where
+        none : IsExpressionWord (e ∷ []) words (length w.before) → ⊥
+        none h =
+            let t = there w.after refl h.is_there in
+            elim h.awaited [ inl a ↦ n (t.0, t.1, t.2, subst (Awaits e.form) front a) | inr a ↦ a ]
+
     place : length w.before ≡ length words - left
     place =
         let l = ap length w.words_are in

@@ -1,8 +1,8 @@
 -- Derivatives of forms: what follows a word is of the form's derivatives by it, so that the words taken are the longest
 -- prefix that begins words of a form.
-use Rattle.std.proofs.Common.{◌≡◌, ℕ, Bool, true, false, cond, List, [], ◌∷◌, ◌++◌, map, refl, sym, ap, ◌∙◌, subst, ◌⊎◌, inl, inr}
+use Rattle.std.proofs.Common.{◌≡◌, ℕ, Bool, true, false, cond, List, [], ◌∷◌, ◌++◌, map, refl, sym, ap, ◌∙◌, subst, ◌⊎◌, inl, inr, flat_map}
 use Rattle.std.proofs.lemmas.Bool.{and_parts, and_from, or_cases, or_left, or_right}
-use Rattle.sym_model.specs.Sum.{each, Among}
+use Rattle.sym_model.specs.Sum.{Among}
 use Rattle.sym_model.proofs.Sums.{Among-append_left, Among-append_right, Among_from_append, Among-map, Among_from_map}
 use Rattle.sym_model.specs.Form.{Form, empty, word, sequence, either, many, Written, word_of, words_of, May, Has, fits, is_skippable, derivatives, TellsExpressions}
 use Rattle.word_laws.proofs.Classes.{fits_sound, fits_complete}
@@ -177,9 +177,9 @@ sequence_complete reads f g l r x a text ws h = by (splits (words_of f x.0) (wor
 many_complete : (reads : List ℕ → Bool) (f : Form) → CompleteAt reads f → CompleteAt reads (many f)
 many_complete reads f l [] a text ws h = cc
 many_complete reads f l (x ∷ xs) a text ws h =
-    by (splits (words_of f x) (each (words_of f) xs) text ws h) (many_complete reads f l xs a.1 text ws)
+    by (splits (words_of f x) (flat_map (words_of f) xs) text ws h) (many_complete reads f l xs a.1 text ws)
   where
-    by : Splits (words_of f x) (each (words_of f) xs) text ws → (each (words_of f) xs ≡ text ∷ ws → Follows reads (many f) text ws)
+    by : Splits (words_of f x) (flat_map (words_of f) xs) text ws → (flat_map (words_of f) xs ≡ text ∷ ws → Follows reads (many f) text ws)
         → Follows reads (many f) text ws
     by (inside rest e k) again =
         let n = l x a.0 text rest e in
@@ -187,7 +187,7 @@ many_complete reads f l (x ∷ xs) a text ws h =
           next = sequence n.next (many f);
           among = Among-map (λ h. sequence h (many f)) n.next (derivatives reads f text) n.among;
           has = subst (Has (sequence n.next (many f))) (sym k)
-              (has_sequence n.next (many f) rest (each (words_of f) xs) n.has (record { written = xs; allowed = a.1; spelled = refl }));
+              (has_sequence n.next (many f) rest (flat_map (words_of f) xs) n.has (record { written = xs; allowed = a.1; spelled = refl }));
         }
     by (behind e k) again = again k
 

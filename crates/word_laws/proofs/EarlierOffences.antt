@@ -155,7 +155,7 @@ first_is_least os o m h = by (first_offence os) refl
     by (Some q) e = ap Some (one_place q o (first_least os q o e m) (h q (first-among os q e)))
 
 -- how often an offence stands among others, and how many of them come before it
-abbrev one_if : Bool → ℕ
+abbrev pub one_if : Bool → ℕ
 one_if b = cond b 1 0
 
 abbrev is_at : Offence → Offence → Bool

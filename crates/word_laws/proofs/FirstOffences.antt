@@ -1,6 +1,5 @@
 -- The first of a list of offences is one of them, and none comes before it.
 use Rattle.std.proofs.Common.{◌≡◌, ℕ, ◌<◌, ◌==◌, nat_le, nat_lt, Bool, true, false, ◌&&◌, ◌||◌, cond, List, [], ◌∷◌, refl, sym, ap, ◌∙◌, subst, arith, Option, Some, None, ◌⊎◌, inl, inr}
-use Rattle.std.proofs.lemmas.Bool.{ltb-true, lt-ltb, eqb-true, eq-eqb}
 use Rattle.std.proofs.lemmas.Bool.Decides.{nat_tests}
 use Rattle.sym_model.specs.Sum.{Among}
 use Rattle.sym_model.specs.CommandOffence.{Offence, is_no_later, ComesBefore, earlier_of, first_offence}
@@ -15,69 +14,29 @@ never_itself o (inr h) = by h.1
     by (inl k) = omega arith
     by (inr k) = let l = k.1 in omega arith
 
--- numbers for the places and the kinds
-abbrev Before : ℕ → ℕ → ℕ → ℕ → Type 0
-Before a b c d = (a < c) ⊎ ((a ≡ c) × (b < d))
+-- the words, the places in them and the kinds, as numbers
+abbrev Before : ℕ → ℕ → ℕ → ℕ → ℕ → ℕ → Type 0
+Before a b c d e f = (a < d) ⊎ ((a ≡ d) × ((b < e) ⊎ ((b ≡ e) × (c < f))))
 
-abbrev goes_first : ℕ → ℕ → ℕ → ℕ → Bool
-goes_first a b c d = nat_lt a c || ((a == c) && nat_le b d)
+abbrev goes_first : ℕ → ℕ → ℕ → ℕ → ℕ → ℕ → Bool
+goes_first a b c d e f = nat_lt a d || ((a == d) && (nat_lt b e || ((b == e) && nat_le c f)))
 
-before_first : (a b c d e f : ℕ) → Before a b c d → goes_first c d e f ≡ true → Before a b e f
-before_first a b c d e f (inl h) k = grind (arith, nat_tests)
-before_first a b c d e f (inr h) k = grind (arith, nat_tests)
+before_first : (a b c d e f g h i : ℕ) → Before a b c d e f → goes_first d e f g h i ≡ true → Before a b c g h i
+before_first a b c d e f g h i (inl x) k = grind (arith, nat_tests)
+before_first a b c d e f g h i (inr (x, inl y)) k = grind (arith, nat_tests)
+before_first a b c d e f g h i (inr (x, inr y)) k = grind (arith, nat_tests)
 
-first_before : (a b c d : ℕ) → Before a b c d → goes_first a b c d ≡ true
-first_before a b c d (inl h) = grind (arith, nat_tests)
-first_before a b c d (inr h) = grind (arith, nat_tests)
-
--- how a test of places that are equal or not is taken apart
-data Tested (a c : ℕ) (test : Bool) : Type 0 where
-  less : a < c → Tested a c test
-  equal : a ≡ c → test ≡ true → Tested a c test
-
-tested : (a c : ℕ) (test : Bool) → (nat_lt a c || ((a == c) && test)) ≡ true → Tested a c test
-tested a c true h = by (nat_lt a c) (a == c) refl refl h
-  where
-    by : (x y : Bool) → nat_lt a c ≡ x → (a == c) ≡ y → (x || (y && true)) ≡ true → Tested a c true
-    by true y e k h = less (ltb-true a c e)
-    by false true e k h = equal (eqb-true a c k) refl
-    by false false e k h = cc
-tested a c false h = by (nat_lt a c) (a == c) refl refl h
-  where
-    by : (x y : Bool) → nat_lt a c ≡ x → (a == c) ≡ y → (x || (y && false)) ≡ true → Tested a c false
-    by true y e k h = less (ltb-true a c e)
-    by false true e k h = cc
-    by false false e k h = cc
-
-test_less : (a c : ℕ) (test : Bool) → a < c → (nat_lt a c || ((a == c) && test)) ≡ true
-test_less a c test h = ap (λ x. x || ((a == c) && test)) (lt-ltb a c h)
-
-test_equal : (a c : ℕ) (test : Bool) → a ≡ c → test ≡ true → (nat_lt a c || ((a == c) && test)) ≡ true
-test_equal a c test h k = by (nat_lt a c) ∙ ap (λ x. nat_lt a c || (x && true)) (eq-eqb a c h) ∙ by' (nat_lt a c)
-  where
-    by : (x : Bool) → (x || ((a == c) && test)) ≡ (x || ((a == c) && true))
-    by x = ap (λ y. x || ((a == c) && y)) k
-
-    by' : (x : Bool) → (x || (true && true)) ≡ true
-    by' true = refl
-    by' false = refl
+first_before : (a b c d e f : ℕ) → Before a b c d e f → goes_first a b c d e f ≡ true
+first_before a b c d e f (inl x) = grind (arith, nat_tests)
+first_before a b c d e f (inr (x, inl y)) = grind (arith, nat_tests)
+first_before a b c d e f (inr (x, inr y)) = grind (arith, nat_tests)
 
 -- what comes before one that comes first comes before the other one too
 before-first : (p x y : Offence) → ComesBefore p x → is_no_later x y ≡ true → ComesBefore p y
-before-first p x y h k = by h (tested x.0 y.0 (goes_first x.1 (rank x.2) y.1 (rank y.2)) k)
-  where
-    by : ComesBefore p x → Tested x.0 y.0 (goes_first x.1 (rank x.2) y.1 (rank y.2)) → ComesBefore p y
-    by (inl h) (less k) = inl (omega arith)
-    by (inl h) (equal k l) = inl (omega arith)
-    by (inr h) (less k) = let e = h.0 in inl (omega arith)
-    by (inr h) (equal k l) =
-        let e = h.0 in
-        inr (omega arith, before_first p.1 (rank p.2) x.1 (rank x.2) y.1 (rank y.2) h.1 l)
+before-first p x y h k = before_first p.0 p.1 (rank p.2) x.0 x.1 (rank x.2) y.0 y.1 (rank y.2) h k
 
 comes_no_later : (x y : Offence) → ComesBefore x y → is_no_later x y ≡ true
-comes_no_later x y (inl h) = test_less x.0 y.0 (goes_first x.1 (rank x.2) y.1 (rank y.2)) h
-comes_no_later x y (inr h) =
-    test_equal x.0 y.0 (goes_first x.1 (rank x.2) y.1 (rank y.2)) h.0 (first_before x.1 (rank x.2) y.1 (rank y.2) h.1)
+comes_no_later x y h = first_before x.0 x.1 (rank x.2) y.0 y.1 (rank y.2) h
 
 pub first_none : (os : List Offence) → first_offence os ≡ None → os ≡ []
 first_none [] h = refl

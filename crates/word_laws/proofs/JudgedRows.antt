@@ -10,7 +10,8 @@ use Rattle.word_laws.proofs.EarlierOffences.{tally, Alike, tally_append, first_a
 abbrev Weight : Type 0
 Weight = Offence → ℕ
 
-abbrev of_kind : ℕ → OffenceKind → Offence
+-- the offence of a kind at a word
+abbrev pub of_kind : ℕ → OffenceKind → Offence
 of_kind k kind = (k, 0, kind)
 
 kinds_of_both : (f : Weight) (k : ℕ) (xs ys : List OffenceKind)

@@ -9,10 +9,8 @@ use Rattle.sym_model.specs.Form.{Form, empty, word, sequence, number, EachOf, is
 use Rattle.sym_model.specs.CommandOffence.{Offence}
 use Rattle.sym_model.specs.WordForms.{the, row_of, tableau_of, shape_offences}
 use Rattle.word_laws.specs.WrittenRows.{row_text, further_text, rows_text, left_behind, left_at}
+use Rattle.word_laws.specs.FirstWords.{IsNumber}
 use Rattle.word_laws.specs.Words.{Words}
-
-abbrev IsNumber : List ℕ → Type 0
-IsNumber w = is_number_word w ≡ true
 
 abbrev never : List ℕ → Bool
 never text = false

@@ -8,9 +8,9 @@ pub mod Readings
 pub mod AwaitedExpressions
 pub mod ExpressionWords
 pub mod FirstOffences
+pub mod NoOffences
 pub mod EntryLists
 pub mod CommandFacts
-pub mod Stands
 pub mod ShapedTableaux
 pub mod TargetLetters
 pub mod EarlierOffences

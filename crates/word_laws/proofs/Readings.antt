@@ -1,8 +1,8 @@
 -- Words of an unambiguous form are read in one way.
-use Rattle.std.proofs.Common.{◌≡◌, ℕ, Bool, true, false, not, ◌&&◌, cond, List, [], ◌∷◌, ◌++◌, append_assoc, refl, sym, ap, ◌∙◌, subst, inl, inr}
+use Rattle.std.proofs.Common.{◌≡◌, ℕ, Bool, true, false, not, ◌&&◌, cond, List, [], ◌∷◌, ◌++◌, append_assoc, refl, sym, ap, ◌∙◌, subst, inl, inr, flat_map}
 use Rattle.std.specs.Prelude.{codes}
 use Rattle.std.proofs.lemmas.Bool.{and_parts}
-use Rattle.sym_model.specs.Sum.{each, Among}
+use Rattle.sym_model.specs.Sum.{Among}
 use Rattle.sym_model.specs.Polynomial.{same}
 use Rattle.sym_model.proofs.Exponents.{same_from}
 use Rattle.sym_model.proofs.Sums.{Among-append_left, Among-append_right}
@@ -137,14 +137,14 @@ first_word (either f g) (inr x) a text ws h = of_right (firsts f) (firsts g) tex
 first_word (many f) xs a text ws h = of_many f (first_word f) xs a text ws h
   where
     of_many : (f : Form) → ((x : Written f) → May f x → (text : List ℕ) (ws : Words) → words_of f x ≡ text ∷ ws → OfOne (firsts f) text)
-        → (xs : List (Written f)) → May (many f) xs → (text : List ℕ) (ws : Words) → each (words_of f) xs ≡ text ∷ ws → OfOne (firsts f) text
+        → (xs : List (Written f)) → May (many f) xs → (text : List ℕ) (ws : Words) → flat_map (words_of f) xs ≡ text ∷ ws → OfOne (firsts f) text
     of_many f l [] a text ws h = cc
     of_many f l (x ∷ xs) a text ws h = by (view (words_of f x)) (of_many f l xs a.1 text ws)
       where
-        by : View (words_of f x) → (each (words_of f) xs ≡ text ∷ ws → OfOne (firsts f) text) → OfOne (firsts f) text
-        by (none e) again = again (subst (λ us. us ++ each (words_of f) xs ≡ text ∷ ws) e h)
+        by : View (words_of f x) → (flat_map (words_of f) xs ≡ text ∷ ws → OfOne (firsts f) text) → OfOne (firsts f) text
+        by (none e) again = again (subst (λ us. us ++ flat_map (words_of f) xs ≡ text ∷ ws) e h)
         by (some t rest e) again =
-            let k : t ∷ (rest ++ each (words_of f) xs) ≡ text ∷ ws = subst (λ us. us ++ each (words_of f) xs ≡ text ∷ ws) e h in
+            let k : t ∷ (rest ++ flat_map (words_of f) xs) ≡ text ∷ ws = subst (λ us. us ++ flat_map (words_of f) xs ≡ text ∷ ws) e h in
             let n : t ≡ text = cc in subst (OfOne (firsts f)) n (l x a.0 t rest e)
 
 -- words of a form in front of others are unlike classes that are apart from its first ones
@@ -168,11 +168,15 @@ basis_of-letter completes = refl
 basis_of-letter power_sums = refl
 basis_of-letter schurs = refl
 
+-- a letter names one basis
+pub letter_once : (b c : Basis) → letter b ≡ letter c → b ≡ c
+letter_once b c h = sym (basis_of-letter b) ∙ ap basis_of h ∙ basis_of-letter c
+
 -- what is written by a word of a class
 one_word : OnePhrase → (c : Class) (x y : WrittenWord c) → MayBe c x → MayBe c y → word_of c x ≡ word_of c y → x ≡ y
 one_word one (exact w) x y a b h = refl
 one_word one number x y a b h = h
-one_word one (target bases) x y a b h = sym (basis_of-letter x) ∙ ap basis_of h ∙ basis_of-letter y
+one_word one (target bases) x y a b h = letter_once x y h
 one_word one formula x y a b h =
     one (word_of formula x) x y (record { allowed = a; spelled = refl }) (record { allowed = b; spelled = h })
 
@@ -295,22 +299,22 @@ many_once f l n d = once
     goes_on : (ws : Words) → Unlike (continuing (many f)) ws → Unlike (continuing f) ws
     goes_on ws w = unlike (continuing f) (continuing (many f)) ws (λ text o. of_right (firsts f) (continuing f) text o) w
 
-    behind : (xs : List (Written f)) → May (many f) xs → (r : Words) → Unlike (continuing (many f)) r → Unlike (continuing f) (each (words_of f) xs ++ r)
+    behind : (xs : List (Written f)) → May (many f) xs → (r : Words) → Unlike (continuing (many f)) r → Unlike (continuing f) (flat_map (words_of f) xs ++ r)
     behind [] a r u = goes_on r u
     behind (x ∷ xs) a r u =
-        subst (Unlike (continuing f)) (sym (append_assoc (words_of f x) (each (words_of f) xs) r))
-        (unlike_front (continuing f) f x a.0 (each (words_of f) xs ++ r) d (λ e. absurd (never e)))
+        subst (Unlike (continuing f)) (sym (append_assoc (words_of f x) (flat_map (words_of f) xs) r))
+        (unlike_front (continuing f) f x a.0 (flat_map (words_of f) xs ++ r) d (λ e. absurd (never e)))
 
     -- the first of some more words is no word that may follow
     not_more : (x : Written f) (xs : List (Written f)) → May f x → (r s : Words) → Unlike (firsts f) r
-        → r ≡ (words_of f x ++ each (words_of f) xs) ++ s → ⊥
+        → r ≡ (words_of f x ++ flat_map (words_of f) xs) ++ s → ⊥
     not_more x xs a r s u h = by (view (words_of f x))
       where
         by : View (words_of f x) → ⊥
         by (none e) = never (skippable f x e)
         by (some t ts e) =
-            unlike_word (firsts f) t r ((ts ++ each (words_of f) xs) ++ s) u
-            (h ∙ ap (λ us. (us ++ each (words_of f) xs) ++ s) e)
+            unlike_word (firsts f) t r ((ts ++ flat_map (words_of f) xs) ++ s) u
+            (h ∙ ap (λ us. (us ++ flat_map (words_of f) xs) ++ s) e)
             (first_word f x a t ts e)
 
     once : ReadsOnce (many f)
@@ -319,8 +323,8 @@ many_once f l n d = once
     once (x ∷ xs) [] a b r s h u v = absurd (not_more x xs a.0 s r (starts s v) (sym h))
     once (x ∷ xs) (y ∷ ys) a b r s h u v =
         let first =
-        l x y a.0 b.0 (each (words_of f) xs ++ r) (each (words_of f) ys ++ s)
-        (sym (append_assoc (words_of f x) (each (words_of f) xs) r) ∙ h ∙ append_assoc (words_of f y) (each (words_of f) ys) s)
+        l x y a.0 b.0 (flat_map (words_of f) xs ++ r) (flat_map (words_of f) ys ++ s)
+        (sym (append_assoc (words_of f x) (flat_map (words_of f) xs) r) ∙ h ∙ append_assoc (words_of f y) (flat_map (words_of f) ys) s)
         (behind xs a.1 r u)
         (behind ys b.1 s v) in
         let second = once xs ys a.1 b.1 r s first.1 u v in

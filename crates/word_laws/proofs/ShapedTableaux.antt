@@ -1,9 +1,9 @@
 -- Tableaux of a shape as words: they are judged by the lengths of their rows alone.
-use Rattle.std.proofs.Common.{◌≡◌, ℕ, zero, suc, ◌+◌, Bool, true, false, ◌&&◌, cond, List, [], ◌∷◌, ◌++◌, map, length, take, refl, sym, ap, ◌∙◌, subst, arith, ◌⊎◌, inl, inr, ◌↔◌}
+use Rattle.std.proofs.Common.{◌≡◌, ℕ, zero, suc, ◌+◌, Bool, true, false, ◌&&◌, cond, List, [], ◌∷◌, ◌++◌, map, length, take, refl, sym, ap, ◌∙◌, subst, arith, ◌⊎◌, inl, inr, ◌↔◌, flat_map}
 use Rattle.std.specs.Prelude.{codes}
 use Rattle.std.proofs.lemmas.List.{append-nil}
 use Rattle.std.proofs.lemmas.Bool.{and_parts, and_from}
-use Rattle.sym_model.specs.Sum.{each, Among}
+use Rattle.sym_model.specs.Sum.{Among}
 use Rattle.sym_model.proofs.Sums.{Among_from_append, Among_from_map, Among_from_each}
 use Rattle.sym_model.specs.LongestPrefix.{IsLongestPrefix}
 use Rattle.sym_model.specs.ExpressionOffence.{shape}
@@ -91,7 +91,7 @@ Plain forms = (f : Form) → Among f forms → is_plain f ≡ true
 same_after : (r s : Reads) (forms : List Form) (text : List ℕ) → Plain forms → after_word r forms text ≡ after_word s forms text
 same_after r s [] text p = refl
 same_after r s (f ∷ forms) text p =
-    ap (λ hs. hs ++ each (λ f. derivatives r f text) forms) (same_derivatives r s f text (p f (inl refl)))
+    ap (λ hs. hs ++ flat_map (λ f. derivatives r f text) forms) (same_derivatives r s f text (p f (inl refl)))
     ∙ ap (λ hs. derivatives s f text ++ hs) (same_after r s forms text (λ g m. p g (inr m)))
 
 plain_after : (r : Reads) (forms : List Form) (text : List ℕ) → Plain forms → Plain (after_word r forms text)
@@ -220,7 +220,7 @@ row_to w (v ∷ ws) a =
     (record { written = w; allowed = a.0; spelled = refl })
     (row_to v ws a.1)
 
-single_words : (ws : Words) → each (words_of (word number)) ws ≡ ws
+single_words : (ws : Words) → flat_map (words_of (word number)) ws ≡ ws
 single_words [] = refl
 single_words (w ∷ ws) = ap (λ vs. w ∷ vs) (single_words ws)
 

@@ -1,15 +1,19 @@
 -- The offences of the rows of a tableau, row by row, each number by one rule (this project's own).
-use Rattle.std.specs.Prelude.{ℕ, ◌+◌, ◌==◌, nat_le, nat_lt, Bool, false, ◌||◌, List, [], ◌∷◌, ◌++◌, length, drop, Option, Some, None}
+use Rattle.std.specs.Prelude.{ℕ, ◌+◌, ◌==◌, nat_le, nat_lt, Bool, false, ◌||◌, List, [], ◌∷◌, ◌++◌}
+use Rattle.std.specs.Prelude.{length, drop, Option, Some, None}
 use Rattle.sym_model.specs.Partition.{part}
 use Rattle.sym_model.specs.ExpressionOffence.{range, shape}
-use Rattle.sym_model.specs.CommandOffence.{Offence, Rule, PlacedRow, when, offences_by, entry_rule, left_of, falls, stays, stands_in, entry_above, most_letters, earlier_of}
+use Rattle.sym_model.specs.CommandOffence.{Offence, Rule, PlacedRow, when, offences_by, entry_rule}
+use Rattle.sym_model.specs.CommandOffence.{left_of, falls, stays, stands_in, entry_above}
+use Rattle.sym_model.specs.CommandOffence.{most_letters, earlier_of}
 
 -- the earlier of two offences, where there are any
 abbrev pub earlier : Option Offence → Option Offence → Option Offence
 earlier None p = p
 earlier (Some o) p = earlier_of o p
 
--- whether the number behind so many of its row is the 257th, where so many are counted before the row
+-- whether the number behind so many of its row is the 257th,
+-- where so many are counted before the row
 abbrev pub is_too_much : Option ℕ → ℕ → Bool
 is_too_much None j = false
 is_too_much (Some count) j = count + j == most_letters
@@ -19,23 +23,27 @@ abbrev pub is_too_long : Option ℕ → ℕ → Bool
 is_too_long None j = false
 is_too_long (Some most) j = nat_le most j
 
--- an entry of a tableau: one that is none, the 257th, one that makes its row too long, one that stands wrongly there
+-- an entry of a tableau: one that is none, the 257th, one that makes its row too long,
+-- one that stands wrongly there
 abbrev pub cell_rule : Option ℕ → Option ℕ → (List ℕ → ℕ → Bool) → Rule
 cell_rule count most is_wrong before a =
     entry_rule before a
     ++ (when (is_too_much count (length before)) range
     ++ (when (is_too_long most (length before)) shape ++ when (is_wrong before a) shape))
 
--- whether a number of a row that begins at column d, below a row that begins at column c, is smaller than its left neighbour,
--- or not greater than the entry above it
+-- whether a number of a row that begins at column d, below a row that begins at column c, is
+-- smaller than its left neighbour, or not greater than the entry above it
 abbrev pub is_disordered : ℕ → List ℕ → ℕ → List ℕ → ℕ → Bool
-is_disordered c upper d before a = falls (left_of before) a || stays (entry_above upper c (d + length before)) a
+is_disordered c upper d before a =
+    falls (left_of before) a || stays (entry_above upper c (d + length before)) a
 
--- whether a number of a tableau that is to be standard, of so many cells, below a row and after these entries, is past their
--- number, not greater than its left neighbour or the entry above, or stands earlier
+-- whether a number of a tableau that is to be standard, of so many cells, below a row and after
+-- these entries, is past their number, not greater than its left neighbour or the entry above,
+-- or stands earlier
 abbrev pub is_no_record : ℕ → List ℕ → List ℕ → List ℕ → ℕ → Bool
 is_no_record cells earlier upper before a =
-    nat_lt cells a || stays (left_of before) a || stays (entry_above upper 0 (length before)) a || stands_in a before
+    nat_lt cells a || stays (left_of before) a || stays (entry_above upper 0 (length before)) a
+    || stands_in a before
     || stands_in a earlier
 
 -- the rows of a tableau that is inserted, of which no row is longer than the one above

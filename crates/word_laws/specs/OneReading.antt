@@ -1,7 +1,9 @@
--- Forms whose words are read in one way: one-unambiguous regular expressions (Brüggemann-Klein and Wood).
+-- Forms whose words are read in one way: one-unambiguous regular expressions (Brüggemann-Klein and
+-- Wood).
 use Rattle.std.specs.Prelude.{Bool, true, false, not, ◌&&◌, cond, List, [], ◌∷◌, ◌++◌}
 use Rattle.sym_model.specs.Polynomial.{same}
-use Rattle.sym_model.specs.Form.{Class, exact, number, target, Form, empty, word, sequence, either, many, is_number_word, is_letter_of, is_skippable}
+use Rattle.sym_model.specs.Form.{Class, exact, number, target, Form, empty, word, sequence, either}
+use Rattle.sym_model.specs.Form.{many, is_number_word, is_letter_of, is_skippable}
 
 -- whether it is seen that no word is of both classes
 abbrev pub is_apart : Class → Class → Bool
@@ -36,23 +38,28 @@ continuing empty = []
 continuing (word c) = []
 continuing (sequence f g) = continuing g ++ cond (is_skippable g) (continuing f) []
 continuing (either f g) =
-    continuing f ++ (continuing g ++ (cond (is_skippable f) (firsts g) [] ++ cond (is_skippable g) (firsts f) []))
+    continuing f ++ (continuing g
+    ++ (cond (is_skippable f) (firsts g) [] ++ cond (is_skippable g) (firsts f) []))
 continuing (many f) = firsts f ++ continuing f
 
 -- whether each word tells by its class alone to which part of the form it belongs
 abbrev pub is_unambiguous : Form → Bool
 is_unambiguous empty = true
 is_unambiguous (word c) = true
-is_unambiguous (sequence f g) = is_unambiguous f && (is_unambiguous g && are_apart (continuing f) (firsts g))
+is_unambiguous (sequence f g) =
+    is_unambiguous f && (is_unambiguous g && are_apart (continuing f) (firsts g))
 is_unambiguous (either f g) =
     is_unambiguous f
-    && (is_unambiguous g && (are_apart (firsts f) (firsts g) && not (is_skippable f && is_skippable g)))
-is_unambiguous (many f) = is_unambiguous f && (not (is_skippable f) && are_apart (continuing f) (firsts f))
+    && (is_unambiguous g && (are_apart (firsts f) (firsts g)
+    && not (is_skippable f && is_skippable g)))
+is_unambiguous (many f) =
+    is_unambiguous f && (not (is_skippable f) && are_apart (continuing f) (firsts f))
 
 -- whether words of the form are told from words of each of the others by their first word
 abbrev pub is_told_from : Form → List Form → Bool
 is_told_from f [] = true
-is_told_from f (g ∷ forms) = not (is_skippable g) && (are_apart (firsts f) (firsts g) && is_told_from f forms)
+is_told_from f (g ∷ forms) =
+    not (is_skippable g) && (are_apart (firsts f) (firsts g) && is_told_from f forms)
 
 -- whether each form is unambiguous and the first word tells which of them it is
 abbrev pub are_unambiguous : List Form → Bool

@@ -1,7 +1,10 @@
--- The place at which words go wrong, computed: the words taken from the left, and in an expression's word the bytes.
-use Rattle.std.specs.Prelude.{ℕ, ◌+◌, nat_lt, Bool, ◌&&◌, cond, List, [], ◌∷◌, map, length, take, Option, Some, None, is_some, slice_index_or}
+-- The place at which words go wrong, computed: the words taken from the left, and in an
+-- expression's word the bytes.
+use Rattle.std.specs.Prelude.{ℕ, ◌+◌, nat_lt, Bool, ◌&&◌, cond, List, [], ◌∷◌, map, length, take}
+use Rattle.std.specs.Prelude.{Option, Some, None, is_some, slice_index_or}
 use Rattle.sym_model.specs.Phrase.{Phrase}
-use Rattle.expression_laws.specs.LeftToRight.{State, step, symbol, run, start, phrases, is_live, found}
+use Rattle.expression_laws.specs.LeftToRight.{State, step, symbol, run, start, phrases, is_live}
+use Rattle.expression_laws.specs.LeftToRight.{found}
 use Rattle.sym_model.specs.Form.{Form, taken, has_skippable, after_words, some_awaits_next}
 use Rattle.sym_model.specs.Entry.{Entry}
 
@@ -13,7 +16,8 @@ is_expression text = is_some (found phrases (run phrases text start))
 abbrev pub bytes_taken : State Phrase (List ℕ) → List ℕ → ℕ
 bytes_taken state [] = 0
 bytes_taken state (byte ∷ text) =
-    cond (is_live (step phrases state (symbol byte))) (bytes_taken (step phrases state (symbol byte)) text + 1) 0
+    cond (is_live (step phrases state (symbol byte)))
+    (bytes_taken (step phrases state (symbol byte)) text + 1) 0
 
 -- the forms of the commands
 abbrev pub forms_of : List Entry → List Form

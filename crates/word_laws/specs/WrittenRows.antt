@@ -1,10 +1,10 @@
 -- Tableaux as they are written, row by row: the number words of each row (this project's own).
-use Rattle.std.specs.Prelude.{ℕ, ◌+◌, ◌==◌, cond, min, List, [], ◌∷◌, ◌++◌, map, length, codes}
+use Rattle.std.specs.Prelude.{ℕ, ◌+◌, ◌==◌, cond, min, List, [], ◌∷◌, ◌++◌, length, codes}
 use Rattle.std.proofs.Common.{inl, inr}
 use Rattle.sym_model.specs.ExpressionOffence.{shape}
-use Rattle.sym_model.specs.Form.{Written}
+use Rattle.sym_model.specs.Form.{Written, sequence}
 use Rattle.sym_model.specs.CommandOffence.{Offence, PlacedRow}
-use Rattle.sym_model.specs.WordForms.{row_words, tableau_words, numbers}
+use Rattle.sym_model.specs.WordForms.{the, row_words, tableau_words, numbers}
 
 -- the words of a row: `.` where it has no number
 abbrev pub row_text : List (List ℕ) → List (List ℕ)
@@ -21,21 +21,27 @@ abbrev pub rows_text : List (List (List ℕ)) → List (List ℕ)
 rows_text [] = []
 rows_text (row ∷ rows) = row_text row ++ further_text rows
 
--- a row as it is written
-abbrev pub row_written : List (List ℕ) → Written row_words
-row_written [] = inl tt
-row_written (w ∷ row) = inr (w, row)
+-- the number words of a row as it is written
+abbrev pub written_row : Written row_words → List (List ℕ)
+written_row (inl dot) = []
+written_row (inr x) = x.0 ∷ x.1
 
--- a tableau of a first row and further ones as it is written
-abbrev pub tableau_written : List (List ℕ) → List (List (List ℕ)) → Written tableau_words
-tableau_written row rows = (row_written row, map (λ (r : List (List ℕ)). (tt, row_written r)) rows)
+-- those of further rows, each behind a `/`
+abbrev pub later_rows : List (Written (sequence (the (codes "/")) row_words)) → List (List (List ℕ))
+later_rows [] = []
+later_rows (x ∷ xs) = written_row x.1 ∷ later_rows xs
+
+-- those of the rows of a tableau
+abbrev pub written_rows : Written tableau_words → List (List (List ℕ))
+written_rows x = written_row x.0 ∷ later_rows x.1
 
 -- the rows with their numbers, the first of which begins at the word
 abbrev pub rows_at : ℕ → List (List (List ℕ)) → List PlacedRow
 rows_at k [] = []
 rows_at k (row ∷ rows) = (k, numbers row) ∷ rows_at (k + length (row_text row) + 1) rows
 
--- behind a row that ends at the word: no rows more where none are asked for, else what is said of the later ones
+-- behind a row that ends at the word: no rows more where none are asked for,
+-- else what is said of the later ones
 abbrev pub left_behind : ℕ → List ℕ → List (List (List ℕ)) → List Offence → List Offence
 left_behind k [] [] later = []
 left_behind k [] (row ∷ rows) later = (k, 0, shape) ∷ []
@@ -48,5 +54,6 @@ left_at k [] rows = []
 left_at k (n ∷ lengths) [] = []
 left_at k (n ∷ lengths) (row ∷ rows) =
     cond (length row == n)
-    (left_behind (k + length (row_text row)) lengths rows (left_at (k + length (row_text row) + 1) lengths rows))
+    (left_behind (k + length (row_text row)) lengths rows
+    (left_at (k + length (row_text row) + 1) lengths rows))
     ((k + min n (length row), 0, shape) ∷ [])

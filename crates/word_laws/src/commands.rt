@@ -1,6 +1,7 @@
 //! What holds of the words of every grammar of commands, and of the one that there is.
 
-ghost use Rattle.std.specs.Prelude.{◌≡◌, ◌↔◌, ◌≤◌, ◌<◌, ℕ, Bool, true, List, [], ◌∷◌, length, Option};
+ghost use Rattle.std.specs.Prelude.{◌≡◌, ◌↔◌, ◌≤◌, ◌<◌, ℕ, Bool, true, List, [], ◌∷◌, length};
+ghost use Rattle.std.specs.Prelude.{Option};
 ghost use Rattle.sym_model.specs.Sum.{Among};
 ghost use Rattle.sym_model.specs.Expansion.{Basis};
 ghost use Rattle.sym_model.specs.Expression.{Tree, degree};
@@ -8,60 +9,77 @@ ghost use Rattle.sym_model.specs.ExpressionOffence.{degree_limit};
 ghost use Rattle.sym_model.specs.LongestPrefix.{IsLongestPrefix};
 ghost use Rattle.sym_model.specs.Phrase.{BeginsExpression};
 ghost use Rattle.expression_laws.specs.LeftToRight.{start};
-ghost use Rattle.sym_model.specs.Form.{Form, SomeOf, EachOf, Has, Begins, taken, TellsExpressions, can_be};
+ghost use Rattle.sym_model.specs.Form.{Form, SomeOf, EachOf, Has, Begins, taken, TellsExpressions};
+ghost use Rattle.sym_model.specs.Form.{can_be};
 ghost use Rattle.sym_model.specs.Command.{Command, expand};
 ghost use Rattle.sym_model.specs.CommandOffence.{Offence, ComesBefore, first_offence};
-ghost use Rattle.sym_model.specs.Entry.{Entry, SpellsCommand, HasFirstOffence, SpellsWithoutOffence};
+ghost use Rattle.sym_model.specs.Entry.{Entry, SpellsCommand, HasFirstOffence};
+ghost use Rattle.sym_model.specs.Entry.{SpellsWithoutOffence};
 ghost use Rattle.sym_model.specs.Grammar.{entries_of, line_entries};
 ghost use Rattle.sym_model.specs.SyntaxPlace.{IsSyntaxPlace};
 ghost use Rattle.word_laws.specs.OneReading.{are_unambiguous};
 ghost use Rattle.word_laws.specs.Reading.{bytes_taken, forms_of, syntax_place};
 
-/// Words are taken one by one as long as some words may follow that are of one of the forms: how many that are is the
-/// length of their longest prefix that begins such words, for any forms of which each has words. So it is
-/// with the bytes of a word that begin an expression. Words that are those of no command go wrong at the place that is
-/// computed so and at no other, and other words spell a command.
+/// Words are taken one by one as long as some words may follow that are of one of the forms: how
+/// many that are is the length of their longest prefix that begins such words, for any forms of
+/// which each has words. So it is with the bytes of a word that begin an expression. Words that are
+/// those of no command go wrong at the place that is computed so and at no other,
+/// and other words spell a command.
 pub fn syntax_place_law()
     ensures longest_prefix { (reads : List ℕ → Bool) → TellsExpressions reads → (forms : List Form)
         → EachOf (λ f. can_be f ≡ true) forms → 0 < length forms → (words : List (List ℕ))
         → IsLongestPrefix (λ ws. SomeOf (λ f. Begins f ws) forms) words (taken reads forms words) }
-    ensures bytes { (text : List ℕ) → IsLongestPrefix BeginsExpression text (bytes_taken start text) }
-    ensures place { (entries : List Entry) → EachOf (λ f. can_be f ≡ true) (forms_of entries) → 0 < length entries
+    ensures bytes { (text : List ℕ)
+        → IsLongestPrefix BeginsExpression text (bytes_taken start text) }
+    ensures place { (entries : List Entry) → EachOf (λ f. can_be f ≡ true) (forms_of entries)
+        → 0 < length entries
         → (words : List (List ℕ)) (word byte : ℕ) → syntax_place entries words ≡ Some (word, byte)
         → IsSyntaxPlace entries words word byte }
     ensures one_place { (entries : List Entry) (words : List (List ℕ)) (word byte other at : ℕ)
-        → IsSyntaxPlace entries words word byte → IsSyntaxPlace entries words other at → (word ≡ other) × (byte ≡ at) }
-    ensures command { (entries : List Entry) (words : List (List ℕ)) → syntax_place entries words ≡ None
+        → IsSyntaxPlace entries words word byte → IsSyntaxPlace entries words other at
+        → (word ≡ other) × (byte ≡ at) }
+    ensures command { (entries : List Entry) (words : List (List ℕ))
+        → syntax_place entries words ≡ None
         → (command : Command) × SpellsCommand entries words command }
 {}
 
-/// Where the first word tells the command and each further word tells by its class alone to which part of the form it
-/// belongs, words spell one command at most and have one first offence. So it is with all commands, and with those of a
-/// line of a batch.
+/// Where the first word tells the command and each further word tells by its class alone to which
+/// part of the form it belongs, words spell one command at most and have one first offence. So it
+/// is with all commands, and with those of a line of a batch.
 pub fn one_command_law()
-    ensures all_commands { (bases : List Basis) → are_unambiguous (forms_of (entries_of bases)) ≡ true }
-    ensures line_commands { (bases : List Basis) → are_unambiguous (forms_of (line_entries bases)) ≡ true }
+    ensures all_commands { (bases : List Basis)
+        → are_unambiguous (forms_of (entries_of bases)) ≡ true }
+    ensures line_commands { (bases : List Basis)
+        → are_unambiguous (forms_of (line_entries bases)) ≡ true }
     ensures one_command { (entries : List Entry) → are_unambiguous (forms_of entries) ≡ true
-        → (words : List (List ℕ)) (a b : Command) → SpellsCommand entries words a → SpellsCommand entries words b → a ≡ b }
+        → (words : List (List ℕ)) (a b : Command) → SpellsCommand entries words a
+        → SpellsCommand entries words b → a ≡ b }
     ensures one_offence { (entries : List Entry) → are_unambiguous (forms_of entries) ≡ true
-        → (words : List (List ℕ)) (a b : Option Offence) → HasFirstOffence entries words a → HasFirstOffence entries words b
+        → (words : List (List ℕ)) (a b : Option Offence) → HasFirstOffence entries words a
+        → HasFirstOffence entries words b
         → a ≡ b }
 {}
 
-/// The first offence is one of the offences, and none of them comes before it; there is none exactly where there is no
-/// offence.
+/// The first offence is one of the offences, and none of them comes before it; there is none
+/// exactly where there is no offence.
 pub fn command_offence_law()
-    ensures is_one { (offences : List Offence) (first : Offence) → first_offence offences ≡ Some first
+    ensures is_one { (offences : List Offence) (first : Offence)
+        → first_offence offences ≡ Some first
         → Among first offences }
-    ensures none_before { (offences : List Offence) (first other : Offence) → first_offence offences ≡ Some first
+    ensures none_before { (offences : List Offence) (first other : Offence)
+        → first_offence offences ≡ Some first
         → Among other offences → ¬ ComesBefore other first }
     ensures none { (offences : List Offence) → (first_offence offences ≡ None) ↔ (offences ≡ []) }
 {}
 
-/// Each command has words. The expression of an `expand` without offence has at most the degree of its target's limit.
+/// Each command has words. The expression of an `expand` without offence has at most the degree of
+/// its target's limit.
 pub fn words_of_commands_law()
     ensures words { (basis : Basis) (bases : List Basis)
-        → EachOf (λ (e : Entry). (words : List (List ℕ)) × Has e.form words) (entries_of (basis ∷ bases)) }
-    ensures degree { (bases : List Basis) (words : List (List ℕ)) (target : Basis) (one_line : Bool) (e : Tree)
-        → SpellsWithoutOffence (entries_of bases) words (expand target one_line e) → degree e ≤ degree_limit target }
+        → EachOf (λ (e : Entry). (words : List (List ℕ)) × Has e.form words)
+        (entries_of (basis ∷ bases)) }
+    ensures degree { (bases : List Basis) (words : List (List ℕ)) (target : Basis) (one_line : Bool)
+        (e : Tree)
+        → SpellsWithoutOffence (entries_of bases) words (expand target one_line e)
+        → degree e ≤ degree_limit target }
 {}

@@ -1,5 +1,5 @@
-//! Laws of the words of commands: where words go wrong, that they spell one command, which offence comes first, what the words
-//! of a tableau are.
+//! Laws of the words of commands: where words go wrong, that they spell one command, which offence
+//! comes first, what the words of a tableau are.
 //!
 //! A law function takes nothing, answers nothing and does no work when it runs: its contract is
 //! the law.

@@ -6,17 +6,22 @@ ghost use Rattle.sym_model.specs.LongestPrefix.{IsLongestPrefix};
 ghost use Rattle.sym_model.specs.ExpressionOffence.{shape};
 ghost use Rattle.sym_model.specs.Form.{Written, May, words_of, Has, Begins};
 ghost use Rattle.sym_model.specs.CommandOffence.{Offence};
-ghost use Rattle.sym_model.specs.WordForms.{tableau_words, tableau_rows, tableau_of, shape_offences};
+ghost use Rattle.sym_model.specs.WordForms.{tableau_words, tableau_rows, tableau_of};
+ghost use Rattle.sym_model.specs.WordForms.{shape_offences};
 
-/// A tableau that is to have rows of given lengths is judged by these alone: its words have no offence exactly where its
-/// rows have them, and otherwise offend at the word after the longest prefix that begins such a tableau. One row without
-/// cells is written as no row is.
+/// A tableau that is to have rows of given lengths is judged by these alone: its words have no
+/// offence exactly where its rows have them, and otherwise offend at the word after the longest
+/// prefix that begins such a tableau. One row without cells is written as no row is.
 pub fn tableau_shape_law()
     ensures none { (k : ℕ) (lengths : List ℕ) (words : List (List ℕ))
         → (shape_offences k lengths words ≡ []) ↔ Has (tableau_of lengths) words }
-    ensures place { (k : ℕ) (lengths : List ℕ) (words : List (List ℕ)) (o : Offence) → Among o (shape_offences k lengths words)
-        → (n : ℕ) × (o ≡ (k + n, 0, shape)) × IsLongestPrefix (Begins (tableau_of lengths)) words n }
-    ensures rows { (n : ℕ) (lengths : List ℕ) (tableau : Written tableau_words) → May tableau_words tableau
-        → Has (tableau_of (n ∷ lengths)) (words_of tableau_words tableau) ↔ (map length (tableau_rows tableau) ≡ n ∷ lengths) }
+    ensures place { (k : ℕ) (lengths : List ℕ) (words : List (List ℕ)) (o : Offence)
+        → Among o (shape_offences k lengths words)
+        → (n : ℕ) × (o ≡ (k + n, 0, shape))
+        × IsLongestPrefix (Begins (tableau_of lengths)) words n }
+    ensures rows { (n : ℕ) (lengths : List ℕ) (tableau : Written tableau_words)
+        → May tableau_words tableau
+        → Has (tableau_of (n ∷ lengths)) (words_of tableau_words tableau)
+        ↔ (map length (tableau_rows tableau) ≡ n ∷ lengths) }
     ensures no_rows { tableau_of [] ≡ tableau_of (0 ∷ []) }
 {}

@@ -1,7 +1,7 @@
 -- What words say and offend by, computed from their forms: used to answer worked examples.
-use Rattle.std.proofs.Common.{◌≡◌, ℕ, zero, suc, Bool, true, false, cond, List, [], ◌∷◌, ◌++◌, map, length, append_assoc, refl, sym, ap, ◌∙◌, subst, ◌⊎◌, inl, inr, Option, Some, None}
+use Rattle.std.proofs.Common.{◌≡◌, ℕ, zero, suc, Bool, true, false, cond, List, [], ◌∷◌, ◌++◌, map, length, append_assoc, refl, sym, ap, ◌∙◌, subst, ◌⊎◌, inl, inr, Option, Some, None, filter, flat_map}
 use Rattle.std.proofs.lemmas.List.{append-nil}
-use Rattle.sym_model.specs.Sum.{each, select, Among}
+use Rattle.sym_model.specs.Sum.{Among}
 use Rattle.sym_model.specs.Polynomial.{same}
 use Rattle.sym_model.proofs.Exponents.{same_true}
 use Rattle.sym_model.proofs.Sums.{Among_from_append, Among_from_map, Among_from_each, Among_from_select}
@@ -24,7 +24,7 @@ of_option (Some x) = x ∷ []
 abbrev pub word_readings : (c : Class) → List ℕ → List (WrittenWord c)
 word_readings (exact w) text = cond (same w text) (tt ∷ []) []
 word_readings number text = cond (is_number_word text) (text ∷ []) []
-word_readings (target bases) text = select (λ b. same (letter b) text) bases
+word_readings (target bases) text = filter (λ b. same (letter b) text) bases
 word_readings formula text = of_option (found phrases (run phrases text start))
 
 -- a list of what is read, and what is left
@@ -32,7 +32,7 @@ abbrev pub more_readings : {A : Type 0} → (Words → List (A × Words)) → �
 more_readings read zero words = ([], words) ∷ []
 more_readings {A} read (suc n) words =
     ([], words)
-    ∷ each (λ (p : A × Words). map (λ (q : List A × Words). (p.0 ∷ q.0, q.1)) (more_readings read n p.1)) (read words)
+    ∷ flat_map (λ (p : A × Words). map (λ (q : List A × Words). (p.0 ∷ q.0, q.1)) (more_readings read n p.1)) (read words)
 
 -- what words of the form in front of a list say, and what is left
 abbrev pub readings : (f : Form) → Words → List (Written f × Words)
@@ -40,7 +40,7 @@ readings empty words = (tt, words) ∷ []
 readings (word c) [] = []
 readings (word c) (text ∷ words) = map (λ (x : WrittenWord c). (x, words)) (word_readings c text)
 readings (sequence f g) words =
-    each (λ (p : Written f × Words). map (λ (q : Written g × Words). ((p.0, q.0), q.1)) (readings g p.1)) (readings f words)
+    flat_map (λ (p : Written f × Words). map (λ (q : Written g × Words). ((p.0, q.0), q.1)) (readings g p.1)) (readings f words)
 readings (either f g) words =
     map (λ (p : Written f × Words). (inl p.0, p.1)) (readings f words)
     ++ map (λ (p : Written g × Words). (inr p.0, p.1)) (readings g words)
@@ -86,7 +86,7 @@ more_sound f sound (suc n) words p (inr m) =
     let s = sound words a.0 a.1 in
     let t = more_sound f sound n a.0.1 b.0 b.1 in
     subst (IsReading (many f) words) (sym b.2)
-    ((s.0, t.0), s.1 ∙ ap (λ us. words_of f a.0.0 ++ us) t.1 ∙ sym (append_assoc (words_of f a.0.0) (each (words_of f) b.0.0) b.0.1))
+    ((s.0, t.0), s.1 ∙ ap (λ us. words_of f a.0.0 ++ us) t.1 ∙ sym (append_assoc (words_of f a.0.0) (flat_map (words_of f) b.0.0) b.0.1))
 
 -- what is read is there
 pub readings_sound : (f : Form) (words : Words) (p : Written f × Words) → Among p (readings f words) → IsReading f words p
@@ -128,7 +128,7 @@ is_nothing [] = true
 is_nothing (text ∷ words) = false
 
 abbrev pub whole_readings : (f : Form) → Words → List (Written f)
-whole_readings f words = map (λ (p : Written f × Words). p.0) (select (λ (p : Written f × Words). is_nothing p.1) (readings f words))
+whole_readings f words = map (λ (p : Written f × Words). p.0) (filter (λ (p : Written f × Words). is_nothing p.1) (readings f words))
 
 nothing : (words : Words) → is_nothing words ≡ true → words ≡ []
 nothing [] h = refl
@@ -137,7 +137,7 @@ nothing (text ∷ words) h = cc
 pub whole_readings_sound : (f : Form) (words : Words) (x : Written f) → Among x (whole_readings f words)
     → (h : Has f words) × (h.written ≡ x)
 whole_readings_sound f words x m =
-    let a = Among_from_map (λ (p : Written f × Words). p.0) x (select (λ (p : Written f × Words). is_nothing p.1) (readings f words)) m in
+    let a = Among_from_map (λ (p : Written f × Words). p.0) x (filter (λ (p : Written f × Words). is_nothing p.1) (readings f words)) m in
     let b = Among_from_select (λ (p : Written f × Words). is_nothing p.1) a.0 (readings f words) a.1 in
     let s = readings_sound f words a.0 b.0 in
     let e = nothing a.0.1 b.1 in (
@@ -152,7 +152,7 @@ whole_readings_sound f words x m =
 -- what the words offend by first
 abbrev pub offences_found : List Entry → Words → List (Option Offence)
 offences_found entries words =
-    each (λ (e : Entry). map (λ (x : Written e.form). first_offence (e.offends x)) (whole_readings e.form words)) entries
+    flat_map (λ (e : Entry). map (λ (x : Written e.form). first_offence (e.offends x)) (whole_readings e.form words)) entries
 
 pub offends_sound : (entries : List Entry) (words : Words) (o : Option Offence) → Among o (offences_found entries words)
     → HasFirstOffence entries words o
@@ -177,7 +177,7 @@ freely (Some o) c = []
 
 abbrev pub commands_found : List Entry → Words → List Command
 commands_found entries words =
-    each (λ (e : Entry). each (λ (x : Written e.form). freely (first_offence (e.offends x)) (e.says x)) (whole_readings e.form words)) entries
+    flat_map (λ (e : Entry). flat_map (λ (x : Written e.form). freely (first_offence (e.offends x)) (e.says x)) (whole_readings e.form words)) entries
 
 free : (o : Option Offence) (c d : Command) → Among c (freely o d) → (o ≡ None) × (c ≡ d)
 free None c d (inl e) = (refl, e)
@@ -189,10 +189,10 @@ pub commands_sound : (entries : List Entry) (words : Words) (c : Command) → Am
 commands_sound [] words c m = m
 commands_sound (e ∷ entries) words c m =
     by
-    (Among_from_append c (each (λ (x : Written e.form). freely (first_offence (e.offends x)) (e.says x)) (whole_readings e.form words)) (commands_found entries words) m)
+    (Among_from_append c (flat_map (λ (x : Written e.form). freely (first_offence (e.offends x)) (e.says x)) (whole_readings e.form words)) (commands_found entries words) m)
     (commands_sound entries words c)
   where
-    by : Among c (each (λ (x : Written e.form). freely (first_offence (e.offends x)) (e.says x)) (whole_readings e.form words)) ⊎ Among c (commands_found entries words)
+    by : Among c (flat_map (λ (x : Written e.form). freely (first_offence (e.offends x)) (e.says x)) (whole_readings e.form words)) ⊎ Among c (commands_found entries words)
         → (Among c (commands_found entries words) → SpellsWithoutOffence entries words c) → SpellsWithoutOffence (e ∷ entries) words c
     by (inl m) again =
         let a = Among_from_each (λ (x : Written e.form). freely (first_offence (e.offends x)) (e.says x)) c (whole_readings e.form words) m in

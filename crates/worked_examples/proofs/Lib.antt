@@ -1,2 +1,3 @@
 mod ComputedReadings
 mod ComputedExamples
+mod ClosedShapes

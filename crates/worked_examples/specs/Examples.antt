@@ -1,4 +1,5 @@
--- How the worked examples of the words of commands are written: a line of words, and what it says over all commands.
+-- How the worked examples of the words of commands are written: a line of words,
+-- and what it says over all commands.
 use Rattle.std.specs.Prelude.{ℕ, List, [], ◌++◌, Some, codes, replicate}
 use Rattle.std.proofs.Common.{zero, suc}
 use Rattle.sym_model.specs.Command.{Command}
@@ -20,7 +21,7 @@ Says line command = SpellsWithoutOffence all_commands (words_of_line line) comma
 abbrev pub Offends : List ℕ → Offence → Type 0
 Offends line first = HasFirstOffence all_commands (words_of_line line) (Some first)
 
--- the words of the line are no command, and go wrong there
+-- the words of the line are no command, and first fail there
 abbrev pub GoesWrong : List ℕ → ℕ → ℕ → Type 0
 GoesWrong line word byte = IsSyntaxPlace all_commands (words_of_line line) word byte
 

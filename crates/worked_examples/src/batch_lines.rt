@@ -3,14 +3,18 @@
 ghost use Rattle.std.specs.Prelude.{◌≡◌, ℕ, List, [], ◌∷◌, ◌++◌, codes, replicate};
 ghost use Rattle.sym_model.specs.BatchLine.{lines_of, batch_line, too_long, passed_over, spoken};
 
-/// A text is cut at its line feeds, a line loses one carriage return, and words stand between spaces and tabs. Comments,
-/// blank lines and lines of more than 4,096 bytes, a carriage return among them, are no words.
+/// A text is cut at its line feeds, a line loses one carriage return, and words stand between
+/// spaces and tabs. Comments, blank lines and lines of more than 4,096 bytes, a carriage return
+/// among them, are no words.
 pub fn batch_lines_law()
-    ensures lines { lines_of (codes "a" ++ (10 ∷ 10 ∷ codes "b")) ≡ codes "a" ∷ [] ∷ codes "b" ∷ [] }
+    ensures lines { lines_of (codes "a" ++ (10 ∷ 10 ∷ codes "b"))
+        ≡ codes "a" ∷ [] ∷ codes "b" ∷ [] }
     ensures last_line_feed { lines_of (codes "a" ++ (10 ∷ [])) ≡ codes "a" ∷ [] }
     ensures no_lines { lines_of [] ≡ [] }
-    ensures words { batch_line (codes " mult  1" ++ (9 ∷ codes "- 1")) ≡ spoken (codes "mult" ∷ codes "1" ∷ codes "-" ∷ codes "1" ∷ []) }
-    ensures one_return { batch_line (codes "coprod 1" ++ (13 ∷ 13 ∷ [])) ≡ spoken (codes "coprod" ∷ (49 ∷ 13 ∷ []) ∷ []) }
+    ensures words { batch_line (codes " mult  1" ++ (9 ∷ codes "- 1"))
+        ≡ spoken (codes "mult" ∷ codes "1" ∷ codes "-" ∷ codes "1" ∷ []) }
+    ensures one_return { batch_line (codes "coprod 1" ++ (13 ∷ 13 ∷ []))
+        ≡ spoken (codes "coprod" ∷ (49 ∷ 13 ∷ []) ∷ []) }
     ensures comment { batch_line (codes "# x") ≡ passed_over }
     ensures comment_word { batch_line (codes "  #mult 1 - 1") ≡ passed_over }
     ensures blank { batch_line (32 ∷ 9 ∷ 32 ∷ 13 ∷ []) ≡ passed_over }

@@ -1,5 +1,5 @@
-//! Worked examples of expansions: what the lists that commands print are, in as many variables as they need. The lists were
-//! computed by other programs (lrcalc, Symmetrica) or worked out by hand.
+//! Worked examples of expansions: what the lists that commands print are, in as many variables as
+//! they need. The lists were computed by other programs (lrcalc, Symmetrica) or worked out by hand.
 
 ghost use Rattle.std.specs.Prelude.{◌≡◌, pos, negsuc, [], ◌∷◌, map, Some, None};
 ghost use Rattle.sym_model.specs.Polynomial.{coefficient, times};
@@ -8,49 +8,57 @@ ghost use Rattle.sym_model.specs.Schur.{schur, skew_schur};
 ghost use Rattle.sym_model.specs.Alternant.{schur_coefficient};
 ghost use Rattle.sym_model.specs.Schubert.{schubert_in};
 ghost use Rattle.sym_model.specs.Target.{reduced_terms, reflected_terms};
-ghost use Rattle.sym_model.specs.Expansion.{value, value_by, pair_polynomial, elementaries, completes, power_sums, schurs};
+ghost use Rattle.sym_model.specs.Expansion.{value, value_by, pair_polynomial, elementaries};
+ghost use Rattle.sym_model.specs.Expansion.{completes, power_sums, schurs};
 
-/// Changes of basis, at the monomials with the exponents (3,0,0), (2,1,0) and (1,1,1): s_(2,1) in p, h and e, m_(2,1) and p_3
-/// in s. Of m_(5,3,1) in p some monomials of degree 9.
+/// Changes of basis, at the monomials with the exponents (3,0,0), (2,1,0) and (1,1,1): s_(2,1) in
+/// p, h and e, m_(2,1) and p_3 in s. Of m_(5,3,1) in p some monomials of degree 9.
 pub fn change_of_basis_examples_law()
     // 0, 1 and 2, each times the denominators 3 and 3
     ensures power_sums { map
-        (coefficient (value power_sums (((3 ∷ []), (negsuc 0, 3)) ∷ ((1 ∷ 1 ∷ 1 ∷ []), (pos 1, 3)) ∷ []) 3))
+        (coefficient (value power_sums
+        (((3 ∷ []), (negsuc 0, 3)) ∷ ((1 ∷ 1 ∷ 1 ∷ []), (pos 1, 3)) ∷ []) 3))
         ((3 ∷ 0 ∷ 0 ∷ []) ∷ (2 ∷ 1 ∷ 0 ∷ []) ∷ (1 ∷ 1 ∷ 1 ∷ []) ∷ [])
         ≡ pos 0 ∷ pos 9 ∷ pos 18 ∷ [] }
     ensures completes { map
-        (coefficient (value completes (((3 ∷ []), (negsuc 0, 1)) ∷ ((2 ∷ 1 ∷ []), (pos 1, 1)) ∷ []) 3))
+        (coefficient (value completes
+        (((3 ∷ []), (negsuc 0, 1)) ∷ ((2 ∷ 1 ∷ []), (pos 1, 1)) ∷ []) 3))
         ((3 ∷ 0 ∷ 0 ∷ []) ∷ (2 ∷ 1 ∷ 0 ∷ []) ∷ (1 ∷ 1 ∷ 1 ∷ []) ∷ [])
         ≡ pos 0 ∷ pos 1 ∷ pos 2 ∷ [] }
     ensures elementaries { map
-        (coefficient (value elementaries (((3 ∷ []), (negsuc 0, 1)) ∷ ((2 ∷ 1 ∷ []), (pos 1, 1)) ∷ []) 3))
+        (coefficient (value elementaries
+        (((3 ∷ []), (negsuc 0, 1)) ∷ ((2 ∷ 1 ∷ []), (pos 1, 1)) ∷ []) 3))
         ((3 ∷ 0 ∷ 0 ∷ []) ∷ (2 ∷ 1 ∷ 0 ∷ []) ∷ (1 ∷ 1 ∷ 1 ∷ []) ∷ [])
         ≡ pos 0 ∷ pos 1 ∷ pos 2 ∷ [] }
     ensures schur { map (coefficient (schur (2 ∷ 1 ∷ []) 3))
         ((3 ∷ 0 ∷ 0 ∷ []) ∷ (2 ∷ 1 ∷ 0 ∷ []) ∷ (1 ∷ 1 ∷ 1 ∷ []) ∷ [])
         ≡ pos 0 ∷ pos 1 ∷ pos 2 ∷ [] }
     ensures schurs { map
-        (coefficient (value schurs (((2 ∷ 1 ∷ []), (pos 1, 1)) ∷ ((1 ∷ 1 ∷ 1 ∷ []), (negsuc 1, 1)) ∷ []) 3))
+        (coefficient (value schurs
+        (((2 ∷ 1 ∷ []), (pos 1, 1)) ∷ ((1 ∷ 1 ∷ 1 ∷ []), (negsuc 1, 1)) ∷ []) 3))
         ((3 ∷ 0 ∷ 0 ∷ []) ∷ (2 ∷ 1 ∷ 0 ∷ []) ∷ (1 ∷ 1 ∷ 1 ∷ []) ∷ [])
         ≡ map (coefficient (monomial (2 ∷ 1 ∷ []) 3))
         ((3 ∷ 0 ∷ 0 ∷ []) ∷ (2 ∷ 1 ∷ 0 ∷ []) ∷ (1 ∷ 1 ∷ 1 ∷ []) ∷ []) }
     ensures hooks { map
         (coefficient
-        (value schurs (((3 ∷ []), (pos 1, 1)) ∷ ((2 ∷ 1 ∷ []), (negsuc 0, 1)) ∷ ((1 ∷ 1 ∷ 1 ∷ []), (pos 1, 1)) ∷ []) 3))
+        (value schurs (((3 ∷ []), (pos 1, 1)) ∷ ((2 ∷ 1 ∷ []), (negsuc 0, 1))
+        ∷ ((1 ∷ 1 ∷ 1 ∷ []), (pos 1, 1)) ∷ []) 3))
         ((3 ∷ 0 ∷ 0 ∷ []) ∷ (2 ∷ 1 ∷ 0 ∷ []) ∷ (1 ∷ 1 ∷ 1 ∷ []) ∷ [])
         ≡ map (coefficient (power_sum (3 ∷ []) 3))
         ((3 ∷ 0 ∷ 0 ∷ []) ∷ (2 ∷ 1 ∷ 0 ∷ []) ∷ (1 ∷ 1 ∷ 1 ∷ []) ∷ []) }
     ensures degree_nine { map
         (coefficient
         (value power_sums
-        (((9 ∷ []), (pos 2, 1)) ∷ ((8 ∷ 1 ∷ []), (negsuc 0, 1)) ∷ ((6 ∷ 3 ∷ []), (negsuc 0, 1)) ∷ ((5 ∷ 4 ∷ []), (negsuc 0, 1))
+        (((9 ∷ []), (pos 2, 1)) ∷ ((8 ∷ 1 ∷ []), (negsuc 0, 1)) ∷ ((6 ∷ 3 ∷ []), (negsuc 0, 1))
+        ∷ ((5 ∷ 4 ∷ []), (negsuc 0, 1))
         ∷ ((5 ∷ 3 ∷ 1 ∷ []), (pos 1, 1)) ∷ []) 3))
-        ((9 ∷ 0 ∷ 0 ∷ []) ∷ (8 ∷ 1 ∷ 0 ∷ []) ∷ (6 ∷ 3 ∷ 0 ∷ []) ∷ (5 ∷ 4 ∷ 0 ∷ []) ∷ (5 ∷ 3 ∷ 1 ∷ []) ∷ [])
+        ((9 ∷ 0 ∷ 0 ∷ []) ∷ (8 ∷ 1 ∷ 0 ∷ []) ∷ (6 ∷ 3 ∷ 0 ∷ []) ∷ (5 ∷ 4 ∷ 0 ∷ [])
+        ∷ (5 ∷ 3 ∷ 1 ∷ []) ∷ [])
         ≡ pos 0 ∷ pos 0 ∷ pos 0 ∷ pos 0 ∷ pos 1 ∷ [] }
 {}
 
-/// The skew Schur polynomial of (3,2,1)/(2,1) in Schur polynomials, s_(2,1) in two sets of variables, and products of two
-/// Schubert polynomials.
+/// The skew Schur polynomial of (3,2,1)/(2,1) in Schur polynomials, s_(2,1) in two sets of
+/// variables, and products of two Schubert polynomials.
 pub fn expansion_examples_law()
     // at (3), (2,1) and (1,1,1)
     ensures skew { map (λ κ. schur_coefficient 3 κ (skew_schur (3 ∷ 2 ∷ 1 ∷ []) (2 ∷ 1 ∷ []) 3))
@@ -59,9 +67,12 @@ pub fn expansion_examples_law()
     ensures coproduct { map
         (coefficient
         (value_by (pair_polynomial 2 2)
-        (((2 ∷ 1 ∷ [], []), (pos 1, 1)) ∷ ((2 ∷ [], 1 ∷ []), (pos 1, 1)) ∷ ((1 ∷ 1 ∷ [], 1 ∷ []), (pos 1, 1))
-        ∷ ((1 ∷ [], 2 ∷ []), (pos 1, 1)) ∷ ((1 ∷ [], 1 ∷ 1 ∷ []), (pos 1, 1)) ∷ (([], 2 ∷ 1 ∷ []), (pos 1, 1)) ∷ [])))
-        ((2 ∷ 1 ∷ 0 ∷ 0 ∷ []) ∷ (2 ∷ 0 ∷ 1 ∷ 0 ∷ []) ∷ (1 ∷ 1 ∷ 1 ∷ 0 ∷ []) ∷ (1 ∷ 0 ∷ 2 ∷ 0 ∷ []) ∷ (1 ∷ 0 ∷ 1 ∷ 1 ∷ [])
+        (((2 ∷ 1 ∷ [], []), (pos 1, 1)) ∷ ((2 ∷ [], 1 ∷ []), (pos 1, 1))
+        ∷ ((1 ∷ 1 ∷ [], 1 ∷ []), (pos 1, 1))
+        ∷ ((1 ∷ [], 2 ∷ []), (pos 1, 1)) ∷ ((1 ∷ [], 1 ∷ 1 ∷ []), (pos 1, 1))
+        ∷ (([], 2 ∷ 1 ∷ []), (pos 1, 1)) ∷ [])))
+        ((2 ∷ 1 ∷ 0 ∷ 0 ∷ []) ∷ (2 ∷ 0 ∷ 1 ∷ 0 ∷ []) ∷ (1 ∷ 1 ∷ 1 ∷ 0 ∷ []) ∷ (1 ∷ 0 ∷ 2 ∷ 0 ∷ [])
+        ∷ (1 ∷ 0 ∷ 1 ∷ 1 ∷ [])
         ∷ (0 ∷ 0 ∷ 1 ∷ 2 ∷ []) ∷ (3 ∷ 0 ∷ 0 ∷ 0 ∷ []) ∷ [])
         ≡ pos 1 ∷ pos 1 ∷ pos 2 ∷ pos 1 ∷ pos 2 ∷ pos 1 ∷ pos 0 ∷ [] }
     // (x + y)^2 = (x^2 + x y + y^2) + x y
@@ -70,7 +81,8 @@ pub fn expansion_examples_law()
         (value_by (λ w. schubert_in w 2)
         ((1 ∷ 4 ∷ 2 ∷ 3 ∷ [], (pos 1, 1)) ∷ (2 ∷ 3 ∷ 1 ∷ [], (pos 1, 1)) ∷ [])))
         ((2 ∷ 0 ∷ []) ∷ (1 ∷ 1 ∷ []) ∷ (0 ∷ 2 ∷ []) ∷ [])
-        ≡ map (coefficient (times (schubert_in (1 ∷ 3 ∷ 2 ∷ []) 2) (schubert_in (1 ∷ 3 ∷ 2 ∷ []) 2)))
+        ≡ map (coefficient (times (schubert_in (1 ∷ 3 ∷ 2 ∷ []) 2)
+        (schubert_in (1 ∷ 3 ∷ 2 ∷ []) 2)))
         ((2 ∷ 0 ∷ []) ∷ (1 ∷ 1 ∷ []) ∷ (0 ∷ 2 ∷ []) ∷ []) }
     // x (x + y) = x y + x^2
     ensures product { map
@@ -82,36 +94,48 @@ pub fn expansion_examples_law()
         ((2 ∷ 0 ∷ []) ∷ (1 ∷ 1 ∷ []) ∷ (0 ∷ 2 ∷ []) ∷ []) }
 {}
 
-/// Products with h_2 and e_2 in s, h_2 - s_2, and products reduced by rim hooks and into the alcove.
+/// Products with h_2 and e_2 in s, h_2 - s_2,
+/// and products reduced by rim hooks and into the alcove.
 pub fn reduced_product_examples_law()
-    // h_2 p_1 = s_3 + s_(2,1) and e_2 m_1 = s_(2,1) + s_(1,1,1), at the monomials of degree 3 as above
+    // h_2 p_1 = s_3 + s_(2,1) and e_2 m_1 = s_(2,1) + s_(1,1,1),
+    // at the monomials of degree 3 as above
     ensures row_added { map
         (coefficient (value schurs (((3 ∷ []), (pos 1, 1)) ∷ ((2 ∷ 1 ∷ []), (pos 1, 1)) ∷ []) 3))
         ((3 ∷ 0 ∷ 0 ∷ []) ∷ (2 ∷ 1 ∷ 0 ∷ []) ∷ (1 ∷ 1 ∷ 1 ∷ []) ∷ [])
         ≡ map (coefficient (times (complete (2 ∷ []) 3) (power_sum (1 ∷ []) 3)))
         ((3 ∷ 0 ∷ 0 ∷ []) ∷ (2 ∷ 1 ∷ 0 ∷ []) ∷ (1 ∷ 1 ∷ 1 ∷ []) ∷ []) }
     ensures column_added { map
-        (coefficient (value schurs (((2 ∷ 1 ∷ []), (pos 1, 1)) ∷ ((1 ∷ 1 ∷ 1 ∷ []), (pos 1, 1)) ∷ []) 3))
+        (coefficient (value schurs
+        (((2 ∷ 1 ∷ []), (pos 1, 1)) ∷ ((1 ∷ 1 ∷ 1 ∷ []), (pos 1, 1)) ∷ []) 3))
         ((3 ∷ 0 ∷ 0 ∷ []) ∷ (2 ∷ 1 ∷ 0 ∷ []) ∷ (1 ∷ 1 ∷ 1 ∷ []) ∷ [])
         ≡ map (coefficient (times (elementary (2 ∷ []) 3) (monomial (1 ∷ []) 3)))
         ((3 ∷ 0 ∷ 0 ∷ []) ∷ (2 ∷ 1 ∷ 0 ∷ []) ∷ (1 ∷ 1 ∷ 1 ∷ []) ∷ []) }
     ensures equal { map (coefficient (complete (2 ∷ []) 2)) ((2 ∷ 0 ∷ []) ∷ (1 ∷ 1 ∷ []) ∷ [])
         ≡ map (coefficient (schur (2 ∷ []) 2)) ((2 ∷ 0 ∷ []) ∷ (1 ∷ 1 ∷ []) ∷ []) }
-    ensures one_variable { schur_coefficient 1 (2 ∷ []) (skew_schur (2 ∷ 1 ∷ []) (1 ∷ []) 1) ≡ pos 1 }
+    ensures one_variable { schur_coefficient 1 (2 ∷ []) (skew_schur (2 ∷ 1 ∷ []) (1 ∷ []) 1)
+        ≡ pos 1 }
     // (2,2) times (2,2) is (4,4) in two variables, which loses two hooks of four cells
-    ensures two_hooks { reduced_terms (((4 ∷ 4 ∷ []), pos 1) ∷ []) (Some ([], pos 1, 2) ∷ []) ≡ ((2, []), pos 1) ∷ [] }
-    // (2,1) times (2,1) in three variables, with hooks of six cells: (4,2) has none and too many columns
+    ensures two_hooks { reduced_terms (((4 ∷ 4 ∷ []), pos 1) ∷ []) (Some ([], pos 1, 2) ∷ [])
+        ≡ ((2, []), pos 1) ∷ [] }
+    // (2,1) times (2,1) in three variables, with hooks of six cells:
+    // (4,2) has none and too many columns
     ensures three_rows { reduced_terms
-        ((4 ∷ 2 ∷ [], pos 1) ∷ (4 ∷ 1 ∷ 1 ∷ [], pos 1) ∷ (3 ∷ 3 ∷ [], pos 1) ∷ (3 ∷ 2 ∷ 1 ∷ [], pos 2) ∷ (2 ∷ 2 ∷ 2 ∷ [], pos 1) ∷ [])
-        (None ∷ Some ([], pos 1, 1) ∷ Some (3 ∷ 3 ∷ [], pos 1, 0) ∷ Some (3 ∷ 2 ∷ 1 ∷ [], pos 1, 0) ∷ Some (2 ∷ 2 ∷ 2 ∷ [], pos 1, 0) ∷ [])
-        ≡ ((1, []), pos 1) ∷ ((0, 3 ∷ 3 ∷ []), pos 1) ∷ ((0, 3 ∷ 2 ∷ 1 ∷ []), pos 2) ∷ ((0, 2 ∷ 2 ∷ 2 ∷ []), pos 1) ∷ [] }
+        ((4 ∷ 2 ∷ [], pos 1) ∷ (4 ∷ 1 ∷ 1 ∷ [], pos 1) ∷ (3 ∷ 3 ∷ [], pos 1)
+        ∷ (3 ∷ 2 ∷ 1 ∷ [], pos 2) ∷ (2 ∷ 2 ∷ 2 ∷ [], pos 1) ∷ [])
+        (None ∷ Some ([], pos 1, 1) ∷ Some (3 ∷ 3 ∷ [], pos 1, 0) ∷ Some (3 ∷ 2 ∷ 1 ∷ [], pos 1, 0)
+        ∷ Some (2 ∷ 2 ∷ 2 ∷ [], pos 1, 0) ∷ [])
+        ≡ ((1, []), pos 1) ∷ ((0, 3 ∷ 3 ∷ []), pos 1) ∷ ((0, 3 ∷ 2 ∷ 1 ∷ []), pos 2)
+        ∷ ((0, 2 ∷ 2 ∷ 2 ∷ []), pos 1) ∷ [] }
     // the same at level 2, where (4,2) goes to minus (3,2,1) and (3,3) and (4,1,1) vanish
     ensures at_level_two { map
         (coefficient (reflected_terms 3 5
-        ((4 ∷ 2 ∷ [], pos 1) ∷ (4 ∷ 1 ∷ 1 ∷ [], pos 1) ∷ (3 ∷ 3 ∷ [], pos 1) ∷ (3 ∷ 2 ∷ 1 ∷ [], pos 2) ∷ (2 ∷ 2 ∷ 2 ∷ [], pos 1) ∷ [])))
+        ((4 ∷ 2 ∷ [], pos 1) ∷ (4 ∷ 1 ∷ 1 ∷ [], pos 1) ∷ (3 ∷ 3 ∷ [], pos 1)
+        ∷ (3 ∷ 2 ∷ 1 ∷ [], pos 2) ∷ (2 ∷ 2 ∷ 2 ∷ [], pos 1) ∷ [])))
         ((3 ∷ 2 ∷ 1 ∷ []) ∷ (2 ∷ 2 ∷ 2 ∷ []) ∷ (3 ∷ 3 ∷ []) ∷ (4 ∷ 2 ∷ []) ∷ [])
         ≡ pos 1 ∷ pos 1 ∷ pos 0 ∷ pos 0 ∷ [] }
     // x times x
-    ensures squared_letter { map (coefficient (times (schubert_in (2 ∷ 1 ∷ []) 2) (schubert_in (2 ∷ 1 ∷ []) 2))) ((2 ∷ 0 ∷ []) ∷ (1 ∷ 1 ∷ []) ∷ [])
+    ensures squared_letter { map (coefficient
+        (times (schubert_in (2 ∷ 1 ∷ []) 2) (schubert_in (2 ∷ 1 ∷ []) 2)))
+        ((2 ∷ 0 ∷ []) ∷ (1 ∷ 1 ∷ []) ∷ [])
         ≡ map (coefficient (schubert_in (3 ∷ 1 ∷ 2 ∷ []) 2)) ((2 ∷ 0 ∷ []) ∷ (1 ∷ 1 ∷ []) ∷ []) }
 {}

@@ -1,31 +1,40 @@
-//! Worked examples of the definitions of `sym_model`, of the words of commands, and of the fractions of `coeff_rings`, which the
-//! check computes: a definition that says something else than it is meant to say fails here.
+//! Worked examples of the definitions of `sym_model`, of the words of commands, and of the
+//! fractions of `coeff_rings`, which the check computes: a definition that does not say what it is
+//! meant to say fails here.
 //!
-//! A law function takes nothing, answers nothing and does no work when it runs: its contract is
-//! the examples.
+//! A law function has an empty body: its contract is the examples.
 //!
 //! What is proved:
 //!
-//! Values of the definitions that the check computes, from outside or by hand: among them all
-//! Schubert polynomials of four letters, 83 refusals of words, and 31 words at the limits that are
-//! not refused.
+//! Values of the definitions that the check computes, from other sources or by hand: among them all
+//! Schubert polynomials of four letters, 83 refusals of words, 31 words at the limits that are not
+//! refused, and the texts of answers of every kind.
 #![tactic(auto)]
 
+mod answers;
 mod batch_lines;
 mod expansions;
+mod expressions;
 mod fractions;
+mod kinds;
+mod one_line_forms;
 mod permutations;
 mod polynomials;
 mod reductions;
 mod refused_words;
+mod strips;
 mod tableaux;
 mod texts;
 
+pub use answers::{outcome_texts_law, target_examples_law};
 pub use batch_lines::batch_lines_law;
 pub use expansions::{
     change_of_basis_examples_law, expansion_examples_law, reduced_product_examples_law,
 };
+pub use expressions::expression_examples_law;
 pub use fractions::fraction_examples_law;
+pub use kinds::{kind_examples_law, label_examples_law};
+pub use one_line_forms::line_examples_law;
 pub use permutations::{
     divided_difference_examples_law, permutation_examples_law, schubert_examples_law,
     schubert_more_examples_law, straightening_examples_law,
@@ -36,6 +45,7 @@ pub use refused_words::{
     refused_expressions_law, refused_lists_law, refused_plethysms_law, refused_tableaux_law,
     words_that_go_wrong_law,
 };
+pub use strips::{removal_examples_law, strip_examples_law};
 pub use tableaux::{
     arrangement_examples_law, growth_examples_law, insertion_examples_law, knuth_examples_law,
     slide_examples_law, tableau_list_examples_law,

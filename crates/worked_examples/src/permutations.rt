@@ -5,13 +5,16 @@
 ghost use Rattle.std.specs.Prelude.{◌≡◌, pos, negsuc, [], ◌∷◌};
 ghost use Rattle.sym_model.specs.Polynomial.{coefficient, nothing, one};
 ghost use Rattle.sym_model.specs.PlaceOrders.{inversions};
-ghost use Rattle.sym_model.specs.Permutation.{letter, with_fixed, kept, first_ascent, last_descent, code, IsCode, from_code, swapped, exchanged, times_swap, covers_up, covers_down};
-ghost use Rattle.sym_model.specs.DividedDifference.{x_to, x_to_in, variable, variable_in, divided_difference};
+ghost use Rattle.sym_model.specs.Permutation.{letter, with_fixed, kept, first_ascent, last_descent};
+ghost use Rattle.sym_model.specs.Permutation.{code, IsCode, from_code, swapped, exchanged};
+ghost use Rattle.sym_model.specs.Permutation.{times_swap, covers_up, covers_down};
+ghost use Rattle.sym_model.specs.DividedDifference.{x_to, x_to_in, variable, variable_in};
+ghost use Rattle.sym_model.specs.DividedDifference.{divided_difference};
 ghost use Rattle.sym_model.specs.Schubert.{schubert, schubert_in};
 ghost use Rattle.sym_model.specs.Straightening.{straightened};
 
-/// Permutations in one-line form. The identity is kept as its first letter; past the end the letters
-/// are fixed.
+/// Permutations in one-line form. The identity is kept as its first letter; past the end the
+/// letters are fixed.
 pub fn permutation_examples_law()
     ensures letter { letter (3 ∷ 1 ∷ 2 ∷ []) 2 ≡ 1 }
     ensures letter_past_the_end { letter (3 ∷ 1 ∷ 2 ∷ []) 5 ≡ 5 }
@@ -54,7 +57,8 @@ pub fn divided_difference_examples_law()
     ensures rising { divided_difference 1 (x_to (1 ∷ 3 ∷ []))
         ≡ ((1 ∷ 2 ∷ []), negsuc 0) ∷ ((2 ∷ 1 ∷ []), negsuc 0) ∷ [] }
     ensures equal { divided_difference 1 (x_to (2 ∷ 2 ∷ [])) ≡ nothing }
-    ensures later_place { divided_difference 2 (x_to (5 ∷ 1 ∷ 0 ∷ 4 ∷ [])) ≡ ((5 ∷ 0 ∷ 0 ∷ 4 ∷ []), pos 1) ∷ [] }
+    ensures later_place { divided_difference 2 (x_to (5 ∷ 1 ∷ 0 ∷ 4 ∷ []))
+        ≡ ((5 ∷ 0 ∷ 0 ∷ 4 ∷ []), pos 1) ∷ [] }
     ensures number { divided_difference 1 (one 2) ≡ nothing }
     ensures variable { variable 3 ≡ ((0 ∷ 0 ∷ 1 ∷ []), pos 1) ∷ [] }
     ensures in_more_variables { variable_in 2 3 ≡ ((0 ∷ 1 ∷ 0 ∷ []), pos 1) ∷ [] }
@@ -66,19 +70,24 @@ pub fn divided_difference_examples_law()
 pub fn schubert_examples_law()
     ensures s1234 { schubert (1 ∷ 2 ∷ 3 ∷ 4 ∷ []) ≡ ((0 ∷ 0 ∷ 0 ∷ 0 ∷ []), pos 1) ∷ [] }
     ensures s1243 { schubert (1 ∷ 2 ∷ 4 ∷ 3 ∷ [])
-        ≡ ((0 ∷ 0 ∷ 1 ∷ 0 ∷ []), pos 1) ∷ ((0 ∷ 1 ∷ 0 ∷ 0 ∷ []), pos 1) ∷ ((1 ∷ 0 ∷ 0 ∷ 0 ∷ []), pos 1) ∷ [] }
+        ≡ ((0 ∷ 0 ∷ 1 ∷ 0 ∷ []), pos 1) ∷ ((0 ∷ 1 ∷ 0 ∷ 0 ∷ []), pos 1)
+        ∷ ((1 ∷ 0 ∷ 0 ∷ 0 ∷ []), pos 1) ∷ [] }
     ensures s1324 { schubert (1 ∷ 3 ∷ 2 ∷ 4 ∷ [])
         ≡ ((0 ∷ 1 ∷ 0 ∷ 0 ∷ []), pos 1) ∷ ((1 ∷ 0 ∷ 0 ∷ 0 ∷ []), pos 1) ∷ [] }
     ensures s1342 { schubert (1 ∷ 3 ∷ 4 ∷ 2 ∷ [])
-        ≡ ((0 ∷ 1 ∷ 1 ∷ 0 ∷ []), pos 1) ∷ ((1 ∷ 0 ∷ 1 ∷ 0 ∷ []), pos 1) ∷ ((1 ∷ 1 ∷ 0 ∷ 0 ∷ []), pos 1) ∷ [] }
+        ≡ ((0 ∷ 1 ∷ 1 ∷ 0 ∷ []), pos 1) ∷ ((1 ∷ 0 ∷ 1 ∷ 0 ∷ []), pos 1)
+        ∷ ((1 ∷ 1 ∷ 0 ∷ 0 ∷ []), pos 1) ∷ [] }
     ensures s1423 { schubert (1 ∷ 4 ∷ 2 ∷ 3 ∷ [])
-        ≡ ((0 ∷ 2 ∷ 0 ∷ 0 ∷ []), pos 1) ∷ ((1 ∷ 1 ∷ 0 ∷ 0 ∷ []), pos 1) ∷ ((2 ∷ 0 ∷ 0 ∷ 0 ∷ []), pos 1) ∷ [] }
+        ≡ ((0 ∷ 2 ∷ 0 ∷ 0 ∷ []), pos 1) ∷ ((1 ∷ 1 ∷ 0 ∷ 0 ∷ []), pos 1)
+        ∷ ((2 ∷ 0 ∷ 0 ∷ 0 ∷ []), pos 1) ∷ [] }
     ensures s1432 { schubert (1 ∷ 4 ∷ 3 ∷ 2 ∷ [])
-        ≡ ((0 ∷ 2 ∷ 1 ∷ 0 ∷ []), pos 1) ∷ ((1 ∷ 1 ∷ 1 ∷ 0 ∷ []), pos 1) ∷ ((2 ∷ 0 ∷ 1 ∷ 0 ∷ []), pos 1)
+        ≡ ((0 ∷ 2 ∷ 1 ∷ 0 ∷ []), pos 1) ∷ ((1 ∷ 1 ∷ 1 ∷ 0 ∷ []), pos 1)
+        ∷ ((2 ∷ 0 ∷ 1 ∷ 0 ∷ []), pos 1)
         ∷ ((1 ∷ 2 ∷ 0 ∷ 0 ∷ []), pos 1) ∷ ((2 ∷ 1 ∷ 0 ∷ 0 ∷ []), pos 1) ∷ [] }
     ensures s2134 { schubert (2 ∷ 1 ∷ 3 ∷ 4 ∷ []) ≡ ((1 ∷ 0 ∷ 0 ∷ 0 ∷ []), pos 1) ∷ [] }
     ensures s2143 { schubert (2 ∷ 1 ∷ 4 ∷ 3 ∷ [])
-        ≡ ((1 ∷ 0 ∷ 1 ∷ 0 ∷ []), pos 1) ∷ ((1 ∷ 1 ∷ 0 ∷ 0 ∷ []), pos 1) ∷ ((2 ∷ 0 ∷ 0 ∷ 0 ∷ []), pos 1) ∷ [] }
+        ≡ ((1 ∷ 0 ∷ 1 ∷ 0 ∷ []), pos 1) ∷ ((1 ∷ 1 ∷ 0 ∷ 0 ∷ []), pos 1)
+        ∷ ((2 ∷ 0 ∷ 0 ∷ 0 ∷ []), pos 1) ∷ [] }
     ensures s2314 { schubert (2 ∷ 3 ∷ 1 ∷ 4 ∷ []) ≡ ((1 ∷ 1 ∷ 0 ∷ 0 ∷ []), pos 1) ∷ [] }
     ensures s2341 { schubert (2 ∷ 3 ∷ 4 ∷ 1 ∷ []) ≡ ((1 ∷ 1 ∷ 1 ∷ 0 ∷ []), pos 1) ∷ [] }
     ensures s2413 { schubert (2 ∷ 4 ∷ 1 ∷ 3 ∷ [])
@@ -105,24 +114,31 @@ pub fn schubert_examples_law()
 /// numbers of variables.
 pub fn schubert_more_examples_law()
     ensures s14352 { schubert (1 ∷ 4 ∷ 3 ∷ 5 ∷ 2 ∷ [])
-        ≡ ((0 ∷ 2 ∷ 1 ∷ 1 ∷ 0 ∷ []), pos 1) ∷ ((1 ∷ 1 ∷ 1 ∷ 1 ∷ 0 ∷ []), pos 1) ∷ ((2 ∷ 0 ∷ 1 ∷ 1 ∷ 0 ∷ []), pos 1)
-        ∷ ((1 ∷ 2 ∷ 0 ∷ 1 ∷ 0 ∷ []), pos 1) ∷ ((2 ∷ 1 ∷ 0 ∷ 1 ∷ 0 ∷ []), pos 1) ∷ ((1 ∷ 2 ∷ 1 ∷ 0 ∷ 0 ∷ []), pos 1)
+        ≡ ((0 ∷ 2 ∷ 1 ∷ 1 ∷ 0 ∷ []), pos 1) ∷ ((1 ∷ 1 ∷ 1 ∷ 1 ∷ 0 ∷ []), pos 1)
+        ∷ ((2 ∷ 0 ∷ 1 ∷ 1 ∷ 0 ∷ []), pos 1)
+        ∷ ((1 ∷ 2 ∷ 0 ∷ 1 ∷ 0 ∷ []), pos 1) ∷ ((2 ∷ 1 ∷ 0 ∷ 1 ∷ 0 ∷ []), pos 1)
+        ∷ ((1 ∷ 2 ∷ 1 ∷ 0 ∷ 0 ∷ []), pos 1)
         ∷ ((2 ∷ 1 ∷ 1 ∷ 0 ∷ 0 ∷ []), pos 1) ∷ [] }
     ensures s21534 { schubert (2 ∷ 1 ∷ 5 ∷ 3 ∷ 4 ∷ [])
-        ≡ ((1 ∷ 0 ∷ 2 ∷ 0 ∷ 0 ∷ []), pos 1) ∷ ((1 ∷ 1 ∷ 1 ∷ 0 ∷ 0 ∷ []), pos 1) ∷ ((1 ∷ 2 ∷ 0 ∷ 0 ∷ 0 ∷ []), pos 1)
-        ∷ ((2 ∷ 0 ∷ 1 ∷ 0 ∷ 0 ∷ []), pos 1) ∷ ((2 ∷ 1 ∷ 0 ∷ 0 ∷ 0 ∷ []), pos 1) ∷ ((3 ∷ 0 ∷ 0 ∷ 0 ∷ 0 ∷ []), pos 1) ∷ [] }
-    ensures s21543 { coefficient (schubert (2 ∷ 1 ∷ 5 ∷ 4 ∷ 3 ∷ [])) (2 ∷ 1 ∷ 1 ∷ 0 ∷ 0 ∷ []) ≡ pos 2 }
+        ≡ ((1 ∷ 0 ∷ 2 ∷ 0 ∷ 0 ∷ []), pos 1) ∷ ((1 ∷ 1 ∷ 1 ∷ 0 ∷ 0 ∷ []), pos 1)
+        ∷ ((1 ∷ 2 ∷ 0 ∷ 0 ∷ 0 ∷ []), pos 1)
+        ∷ ((2 ∷ 0 ∷ 1 ∷ 0 ∷ 0 ∷ []), pos 1) ∷ ((2 ∷ 1 ∷ 0 ∷ 0 ∷ 0 ∷ []), pos 1)
+        ∷ ((3 ∷ 0 ∷ 0 ∷ 0 ∷ 0 ∷ []), pos 1) ∷ [] }
+    ensures s21543 { coefficient (schubert (2 ∷ 1 ∷ 5 ∷ 4 ∷ 3 ∷ [])) (2 ∷ 1 ∷ 1 ∷ 0 ∷ 0 ∷ [])
+        ≡ pos 2 }
     ensures one_letter { schubert (1 ∷ []) ≡ one 1 }
     ensures no_letter { schubert [] ≡ one 0 }
     ensures identity { schubert (1 ∷ 2 ∷ 3 ∷ []) ≡ one 3 }
     // x_1 + x_2 + x_3 loses its last term
-    ensures drops_a_term { schubert_in (1 ∷ 2 ∷ 4 ∷ 3 ∷ []) 2 ≡ ((0 ∷ 1 ∷ []), pos 1) ∷ ((1 ∷ 0 ∷ []), pos 1) ∷ [] }
+    ensures drops_a_term { schubert_in (1 ∷ 2 ∷ 4 ∷ 3 ∷ []) 2
+        ≡ ((0 ∷ 1 ∷ []), pos 1) ∷ ((1 ∷ 0 ∷ []), pos 1) ∷ [] }
     ensures more_variables { schubert_in (2 ∷ 1 ∷ []) 3 ≡ ((1 ∷ 0 ∷ 0 ∷ []), pos 1) ∷ [] }
     ensures no_variables { schubert_in (2 ∷ 1 ∷ []) 0 ≡ nothing }
     ensures identity_without_variables { schubert_in (1 ∷ []) 0 ≡ one 0 }
 {}
 
-/// Straightening: s_(0,2) = -s_(1,1), s_(1,2) = 0, s_(0,0,3) = s_(1,1,1), and a partition is its own.
+/// Straightening: s_(0,2) = -s_(1,1), s_(1,2) = 0, s_(0,0,3) = s_(1,1,1),
+/// and a partition is its own.
 pub fn straightening_examples_law()
     ensures negative { straightened (0 ∷ 2 ∷ []) ≡ Some (negsuc 0, (1 ∷ 1 ∷ [])) }
     ensures equal { straightened (1 ∷ 2 ∷ []) ≡ None }

@@ -20,7 +20,8 @@ pub fn worked_examples_law()
         ≡ ((2 ∷ 1 ∷ 0 ∷ []), pos 1) ∷ ((2 ∷ 0 ∷ 1 ∷ []), pos 1) ∷ ((1 ∷ 2 ∷ 0 ∷ []), pos 1)
         ∷ ((1 ∷ 0 ∷ 2 ∷ []), pos 1) ∷ ((0 ∷ 2 ∷ 1 ∷ []), pos 1) ∷ ((0 ∷ 1 ∷ 2 ∷ []), pos 1) ∷ [] }
     // x^2 y + x y^2
-    ensures monomial_two { monomial (2 ∷ 1 ∷ []) 2 ≡ ((2 ∷ 1 ∷ []), pos 1) ∷ ((1 ∷ 2 ∷ []), pos 1) ∷ [] }
+    ensures monomial_two { monomial (2 ∷ 1 ∷ []) 2
+        ≡ ((2 ∷ 1 ∷ []), pos 1) ∷ ((1 ∷ 2 ∷ []), pos 1) ∷ [] }
     ensures monomial_one { monomial (2 ∷ 1 ∷ []) 1 ≡ nothing }
     ensures monomial_none { monomial (1 ∷ []) 0 ≡ nothing }
     ensures monomial_empty { monomial [] 2 ≡ one 2 }
@@ -28,7 +29,8 @@ pub fn worked_examples_law()
     ensures elementary_three { elementary (2 ∷ []) 3
         ≡ ((1 ∷ 1 ∷ 0 ∷ []), pos 1) ∷ ((1 ∷ 0 ∷ 1 ∷ []), pos 1) ∷ ((0 ∷ 1 ∷ 1 ∷ []), pos 1) ∷ [] }
     // x y · (x + y)
-    ensures elementary_two { elementary (2 ∷ 1 ∷ []) 2 ≡ ((2 ∷ 1 ∷ []), pos 1) ∷ ((1 ∷ 2 ∷ []), pos 1) ∷ [] }
+    ensures elementary_two { elementary (2 ∷ 1 ∷ []) 2
+        ≡ ((2 ∷ 1 ∷ []), pos 1) ∷ ((1 ∷ 2 ∷ []), pos 1) ∷ [] }
     ensures elementary_one { elementary (2 ∷ 1 ∷ []) 1 ≡ nothing }
     ensures elementary_none { elementary (1 ∷ []) 0 ≡ nothing }
     ensures elementary_empty { elementary [] 0 ≡ one 0 }

@@ -6,8 +6,10 @@ ghost use Rattle.sym_model.specs.Polynomial.{coefficient};
 ghost use Rattle.sym_model.specs.Bases.{complete};
 ghost use Rattle.sym_model.specs.Schur.{tableaux, skew_schur, schur};
 ghost use Rattle.sym_model.specs.PlaceOrders.{orders, places, inversions, sign};
-ghost use Rattle.sym_model.specs.Alternant.{rearranged, alternant, staircase, schur_coefficient, alternants_over};
-ghost use Rattle.sym_model.specs.GoodTableau.{column_reading, good_readings, product_count, lattice_readings, skew_count};
+ghost use Rattle.sym_model.specs.Alternant.{rearranged, alternant, staircase, schur_coefficient};
+ghost use Rattle.sym_model.specs.Alternant.{alternants_over};
+ghost use Rattle.sym_model.specs.GoodTableau.{column_reading, good_readings, product_count};
+ghost use Rattle.sym_model.specs.GoodTableau.{lattice_readings, skew_count};
 ghost use Rattle.sym_model.specs.BetaList.{beta, from_beta, sorting_sign};
 ghost use Rattle.sym_model.specs.AlcoveReduction.{alcove_reduction};
 
@@ -15,11 +17,15 @@ ghost use Rattle.sym_model.specs.AlcoveReduction.{alcove_reduction};
 /// the good tableaux that Stembridge's rule counts for a product and for a skew shape.
 pub fn tableaux_examples_law()
     ensures count { length (tableaux 5 (3 ∷ 2 ∷ 1 ∷ []) []) ≡ 280 }
-    ensures listed { tableaux 2 (2 ∷ 1 ∷ []) [] ≡ ((1 ∷ 1 ∷ []) ∷ (2 ∷ []) ∷ []) ∷ ((1 ∷ 2 ∷ []) ∷ (2 ∷ []) ∷ []) ∷ [] }
+    ensures listed { tableaux 2 (2 ∷ 1 ∷ []) []
+        ≡ ((1 ∷ 1 ∷ []) ∷ (2 ∷ []) ∷ []) ∷ ((1 ∷ 2 ∷ []) ∷ (2 ∷ []) ∷ []) ∷ [] }
     ensures not_contained { tableaux 3 (2 ∷ []) (3 ∷ []) ≡ [] }
-    ensures skew { coefficient (skew_schur (3 ∷ 2 ∷ 1 ∷ []) (2 ∷ 1 ∷ []) 3) (1 ∷ 1 ∷ 1 ∷ []) ≡ pos 6 }
-    ensures reading { column_reading (2 ∷ 1 ∷ []) [] ((1 ∷ 2 ∷ []) ∷ (2 ∷ []) ∷ []) ≡ 2 ∷ 1 ∷ 2 ∷ [] }
-    ensures skew_reading { column_reading (3 ∷ 2 ∷ 1 ∷ []) (2 ∷ 1 ∷ []) ((1 ∷ []) ∷ (2 ∷ []) ∷ (3 ∷ []) ∷ []) ≡ 1 ∷ 2 ∷ 3 ∷ [] }
+    ensures skew { coefficient (skew_schur (3 ∷ 2 ∷ 1 ∷ []) (2 ∷ 1 ∷ []) 3) (1 ∷ 1 ∷ 1 ∷ [])
+        ≡ pos 6 }
+    ensures reading { column_reading (2 ∷ 1 ∷ []) [] ((1 ∷ 2 ∷ []) ∷ (2 ∷ []) ∷ [])
+        ≡ 2 ∷ 1 ∷ 2 ∷ [] }
+    ensures skew_reading { column_reading (3 ∷ 2 ∷ 1 ∷ []) (2 ∷ 1 ∷ [])
+        ((1 ∷ []) ∷ (2 ∷ []) ∷ (3 ∷ []) ∷ []) ≡ 1 ∷ 2 ∷ 3 ∷ [] }
     ensures good { good_readings 3 (2 ∷ 1 ∷ []) (2 ∷ 1 ∷ []) []
         ≡ (1 ∷ 1 ∷ 2 ∷ [])
         ∷ (1 ∷ 1 ∷ 3 ∷ [])
@@ -46,11 +52,13 @@ pub fn alternant_examples_law()
     ensures sign { sign (3 ∷ 2 ∷ 1 ∷ []) ≡ negsuc 0 }
     ensures rearranged { rearranged (3 ∷ 1 ∷ 2 ∷ []) (5 ∷ 6 ∷ 7 ∷ []) ≡ 7 ∷ 5 ∷ 6 ∷ [] }
     ensures staircase { staircase 3 ≡ 2 ∷ 1 ∷ 0 ∷ [] }
-    ensures vandermonde { alternant (staircase 2) ≡ ((1 ∷ 0 ∷ []), pos 1) ∷ ((0 ∷ 1 ∷ []), negsuc 0) ∷ [] }
+    ensures vandermonde { alternant (staircase 2)
+        ≡ ((1 ∷ 0 ∷ []), pos 1) ∷ ((0 ∷ 1 ∷ []), negsuc 0) ∷ [] }
     ensures turned { coefficient (alternant (4 ∷ 2 ∷ 0 ∷ [])) (0 ∷ 2 ∷ 4 ∷ []) ≡ negsuc 0 }
     ensures schur { schur_coefficient 3 (2 ∷ 1 ∷ []) (schur (2 ∷ 1 ∷ []) 3) ≡ pos 1 }
     ensures complete { schur_coefficient 3 (2 ∷ 1 ∷ []) (complete (1 ∷ 1 ∷ 1 ∷ []) 3) ≡ pos 2 }
-    ensures over_terms { coefficient (alternants_over (2 ∷ 1 ∷ 0 ∷ []) (schur (1 ∷ []) 3)) (3 ∷ 1 ∷ 0 ∷ []) ≡ pos 1 }
+    ensures over_terms { coefficient (alternants_over (2 ∷ 1 ∷ 0 ∷ []) (schur (1 ∷ []) 3))
+        (3 ∷ 1 ∷ 0 ∷ []) ≡ pos 1 }
 {}
 
 /// Beta lists and reflections: the products of (1) and (1) at level 1 with two rows, and of (2,1)

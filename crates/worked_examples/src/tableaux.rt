@@ -1,11 +1,12 @@
-//! Worked examples of arrangements, lists of tableaux, insertion, slides and growth, with values worked out
-//! by hand or taken from outside.
+//! Worked examples of arrangements, lists of tableaux, insertion, slides and growth, with values
+//! worked out by hand or taken from outside.
 
 ghost use Rattle.std.specs.Prelude.{◌≡◌, ℕ, List, [], ◌∷◌, Some, map};
 ghost use Rattle.sym_model.specs.Arrangement.{arrangements};
 ghost use Rattle.sym_model.specs.Conjugate.{conjugate};
 ghost use Rattle.sym_model.specs.GoodTableau.{column_reading, lattice_readings};
-ghost use Rattle.sym_model.specs.TableauList.{tableau_readings, readings_with_content, later_than, filling_of};
+ghost use Rattle.sym_model.specs.TableauList.{tableau_readings, readings_with_content, later_than};
+ghost use Rattle.sym_model.specs.TableauList.{filling_of};
 ghost use Rattle.sym_model.specs.Growth.{growth_shape, tableau_of_chain};
 ghost use Rattle.sym_model.specs.Insertion.{inserted, insertion_pair, reading_word};
 ghost use Rattle.sym_model.specs.Knuth.{IsKnuthStep, AreKnuthEquivalent};
@@ -40,23 +41,34 @@ pub fn tableau_list_examples_law()
     ensures other_degree { readings_with_content (1 ∷ 1 ∷ []) (2 ∷ 1 ∷ []) [] ≡ [] }
     ensures later { later_than (1 ∷ 1 ∷ 2 ∷ []) (lattice_readings (3 ∷ 2 ∷ 1 ∷ []) (2 ∷ 1 ∷ []))
         ≡ (1 ∷ 2 ∷ 1 ∷ []) ∷ (1 ∷ 2 ∷ 3 ∷ []) ∷ [] }
-    ensures after_the_last { later_than (1 ∷ 2 ∷ 3 ∷ []) (lattice_readings (3 ∷ 2 ∷ 1 ∷ []) (2 ∷ 1 ∷ [])) ≡ [] }
-    ensures not_in_the_list { later_than (1 ∷ 2 ∷ 2 ∷ []) (lattice_readings (3 ∷ 2 ∷ 1 ∷ []) (2 ∷ 1 ∷ [])) ≡ [] }
+    ensures after_the_last { later_than (1 ∷ 2 ∷ 3 ∷ [])
+        (lattice_readings (3 ∷ 2 ∷ 1 ∷ []) (2 ∷ 1 ∷ [])) ≡ [] }
+    ensures not_in_the_list { later_than (1 ∷ 2 ∷ 2 ∷ [])
+        (lattice_readings (3 ∷ 2 ∷ 1 ∷ []) (2 ∷ 1 ∷ [])) ≡ [] }
     ensures filling { filling_of (2 ∷ 1 ∷ []) [] (2 ∷ 1 ∷ 2 ∷ []) ≡ (1 ∷ 2 ∷ []) ∷ (2 ∷ []) ∷ [] }
-    ensures reading { column_reading (2 ∷ 1 ∷ []) [] ((1 ∷ 2 ∷ []) ∷ (2 ∷ []) ∷ []) ≡ 2 ∷ 1 ∷ 2 ∷ [] }
-    ensures row_without_cells { filling_of (3 ∷ 2 ∷ 1 ∷ []) (3 ∷ 1 ∷ []) (1 ∷ 2 ∷ []) ≡ [] ∷ (1 ∷ []) ∷ (2 ∷ []) ∷ [] }
+    ensures reading { column_reading (2 ∷ 1 ∷ []) [] ((1 ∷ 2 ∷ []) ∷ (2 ∷ []) ∷ [])
+        ≡ 2 ∷ 1 ∷ 2 ∷ [] }
+    ensures row_without_cells { filling_of (3 ∷ 2 ∷ 1 ∷ []) (3 ∷ 1 ∷ []) (1 ∷ 2 ∷ [])
+        ≡ [] ∷ (1 ∷ []) ∷ (2 ∷ []) ∷ [] }
 {}
 
 /// Row insertion. The pair of 4 2 7 3 6 1 5 is the one that the growth diagram of this permutation
-/// gives; the insertion of 2 into the rows 1 2 2 3 / 2 3 5 5 / 4 4 6 / 5 6 is the example in Fulton's
-/// first chapter.
+/// gives; the insertion of 2 into the rows 1 2 2 3 / 2 3 5 5 / 4 4 6 / 5 6 is the example in
+/// Fulton's first chapter.
 pub fn insertion_examples_law()
-    ensures three { insertion_pair (3 ∷ 1 ∷ 2 ∷ []) ≡ (((1 ∷ 2 ∷ []) ∷ (3 ∷ []) ∷ []), ((1 ∷ 3 ∷ []) ∷ (2 ∷ []) ∷ [])) }
+    ensures three { insertion_pair (3 ∷ 1 ∷ 2 ∷ [])
+        ≡ (((1 ∷ 2 ∷ []) ∷ (3 ∷ []) ∷ []), ((1 ∷ 3 ∷ []) ∷ (2 ∷ []) ∷ [])) }
     ensures empty { insertion_pair [] ≡ ([], []) }
-    ensures equal_letters { insertion_pair (1 ∷ 1 ∷ []) ≡ (((1 ∷ 1 ∷ []) ∷ []), ((1 ∷ 2 ∷ []) ∷ [])) }
+    ensures equal_letters { insertion_pair (1 ∷ 1 ∷ [])
+        ≡ (((1 ∷ 1 ∷ []) ∷ []), ((1 ∷ 2 ∷ []) ∷ [])) }
     ensures seven { insertion_pair (4 ∷ 2 ∷ 7 ∷ 3 ∷ 6 ∷ 1 ∷ 5 ∷ [])
-        ≡ (((1 ∷ 3 ∷ 5 ∷ []) ∷ (2 ∷ 6 ∷ []) ∷ (4 ∷ 7 ∷ []) ∷ []), ((1 ∷ 3 ∷ 5 ∷ []) ∷ (2 ∷ 4 ∷ []) ∷ (6 ∷ 7 ∷ []) ∷ [])) }
-    ensures into_four_rows { inserted ((1 ∷ 2 ∷ 2 ∷ 3 ∷ []) ∷ (2 ∷ 3 ∷ 5 ∷ 5 ∷ []) ∷ (4 ∷ 4 ∷ 6 ∷ []) ∷ (5 ∷ 6 ∷ []) ∷ []) (Some 2)
+        ≡ (
+          ((1 ∷ 3 ∷ 5 ∷ []) ∷ (2 ∷ 6 ∷ []) ∷ (4 ∷ 7 ∷ []) ∷ []),
+          ((1 ∷ 3 ∷ 5 ∷ []) ∷ (2 ∷ 4 ∷ []) ∷ (6 ∷ 7 ∷ []) ∷ []),
+        ) }
+    ensures into_four_rows { inserted
+        ((1 ∷ 2 ∷ 2 ∷ 3 ∷ []) ∷ (2 ∷ 3 ∷ 5 ∷ 5 ∷ []) ∷ (4 ∷ 4 ∷ 6 ∷ []) ∷ (5 ∷ 6 ∷ []) ∷ [])
+        (Some 2)
         ≡ (1 ∷ 2 ∷ 2 ∷ 2 ∷ []) ∷ (2 ∷ 3 ∷ 3 ∷ 5 ∷ []) ∷ (4 ∷ 4 ∷ 5 ∷ []) ∷ (5 ∷ 6 ∷ 6 ∷ []) ∷ [] }
     ensures reading_word { reading_word ((1 ∷ 2 ∷ []) ∷ (2 ∷ []) ∷ []) ≡ 2 ∷ 1 ∷ 2 ∷ [] }
     ensures standard { IsStandard ((1 ∷ 3 ∷ []) ∷ (2 ∷ []) ∷ []) }
@@ -75,7 +87,8 @@ pub fn knuth_examples_law()
     ensures first_equal { IsKnuthStep (2 ∷ 2 ∷ 1 ∷ []) (2 ∷ 1 ∷ 2 ∷ []) }
     ensures second_equal { IsKnuthStep (1 ∷ 2 ∷ 1 ∷ []) (2 ∷ 1 ∷ 1 ∷ []) }
     ensures inside { IsKnuthStep (4 ∷ 1 ∷ 3 ∷ 2 ∷ 5 ∷ []) (4 ∷ 3 ∷ 1 ∷ 2 ∷ 5 ∷ []) }
-    ensures joined { AreKnuthEquivalent (1 ∷ 3 ∷ 4 ∷ 2 ∷ []) (reading_word (insertion_pair (1 ∷ 3 ∷ 4 ∷ 2 ∷ [])).0) }
+    ensures joined { AreKnuthEquivalent (1 ∷ 3 ∷ 4 ∷ 2 ∷ [])
+        (reading_word (insertion_pair (1 ∷ 3 ∷ 4 ∷ 2 ∷ [])).0) }
     ensures itself { (w : List ℕ) → AreKnuthEquivalent w w }
 {}
 
@@ -83,26 +96,57 @@ pub fn knuth_examples_law()
 /// a straight tableau of one row, whichever corner comes first; a slide keeps rows to the left of
 /// the corner.
 pub fn slide_examples_law()
-    ensures tie { slide 1 (record { outer = 2 ∷ 2 ∷ []; inner = 1 ∷ []; rows = (1 ∷ []) ∷ (1 ∷ 2 ∷ []) ∷ [] })
+    ensures tie { slide 1 (record {
+      outer = 2 ∷ 2 ∷ [];
+      inner = 1 ∷ [];
+      rows = (1 ∷ []) ∷ (1 ∷ 2 ∷ []) ∷ [];
+    })
         ≡ record { outer = 2 ∷ 1 ∷ []; inner = []; rows = (1 ∷ 1 ∷ []) ∷ (2 ∷ []) ∷ [] } }
-    ensures right { slide 1 (record { outer = 2 ∷ 1 ∷ []; inner = 1 ∷ []; rows = (1 ∷ []) ∷ (2 ∷ []) ∷ [] })
+    ensures right { slide 1 (record {
+      outer = 2 ∷ 1 ∷ [];
+      inner = 1 ∷ [];
+      rows = (1 ∷ []) ∷ (2 ∷ []) ∷ [];
+    })
         ≡ record { outer = 1 ∷ 1 ∷ []; inner = []; rows = (1 ∷ []) ∷ (2 ∷ []) ∷ [] } }
-    ensures no_neighbour { slide 2 (record { outer = 1 ∷ 1 ∷ []; inner = 1 ∷ 1 ∷ []; rows = [] ∷ [] ∷ [] })
+    ensures no_neighbour { slide 2
+        (record { outer = 1 ∷ 1 ∷ []; inner = 1 ∷ 1 ∷ []; rows = [] ∷ [] ∷ [] })
         ≡ record { outer = 1 ∷ []; inner = 1 ∷ []; rows = [] ∷ [] } }
-    ensures down_twice { slide 1 (record { outer = 3 ∷ 3 ∷ 2 ∷ []; inner = 1 ∷ []; rows = (2 ∷ 3 ∷ []) ∷ (1 ∷ 3 ∷ 4 ∷ []) ∷ (2 ∷ 5 ∷ []) ∷ [] })
-        ≡ record { outer = 3 ∷ 3 ∷ 1 ∷ []; inner = []; rows = (1 ∷ 2 ∷ 3 ∷ []) ∷ (2 ∷ 3 ∷ 4 ∷ []) ∷ (5 ∷ []) ∷ [] } }
-    ensures one_row { IsReached (record { outer = 3 ∷ 2 ∷ 1 ∷ []; inner = 2 ∷ 1 ∷ []; rows = (2 ∷ []) ∷ (1 ∷ []) ∷ (1 ∷ []) ∷ [] })
+    ensures down_twice { slide 1 (record {
+      outer = 3 ∷ 3 ∷ 2 ∷ [];
+      inner = 1 ∷ [];
+      rows = (2 ∷ 3 ∷ []) ∷ (1 ∷ 3 ∷ 4 ∷ []) ∷ (2 ∷ 5 ∷ []) ∷ [];
+    })
+        ≡ record {
+          outer = 3 ∷ 3 ∷ 1 ∷ [];
+          inner = [];
+          rows = (1 ∷ 2 ∷ 3 ∷ []) ∷ (2 ∷ 3 ∷ 4 ∷ []) ∷ (5 ∷ []) ∷ [];
+        } }
+    ensures one_row { IsReached (record {
+      outer = 3 ∷ 2 ∷ 1 ∷ [];
+      inner = 2 ∷ 1 ∷ [];
+      rows = (2 ∷ []) ∷ (1 ∷ []) ∷ (1 ∷ []) ∷ [];
+    })
         (record { outer = 3 ∷ []; inner = []; rows = (1 ∷ 1 ∷ 2 ∷ []) ∷ [] }) }
-    ensures other_corner { slide 1 (slide 1 (slide 2 (record { outer = 3 ∷ 2 ∷ 1 ∷ []; inner = 2 ∷ 1 ∷ []; rows = (2 ∷ []) ∷ (1 ∷ []) ∷ (1 ∷ []) ∷ [] })))
+    ensures other_corner { slide 1
+        (slide 1 (slide 2 (record {
+          outer = 3 ∷ 2 ∷ 1 ∷ [];
+          inner = 2 ∷ 1 ∷ [];
+          rows = (2 ∷ []) ∷ (1 ∷ []) ∷ (1 ∷ []) ∷ [];
+        })))
         ≡ record { outer = 3 ∷ []; inner = []; rows = (1 ∷ 1 ∷ 2 ∷ []) ∷ [] } }
 {}
 
-/// Growth: the lines of the grid of 3 1 2 below the empty one, and the tableaux that its last line and its last column grow
-/// to.
+/// Growth: the lines of the grid of 3 1 2 below the empty one, and the tableaux that its last line
+/// and its last column grow to.
 pub fn growth_examples_law()
-    ensures first { map (growth_shape (3 ∷ 1 ∷ 2 ∷ []) 1) (0 ∷ 1 ∷ 2 ∷ 3 ∷ []) ≡ [] ∷ [] ∷ [] ∷ (1 ∷ []) ∷ [] }
-    ensures second { map (growth_shape (3 ∷ 1 ∷ 2 ∷ []) 2) (0 ∷ 1 ∷ 2 ∷ 3 ∷ []) ≡ [] ∷ (1 ∷ []) ∷ (1 ∷ []) ∷ (1 ∷ 1 ∷ []) ∷ [] }
-    ensures third { map (growth_shape (3 ∷ 1 ∷ 2 ∷ []) 3) (0 ∷ 1 ∷ 2 ∷ 3 ∷ []) ≡ [] ∷ (1 ∷ []) ∷ (2 ∷ []) ∷ (2 ∷ 1 ∷ []) ∷ [] }
-    ensures last_line { tableau_of_chain (λ j. growth_shape (3 ∷ 1 ∷ 2 ∷ []) 3 j) 3 ≡ (1 ∷ 2 ∷ []) ∷ (3 ∷ []) ∷ [] }
-    ensures last_column { tableau_of_chain (λ i. growth_shape (3 ∷ 1 ∷ 2 ∷ []) i 3) 3 ≡ (1 ∷ 3 ∷ []) ∷ (2 ∷ []) ∷ [] }
+    ensures first { map (growth_shape (3 ∷ 1 ∷ 2 ∷ []) 1) (0 ∷ 1 ∷ 2 ∷ 3 ∷ [])
+        ≡ [] ∷ [] ∷ [] ∷ (1 ∷ []) ∷ [] }
+    ensures second { map (growth_shape (3 ∷ 1 ∷ 2 ∷ []) 2) (0 ∷ 1 ∷ 2 ∷ 3 ∷ [])
+        ≡ [] ∷ (1 ∷ []) ∷ (1 ∷ []) ∷ (1 ∷ 1 ∷ []) ∷ [] }
+    ensures third { map (growth_shape (3 ∷ 1 ∷ 2 ∷ []) 3) (0 ∷ 1 ∷ 2 ∷ 3 ∷ [])
+        ≡ [] ∷ (1 ∷ []) ∷ (2 ∷ []) ∷ (2 ∷ 1 ∷ []) ∷ [] }
+    ensures last_line { tableau_of_chain (λ j. growth_shape (3 ∷ 1 ∷ 2 ∷ []) 3 j) 3
+        ≡ (1 ∷ 2 ∷ []) ∷ (3 ∷ []) ∷ [] }
+    ensures last_column { tableau_of_chain (λ i. growth_shape (3 ∷ 1 ∷ 2 ∷ []) i 3) 3
+        ≡ (1 ∷ 3 ∷ []) ∷ (2 ∷ []) ∷ [] }
 {}

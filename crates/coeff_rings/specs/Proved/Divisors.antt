@@ -1,10 +1,15 @@
 -- Common divisors: Euclid's algorithm, Euclid's lemma, and that `greatest_common_divisor` is the
 -- greatest common divisor.
-use Rattle.std.proofs.Common.{◌≡◌, ℕ, zero, suc, ◌+◌, ◌*◌, ◌/◌, ◌%◌, ◌<◌, ◌≤◌, ⊎_elim, Bool, true, false, cond, subst, sym, refl, ap, ◌∙◌, arith, nat_eq}
+use Rattle.std.proofs.Common.{◌≡◌, ℕ, zero, suc, ◌+◌, ◌*◌, ◌/◌, ◌%◌, ◌<◌, ◌≤◌, ⊎_elim, Bool, true}
+use Rattle.std.proofs.Common.{false, cond, subst, sym, refl, ap, ◌∙◌, arith, nat_eq}
 use Rattle.std.specs.Int.{IsGcd, ◌∣◌}
-use Rattle.std.proofs.lemmas.Nat.Gcd.{IsGcd-from_zero, IsGcd-swap, IsGcd-from_mod, same_from_IsGcd, le_from_IsGcd, dvd_trans, le_of_dvd, dvd_of_mod-eq-zero, mod-eq-zero_of_dvd}
+use Rattle.std.proofs.lemmas.Nat.Gcd.{IsGcd-from_zero, IsGcd-swap, IsGcd-from_mod, same_from_IsGcd}
+use Rattle.std.proofs.lemmas.Nat.Gcd.{le_from_IsGcd, dvd_trans, le_of_dvd, dvd_of_mod-eq-zero}
+use Rattle.std.proofs.lemmas.Nat.Gcd.{mod-eq-zero_of_dvd}
 use Rattle.std.proofs.lemmas.Bool.{and_parts, eqb-true, eq-eqb, and_from, both_ways, cases_eq}
-use native.Mathlib.Nat.{dvd-add, dvd-add_iff_right, dvd-mul_left_of_dvd, dvd-mul_right, dvd_of_mul-dvd-mul_right, mul-dvd-mul_right, div-mul_cancel, div-add-mod', pos_of_dvd_of_pos, one-dvd, mod-lt, one-mul, add-mul, mul_assoc, zero-mul}
+use native.Mathlib.Nat.{dvd-add, dvd-add_iff_right, dvd-mul_left_of_dvd, dvd-mul_right}
+use native.Mathlib.Nat.{dvd_of_mul-dvd-mul_right, mul-dvd-mul_right, div-mul_cancel, div-add-mod'}
+use native.Mathlib.Nat.{pos_of_dvd_of_pos, one-dvd, mod-lt, one-mul, add-mul, mul_assoc, zero-mul}
 use Rattle.coeff_rings.specs.Fractions.{divides_both, greatest_divisor_to, greatest_common_divisor}
 
 -- one step of Euclid's algorithm
@@ -13,7 +18,8 @@ euclid_step a b q r g e h =
     let divides = λ (d : ℕ) (s : d ∣ b). dvd-mul_left_of_dvd d s q in (
       subst (λ (n : ℕ). g ∣ n) (sym e) (dvd-add g (divides g h.0) h.1),
       h.0,
-      λ d p s. h.2 d s ((dvd-add_iff_right d {m = q * b} {n = r} (divides d s)).1 (subst (λ (n : ℕ). d ∣ n) e p)),
+      λ d p s. h.2 d s ((dvd-add_iff_right d {m = q * b} {n = r} (divides d s)).1
+          (subst (λ (n : ℕ). d ∣ n) e p)),
     )
 
 -- a greatest common divisor, which every factor scales
@@ -35,7 +41,8 @@ euclid_more a b s = record {
   is = IsGcd-from_mod a b s.g s.is;
   by_factor = λ c. euclid_step (a * c) (b * c) (a / b) ((a % b) * c) (s.g * c)
       (let e : a ≡ a / b * b + a % b = sym (div-add-mod' a b) in
-      ap (λ n. n * c) e ∙ add-mul (a / b * b) (a % b) c ∙ ap (λ n. n + (a % b) * c) (mul_assoc (a / b) b c))
+      ap (λ n. n * c) e ∙ add-mul (a / b * b) (a % b) c
+      ∙ ap (λ n. n + (a % b) * c) (mul_assoc (a / b) b c))
       (s.by_factor c);
 }
 
@@ -71,7 +78,8 @@ coprime-product a b c h k =
     k.2 d p (divides_other_factor d b c (coprime_from d b (λ e r s. h.2 e (dvd_trans e r p) s)) q))
 
 -- four numbers, each of two having nothing in common with each of the others
-pub coprime-products : (a b c d : ℕ) → IsGcd a c 1 → IsGcd a d 1 → IsGcd b c 1 → IsGcd b d 1 → IsGcd (a * b) (c * d) 1
+pub coprime-products : (a b c d : ℕ) → IsGcd a c 1 → IsGcd a d 1 → IsGcd b c 1 → IsGcd b d 1
+    → IsGcd (a * b) (c * d) 1
 coprime-products a b c d ac ad bc bd =
     IsGcd-swap (c * d) (a * b) 1
     (coprime-product (c * d) a b
@@ -82,26 +90,35 @@ coprime-products a b c d ac ad bc bd =
 pub coprime_without : (a b g : ℕ) → 0 < g → IsGcd a b g → IsGcd (a / g) (b / g) 1
 coprime_without a b g some h =
     coprime_from (a / g) (b / g) (λ d p q.
-    let whole = λ (n : ℕ) (w : g ∣ n) (r : d ∣ n / g). subst (λ (m : ℕ). d * g ∣ m) (div-mul_cancel g w) (mul-dvd-mul_right d r g) in
-    let t : d * g ∣ 1 * g = subst (λ (m : ℕ). d * g ∣ m) (sym (one-mul g)) (h.2 (d * g) (whole a h.0 p) (whole b h.1 q)) in
+    let whole =
+    λ (n : ℕ) (w : g ∣ n) (r : d ∣ n / g). subst (λ (m : ℕ). d * g ∣ m) (div-mul_cancel g w)
+    (mul-dvd-mul_right d r g) in
+    let t : d * g ∣ 1 * g =
+    subst (λ (m : ℕ). d * g ∣ m) (sym (one-mul g))
+    (h.2 (d * g) (whole a h.0 p) (whole b h.1 q)) in
     dvd_of_mul-dvd-mul_right {k = g} d {n = 1} some t)
 
 pub divisor_positive : (a b g : ℕ) → 0 < b → IsGcd a b g → 0 < g
 divisor_positive a b g some h = pos_of_dvd_of_pos h.1 some
 
 pub quotient_positive : (n g : ℕ) → 0 < n → g ∣ n → 0 < n / g
-quotient_positive n g some h = pos_of_dvd_of_pos (dvd-mul_right (n / g) g) (subst (λ (m : ℕ). 0 < m) (sym (div-mul_cancel g h)) some)
+quotient_positive n g some h =
+    pos_of_dvd_of_pos (dvd-mul_right (n / g) g)
+    (subst (λ (m : ℕ). 0 < m) (sym (div-mul_cancel g h)) some)
 
 -- ---- the definition
 
 divides_from_test : (k a b : ℕ) → divides_both k a b ≡ true → (k ∣ a) × (k ∣ b)
 divides_from_test k a b t =
-    let parts = and_parts (nat_eq (a % k) 0) (nat_eq (b % k) 0) t in
-    (dvd_of_mod-eq-zero k (eqb-true (a % k) 0 parts.0), dvd_of_mod-eq-zero k (eqb-true (b % k) 0 parts.1))
+    let parts = and_parts (nat_eq (a % k) 0) (nat_eq (b % k) 0) t in (
+      dvd_of_mod-eq-zero k (eqb-true (a % k) 0 parts.0),
+      dvd_of_mod-eq-zero k (eqb-true (b % k) 0 parts.1),
+    )
 
 test_from_divides : (k a b : ℕ) → k ∣ a → k ∣ b → divides_both k a b ≡ true
 test_from_divides k a b p q =
-    and_from (nat_eq (a % k) 0) (nat_eq (b % k) 0) (eq-eqb (a % k) 0 (mod-eq-zero_of_dvd k p)) (eq-eqb (b % k) 0 (mod-eq-zero_of_dvd k q))
+    and_from (nat_eq (a % k) 0) (nat_eq (b % k) 0) (eq-eqb (a % k) 0 (mod-eq-zero_of_dvd k p))
+    (eq-eqb (b % k) 0 (mod-eq-zero_of_dvd k q))
 
 -- the search from a bound down meets the greatest common divisor first
 greatest_step : (k a b g : ℕ) (t : Bool) → divides_both (suc k) a b ≡ t → g ∣ a → g ∣ b → g ≤ suc k
@@ -112,20 +129,25 @@ greatest_step k a b g true e p q below most rest =
     let above : suc k ≤ g = most (suc k) parts.0 parts.1 in
     omega arith
 greatest_step k a b g false e p q below most rest =
-    rest (⊎_elim (λ (same : g ≡ suc k). absurd (both_ways _ e (test_from_divides (suc k) a b (subst (λ (n : ℕ). n ∣ a) same p) (subst (λ (n : ℕ). n ∣ b) same q))))
+    rest (⊎_elim (λ (same : g ≡ suc k). absurd (both_ways _ e
+    (test_from_divides (suc k) a b (subst (λ (n : ℕ). n ∣ a) same p)
+    (subst (λ (n : ℕ). n ∣ b) same q))))
     (λ (other : g ≡ suc k → ⊥). omega arith) (cases_eq g (suc k)))
 
-greatest_is : (k a b g : ℕ) → 0 < g → g ∣ a → g ∣ b → ((d : ℕ) → d ∣ a → d ∣ b → d ≤ g) → g ≤ k → greatest_divisor_to k a b ≡ g
+greatest_is : (k a b g : ℕ) → 0 < g → g ∣ a → g ∣ b → ((d : ℕ) → d ∣ a → d ∣ b → d ≤ g) → g ≤ k
+    → greatest_divisor_to k a b ≡ g
 unfolding greatest_divisor_to
 greatest_is zero a b g some p q most below = absurd (omega arith)
 greatest_is (suc k) a b g some p q most below =
-    greatest_step k a b g (divides_both (suc k) a b) refl p q below most (greatest_is k a b g some p q most)
+    greatest_step k a b g (divides_both (suc k) a b) refl p q below most
+    (greatest_is k a b g some p q most)
 
 pub greatest_common_divisor-is : (a b g : ℕ) → 0 < b → IsGcd a b g → greatest_common_divisor a b ≡ g
 unfolding greatest_common_divisor
 greatest_common_divisor-is a b g some h =
     let positive : 0 < g = divisor_positive a b g some h in
-    greatest_is b a b g positive h.0 h.1 (λ d p q. le_from_IsGcd a b g d h positive p q) (le_of_dvd some h.1)
+    greatest_is b a b g positive h.0 h.1 (λ d p q. le_from_IsGcd a b g d h positive p q)
+    (le_of_dvd some h.1)
 
 pub IsGcd-greatest : (a b : ℕ) → 0 < b → IsGcd a b (greatest_common_divisor a b)
 IsGcd-greatest a b some =

@@ -1,24 +1,20 @@
 -- Arithmetic of fractions. A fraction in lowest terms stands for n/d where its numerator times d is
 -- n times its denominator; two fractions that stand for equal quotients are the same.
-use Rattle.std.proofs.Common.{◌≡◌, ℕ, zero, suc, ◌+◌, ◌*◌, ◌/◌, ◌<◌, subst, sym, refl, ap, ◌∙◌, arith, ℤ, pos, negsuc, ◌+ℤ◌, ◌*ℤ◌, neg_ℤ, unsigned_abs, int_div}
+use Rattle.std.proofs.Common.{◌≡◌, ℕ, zero, suc, ◌+◌, ◌*◌, ◌/◌, ◌<◌, subst, sym, refl, ap, ◌∙◌}
+use Rattle.std.proofs.Common.{arith, ℤ, pos, negsuc, ◌+ℤ◌, ◌*ℤ◌, neg_ℤ, unsigned_abs, int_div}
 use Rattle.std.specs.Int.{IsGcd, ◌∣◌}
 use Rattle.std.proofs.lemmas.Nat.Gcd.{IsGcd-swap, dvd_antisymm}
 use Rattle.std.proofs.lemmas.Int.{ints, unsigned_abs-mul}
-use native.Mathlib.Nat.{div-mul_cancel, dvd-mul_left, mul-pos, eq_of_mul-eq-mul_right, add-mul, mul_comm}
-use borrow.Author.Differences.{up, down}
+use native.Mathlib.Nat.{div-mul_cancel, dvd-mul_left, mul-pos, mul_comm}
 use Rattle.sym_model.proofs.Ring.{ring, negation-product, product_assoc}
 use Rattle.sym_model.specs.Expansion.{Fraction}
-use Rattle.coeff_rings.specs.Fractions.{whole, InLowestTerms, greatest_common_divisor, lowest_terms, fraction_sum, fraction_product, fraction_negation}
-use Rattle.coeff_rings.specs.Proved.Divisors.{IsGcd-greatest, divisor_positive, coprime_without, coprime-one, divides_other_factor, quotient_positive}
+use Rattle.coeff_rings.specs.Fractions.{whole, InLowestTerms, greatest_common_divisor, lowest_terms}
+use Rattle.coeff_rings.specs.Fractions.{fraction_sum, fraction_product, fraction_negation}
+use Rattle.coeff_rings.specs.Proved.Divisors.{IsGcd-greatest, divisor_positive, coprime_without}
+use Rattle.coeff_rings.specs.Proved.Divisors.{coprime-one, divides_other_factor, quotient_positive}
+use Rattle.sym_model.proofs.Integers.{product_cancel}
 
 -- ---- whole numbers
-
-pub product_cancel : (x y : ℤ) (d : ℕ) → 0 < d → x *ℤ pos d ≡ y *ℤ pos d → x ≡ y
-product_cancel x y d some e =
-    let both : (up x + down y) * d ≡ (up y + down x) * d =
-    omega (arith, ints, ap up e, ap down e, add-mul (up x) (down y) d, add-mul (up y) (down x) d) in
-    let parts : up x + down y ≡ up y + down x = eq_of_mul-eq-mul_right d some (up x + down y) (up y + down x) both in
-    omega (arith, ints)
 
 pub unsigned_abs-negation : (z : ℤ) → unsigned_abs (neg_ℤ z) ≡ unsigned_abs z
 unsigned_abs-negation (pos zero) = refl
@@ -49,10 +45,12 @@ den_divides r s l e =
     divides_other_factor r.1 (unsigned_abs r.0) s.1 (IsGcd-swap (unsigned_abs r.0) r.1 1 l.coprime)
     (subst (λ (n : ℕ). r.1 ∣ n) (sym sizes) (dvd-mul_left r.1 (unsigned_abs s.0)))
 
-pub same_fraction : (r s : Fraction) → InLowestTerms r → InLowestTerms s → r.0 *ℤ pos s.1 ≡ s.0 *ℤ pos r.1 → r ≡ s
+pub same_fraction : (r s : Fraction) → InLowestTerms r → InLowestTerms s
+    → r.0 *ℤ pos s.1 ≡ s.0 *ℤ pos r.1 → r ≡ s
 same_fraction r s l k e =
     let dens : r.1 ≡ s.1 = dvd_antisymm (den_divides r s l e) (den_divides s r k (sym e)) in
-    same_parts r s (product_cancel r.0 s.0 s.1 k.positive (e ∙ ap (λ (n : ℕ). s.0 *ℤ pos n) dens)) dens
+    same_parts r s (product_cancel r.0 s.0 s.1 k.positive (e ∙ ap (λ (n : ℕ). s.0 *ℤ pos n) dens))
+    dens
 
 -- ---- what a fraction stands for
 
@@ -72,7 +70,8 @@ Stands-whole z = Stands-itself (whole z) (InLowestTerms-whole z)
 
 lowest_is : (n q : ℤ) (d e g : ℕ) → q *ℤ pos g ≡ n → e * g ≡ d → q *ℤ pos d ≡ n *ℤ pos e
 lowest_is n q d e g a b =
-    ap (λ (m : ℕ). q *ℤ pos m) (sym b ∙ mul_comm e g) ∙ sym (product_assoc q (pos g) (pos e)) ∙ ap (λ z. z *ℤ pos e) a
+    ap (λ (m : ℕ). q *ℤ pos m) (sym b ∙ mul_comm e g) ∙ sym (product_assoc q (pos g) (pos e))
+    ∙ ap (λ z. z *ℤ pos e) a
 
 pub Stands-lowest_terms : (n : ℤ) (d : ℕ) → 0 < d → Stands (lowest_terms n d) n d
 unfolding lowest_terms
@@ -83,38 +82,50 @@ Stands-lowest_terms n d some =
     record {
       lowest = record {
         positive = quotient_positive d g some is.1;
-        coprime = subst (λ (m : ℕ). IsGcd m (d / g) 1) (sym (unsigned_abs-quotient n g)) (coprime_without (unsigned_abs n) d g positive is);
+        coprime =
+            subst (λ (m : ℕ). IsGcd m (d / g) 1) (sym (unsigned_abs-quotient n g))
+            (coprime_without (unsigned_abs n) d g positive is);
       };
       positive = some;
-      is = lowest_is n (int_div n (pos g)) d (d / g) g (quotient_times n g is.0) (div-mul_cancel g is.1);
+      is =
+          lowest_is n (int_div n (pos g)) d (d / g) g (quotient_times n g is.0)
+          (div-mul_cancel g is.1);
     }
 
 -- the two sides of equal quotients, times both denominators
-cross : (x s y r n m d e : ℤ) → x *ℤ d ≡ n *ℤ r → y *ℤ e ≡ m *ℤ s → n *ℤ e ≡ m *ℤ d → (x *ℤ s) *ℤ (d *ℤ e) ≡ (y *ℤ r) *ℤ (d *ℤ e)
+cross : (x s y r n m d e : ℤ) → x *ℤ d ≡ n *ℤ r → y *ℤ e ≡ m *ℤ s → n *ℤ e ≡ m *ℤ d
+    → (x *ℤ s) *ℤ (d *ℤ e) ≡ (y *ℤ r) *ℤ (d *ℤ e)
 cross x s y r n m d e p q c =
     let first : (x *ℤ s) *ℤ (d *ℤ e) ≡ (x *ℤ d) *ℤ (s *ℤ e) = simp ring in
     let second : (n *ℤ r) *ℤ (s *ℤ e) ≡ (n *ℤ e) *ℤ (r *ℤ s) = simp ring in
     let third : (m *ℤ d) *ℤ (r *ℤ s) ≡ (m *ℤ s) *ℤ (r *ℤ d) = simp ring in
     let fourth : (y *ℤ e) *ℤ (r *ℤ d) ≡ (y *ℤ r) *ℤ (d *ℤ e) = simp ring in
-    first ∙ ap (λ z. z *ℤ (s *ℤ e)) p ∙ second ∙ ap (λ z. z *ℤ (r *ℤ s)) c ∙ third ∙ ap (λ z. z *ℤ (r *ℤ d)) (sym q) ∙ fourth
+    first ∙ ap (λ z. z *ℤ (s *ℤ e)) p ∙ second ∙ ap (λ z. z *ℤ (r *ℤ s)) c ∙ third
+    ∙ ap (λ z. z *ℤ (r *ℤ d)) (sym q) ∙ fourth
 
-pub Stands-same : (r s : Fraction) (n m : ℤ) (d e : ℕ) → Stands r n d → Stands s m e → n *ℤ pos e ≡ m *ℤ pos d → r ≡ s
+pub Stands-same : (r s : Fraction) (n m : ℤ) (d e : ℕ) → Stands r n d → Stands s m e
+    → n *ℤ pos e ≡ m *ℤ pos d → r ≡ s
 Stands-same r s n m d e p q c =
     same_fraction r s p.lowest q.lowest
     (product_cancel (r.0 *ℤ pos s.1) (s.0 *ℤ pos r.1) (d * e) (mul-pos p.positive q.positive)
     (cross r.0 (pos s.1) s.0 (pos r.1) n m (pos d) (pos e) p.is q.is c))
 
-sum_cross : (t rn rd sn sd td n d m e : ℤ) → t *ℤ (rd *ℤ sd) ≡ (rn *ℤ sd +ℤ sn *ℤ rd) *ℤ td → rn *ℤ d ≡ n *ℤ rd → sn *ℤ e ≡ m *ℤ sd
+sum_cross : (t rn rd sn sd td n d m e : ℤ) → t *ℤ (rd *ℤ sd) ≡ (rn *ℤ sd +ℤ sn *ℤ rd) *ℤ td
+    → rn *ℤ d ≡ n *ℤ rd → sn *ℤ e ≡ m *ℤ sd
     → (t *ℤ (d *ℤ e)) *ℤ (rd *ℤ sd) ≡ ((n *ℤ e +ℤ m *ℤ d) *ℤ td) *ℤ (rd *ℤ sd)
 sum_cross t rn rd sn sd td n d m e a p q =
     let first : (t *ℤ (d *ℤ e)) *ℤ (rd *ℤ sd) ≡ (t *ℤ (rd *ℤ sd)) *ℤ (d *ℤ e) = simp ring in
-    let second : ((rn *ℤ sd +ℤ sn *ℤ rd) *ℤ td) *ℤ (d *ℤ e) ≡ (rn *ℤ d) *ℤ (sd *ℤ (e *ℤ td)) +ℤ (sn *ℤ e) *ℤ (rd *ℤ (d *ℤ td)) = simp ring (omega (arith, ints)) in
-    let third : (n *ℤ rd) *ℤ (sd *ℤ (e *ℤ td)) +ℤ (m *ℤ sd) *ℤ (rd *ℤ (d *ℤ td)) ≡ ((n *ℤ e +ℤ m *ℤ d) *ℤ td) *ℤ (rd *ℤ sd) = simp ring (omega (arith, ints)) in
+    let second : ((rn *ℤ sd +ℤ sn *ℤ rd) *ℤ td) *ℤ (d *ℤ e)
+    ≡ (rn *ℤ d) *ℤ (sd *ℤ (e *ℤ td)) +ℤ (sn *ℤ e) *ℤ (rd *ℤ (d *ℤ td)) =
+    simp ring (omega (arith, ints)) in
+    let third : (n *ℤ rd) *ℤ (sd *ℤ (e *ℤ td)) +ℤ (m *ℤ sd) *ℤ (rd *ℤ (d *ℤ td))
+    ≡ ((n *ℤ e +ℤ m *ℤ d) *ℤ td) *ℤ (rd *ℤ sd) = simp ring (omega (arith, ints)) in
     first ∙ ap (λ z. z *ℤ (d *ℤ e)) a ∙ second
     ∙ ap (λ z. z *ℤ (sd *ℤ (e *ℤ td)) +ℤ (sn *ℤ e) *ℤ (rd *ℤ (d *ℤ td))) p
     ∙ ap (λ z. (n *ℤ rd) *ℤ (sd *ℤ (e *ℤ td)) +ℤ z *ℤ (rd *ℤ (d *ℤ td))) q ∙ third
 
-pub Stands-sum : (r s : Fraction) (n m : ℤ) (d e : ℕ) → Stands r n d → Stands s m e → Stands (fraction_sum r s) (n *ℤ pos e +ℤ m *ℤ pos d) (d * e)
+pub Stands-sum : (r s : Fraction) (n m : ℤ) (d e : ℕ) → Stands r n d → Stands s m e
+    → Stands (fraction_sum r s) (n *ℤ pos e +ℤ m *ℤ pos d) (d * e)
 Stands-sum r s n m d e p q =
     let dens : 0 < r.1 * s.1 = mul-pos p.lowest.positive q.lowest.positive in
     let t = Stands-lowest_terms (r.0 *ℤ pos s.1 +ℤ s.0 *ℤ pos r.1) (r.1 * s.1) dens in
@@ -122,18 +133,22 @@ Stands-sum r s n m d e p q =
       lowest = t.lowest;
       positive = mul-pos p.positive q.positive;
       is = product_cancel _ _ (r.1 * s.1) dens
-          (sum_cross (fraction_sum r s).0 r.0 (pos r.1) s.0 (pos s.1) (pos (fraction_sum r s).1) n (pos d) m (pos e) t.is p.is q.is);
+          (sum_cross (fraction_sum r s).0 r.0 (pos r.1) s.0 (pos s.1) (pos (fraction_sum r s).1) n
+          (pos d) m (pos e) t.is p.is q.is);
     }
 
-product_cross : (t rn rd sn sd td n d m e : ℤ) → t *ℤ (rd *ℤ sd) ≡ (rn *ℤ sn) *ℤ td → rn *ℤ d ≡ n *ℤ rd → sn *ℤ e ≡ m *ℤ sd
+product_cross : (t rn rd sn sd td n d m e : ℤ) → t *ℤ (rd *ℤ sd) ≡ (rn *ℤ sn) *ℤ td
+    → rn *ℤ d ≡ n *ℤ rd → sn *ℤ e ≡ m *ℤ sd
     → (t *ℤ (d *ℤ e)) *ℤ (rd *ℤ sd) ≡ ((n *ℤ m) *ℤ td) *ℤ (rd *ℤ sd)
 product_cross t rn rd sn sd td n d m e a p q =
     let first : (t *ℤ (d *ℤ e)) *ℤ (rd *ℤ sd) ≡ (t *ℤ (rd *ℤ sd)) *ℤ (d *ℤ e) = simp ring in
     let second : ((rn *ℤ sn) *ℤ td) *ℤ (d *ℤ e) ≡ ((rn *ℤ d) *ℤ (sn *ℤ e)) *ℤ td = simp ring in
     let third : ((n *ℤ rd) *ℤ (m *ℤ sd)) *ℤ td ≡ ((n *ℤ m) *ℤ td) *ℤ (rd *ℤ sd) = simp ring in
-    first ∙ ap (λ z. z *ℤ (d *ℤ e)) a ∙ second ∙ ap (λ z. (z *ℤ (sn *ℤ e)) *ℤ td) p ∙ ap (λ z. ((n *ℤ rd) *ℤ z) *ℤ td) q ∙ third
+    first ∙ ap (λ z. z *ℤ (d *ℤ e)) a ∙ second ∙ ap (λ z. (z *ℤ (sn *ℤ e)) *ℤ td) p
+    ∙ ap (λ z. ((n *ℤ rd) *ℤ z) *ℤ td) q ∙ third
 
-pub Stands-product : (r s : Fraction) (n m : ℤ) (d e : ℕ) → Stands r n d → Stands s m e → Stands (fraction_product r s) (n *ℤ m) (d * e)
+pub Stands-product : (r s : Fraction) (n m : ℤ) (d e : ℕ) → Stands r n d → Stands s m e
+    → Stands (fraction_product r s) (n *ℤ m) (d * e)
 Stands-product r s n m d e p q =
     let dens : 0 < r.1 * s.1 = mul-pos p.lowest.positive q.lowest.positive in
     let t = Stands-lowest_terms (r.0 *ℤ s.0) (r.1 * s.1) dens in
@@ -141,12 +156,19 @@ Stands-product r s n m d e p q =
       lowest = t.lowest;
       positive = mul-pos p.positive q.positive;
       is = product_cancel _ _ (r.1 * s.1) dens
-          (product_cross (fraction_product r s).0 r.0 (pos r.1) s.0 (pos s.1) (pos (fraction_product r s).1) n (pos d) m (pos e) t.is p.is q.is);
+          (product_cross (fraction_product r s).0 r.0 (pos r.1) s.0 (pos s.1)
+          (pos (fraction_product r s).1) n (pos d) m (pos e) t.is p.is q.is);
     }
 
-pub Stands-negation : (r : Fraction) (n : ℤ) (d : ℕ) → Stands r n d → Stands (fraction_negation r) (neg_ℤ n) d
+pub Stands-negation : (r : Fraction) (n : ℤ) (d : ℕ) → Stands r n d
+    → Stands (fraction_negation r) (neg_ℤ n) d
 Stands-negation r n d p = record {
-  lowest = record { positive = p.lowest.positive; coprime = subst (λ (m : ℕ). IsGcd m r.1 1) (sym (unsigned_abs-negation r.0)) p.lowest.coprime };
+  lowest =
+      record {
+        positive = p.lowest.positive;
+        coprime =
+            subst (λ (m : ℕ). IsGcd m r.1 1) (sym (unsigned_abs-negation r.0)) p.lowest.coprime;
+      };
   positive = p.positive;
   is = negation-product r.0 (pos d) ∙ ap neg_ℤ p.is ∙ sym (negation-product n (pos r.1));
 }

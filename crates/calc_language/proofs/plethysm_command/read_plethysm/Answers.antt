@@ -1,25 +1,23 @@
-use Rattle.std.proofs.Common.{◌≡◌, ◌∷◌, false, map, refl, ap, ◌∙◌, subst}
-use Rattle.std.specs.Prelude.{string_bytes, codes}
-use Rattle.sym_model.specs.Form.{is_letter_of}
-use Rattle.sym_model.specs.Grammar.{all_bases}
-use Rattle.word_laws.specs.Words.{Words}
-use Rattle.calc_language.proofs.Entries.{empty_map}
-use Rattle.calc_language.proofs.PlethysmWords.{refused_at, otherwise, no_letter, no_target}
+use Rattle.std.proofs.Common.{subst, sym, refl}
+use Rattle.std.proofs.lemmas.Result.{err_from_is_err_and}
+use Rattle.sym_model.specs.Grammar.{all_bases, plethysm_entry}
+use Rattle.sym_model.specs.Phrase.{SpellsPhrase}
+use Rattle.expression_reading.specs.Trees.{basis_of}
+use Rattle.calc_language.proofs.PlethysmJudging.{plethysm_read}
 use Rattle.calc_language.proofs.plethysm_command.read_plethysm.Goals as goal
 
-pub returns-in_default : goal.returns-in_default
-returns-in_default c =
-    let words = map string_bytes c.args.words.now in refused_at words words 0 0 c.syntax.result refl c.syntax.ensures (otherwise words c.in_default.ensures)
+pub returns-in_err-places : goal.returns-in_err-places
+returns-in_err-places c =
+    let p = err_from_is_err_and c.from_residual.result c.from_residual.ensures.1 in
+    rw (p.1, p.2) (c.in_err-places.ensures.wrong (plethysm_entry all_bases) refl)
 
-pub returns-in_default-split_first : goal.returns-in_default-split_first
-returns-in_default-split_first c =
-    refused_at _ _ 1 0 c.syntax-in_default-split_first.result
-    (c.in-Some.ensures ∙ ap (λ (ws : Words). codes "plethysm" ∷ ws) (empty_map string_bytes c.in-Some.rest.now c.in_default-split_first.ensures.cases))
-    c.syntax-in_default-split_first.ensures no_letter
-
-pub returns-in_default-target_named : goal.returns-in_default-target_named
-returns-in_default-target_named c =
-    let y = string_bytes c.in-Some-split_first.letter.now in
-    refused_at _ _ 1 0 c.syntax-in_default-target_named.result
-    (c.in-Some.ensures ∙ ap (λ ws. codes "plethysm" ∷ map string_bytes ws) c.in-Some-split_first.ensures.cases.0) c.syntax-in_default-target_named.ensures
-    (no_target y (map string_bytes c.in-Some-split_first.rest.now) (subst (λ v. is_letter_of all_bases v ≡ false) c.as_str.ensures.value c.in_default-target_named.ensures))
+pub returns : goal.returns
+returns c =
+    let k = c.in_ok-places.ensures.cut in
+    let f = k.parts.3.0 in
+    let g = k.parts.3.3.0 in
+    plethysm_read _ c.in_ok-places.places k (basis_of c.target_of-target.result) c.judged.result
+    (c.target_of-target.ensures k.parts.0 (c.piece_at-letter.ensures.is _ _ k.parts.2).1)
+    (c.judged.ensures f g
+    (subst (λ v. SpellsPhrase v f) (sym (c.text_of-outer.ensures _ (c.piece_at-first.ensures.is _ _ k.parts.3.2).1)) (record { allowed = k.parts.3.1; spelled = refl }))
+    (subst (λ v. SpellsPhrase v g) (sym (c.text_of-inner.ensures _ (c.piece_at-second.ensures.is _ _ k.parts.3.3.2).1)) (record { allowed = k.parts.3.3.1; spelled = refl })))

@@ -3,7 +3,8 @@ use Rattle.std.proofs.Common.{map, Err, ap, subst}
 use Rattle.std.specs.Prelude.{string_bytes}
 use Rattle.calc_language.specs.BuiltCommands.{command_entries}
 use Rattle.calc_language.specs.Reading.{IsReadAs, entry_named}
-use Rattle.calc_language.proofs.Entries.{read_named, no_words, commands_told, empty_map}
+use Rattle.calc_words.proofs.CutWords.{empty_map}
+use Rattle.calc_language.proofs.Entries.{read_named, no_words, commands_told}
 use Rattle.calc_language.proofs.words.read.Goals as goal
 
 pub returns-in_default : goal.returns-in_default

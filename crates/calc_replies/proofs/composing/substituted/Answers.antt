@@ -40,7 +40,7 @@ plethysm-requires-clause-whole c = c.in-Some.ensures.1 ∙ denominator-one (tree
 
 pub plethysm-requires-clause-natural : goal.plethysm-requires-clause-natural
 plethysm-requires-clause-natural c =
-    natural-expansion (tree_of c.args.inner.now.tree) c.in_ok-monomials.monomials c.requires.limits.3 c.is_table.ensures c.in_ok-monomials.ensures.bounded c.in_ok-monomials.ensures.value
+    natural-expansion (tree_of c.args.inner.now.tree) c.in_ok-monomials.monomials c.requires.limits.3 c.in_ok-monomials.ensures.table c.in_ok-monomials.ensures.bounded c.in_ok-monomials.ensures.value
 
 pub plethysm-requires-clause-sizes : goal.plethysm-requires-clause-sizes
 plethysm-requires-clause-sizes c =

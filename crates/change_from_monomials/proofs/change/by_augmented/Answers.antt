@@ -1,6 +1,6 @@
 use Rattle.std.specs.Prelude.{drop}
 use Rattle.std.proofs.lemmas.List.{take_rest}
-use Rattle.sym_model.specs.Expansion.{Terms}
+use Rattle.sym_model.specs.WholeTerms.{WholeTerms}
 use Rattle.std.proofs.Common.{◌≡◌, ◌+◌, ◌-◌, List, map, take, ◌*◌, ◌^◌, ◌<◌, ◌≤◌, ℕ, length, sym, ap, ◌∙◌, subst, Err, arith}
 use Rattle.sym_model.specs.Expansion.{Basis}
 use Rattle.sym_model.specs.Weight.{factorial, growth}
@@ -38,7 +38,7 @@ returns-in_err-start-clause-large c err d w =
     let size = c.greatest_size-size.result in
     let low = c.greatest_size-size.ensures.least 15 c.requires.sizes in
     let o = c.in_err-start.ensures.large (ap Err (error_is _ _ _ c.from_residual-in_err-start.ensures.1 err)) cost cost-positive in
-    let s = start-cost c.args.bound.num c.args.bound.den size c.factorial-factor.result c.args.list.now c.factorial-factor.ensures low c.is_table.ensures c.greatest_size-size.ensures.within c.requires.bounded in
+    let s = start-cost c.args.bound.num c.args.bound.den size c.factorial-factor.result c.args.list.now c.factorial-factor.ensures low c.greatest_size-size.ensures.table c.greatest_size-size.ensures.within c.requires.bounded in
     large-number c.args.family c.args.bound.num c.args.bound.den size d (weight cost (cleared_terms c.args.bound.den c.factorial-factor.result c.args.list.now)) c.requires.positive.1 (c.greatest_size-size.ensures.least d w) (omega arith) s
 
 pub returns-in_err-end-clause-large : goal.returns-in_err-end-clause-large
@@ -46,7 +46,7 @@ returns-in_err-end-clause-large c err d w =
     let size = c.greatest_size-size.result in
     let low = c.greatest_size-size.ensures.least 15 c.requires.sizes in
     let o = c.in_err-end.ensures.large (ap Err (error_is _ _ _ c.from_residual-in_err-end.ensures.1 err)) in
-    let s = table-cost c.args.bound.num c.args.bound.den size c.factorial-factor.result c.args.list.now c.factorial-factor.ensures low c.is_table.ensures c.greatest_size-size.ensures.within c.in_ok-start.start.entries c.requires.bounded c.in_ok-start.ensures.ok in
+    let s = table-cost c.args.bound.num c.args.bound.den size c.factorial-factor.result c.args.list.now c.factorial-factor.ensures low c.greatest_size-size.ensures.table c.greatest_size-size.ensures.within c.in_ok-start.start.entries c.requires.bounded c.in_ok-start.ensures.ok in
     large-number c.args.family c.args.bound.num c.args.bound.den size d (weight cost c.in_ok-start.start.entries) c.requires.positive.1 (c.greatest_size-size.ensures.least d w) o s
 
 pub in_augmented-requires-clause-den : goal.in_augmented-requires-clause-den
@@ -62,14 +62,14 @@ in_augmented-requires-clause-den c =
 pub in_augmented-requires-clause-multiplicities : goal.in_augmented-requires-clause-multiplicities
 in_augmented-requires-clause-multiplicities c =
     let low = c.greatest_size-size.ensures.least 15 c.requires.sizes in
-    subst (λ f. HasFactors f c.args.list.now) (sym c.factorial-factor.ensures) (has-factors c.greatest_size-size.result c.args.list.now low c.is_table.ensures c.greatest_size-size.ensures.within)
+    subst (λ f. HasFactors f c.args.list.now) (sym c.factorial-factor.ensures) (has-factors c.greatest_size-size.result c.args.list.now low c.greatest_size-size.ensures.table c.greatest_size-size.ensures.within)
 
 pub converted-requires-clause-factors : goal.converted-requires-clause-factors
 converted-requires-clause-factors c =
     let size = c.greatest_size-size.result in
     let lists = c.deref.result.now in
     let l : length c.deref.result.now ≡ c.greatest_size-size.result + 1 = omega (arith, ap length c.deref.ensures.value, c.in_ok-powers.ensures.length) in
-    subst (λ (xs : List (Terms (List ℕ))). ArePowerSums c.args.family (length xs) (map mixed_list xs)) (sym (take_rest lists 1))
+    subst (λ (xs : List WholeTerms). ArePowerSums c.args.family (length xs) (map mixed_list xs)) (sym (take_rest lists 1))
     (subst (λ n. ArePowerSums c.args.family n (map mixed_list (drop 1 c.deref.result.now))) (sym (behind-first lists size l))
     (power_sums-stand c.args.family size lists l
     (subst (ArePowers (polynomial_of c.args.family) (c.greatest_size-size.result + 1)) (sym c.deref.ensures.value) c.in_ok-powers.ensures.ok)))
@@ -86,7 +86,7 @@ converted-requires-clause-ready c =
     let low = c.greatest_size-size.ensures.least 15 c.requires.sizes in
     let l : length c.deref.result.now ≡ c.greatest_size-size.result + 1 = omega (arith, ap length c.deref.ensures.value, c.in_ok-powers.ensures.length) in
     subst (λ n. AreReady n c.greatest_size-size.result c.in_ok-start.start.entries) (sym (ap length (take_rest c.deref.result.now 1) ∙ behind-first c.deref.result.now c.greatest_size-size.result l))
-    (table-ready c.args.bound.num c.args.bound.den size c.factorial-factor.result c.args.list.now c.factorial-factor.ensures low c.is_table.ensures c.greatest_size-size.ensures.within c.in_ok-start.start.entries c.in_ok-start.ensures.ok)
+    (table-ready c.args.bound.num c.args.bound.den size c.factorial-factor.result c.args.list.now c.factorial-factor.ensures low c.greatest_size-size.ensures.table c.greatest_size-size.ensures.within c.in_ok-start.start.entries c.in_ok-start.ensures.ok)
 
 pub divided-requires : goal.divided-requires
 divided-requires c =
@@ -105,7 +105,7 @@ returns-clause-value c =
     let den : c.in-Some.den ≡ c.args.bound.den * factorial c.greatest_size-size.result = c.in-Some.ensures.1 ∙ ap (λ f. c.args.bound.den * f) c.factorial-factor.ensures in
     if_ok_both c.divided.result c.divided.ensures.value c.divided.ensures.table
     (λ answer quotients table n f q h.
-    expansion-changed c.args.family c.args.bound.num c.args.bound.den c.greatest_size-size.result c.args.list.now answer c.in_ok-end.end.entries c.requires.positive.1 low c.is_table.ensures c.greatest_size-size.ensures.within c.requires.bounded
+    expansion-changed c.args.family c.args.bound.num c.args.bound.den c.greatest_size-size.result c.args.list.now answer c.in_ok-end.end.entries c.requires.positive.1 low c.greatest_size-size.ensures.table c.greatest_size-size.ensures.within c.requires.bounded
     (λ m φ.
     c.in_ok-end.ensures.value m φ ∙ c.in_ok-start.ensures.ok.sums (product_value c.args.family m φ) ∙ +ℤ_idl (weighed (product_value c.args.family m φ) (cleared_terms c.args.bound.den c.factorial-factor.result c.args.list.now))
     ∙ ap (λ x. weighed (product_value c.args.family m φ) (cleared_terms c.args.bound.den x c.args.list.now)) c.factorial-factor.ensures)
@@ -120,7 +120,7 @@ returns-clause-large c err d w =
     let o = c.divided.ensures.large err in
     let m = weight-mono (λ l. 1) cost c.in_ok-end.end.entries cost-positive in
     let k = c.in_ok-end.ensures.cost in
-    let s = table-cost c.args.bound.num c.args.bound.den size c.factorial-factor.result c.args.list.now c.factorial-factor.ensures low c.is_table.ensures c.greatest_size-size.ensures.within c.in_ok-start.start.entries c.requires.bounded c.in_ok-start.ensures.ok in
+    let s = table-cost c.args.bound.num c.args.bound.den size c.factorial-factor.result c.args.list.now c.factorial-factor.ensures low c.greatest_size-size.ensures.table c.greatest_size-size.ensures.within c.in_ok-start.start.entries c.requires.bounded c.in_ok-start.ensures.ok in
     large-number c.args.family c.args.bound.num c.args.bound.den size d (weight cost c.in_ok-start.start.entries) c.requires.positive.1 (c.greatest_size-size.ensures.least d w) (omega arith) s
 
 pub returns-clause-cleared : goal.returns-clause-cleared
@@ -134,7 +134,7 @@ returns-clause-cleared c =
     let l = ap length (take_rest c.deref.result.now 1) ∙ behind-first c.deref.result.now c.greatest_size-size.result k in
     let m = weight-mono (λ l. 1) cost c.in_ok-end.end.entries cost-positive in
     let k = c.in_ok-end.ensures.cost in
-    let s = table-cost c.args.bound.num c.args.bound.den size c.factorial-factor.result c.args.list.now c.factorial-factor.ensures low c.is_table.ensures c.greatest_size-size.ensures.within c.in_ok-start.start.entries c.requires.bounded c.in_ok-start.ensures.ok in
+    let s = table-cost c.args.bound.num c.args.bound.den size c.factorial-factor.result c.args.list.now c.factorial-factor.ensures low c.greatest_size-size.ensures.table c.greatest_size-size.ensures.within c.in_ok-start.start.entries c.requires.bounded c.in_ok-start.ensures.ok in
     let few : weight (λ l. 1) c.in_ok-end.end.entries ≤ c.args.bound.num * growth Basis.completes c.greatest_size-size.result = omega arith in
     if_ok_both c.divided.result c.divided.ensures.value c.divided.ensures.table
     (λ answer quotients table.

@@ -56,3 +56,6 @@ returns-clause-within c =
     ∙ ap (λ es. map (λ p. (p.0, p.1)) es) (all_done (map deref_pair c.loop-label.yielded) c.loop-label.label-iterator _ _ c.in-None.ensures.steps.0 c.loop-label.invariant.so_far c.into_iter-label-iterator.ensures.into_iter_gives)
     ∙ c.iter-label-items.ensures.rest in
     subst (λ es. AreWithin c.loop-label.greatest es) is c.loop-label.invariant.within
+
+pub returns-clause-table : goal.returns-clause-table
+returns-clause-table c = c.iter-label-items.ensures.combination

@@ -2,16 +2,15 @@ use Rattle.std.proofs.Common.{◌≡◌, ◌++◌, ◌∷◌, [], ◌≤◌, ◌
 use Rattle.std.specs.Prelude.{nat_abs}
 use Rattle.std.specs.Map.Iter.{deref_pair}
 use Rattle.std.proofs.lemmas.List.{map-append}
-use Rattle.coeff_rings.specs.Fractions.{scaled}
+use Rattle.coeff_rings.specs.Fractions.{scaled, whole}
 use Rattle.sym_model.specs.Expansion.{Fraction, Terms}
 use Rattle.sym_model.specs.Polynomial.{coefficient, Same}
 use Rattle.sym_model.specs.LabelLimits.{is_label}
-use Rattle.sym_model.specs.WholeTerms.{numerators}
 use Rattle.monomial_laws.specs.ExpressionTerms.{over}
 use Rattle.sparse_polys.specs.Combination.{terms_of}
-use Rattle.sparse_polys.proofs.Steps.{all_done, error_is, IsCombination-empty}
+use Rattle.linear_combinations.proofs.Steps.{all_done, error_is, IsCombination-empty}
 use Rattle.sparse_polys.proofs.Rows.{list_whole}
-use Rattle.whole_lists.specs.Tables.{equal, IsTable}
+use Rattle.whole_lists.specs.Tables.{equal, IsWholeTable}
 use Rattle.whole_lists.proofs.WholeLists.{Finds, Finds-next, more_as, Same-from_look_ups}
 use Rattle.change_from_monomials.proofs.Bounds.{itself}
 use Rattle.change_from_monomials.proofs.WholeSteps.{over-push, large-number, large-term}
@@ -21,7 +20,7 @@ use Rattle.change_from_monomials.proofs.clearing.whole_terms.Goals as goal
 pub loop-label-init : goal.loop-label-init
 loop-label-init c = record {
   finds = subst (λ terms. Finds terms []) (sym c.new-terms.ensures) (λ label. refl);
-  table = subst IsTable (sym c.new-terms.ensures) (IsCombination-empty equal is_label);
+  table = subst IsWholeTable (sym c.new-terms.ensures) (IsCombination-empty equal is_label whole);
   so_far = refl;
 }
 
@@ -31,11 +30,11 @@ returns-in_default-clause-large c = λ err.
     let rest = c.next.new.self in
     let k = c.in-Some.label.now in
     let v = c.in-Some.c.now in
-    let whole =
+    let list =
     list_whole (λ (r : Fraction). r) (map deref_pair c.loop-label.yielded) c.next.new.self c.loop-label.label-iterator _ _ c.in-Some.label.now c.in-Some.c.now c.args.list.now
     c.in-Some.ensures.steps c.loop-label.invariant.so_far c.into_iter-label-iterator.ensures.into_iter_gives c.iter-label-items.ensures.rest in
     let all : map deref_pair c.loop-label.yielded ++ ((c.in-Some.label.now, c.in-Some.c.now) ∷ c.next.new.self) ≡ c.args.list.now =
-    sym (itself (map deref_pair c.loop-label.yielded ++ ((c.in-Some.label.now, c.in-Some.c.now) ∷ c.next.new.self))) ∙ whole in
+    sym (itself (map deref_pair c.loop-label.yielded ++ ((c.in-Some.label.now, c.in-Some.c.now) ∷ c.next.new.self))) ∙ list in
     large-number c.args.den (map deref_pair c.loop-label.yielded) rest k v c.args.list.now all c.in_default.ensures
 
 pub loop-label-preserved : goal.loop-label-preserved
@@ -67,11 +66,11 @@ returns-in_err-add_term-clause-large c = λ large.
     let rest = c.next.new.self in
     let k = c.in-Some.label.now in
     let v = c.in-Some.c.now in
-    let whole =
+    let list =
     list_whole (λ (r : Fraction). r) (map deref_pair c.loop-label.yielded) c.next.new.self c.loop-label.label-iterator _ _ c.in-Some.label.now c.in-Some.c.now c.args.list.now
     c.in-Some.ensures.steps c.loop-label.invariant.so_far c.into_iter-label-iterator.ensures.into_iter_gives c.iter-label-items.ensures.rest in
     let all : map deref_pair c.loop-label.yielded ++ ((c.in-Some.label.now, c.in-Some.c.now) ∷ c.next.new.self) ≡ c.args.list.now =
-    sym (itself (map deref_pair c.loop-label.yielded ++ ((c.in-Some.label.now, c.in-Some.c.now) ∷ c.next.new.self))) ∙ whole in
+    sym (itself (map deref_pair c.loop-label.yielded ++ ((c.in-Some.label.now, c.in-Some.c.now) ∷ c.next.new.self))) ∙ list in
     let refused = c.in_err-add_term.ensures.large.0 (ap Err (error_is _ _ _ c.from_residual-in_err-add_term.ensures.1 large)) in
     let past = refused-sum c.loop-label.terms (over c.args.den (map deref_pair c.loop-label.yielded)) c.in_ok-copy.field-0 c.in-Some-scaled_number.number c.loop-label.invariant.finds refused in
     large-term c.args.den (map deref_pair c.loop-label.yielded) rest k v c.args.list.now all c.in_ok-copy.field-0
@@ -83,5 +82,5 @@ returns-clause-value c =
     let entries = all_done (map deref_pair c.loop-label.yielded) c.loop-label.label-iterator _ _ c.in-None.ensures.steps.0 c.loop-label.invariant.so_far c.into_iter-label-iterator.ensures.into_iter_gives in
     let all : map deref_pair c.loop-label.yielded ≡ c.args.list.now =
     sym (itself (map deref_pair c.loop-label.yielded)) ∙ ap (terms_of (λ (r : Fraction). r)) entries ∙ c.iter-label-items.ensures.rest in
-    subst (λ (es : Terms (List ℕ)). Same (numerators c.loop-label.terms) (over c.args.den es)) all
+    subst (λ (es : Terms (List ℕ)). Same c.loop-label.terms (over c.args.den es)) all
     (Same-from_look_ups c.loop-label.terms (over c.args.den done) c.loop-label.invariant.table c.loop-label.invariant.finds)

@@ -1,7 +1,7 @@
 use Rattle.std.proofs.Common.{◌≡◌, ◌++◌, map}
 use Rattle.std.specs.Map.Iter.{deref_pair}
 use Rattle.monomial_laws.specs.ExpressionTerms.{over}
-use Rattle.whole_lists.specs.Tables.{IsTable}
+use Rattle.whole_lists.specs.Tables.{IsWholeTable}
 use Rattle.whole_lists.proofs.WholeLists.{Finds}
 use Rattle.change_from_monomials.proofs.clearing.whole_terms.Given as goal
 
@@ -9,6 +9,6 @@ use Rattle.change_from_monomials.proofs.clearing.whole_terms.Given as goal
 abbrev pub invariant-loop-label : goal.invariant-loop-label
 invariant-loop-label l = record {
   finds : Finds l.terms (over l.den (map deref_pair l.yielded));
-  table : IsTable l.terms;
+  table : IsWholeTable l.terms;
   so_far : map deref_pair l.yielded ++ l.label-iterator ≡ l.initial.label-iterator;
 }

@@ -4,12 +4,11 @@ use Rattle.std.proofs.lemmas.Option.{slice_get_within}
 use Rattle.sym_model.specs.Bases.{has}
 use Rattle.sym_model.specs.Partition.{IsPartition, size}
 use Rattle.sym_model.specs.RaisedPart.{without_one}
-use Rattle.sym_model.specs.Expansion.{Terms}
 use Rattle.sym_model.specs.Weight.{factorial}
-use Rattle.sym_model.specs.WholeTerms.{numerators}
+use Rattle.sym_model.specs.WholeTerms.{WholeTerms}
 use Rattle.sym_model.proofs.SortedParts.{rows_within_size, size-without_one, IsPartition-without_one}
 use Rattle.arrangement_laws.specs.SpecialRimHooks.{all_hooks}
-use Rattle.sparse_polys.specs.WholeTables.{Gains}
+use Rattle.change_from_monomials.specs.Sums.{Grows}
 use Rattle.sparse_polys.proofs.Steps.{error_is}
 use Rattle.whole_lists.specs.LabelSizes.{AreWithin}
 use Rattle.family_lists.specs.KeptLists.{StandsAt}
@@ -42,9 +41,9 @@ loop-at-init t c = (
     listed = refl;
     straightens = λ x m. absurd m;
     gains =
-        subst (λ (s : Terms (List ℕ)). Gains [] s (λ φ. all_hooks φ []) (0 * factorial (size c.args.parts.now - 1))) (sym c.new-sum.ensures)
+        subst (λ (s : WholeTerms). Grows [] s (λ φ. all_hooks φ []) (0 * factorial (size c.args.parts.now - 1))) (sym c.new-sum.ensures)
         (gains_zero [] (λ φ. all_hooks φ []) (0 * factorial (size c.args.parts.now - 1)) (λ φ. refl));
-    within = subst (λ (s : Terms (List ℕ)). AreWithin (size c.args.parts.now) s) (sym c.new-sum.ensures) (λ x m. absurd m);
+    within = subst (λ (s : WholeTerms). AreWithin (size c.args.parts.now) s) (sym c.new-sum.ensures) (λ x m. absurd m);
     kept = c.requires.kept;
   },
 )
@@ -116,10 +115,10 @@ loop-at-preserved t c =
     (c.deref.ensures.value ∙ c.in_ok-rest.ensures) c.in_ok-place.ensures.kept c.in_ok-place.ensures.place c.list_at.ensures in
     let here = has-index parts c.loop-at.at c.loop-at-test.true in
     let s : size (without_one a parts) + a ≡ size parts = let e = size-without_one a parts here in omega arith in (
-      done ++ (a, numerators c.list_at.result.1.now) ∷ [],
+      done ++ (a, c.list_at.result.1.now) ∷ [],
       record {
-        listed = listed-next parts c.loop-at.at done (numerators c.list_at.result.1.now) c.loop-at-test.true (ap (has a) (sym (take_rest parts (c.loop-at.at + 1))) ∙ sym c.if-has.ensures) inv.listed;
-        straightens = straightens-next parts a done (numerators c.list_at.result.1.now) inv.straightens kept.straightens;
+        listed = listed-next parts c.loop-at.at done c.list_at.result.1.now c.loop-at-test.true (ap (has a) (sym (take_rest parts (c.loop-at.at + 1))) ∙ sym c.if-has.ensures) inv.listed;
+        straightens = straightens-next parts a done c.list_at.result.1.now inv.straightens kept.straightens;
         gains = hooks_added parts a c.requires.partition here c.list_at.result.1.now kept done c.loop-at.sum c.add_hooks_below.new.sum inv.gains c.in_ok-add_hooks_below.ensures.gains;
         within =
             subst (λ d. AreWithin d c.add_hooks_below.new.sum) s

@@ -1,11 +1,11 @@
 use Rattle.std.proofs.Common.{ℕ, List, [], ◌≤◌, pos, arith}
-use Rattle.std.specs.Cmp.Lexicographic.{nat_list_eq_equiv}
 use Rattle.sym_model.specs.LabelLimits.{is_label}
 use Rattle.sym_model.specs.Partition.{size}
-use Rattle.sparse_polys.proofs.Steps.{IsCombination-empty}
-use Rattle.sparse_polys.proofs.WholeTables.{gains_term, labels_term}
+use Rattle.coeff_rings.specs.Fractions.{whole}
+use Rattle.linear_combinations.proofs.Steps.{IsCombination-empty}
+use Rattle.change_from_monomials.proofs.SumSteps.{grows_term, labels_term}
 use Rattle.whole_lists.specs.Tables.{equal}
-use Rattle.whole_lists.proofs.WholeLists.{equal_tells, more_as}
+use Rattle.whole_lists.proofs.WholeLists.{more_as}
 use Rattle.change_from_monomials.proofs.KeptLists.{kept-nothing}
 use Rattle.change_from_monomials.proofs.kept.of_nothing.Goals as goal
 
@@ -14,5 +14,5 @@ returns-clause-kept c =
     let new = c.add_term.new.self in
     let more = more_as c.new-list.result [] c.add_term.new.self c.in_ok-label.label [] c.one.result (pos 1) c.new-list.ensures c.in_ok-label.ensures.ok c.one.ensures.one c.in_ok-add_term.ensures.ok in
     kept-nothing new
-    (gains_term nat_list_eq_equiv equal_tells [] new (IsCombination-empty equal is_label) c.in_ok-add_term.ensures.combination [] (pos 1) more tt)
-    (labels_term nat_list_eq_equiv equal_tells [] new (IsCombination-empty equal is_label) c.in_ok-add_term.ensures.combination [] (pos 1) more (λ (x : List ℕ). size x ≤ 0) (λ t m. absurd m) (omega arith))
+    (grows_term [] new (IsCombination-empty equal is_label whole) c.in_ok-add_term.ensures.combination [] (pos 1) more)
+    (labels_term [] new (IsCombination-empty equal is_label whole) c.in_ok-add_term.ensures.combination [] (pos 1) more (λ (x : List ℕ). size x ≤ 0) (λ t m. absurd m) (omega arith))

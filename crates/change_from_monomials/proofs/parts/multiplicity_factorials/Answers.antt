@@ -1,7 +1,7 @@
 use Rattle.std.proofs.Common.{◌≡◌, ◌+◌, ◌*◌, ◌∙◌, drop, get_or, suc, ap, arith, ◌<◌, ◌^◌, rules}
 use Rattle.basis_change_laws.specs.AugmentedMonomial.{multiplicity_factorials}
 use Rattle.sym_model.specs.Schur.{times_in}
-use Rattle.change_from_monomials.proofs.PartLists.{multiplicity-next, multiplicity-fits, whole_rest}
+use Rattle.family_lists.proofs.MultiplicityPlaces.{multiplicity-fits, multiplicity-next, whole_rest}
 use Rattle.change_from_monomials.proofs.parts.multiplicity_factorials.Goals as goal
 
 pub overflow_mul-product : goal.overflow_mul-product

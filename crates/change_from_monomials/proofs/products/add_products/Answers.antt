@@ -2,10 +2,10 @@ use Rattle.std.proofs.Common.{◌≡◌, ℕ, ◌-◌, List, [], ◌∷◌, ◌+
 use Rattle.std.specs.Prelude.{Err}
 use Rattle.std.specs.Map.Iter.{deref_pair}
 use Rattle.std.proofs.lemmas.List.{map-append}
-use Rattle.sym_model.specs.Expansion.{Terms}
+use Rattle.sym_model.specs.WholeTerms.{WholeTerms}
 use Rattle.sym_model.specs.Partition.{size}
 use Rattle.sparse_polys.proofs.Steps.{error_is}
-use Rattle.sparse_polys.proofs.WholeTables.{whole_list, so_far_next}
+use Rattle.linear_combinations.proofs.Gains.{all_pairs, so_far_next}
 use Rattle.change_from_monomials.specs.Mixed.{Mixed, mixed, mixed_list, Added, Overflows, AreLow, products}
 use Rattle.change_from_monomials.proofs.ListProducts.{list_products, products-push, products-split, label-low}
 use Rattle.change_from_monomials.proofs.Tables.{Added-then, Overflows-then, Overflows-front}
@@ -17,8 +17,8 @@ add_product-requires-clause-low c some =
     let k = c.in-Some.label.now in
     let v = c.in-Some.have.now in
     let d = 512 - size c.args.converted.now in
-    let all = whole_list done c.next.new.self c.loop-label.label-iterator _ _ k v c.args.factor.now c.in-Some.ensures.steps c.loop-label.invariant.so_far c.into_iter-label-iterator.ensures.into_iter_gives c.iter-label-items.ensures.rest in
-    let low = label-low d done c.next.new.self k v (subst (λ (x : Terms (List ℕ)). AreLow d (mixed_list x)) (sym all) c.requires.low) some in
+    let all = all_pairs done c.next.new.self c.loop-label.label-iterator _ _ c.args.factor.now (k, v) c.in-Some.ensures.steps c.loop-label.invariant.so_far c.into_iter-label-iterator.ensures.into_iter_gives c.iter-label-items.ensures.rest in
+    let low = label-low d done c.next.new.self k v (subst (λ (x : WholeTerms). AreLow d (mixed_list x)) (sym all) c.requires.low) some in
     omega (arith, c.requires.small)
 
 pub returns-in_err-add_product-clause-large : goal.returns-in_err-add_product-clause-large
@@ -30,8 +30,8 @@ returns-in_err-add_product-clause-large c err =
     let z = c.args.c in
     let conv = c.args.converted.now in
     let aug = c.args.augmented.now in
-    let all = whole_list done rest c.loop-label.label-iterator _ _ k v c.args.factor.now c.in-Some.ensures.steps c.loop-label.invariant.so_far c.into_iter-label-iterator.ensures.into_iter_gives c.iter-label-items.ensures.rest in
-    subst (λ (x : Terms (List ℕ)). Overflows (products z (mixed_list x) conv aug) c.args.sum.now.entries) all
+    let all = all_pairs done rest c.loop-label.label-iterator _ _ c.args.factor.now (k, v) c.in-Some.ensures.steps c.loop-label.invariant.so_far c.into_iter-label-iterator.ensures.into_iter_gives c.iter-label-items.ensures.rest in
+    subst (λ (x : WholeTerms). Overflows (products z (mixed_list x) conv aug) c.args.sum.now.entries) all
     (subst (λ (xs : Mixed). Overflows xs c.args.sum.now.entries) (sym (products-split z conv aug done rest k v))
     (Overflows-front (list_products z conv aug done ++ products z ((mixed k [], v) ∷ []) conv aug) (list_products z conv aug rest) c.args.sum.now.entries
     (Overflows-then (list_products z conv aug done) (products z ((mixed k [], v) ∷ []) conv aug) c.args.sum.now.entries c.loop-label.sum.entries c.loop-label.invariant.added
@@ -54,5 +54,5 @@ loop-label-preserved c =
           (subst (λ (xs : Mixed). Added xs c.args.sum.now.entries c.add_product.new.sum.entries) (sym (products-push z conv aug done k v))
           (Added-then (list_products z conv aug done) (products z ((mixed k [], v) ∷ []) conv aug) c.args.sum.now.entries c.loop-label.sum.entries c.add_product.new.sum.entries
           c.loop-label.invariant.added c.in_ok-add_product.ensures.ok));
-      so_far = so_far_next done rest c.loop-label.label-iterator _ k v _ pushed c.in-Some.ensures.steps c.loop-label.invariant.so_far;
+      so_far = so_far_next done rest c.loop-label.label-iterator _ _ (k, v) pushed c.in-Some.ensures.steps c.loop-label.invariant.so_far;
     }

@@ -1,6 +1,5 @@
-use Rattle.std.proofs.Common.{◌+◌, [], ◌++◌, map, take, drop, length, ap, Err, sym, subst, ℤ}
+use Rattle.std.proofs.Common.{◌+◌, [], ◌++◌, map, take, drop, length, ap, Err, sym, subst, ℤ, flat_map}
 use Rattle.sparse_polys.proofs.Steps.{error_is}
-use Rattle.sym_model.specs.Sum.{each}
 use Rattle.change_from_monomials.specs.declared.mixed.MixedLabel.{MixedLabel}
 use Rattle.change_from_monomials.specs.Mixed.{Mixed, mixed_list, Added, Overflows, conversion_at}
 use Rattle.change_from_monomials.proofs.Tables.{Added-then, Overflows-then, Overflows-front}
@@ -18,8 +17,8 @@ returns-in_err-add_conversion-clause-large c err =
     let i = c.loop-at.at in
     let x : MixedLabel × ℤ = (c.entry_at-c.result.0.now, c.entry_at-c.result.1) in
     subst (λ (l : Mixed). Overflows l []) (each-whole h es i x c.entry_at-c.ensures)
-    (Overflows-front (each h (take i es) ++ h x) (each h (drop (i + 1) es)) []
-    (Overflows-then (each h (take i es)) (h x) [] c.loop-at.next.entries c.loop-at.invariant.1
+    (Overflows-front (flat_map h (take i es) ++ h x) (flat_map h (drop (i + 1) es)) []
+    (Overflows-then (flat_map h (take i es)) (h x) [] c.loop-at.next.entries c.loop-at.invariant.1
     (c.in_err-add_conversion.ensures.large (ap Err (error_is _ _ _ c.from_residual.ensures.1 err)))))
 
 pub loop-at-preserved : goal.loop-at-preserved
@@ -30,5 +29,5 @@ loop-at-preserved c =
     let x : MixedLabel × ℤ = (c.entry_at-c.result.0.now, c.entry_at-c.result.1) in (
       c.loop-at.invariant.0,
       subst (λ (l : Mixed). Added l [] c.add_conversion.new.next.entries) (sym (each-next h es i x c.entry_at-c.ensures))
-          (Added-then (each h (take i es)) (h x) [] c.loop-at.next.entries c.add_conversion.new.next.entries c.loop-at.invariant.1 c.in_ok-add_conversion.ensures.ok),
+          (Added-then (flat_map h (take i es)) (h x) [] c.loop-at.next.entries c.add_conversion.new.next.entries c.loop-at.invariant.1 c.in_ok-add_conversion.ensures.ok),
     )

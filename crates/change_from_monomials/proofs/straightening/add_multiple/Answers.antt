@@ -2,10 +2,8 @@ use Rattle.std.proofs.Common.{◌≡◌, ℕ, List, [], ◌∷◌, ◌++◌, map
 use Rattle.std.specs.Prelude.{Err}
 use Rattle.std.specs.Map.Iter.{deref_pair}
 use Rattle.std.proofs.lemmas.List.{map-append}
-use Rattle.coeff_rings.specs.Fractions.{whole}
-use Rattle.sparse_polys.specs.Combination.{terms_of}
 use Rattle.sparse_polys.proofs.Steps.{error_is}
-use Rattle.sparse_polys.proofs.WholeTables.{whole_list, so_far_next}
+use Rattle.linear_combinations.proofs.Gains.{all_pairs, so_far_next}
 use Rattle.change_from_monomials.specs.declared.mixed.MixedLabel.{MixedLabel}
 use Rattle.change_from_monomials.specs.Mixed.{Mixed, mixed, Added}
 use Rattle.change_from_monomials.specs.Arranging.{OverflowsSomewhere}
@@ -19,7 +17,7 @@ returns-in_default-clause-large c err =
     let done = map deref_pair c.loop-shape.yielded in
     let k = c.in-Some.shape.now in
     let v = c.in-Some.k.now in
-    let all = whole_list done c.next.new.self c.loop-shape.shape-iterator _ _ k v c.args.list.now c.in-Some.ensures.steps c.loop-shape.invariant.so_far c.into_iter-shape-iterator.ensures.into_iter_gives c.iter-shape-items.ensures.rest in
+    let all = all_pairs done c.next.new.self c.loop-shape.shape-iterator _ _ c.args.list.now (k, v) c.in-Some.ensures.steps c.loop-shape.invariant.so_far c.into_iter-shape-iterator.ensures.into_iter_gives c.iter-shape-items.ensures.rest in
     multiple-past c.args.c done c.next.new.self k v c.args.list.now c.args.sum.now.entries c.loop-shape.sum.entries all c.loop-shape.invariant.added
     (term-past k (v *ℤ c.args.c) c.loop-shape.sum.entries (refused_sum (v *ℤ c.args.c) c.mul.result c.mul.ensures.product c.in_default.is))
 
@@ -37,11 +35,11 @@ loop-shape-preserved c =
     (answered (v *ℤ c.args.c) c.in-Some-mul.number c.mul.result c.mul.ensures.product c.in-Some-mul.is) in
     record {
       added =
-          subst (λ (es : List (List ℕ × ℤ)). Added (multiple c.args.c (terms_of whole es)) c.args.sum.now.entries c.add.new.sum.entries) pushed
+          subst (λ (es : List (List ℕ × ℤ)). Added (multiple c.args.c es) c.args.sum.now.entries c.add.new.sum.entries) pushed
           (subst (λ (xs : Mixed). Added xs c.args.sum.now.entries c.add.new.sum.entries) (sym (multiple-push c.args.c done k v))
-          (Added-then (multiple c.args.c (terms_of whole done)) ((mixed k [], v *ℤ c.args.c) ∷ []) c.args.sum.now.entries c.loop-shape.sum.entries c.add.new.sum.entries inv.added
+          (Added-then (multiple c.args.c done) ((mixed k [], v *ℤ c.args.c) ∷ []) c.args.sum.now.entries c.loop-shape.sum.entries c.add.new.sum.entries inv.added
           (subst (λ (xs : Mixed). Added xs c.loop-shape.sum.entries c.add.new.sum.entries) one c.in_ok-add.ensures.ok)));
-      so_far = so_far_next done rest c.loop-shape.shape-iterator _ k v _ pushed c.in-Some.ensures.steps inv.so_far;
+      so_far = so_far_next done rest c.loop-shape.shape-iterator _ _ (k, v) pushed c.in-Some.ensures.steps inv.so_far;
     }
 
 pub returns-in_err-add-clause-large : goal.returns-in_err-add-clause-large
@@ -49,7 +47,7 @@ returns-in_err-add-clause-large c err =
     let done = map deref_pair c.loop-shape.yielded in
     let k = c.in-Some.shape.now in
     let v = c.in-Some.k.now in
-    let all = whole_list done c.next.new.self c.loop-shape.shape-iterator _ _ k v c.args.list.now c.in-Some.ensures.steps c.loop-shape.invariant.so_far c.into_iter-shape-iterator.ensures.into_iter_gives c.iter-shape-items.ensures.rest in
+    let all = all_pairs done c.next.new.self c.loop-shape.shape-iterator _ _ c.args.list.now (k, v) c.in-Some.ensures.steps c.loop-shape.invariant.so_far c.into_iter-shape-iterator.ensures.into_iter_gives c.iter-shape-items.ensures.rest in
     let one : (mixed c.in_ok-copy.field-0 c.in_ok-from_valid_parts.field-0, c.in-Some-mul.number) ∷ [] ≡ (mixed k [], v *ℤ c.args.c) ∷ [] =
     ap₂ (λ (l : MixedLabel) (z : ℤ). (l, z) ∷ []) (ap₂ mixed c.in_ok-copy.ensures.ok c.in_ok-from_valid_parts.ensures.ok)
     (answered (v *ℤ c.args.c) c.in-Some-mul.number c.mul.result c.mul.ensures.product c.in-Some-mul.is) in

@@ -14,13 +14,13 @@ returns-in_err-sum-clause-large c err d w =
     let places = c.greatest_size-places.result in
     let past = c.in_err-sum.ensures.large (ap Err (error_is _ _ _ c.from_residual.ensures.1 err)) in
     large-schur c.args.bound.num c.args.bound.den places d c.requires.positive.1 (c.greatest_size-places.ensures.least d w)
-    (large-start c.args.bound.num c.args.bound.den places c.args.list.now c.is_table.ensures c.greatest_size-places.ensures.within c.requires.bounded past)
+    (large-start c.args.bound.num c.args.bound.den places c.args.list.now c.greatest_size-places.ensures.table c.greatest_size-places.ensures.within c.requires.bounded past)
 
 pub returns-clause-value : goal.returns-clause-value
 returns-clause-value c =
     if_ok_both c.divided.result c.divided.ensures.value c.divided.ensures.table
     (λ answer quotients table n f q h.
-    expansion-straightened c.args.bound.num c.args.bound.den c.greatest_size-places.result c.args.list.now answer c.in_ok-sum.sum.entries c.requires.positive.1 c.is_table.ensures
+    expansion-straightened c.args.bound.num c.args.bound.den c.greatest_size-places.result c.args.list.now answer c.in_ok-sum.sum.entries c.requires.positive.1 c.greatest_size-places.ensures.table
     c.greatest_size-places.ensures.within c.requires.bounded c.in_ok-sum.ensures.ok table quotients n f q h)
 
 pub returns-clause-large : goal.returns-clause-large
@@ -28,4 +28,4 @@ returns-clause-large c err d w =
     let places = c.greatest_size-places.result in
     let here = c.divided.ensures.large_here err in
     large-schur c.args.bound.num c.args.bound.den places d c.requires.positive.1 (c.greatest_size-places.ensures.least d w)
-    (large-end c.args.bound.num c.args.bound.den places c.args.list.now c.in_ok-sum.sum.entries c.is_table.ensures c.greatest_size-places.ensures.within c.requires.bounded c.in_ok-sum.ensures.ok here.0 here.1)
+    (large-end c.args.bound.num c.args.bound.den places c.args.list.now c.in_ok-sum.sum.entries c.greatest_size-places.ensures.table c.greatest_size-places.ensures.within c.requires.bounded c.in_ok-sum.ensures.ok here.0 here.1)

@@ -1,8 +1,7 @@
-use Rattle.std.proofs.Common.{◌≡◌, ◌++◌, ◌∷◌, [], ℕ, List, map, sym, ◌∙◌, ap, subst, append_assoc, arith, Err, inl, inr}
+use Rattle.std.proofs.Common.{◌≡◌, ◌++◌, ◌∷◌, [], ℕ, List, map, sym, ◌∙◌, ap, subst, append_assoc, arith, Err, inl, inr, flat_map}
 use Rattle.std.specs.Map.Iter.{deref_pair}
 use Rattle.std.proofs.lemmas.List.{map-append}
 use Rattle.std.proofs.lemmas.Option.{slice_get_within}
-use Rattle.sym_model.specs.Sum.{each}
 use Rattle.sym_model.specs.Partition.{size}
 use Rattle.sym_model.specs.Expansion.{Fraction, Terms}
 use Rattle.sparse_polys.proofs.Steps.{error_is}
@@ -60,13 +59,13 @@ loop-label-preserved c =
     list-found IsKept c.kept_list.new.lists.entries _ k c.list_at.result.0.now c.list_at.result.1.now c.in_ok-at.at c.parts.ensures.value c.in_ok-at.ensures.kept c.in_ok-at.ensures.place c.list_at.ensures in
     let here : Added (h x) l n =
     subst (λ z. Added (straight_terms z k c.args.places) l n) c.in-Some-scaled_number.ensures
-    (Added-multiple c.in-Some-scaled_number.number k c.args.places c.list_at.result.1.now kept c.is_whole.ensures.table low l n c.in_ok-add_multiple.ensures.ok) in
+    (Added-multiple c.in-Some-scaled_number.number k c.args.places c.list_at.result.1.now kept c.in_ok-add_multiple.ensures.table low l n c.in_ok-add_multiple.ensures.ok) in
     record {
       kept = c.in_ok-at.ensures.kept;
       added =
-          subst (λ (es : Terms (List ℕ)). Added (each h es) [] n) pushed
+          subst (λ (es : Terms (List ℕ)). Added (flat_map h es) [] n) pushed
           (subst (λ (m : Mixed). Added m [] n) (sym (straightened_list-append c.args.den c.args.places done x))
-          (Added-then (each h done) (h x) [] l n c.loop-label.invariant.added here));
+          (Added-then (flat_map h done) (h x) [] l n c.loop-label.invariant.added here));
       so_far =
           ap (λ es. es ++ rest) (sym pushed) ∙ append_assoc done ((k, v) ∷ []) rest
           ∙ ap (λ es. done ++ es) (sym c.in-Some.ensures.steps) ∙ c.loop-label.invariant.so_far;
@@ -90,6 +89,6 @@ returns-in_err-add_multiple-clause-large c err =
     list-found IsKept c.kept_list.new.lists.entries _ k c.list_at.result.0.now c.list_at.result.1.now c.in_ok-at.at c.parts.ensures.value c.in_ok-at.ensures.kept c.in_ok-at.ensures.place c.list_at.ensures in
     let here : OverflowsSomewhere (h x) l =
     subst (λ z. OverflowsSomewhere (straight_terms z k c.args.places) l) c.in-Some-scaled_number.ensures
-    (Somewhere-multiple c.in-Some-scaled_number.number k c.args.places c.list_at.result.1.now kept c.is_whole.ensures.table low l
+    (Somewhere-multiple c.in-Some-scaled_number.number k c.args.places c.list_at.result.1.now kept c.in_err-add_multiple.ensures.table low l
     (c.in_err-add_multiple.ensures.large (ap Err (error_is _ _ _ c.from_residual-in_err-add_multiple.ensures.1 err)))) in
-    inr (subst (λ (es : Terms (List ℕ)). OverflowsSomewhere (each h es) []) all (list-past c.args.den c.args.places done x rest l c.loop-label.invariant.added here))
+    inr (subst (λ (es : Terms (List ℕ)). OverflowsSomewhere (flat_map h es) []) all (list-past c.args.den c.args.places done x rest l c.loop-label.invariant.added here))

@@ -4,7 +4,7 @@ use Rattle.sym_model.specs.DoubleSchubert.{difference_in, shifted_in}
 use Rattle.sym_model.specs.Polynomial.{pair, times}
 use Rattle.sym_model.specs.WholeTerms.{combined}
 use Rattle.sparse_polys.specs.Labels.{same_pair}
-use Rattle.sparse_polys.proofs.Steps.{error_is}
+use Rattle.linear_combinations.proofs.Steps.{error_is}
 use Rattle.linear_combinations.specs.Gains.{over, mass, replaced, HaveLabels}
 use Rattle.linear_combinations.proofs.Gains.{gains_mass}
 use Rattle.linear_combinations.proofs.Masses.{overflow_mass, represents_sums, weight_is, weight_grows}

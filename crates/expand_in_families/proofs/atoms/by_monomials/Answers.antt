@@ -5,7 +5,6 @@ use Rattle.sym_model.specs.ListWeight.{absolute_sum}
 use Rattle.sym_model.specs.Partition.{size}
 use Rattle.sym_model.specs.Polynomial.{Same}
 use Rattle.sym_model.specs.Weight.{factorial}
-use Rattle.sym_model.specs.WholeTerms.{numerators}
 use Rattle.monomial_laws.specs.ExpressionTerms.{over}
 use Rattle.expression_reading.specs.Trees.{basis_of}
 use Rattle.whole_lists.specs.Families.{polynomial_of}
@@ -38,7 +37,7 @@ returns-in_err-terms c =
     let factor : c.factorial.result ≡ factorial (size c.args.label.now) = c.factorial.ensures ∙ ap factorial c.size-degree.ensures.value in
     failed (ClearsTo (polynomial_of c.args.target)) IsHeavy (atom (basis_of c.args.basis) c.args.label.now) _ _ c.from_residual-in_err-terms.ensures.0 c.from_residual-in_err-terms.ensures.1
     (λ large.
-    large-whole c.args.target c.letter_of.result c.letter_of.ensures (basis_of c.args.basis) c.args.label.now c.in_ok-list.list c.in_ok-answer.answer c.is_table-2.ensures c.in_ok-list.ensures.labels c.in_ok-answer.ensures.cleared
+    large-whole c.args.target c.letter_of.result c.letter_of.ensures (basis_of c.args.basis) c.args.label.now c.in_ok-list.list c.in_ok-answer.answer c.in_ok-answer.ensures.table c.in_ok-list.ensures.labels c.in_ok-answer.ensures.cleared
     (subst (λ m. 2 ^ 127 ≤ absolute_sum m c.in_ok-answer.answer) factor (c.in_err-terms.ensures.large (ap Err large))))
 
 pub returns : goal.returns
@@ -46,7 +45,7 @@ returns c =
     let factor : c.factorial.result ≡ factorial (size c.args.label.now) = c.factorial.ensures ∙ ap factorial c.size-degree.ensures.value in
     done (ClearsTo (polynomial_of c.args.target)) IsHeavy (atom (basis_of c.args.basis) c.args.label.now) _
     (clears-atom (polynomial_of c.args.target) (basis_of c.args.basis) c.args.label.now _ refl c.size-degree.ensures.value
-    (atom-stands c.args.target c.letter_of.result c.letter_of.ensures (basis_of c.args.basis) c.args.label.now c.in_ok-list.list c.in_ok-answer.answer c.is_table-2.ensures c.in_ok-list.ensures.labels c.in_ok-answer.ensures.cleared
-    c.in_ok-terms.terms c.is_whole.ensures.table
+    (atom-stands c.args.target c.letter_of.result c.letter_of.ensures (basis_of c.args.basis) c.args.label.now c.in_ok-list.list c.in_ok-answer.answer c.in_ok-answer.ensures.table c.in_ok-list.ensures.labels c.in_ok-answer.ensures.cleared
+    c.in_ok-terms.terms c.in_ok-terms.ensures.table
     (λ n. c.in_ok-answer.ensures.value n (basis_polynomial (basis_of c.args.basis) c.args.label.now n) 1 (c.in_ok-list.ensures.value n))
-    (subst (λ m. Same (numerators c.in_ok-terms.terms) (over m c.in_ok-answer.answer)) factor c.in_ok-terms.ensures.value)))
+    (subst (λ m. Same c.in_ok-terms.terms (over m c.in_ok-answer.answer)) factor c.in_ok-terms.ensures.value)))

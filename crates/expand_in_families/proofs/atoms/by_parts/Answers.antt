@@ -4,7 +4,6 @@ use Rattle.sym_model.specs.Expansion.{completes}
 use Rattle.sym_model.specs.Expression.{atom}
 use Rattle.sym_model.specs.Partition.{size}
 use Rattle.sym_model.specs.Weight.{factorial, growth}
-use Rattle.sym_model.specs.WholeTerms.{numerators}
 use Rattle.basis_change_laws.specs.JoinedLists.{Stands}
 use Rattle.whole_lists.specs.Families.{basis_in, polynomial_of}
 use Rattle.expand_in_families.proofs.AtomNodes.{family-atom, large-atom}
@@ -28,4 +27,4 @@ pub returns : goal.returns
 returns c =
     done (ClearsTo (polynomial_of c.args.target)) IsHeavy (atom (basis_in c.args.family) c.args.label.now) _
     (family-atom (polynomial_of c.args.target) c.args.family c.args.label.now _ refl (c.in_ok-terms.ensures.size ∙ ap size c.parts.ensures.value)
-    (subst (λ (p : List ℕ). Stands (polynomial_of c.args.target) (factorial (size p)) (growth completes (size p)) (size p) (product_over (polynomial_of c.args.family) p) (numerators c.in_ok-terms.terms)) c.parts.ensures.value c.in_ok-terms.ensures.value))
+    (subst (λ (p : List ℕ). Stands (polynomial_of c.args.target) (factorial (size p)) (growth completes (size p)) (size p) (product_over (polynomial_of c.args.family) p) c.in_ok-terms.terms) c.parts.ensures.value c.in_ok-terms.ensures.value))

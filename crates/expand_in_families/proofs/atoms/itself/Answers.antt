@@ -4,7 +4,7 @@ use Rattle.sym_model.specs.Expression.{atom}
 use Rattle.sym_model.specs.Partition.{size}
 use Rattle.sym_model.specs.Polynomial.{Same}
 use Rattle.sym_model.specs.Weight.{factorial}
-use Rattle.sym_model.specs.WholeTerms.{WholeTerms, numerators}
+use Rattle.sym_model.specs.WholeTerms.{WholeTerms}
 use Rattle.basis_change_laws.proofs.GrowthBounds.{grown, factorial-within}
 use Rattle.whole_lists.specs.Families.{basis_in, polynomial_of}
 use Rattle.family_lists.proofs.PartLists.{stands-itself}
@@ -26,9 +26,9 @@ returns c target =
     let parts = c.args.label.now in
     let number =
     to_z-of_z {w = w128} {z = c.get.result} (record { sfits = c.get.type_inv }) ∙ c.get.ensures ∙ c.whole_of.ensures ∙ ap pos (c.factorial.ensures ∙ ap factorial c.size-degree.ensures.value) in
-    let same : Same (numerators c.in_ok-terms.terms) (term c.args.label.now (pos (factorial (size c.args.label.now)))) =
-    subst (λ (p : List ℕ). Same (numerators c.in_ok-terms.terms) (term p (pos (factorial (size c.args.label.now))))) c.parts.ensures.value
-    (subst (λ z. Same (numerators c.in_ok-terms.terms) (term c.parts.result.now z)) number c.in_ok-terms.ensures.value) in
+    let same : Same c.in_ok-terms.terms (term c.args.label.now (pos (factorial (size c.args.label.now)))) =
+    subst (λ (p : List ℕ). Same c.in_ok-terms.terms (term p (pos (factorial (size c.args.label.now))))) c.parts.ensures.value
+    (subst (λ z. Same c.in_ok-terms.terms (term c.parts.result.now z)) number c.in_ok-terms.ensures.value) in
     done (ClearsTo (polynomial_of target)) IsHeavy (atom (basis_in target) c.args.label.now) _
     (family-atom (polynomial_of target) target parts _ refl c.size-degree.ensures.value
-    (stands-itself (polynomial_of target) parts (factorial (size parts)) (grown (size parts)) c.in_ok-terms.terms c.size-degree.ensures.limits.partition (factorial-within (size parts)) c.is_whole.ensures.table same))
+    (stands-itself (polynomial_of target) parts (factorial (size parts)) (grown (size parts)) c.in_ok-terms.terms c.size-degree.ensures.limits.partition (factorial-within (size parts)) c.in_ok-terms.ensures.table same))

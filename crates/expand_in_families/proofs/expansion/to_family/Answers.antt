@@ -2,10 +2,9 @@ use Rattle.std.proofs.Common.{◌≡◌, ◌*◌, ◌<◌, ◌≤◌, ◌^◌, �
 use Rattle.sym_model.specs.Expression.{cleared_value, degree, denominator}
 use Rattle.sym_model.specs.Expansion.{completes}
 use Rattle.sym_model.specs.Weight.{factorial, numerator, weight}
-use Rattle.sym_model.specs.WholeTerms.{numerators}
 use Rattle.monomial_laws.proofs.Growths.{factorial-positive}
 use Rattle.monomial_laws.proofs.WeightBounds.{denominator-positive}
-use Rattle.sparse_polys.proofs.Steps.{error_is}
+use Rattle.linear_combinations.proofs.Steps.{error_is}
 use Rattle.expression_reading.specs.Trees.{tree_of}
 use Rattle.whole_lists.proofs.Quotients.{Quotients}
 use Rattle.expression_evaluation.proofs.Parts.{HasDenominators-plain}
@@ -57,5 +56,5 @@ returns-clause-value c =
     if_ok_both c.divided.result c.divided.ensures.value c.divided.ensures.table
     (λ list q is n.
     expansion-family c.args.target list n (cleared_value (tree_of c.args.formula.now.tree) n) (denominator (tree_of c.args.formula.now.tree))
-    (expansion-divided (polynomial_of c.args.target) (factorial (degree e)) (numerator e * grown (degree e)) (degree e) (denominator e) (cleared_value e) (numerators k.terms) list (factorial-positive (degree e)) (denominator-positive e plain)
-    h.stands is (subst (λ d. Quotients d list (numerators c.in_ok-node.node.terms)) same q) n))
+    (expansion-divided (polynomial_of c.args.target) (factorial (degree e)) (numerator e * grown (degree e)) (degree e) (denominator e) (cleared_value e) k.terms list (factorial-positive (degree e)) (denominator-positive e plain)
+    h.stands is (subst (λ d. Quotients d list c.in_ok-node.node.terms) same q) n))

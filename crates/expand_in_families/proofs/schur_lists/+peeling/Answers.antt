@@ -4,14 +4,14 @@ use Rattle.std.proofs.lemmas.Bool.{eqb-true, eqb-false}
 use Rattle.sym_model.specs.Partition.{size}
 use Rattle.sym_model.specs.Expansion.{completes}
 use Rattle.sym_model.specs.Weight.{factorial, growth}
-use Rattle.sym_model.specs.WholeTerms.{numerators}
 use Rattle.sym_model.proofs.SortedParts.{rows_within_size}
-use Rattle.sparse_polys.proofs.Steps.{error_is}
+use Rattle.linear_combinations.proofs.Steps.{error_is}
 use Rattle.basis_change_laws.proofs.GrowthBounds.{grown-mono}
 use Rattle.whole_lists.specs.Families.{polynomial_of}
+use Rattle.whole_lists.proofs.WholeLists.{if_ok_both}
 use Rattle.family_lists.proofs.KeptLists.{list-found, lists-kept}
 use Rattle.expand_in_families.specs.SchurLists.{schur_in, IsSchurList}
-use Rattle.expand_in_families.proofs.PeelingSteps.{left-rest, factor-at, nothing-list, peeled-next, peeled-large}
+use Rattle.expand_in_families.proofs.PeelingSteps.{left-rest, left-sized, factor-at, nothing-list, peeled-next, peeled-large}
 use Rattle.expand_in_families.proofs.HookProducts.{hooks-done}
 use Rattle.family_lists.proofs.NewtonSteps.{stands-greatest}
 use Rattle.expand_in_families.proofs.schur_lists.+peeling.Goals as goal
@@ -24,14 +24,11 @@ list_of-overflow_cast-below t c =
 
 pub list_of-index_of-requires : goal.list_of-index_of-requires
 list_of-index_of-requires t c =
-    let lo = c.loop-row-test.true in
-    let r = left-rest c.args.shape.now c.loop-row.row c.in_ok-rest.rest c.requires.partition lo c.in_ok-rest.ensures in
+    let r = left-rest c.args.shape.now c.loop-row.row c.in_ok-rest.rest c.requires.partition c.loop-row-test.true c.in_ok-rest.ensures in
     let s = r.sized in
-    let f = r.fewer in
-    let low = c.requires.low in
-    let enough = c.requires.enough in (
+    let f = r.fewer in (
       omega arith,
-      (c.requires.hooks, (c.requires.lists, (c.loop-row.invariant.store, (omega arith, omega arith)))),
+      (c.requires.hooks, (c.requires.lists, (c.loop-row.invariant.store, (omega (arith, c.requires.low), omega (arith, c.requires.enough))))),
     )
 
 pub list_of-list_at-requires : goal.list_of-list_at-requires
@@ -40,66 +37,41 @@ list_of-list_at-requires t c = slice_get_within c.index_of.new.store.entries c.i
 pub list_of-returns-then-is_empty-clause-value : goal.list_of-returns-then-is_empty-clause-value
 list_of-returns-then-is_empty-clause-value t c =
     let none = eqb-true (length c.args.shape.now) 0 (sym c.is_empty.ensures ∙ c.if-is_empty.true) in
-    nothing-list (polynomial_of c.args.target) c.args.family c.args.shape.now c.in_ok-one.one none c.is_whole.ensures.table c.in_ok-one.ensures.value
+    if_ok_both c.single.result c.single.ensures.value c.single.ensures.table
+    (λ list same is. nothing-list (polynomial_of c.args.target) c.args.family c.args.shape.now list none is same)
 
 pub list_of-returns-in_err-at-clause-large : goal.list_of-returns-in_err-at-clause-large
 list_of-returns-in_err-at-clause-large t c = λ large.
-    let lo = c.loop-row-test.true in
-    let r = left-rest c.args.shape.now c.loop-row.row c.in_ok-rest.rest c.requires.partition lo c.in_ok-rest.ensures in
-    let s : size c.in_ok-rest.rest + (get_or c.args.shape.now c.loop-row.row 0 + (length c.args.shape.now - 1 - c.loop-row.row)) ≡ size c.args.shape.now = r.sized in
-    let low = c.requires.low in
-    let enough = c.requires.enough in
+    let s = left-sized c.args.shape.now c.loop-row.row c.in_ok-rest.rest c.requires.partition c.loop-row-test.true c.in_ok-rest.ensures in
     let l = c.in_err-at.ensures.large (ap Err (error_is _ _ _ c.from_residual-in_err-at.ensures.1 large)) in
     let m = grown-mono (size c.in_ok-rest.rest) (size c.args.shape.now) (omega arith) in
     omega arith
 
 pub list_of-overflow_add-cells : goal.list_of-overflow_add-cells
 list_of-overflow_add-cells t c =
-    let lo = c.loop-row-test.true in
-    let r = left-rest c.args.shape.now c.loop-row.row c.in_ok-rest.rest c.requires.partition lo c.in_ok-rest.ensures in
-    let s : size c.in_ok-rest.rest + (get_or c.args.shape.now c.loop-row.row 0 + (length c.args.shape.now - 1 - c.loop-row.row)) ≡ size c.args.shape.now = r.sized in
-    let low = c.requires.low in
-    let enough = c.requires.enough in
-    record { fits = omega arith }
+    let s = left-sized c.args.shape.now c.loop-row.row c.in_ok-rest.rest c.requires.partition c.loop-row-test.true c.in_ok-rest.ensures in
+    record { fits = omega (arith, c.requires.low) }
 
 pub list_of-binomial-requires : goal.list_of-binomial-requires
 list_of-binomial-requires t c =
-    let lo = c.loop-row-test.true in
-    let r = left-rest c.args.shape.now c.loop-row.row c.in_ok-rest.rest c.requires.partition lo c.in_ok-rest.ensures in
-    let s : size c.in_ok-rest.rest + (get_or c.args.shape.now c.loop-row.row 0 + (length c.args.shape.now - 1 - c.loop-row.row)) ≡ size c.args.shape.now = r.sized in
-    let low = c.requires.low in
-    let enough = c.requires.enough in
-    let e = c.size-size.ensures.value in
-    omega arith
+    let s = left-sized c.args.shape.now c.loop-row.row c.in_ok-rest.rest c.requires.partition c.loop-row-test.true c.in_ok-rest.ensures in
+    omega (arith, c.requires.low, c.size-size.ensures.value)
 
 pub list_of-offset_bounds-lists-from : goal.list_of-offset_bounds-lists-from
 list_of-offset_bounds-lists-from t c =
-    let lo = c.loop-row-test.true in
-    let r = left-rest c.args.shape.now c.loop-row.row c.in_ok-rest.rest c.requires.partition lo c.in_ok-rest.ensures in
-    let s : size c.in_ok-rest.rest + (get_or c.args.shape.now c.loop-row.row 0 + (length c.args.shape.now - 1 - c.loop-row.row)) ≡ size c.args.shape.now = r.sized in
-    let low = c.requires.low in
-    let enough = c.requires.enough in
-    let e = c.from.ensures in
-    record { fits = omega arith }
+    let s = left-sized c.args.shape.now c.loop-row.row c.in_ok-rest.rest c.requires.partition c.loop-row-test.true c.in_ok-rest.ensures in
+    record { fits = omega (arith, c.requires.low, c.requires.enough, c.from.ensures) }
 
 pub list_of-bounds-lists-from : goal.list_of-bounds-lists-from
 list_of-bounds-lists-from t c =
-    let lo = c.loop-row-test.true in
-    let r = left-rest c.args.shape.now c.loop-row.row c.in_ok-rest.rest c.requires.partition lo c.in_ok-rest.ensures in
-    let s : size c.in_ok-rest.rest + (get_or c.args.shape.now c.loop-row.row 0 + (length c.args.shape.now - 1 - c.loop-row.row)) ≡ size c.args.shape.now = r.sized in
-    let low = c.requires.low in
-    let enough = c.requires.enough in
-    let e = c.from.ensures in
-    omega arith
+    let s = left-sized c.args.shape.now c.loop-row.row c.in_ok-rest.rest c.requires.partition c.loop-row-test.true c.in_ok-rest.ensures in
+    omega (arith, c.requires.enough, c.from.ensures)
 
 pub list_of-add_products-requires : goal.list_of-add_products-requires
 list_of-add_products-requires t c =
-    let lo = c.loop-row-test.true in
-    let r = left-rest c.args.shape.now c.loop-row.row c.in_ok-rest.rest c.requires.partition lo c.in_ok-rest.ensures in
-    let s : size c.in_ok-rest.rest + (get_or c.args.shape.now c.loop-row.row 0 + (length c.args.shape.now - 1 - c.loop-row.row)) ≡ size c.args.shape.now = r.sized in
-    let low = c.requires.low in
-    let enough = c.requires.enough in
-    let few : get_or c.args.shape.now c.loop-row.row 0 + (length c.args.shape.now - 1 - c.loop-row.row) < length c.args.lists.now = omega arith in
+    let s = left-sized c.args.shape.now c.loop-row.row c.in_ok-rest.rest c.requires.partition c.loop-row-test.true c.in_ok-rest.ensures in
+    let few : get_or c.args.shape.now c.loop-row.row 0 + (length c.args.shape.now - 1 - c.loop-row.row) < length c.args.lists.now = omega (arith, s, c.requires.enough) in
+    let r = left-rest c.args.shape.now c.loop-row.row c.in_ok-rest.rest c.requires.partition c.loop-row-test.true c.in_ok-rest.ensures in
     let w =
     factor-at (polynomial_of c.args.target) c.args.family c.requires.hooks c.args.lists.now c.requires.lists (get_or c.args.shape.now c.loop-row.row 0 + (length c.args.shape.now - 1 - c.loop-row.row)) c.from.result _ c.index-lists-from.result r.some few
     c.from.ensures c.index-lists-from.is in
@@ -109,16 +81,13 @@ list_of-add_products-requires t c =
     let k = get_or c.args.shape.now c.loop-row.row 0 + (length c.args.shape.now - 1 - c.loop-row.row) in
     let x = stands-greatest (polynomial_of c.args.target) (factorial k) (factorial k * 2 ^ k) k (λ n. polynomial_of c.args.family k n) c.index-lists-from.result w in
     let y = stands-greatest (polynomial_of c.args.target) (factorial (size c.in_ok-rest.rest)) (growth completes (size c.in_ok-rest.rest)) (size c.in_ok-rest.rest) (schur_in c.args.family c.in_ok-rest.rest) c.list_at.result.1.now v in
-    omega arith
+    omega (arith, c.requires.low)
 
 pub list_of-returns-in_err-add_products-clause-large : goal.list_of-returns-in_err-add_products-clause-large
 list_of-returns-in_err-add_products-clause-large t c = λ large.
-    let lo = c.loop-row-test.true in
-    let r = left-rest c.args.shape.now c.loop-row.row c.in_ok-rest.rest c.requires.partition lo c.in_ok-rest.ensures in
-    let s : size c.in_ok-rest.rest + (get_or c.args.shape.now c.loop-row.row 0 + (length c.args.shape.now - 1 - c.loop-row.row)) ≡ size c.args.shape.now = r.sized in
-    let low = c.requires.low in
-    let enough = c.requires.enough in
-    let few : get_or c.args.shape.now c.loop-row.row 0 + (length c.args.shape.now - 1 - c.loop-row.row) < length c.args.lists.now = omega arith in
+    let s = left-sized c.args.shape.now c.loop-row.row c.in_ok-rest.rest c.requires.partition c.loop-row-test.true c.in_ok-rest.ensures in
+    let few : get_or c.args.shape.now c.loop-row.row 0 + (length c.args.shape.now - 1 - c.loop-row.row) < length c.args.lists.now = omega (arith, s, c.requires.enough) in
+    let r = left-rest c.args.shape.now c.loop-row.row c.in_ok-rest.rest c.requires.partition c.loop-row-test.true c.in_ok-rest.ensures in
     let w =
     factor-at (polynomial_of c.args.target) c.args.family c.requires.hooks c.args.lists.now c.requires.lists (get_or c.args.shape.now c.loop-row.row 0 + (length c.args.shape.now - 1 - c.loop-row.row)) c.from.result _ c.index-lists-from.result r.some few
     c.from.ensures c.index-lists-from.is in
@@ -128,17 +97,14 @@ list_of-returns-in_err-add_products-clause-large t c = λ large.
     let many =
     subst (λ d. c.binomial.result * (factorial (get_or c.args.shape.now c.loop-row.row 0 + (length c.args.shape.now - 1 - c.loop-row.row)) * factorial d) ≡ factorial (get_or c.args.shape.now c.loop-row.row 0 + (length c.args.shape.now - 1 - c.loop-row.row) + d))
     c.size-size.ensures.value c.binomial.ensures.value in
-    peeled-large c.args.target c.args.family c.requires.hooks c.args.shape.now c.loop-row.row c.binomial.result c.signed-ways.result c.in_ok-rest.rest c.index-lists-from.result c.list_at.result.1.now c.requires.partition lo c.in_ok-rest.ensures many c.signed-ways.ensures w v c.loop-row.sum
+    peeled-large c.args.target c.args.family c.requires.hooks c.args.shape.now c.loop-row.row c.binomial.result c.signed-ways.result c.in_ok-rest.rest c.index-lists-from.result c.list_at.result.1.now c.requires.partition c.loop-row-test.true c.in_ok-rest.ensures many c.signed-ways.ensures w v c.loop-row.sum
     c.loop-row.invariant.stands.few (c.in_err-add_products.ensures.large (ap Err (error_is _ _ _ c.from_residual-in_err-add_products.ensures.1 large)))
 
 pub list_of-loop-row-preserved : goal.list_of-loop-row-preserved
 list_of-loop-row-preserved t c =
-    let lo = c.loop-row-test.true in
-    let r = left-rest c.args.shape.now c.loop-row.row c.in_ok-rest.rest c.requires.partition lo c.in_ok-rest.ensures in
-    let s : size c.in_ok-rest.rest + (get_or c.args.shape.now c.loop-row.row 0 + (length c.args.shape.now - 1 - c.loop-row.row)) ≡ size c.args.shape.now = r.sized in
-    let low = c.requires.low in
-    let enough = c.requires.enough in
-    let few : get_or c.args.shape.now c.loop-row.row 0 + (length c.args.shape.now - 1 - c.loop-row.row) < length c.args.lists.now = omega arith in
+    let s = left-sized c.args.shape.now c.loop-row.row c.in_ok-rest.rest c.requires.partition c.loop-row-test.true c.in_ok-rest.ensures in
+    let few : get_or c.args.shape.now c.loop-row.row 0 + (length c.args.shape.now - 1 - c.loop-row.row) < length c.args.lists.now = omega (arith, s, c.requires.enough) in
+    let r = left-rest c.args.shape.now c.loop-row.row c.in_ok-rest.rest c.requires.partition c.loop-row-test.true c.in_ok-rest.ensures in
     let w =
     factor-at (polynomial_of c.args.target) c.args.family c.requires.hooks c.args.lists.now c.requires.lists (get_or c.args.shape.now c.loop-row.row 0 + (length c.args.shape.now - 1 - c.loop-row.row)) c.from.result _ c.index-lists-from.result r.some few
     c.from.ensures c.index-lists-from.is in
@@ -150,8 +116,9 @@ list_of-loop-row-preserved t c =
     c.size-size.ensures.value c.binomial.ensures.value in
     record {
       stands =
-          peeled-next c.args.target c.args.family c.requires.hooks c.args.shape.now c.loop-row.row c.binomial.result c.signed-ways.result c.in_ok-rest.rest c.index-lists-from.result c.list_at.result.1.now c.requires.partition lo c.in_ok-rest.ensures many c.signed-ways.ensures w v
+          peeled-next c.args.target c.args.family c.requires.hooks c.args.shape.now c.loop-row.row c.binomial.result c.signed-ways.result c.in_ok-rest.rest c.index-lists-from.result c.list_at.result.1.now c.requires.partition c.loop-row-test.true c.in_ok-rest.ensures many c.signed-ways.ensures w v
           c.loop-row.sum c.add_products.new.sum c.in_ok-add_products.ensures.table c.loop-row.invariant.stands c.in_ok-add_products.ensures.value;
+      table = c.in_ok-add_products.ensures.table;
       store = c.in_ok-at.ensures.store;
     }
 
@@ -160,7 +127,7 @@ list_of-returns-clause-value t c =
     let over = c.loop-row-test.false in
     let some : 1 ≤ length c.args.shape.now = omega (arith, eqb-false (length c.args.shape.now) 0 (sym c.is_empty.ensures ∙ c.if-is_empty.false)) in
     let end : length c.args.shape.now ≡ c.loop-row.row = omega arith in
-    hooks-done (polynomial_of c.args.target) c.args.family c.requires.hooks c.args.shape.now c.loop-row.row (numerators c.loop-row.sum) c.requires.partition some end c.loop-row.invariant.stands
+    hooks-done (polynomial_of c.args.target) c.args.family c.requires.hooks c.args.shape.now c.loop-row.row c.loop-row.sum c.requires.partition some end c.loop-row.invariant.stands
 
 pub index_of-returns-clause-store : goal.index_of-returns-clause-store
 index_of-returns-clause-store t c =

@@ -1,10 +1,9 @@
-use Rattle.std.proofs.Common.{◌*◌, ◌+◌, length, take}
+use Rattle.std.proofs.Common.{◌*◌, ◌+◌, length, take, flat_map}
 use Rattle.sym_model.specs.Partition.{size}
-use Rattle.sym_model.specs.Sum.{each}
 use Rattle.sym_model.specs.Weight.{factorial}
-use Rattle.sym_model.specs.WholeTerms.{numerators}
 use Rattle.basis_change_laws.specs.JoinedLists.{Stands}
 use Rattle.whole_lists.specs.Families.{polynomial_of}
+use Rattle.whole_lists.specs.Tables.{IsWholeTable}
 use Rattle.special_hook_laws.specs.SpecialHooks.{special_hooks}
 use Rattle.expand_in_families.specs.SchurLists.{AreSchurLists}
 use Rattle.expand_in_families.proofs.HookProducts.{hook_term, peeled}
@@ -21,6 +20,7 @@ abbrev pub invariant-list_of-loop-row : goal.invariant-list_of-loop-row
 invariant-list_of-loop-row l = record {
   stands :
       Stands (polynomial_of l.target) (factorial (size l.shape)) (l.row * peeled (size l.shape)) (size l.shape)
-      (λ n. each (hook_term l.family n) (take l.row (special_hooks l.shape))) (numerators l.sum);
+      (λ n. flat_map (hook_term l.family n) (take l.row (special_hooks l.shape))) l.sum;
+  table : IsWholeTable l.sum;
   store : AreSchurLists (polynomial_of l.target) l.family l.store.entries;
 }

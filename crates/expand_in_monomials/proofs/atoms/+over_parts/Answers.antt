@@ -2,9 +2,7 @@ use Rattle.std.proofs.Common.{◌≡◌, ◌-◌, List, ℕ, length, get_or, tak
 use Rattle.sym_model.specs.Partition.{size}
 use Rattle.sym_model.specs.Expansion.{monomials}
 use Rattle.sym_model.specs.Weight.{growth}
-use Rattle.sym_model.specs.WholeTerms.{numerators}
-use Rattle.sparse_polys.proofs.Steps.{error_is}
-use Rattle.sparse_polys.proofs.Coefficients.{if_answered}
+use Rattle.linear_combinations.proofs.Steps.{error_is, if_answered}
 use Rattle.whole_lists.proofs.Bounds.{AreWithin-list}
 use Rattle.whole_lists.proofs.WholeLists.{Once-labels}
 use Rattle.expand_in_monomials.proofs.AtomLists.{list-none, list-more, large-factor, large-later, IsBounded-one, IsBounded-product}
@@ -16,7 +14,7 @@ use Rattle.expand_in_monomials.proofs.atoms.+over_parts.Goals as goal
 
 pub returns-in_default-clause-value : goal.returns-in_default-clause-value
 returns-in_default-clause-value t c =
-    if_answered c.single.result c.single.ensures.value (λ list e. list-none c.args.family c.args.parts.now (numerators list) c.in_default.len_below e)
+    if_answered c.single.result c.single.ensures.value (λ list e. list-none c.args.family c.args.parts.now list c.in_default.len_below e)
 
 pub returns-in_err-others-clause-large : goal.returns-in_err-others-clause-large
 returns-in_err-others-clause-large t c = λ large.
@@ -30,9 +28,9 @@ times_whole_in_m-requires t c =
     let parts = c.args.parts.now in
     let k = get_or c.args.parts.now 0 0 in
     let rest = take (length c.args.parts.now - 1) (drop 1 c.args.parts.now) in
-    let first = greatest-within k c.in_ok-first.first (AreWithin-list 1 k c.in_ok-first.first (polynomial_of c.args.family k) c.is_whole.ensures.table c.in_ok-first.ensures.value (IsBounded-one c.args.family k)) in
+    let first = greatest-within k c.in_ok-first.first (AreWithin-list 1 k c.in_ok-first.first (polynomial_of c.args.family k) c.in_ok-first.ensures.table c.in_ok-first.ensures.value (IsBounded-one c.args.family k)) in
     let others = greatest-within (size rest) c.in_ok-others.others
-    (AreWithin-list 1 (size rest) c.in_ok-others.others (product_over (polynomial_of c.args.family) rest) c.is_whole-2.ensures.table c.in_ok-others.ensures.value (IsBounded-product c.args.family rest)) in
+    (AreWithin-list 1 (size rest) c.in_ok-others.others (product_over (polynomial_of c.args.family) rest) c.in_ok-others.ensures.table c.in_ok-others.ensures.value (IsBounded-product c.args.family rest)) in
     let sizes : get_or c.args.parts.now 0 0 + size (take (length c.args.parts.now - 1) (drop 1 c.args.parts.now)) ≡ size c.args.parts.now = ap size (split_first c.args.parts.now c.in-len1-up.len_at_least) in
     omega (arith, c.requires.low)
 
@@ -42,7 +40,7 @@ returns-clause-value t c =
     let k = get_or c.args.parts.now 0 0 in
     let rest = take (length c.args.parts.now - 1) (drop 1 c.args.parts.now) in
     if_answered c.times_whole_in_m.result c.times_whole_in_m.ensures.coefficients
-    (λ list e. list-more c.args.family k rest parts (numerators c.in_ok-first.first) (numerators c.in_ok-others.others) (numerators list)
+    (λ list e. list-more c.args.family k rest parts c.in_ok-first.first c.in_ok-others.others list
     (split_first c.args.parts.now c.in-len1-up.len_at_least) c.in_ok-first.ensures.value c.in_ok-others.ensures.value e)
 
 pub returns-clause-large : goal.returns-clause-large
@@ -50,6 +48,6 @@ returns-clause-large t c = λ large.
     let k = get_or c.args.parts.now 0 0 in
     let rest = take (length c.args.parts.now - 1) (drop 1 c.args.parts.now) in
     subst (λ (p : List ℕ). 2 ^ 127 ≤ growth monomials (size p)) (split_first c.args.parts.now c.in-len1-up.len_at_least)
-    (large-factor c.args.family k rest (numerators c.in_ok-first.first) (numerators c.in_ok-others.others)
-    (Once-labels c.in_ok-first.first c.is_whole.ensures.table) (Once-labels c.in_ok-others.others c.is_whole-2.ensures.table)
+    (large-factor c.args.family k rest c.in_ok-first.first c.in_ok-others.others
+    (Once-labels c.in_ok-first.first c.in_ok-first.ensures.table) (Once-labels c.in_ok-others.others c.in_ok-others.ensures.table)
     c.in_ok-first.ensures.value c.in_ok-others.ensures.value (c.times_whole_in_m.ensures.large large))

@@ -1,5 +1,4 @@
 use Rattle.std.proofs.Common.{subst}
-use Rattle.sym_model.specs.WholeTerms.{numerators}
 use Rattle.expression_reading.specs.Trees.{tree_of}
 use Rattle.expand_in_monomials.specs.Clearing.{ClearsTo}
 use Rattle.whole_lists.proofs.WholeLists.{if_ok_both}
@@ -12,18 +11,18 @@ returns-clause-value c =
     let k = c.in_ok-converted.converted in
     let h : ClearsTo (tree_of c.args.formula.now.tree) c.in_ok-converted.converted = subst (λ t. ClearsTo (tree_of t) c.in_ok-converted.converted) c.tree.ensures.tree c.in_ok-converted.ensures.ok in
     if_ok_both c.divided.result c.divided.ensures.value c.divided.ensures.table
-    (λ list q is. expansion-quotients (tree_of c.args.formula.now.tree) (numerators k.terms) list k.den k.positive is q h.value h.den_is)
+    (λ list q is. expansion-quotients (tree_of c.args.formula.now.tree) k.terms list k.den k.positive is q h.value h.den_is)
 
 pub returns-clause-bounded : goal.returns-clause-bounded
 returns-clause-bounded c =
     let k = c.in_ok-converted.converted in
     let h : ClearsTo (tree_of c.args.formula.now.tree) c.in_ok-converted.converted = subst (λ t. ClearsTo (tree_of t) c.in_ok-converted.converted) c.tree.ensures.tree c.in_ok-converted.ensures.ok in
     if_ok_both c.divided.result c.divided.ensures.value c.divided.ensures.table
-    (λ list q is. bounded-quotients (tree_of c.args.formula.now.tree) (numerators k.terms) list k.den k.positive is q h.value h.den_is)
+    (λ list q is. bounded-quotients (tree_of c.args.formula.now.tree) k.terms list k.den k.positive is q h.value h.den_is)
 
 pub returns-clause-labels : goal.returns-clause-labels
 returns-clause-labels c =
     let k = c.in_ok-converted.converted in
     let h : ClearsTo (tree_of c.args.formula.now.tree) c.in_ok-converted.converted = subst (λ t. ClearsTo (tree_of t) c.in_ok-converted.converted) c.tree.ensures.tree c.in_ok-converted.ensures.ok in
     if_ok_both c.divided.result c.divided.ensures.value c.divided.ensures.table
-    (λ list q is. within-quotients (tree_of c.args.formula.now.tree) (numerators k.terms) list k.den k.positive is q h.value h.den_is)
+    (λ list q is. within-quotients (tree_of c.args.formula.now.tree) k.terms list k.den k.positive is q h.value h.den_is)

@@ -1,14 +1,12 @@
-use Rattle.std.proofs.Common.{◌≡◌, refl, List, ℕ, [], ◌∷◌, ◌++◌, sym, subst, ap, pos, Err}
-use Rattle.coeff_rings.specs.Fractions.{whole}
-use Rattle.sym_model.specs.Polynomial.{Same}
-use Rattle.sym_model.specs.PartitionList.{partitions_of}
-use Rattle.sym_model.specs.WholeTerms.{numerators}
-use Rattle.sparse_polys.proofs.Steps.{error_is, all_done, IsCombination-empty}
-use Rattle.whole_lists.specs.Tables.{equal, IsTable}
+use Rattle.std.proofs.Common.{◌≡◌, refl, List, ℕ, [], ◌∷◌, ◌++◌, sym, ◌∙◌, subst, ap, pos, Err}
 use Rattle.sym_model.specs.LabelLimits.{is_label}
-use Rattle.whole_lists.proofs.WholeLists.{Finds, Finds-next, more_as, Same-from_look_ups}
-use Rattle.whole_lists.proofs.PartitionTerms.{ones, ones-push, listed_on, IsWithinLimits-listed, listed_next}
-use Rattle.expand_in_monomials.proofs.ListedTerms.{refused_next}
+use Rattle.sym_model.specs.PartitionList.{partitions_of}
+use Rattle.sym_model.specs.Polynomial.{Same, coefficient}
+use Rattle.coeff_rings.specs.Fractions.{whole}
+use Rattle.linear_combinations.proofs.Steps.{error_is, all_done, IsCombination-empty}
+use Rattle.whole_lists.specs.Tables.{equal, IsWholeTable}
+use Rattle.whole_lists.proofs.WholeLists.{Finds, Finds-next, more_as, not_refused, Same-from_look_ups}
+use Rattle.whole_lists.proofs.PartitionTerms.{ones, ones-push, coefficient-listed, listed_on, IsWithinLimits-listed, listed_next}
 use Rattle.expand_in_monomials.proofs.factors.complete.Goals as goal
 
 pub loop-alloc-init : goal.loop-alloc-init
@@ -17,7 +15,7 @@ loop-alloc-init c = (
   record {
     listed = c.in_ok-labels.ensures.rest;
     finds = subst (λ terms. Finds terms []) (sym c.new-list.ensures) (λ label. refl);
-    table = subst IsTable (sym c.new-list.ensures) (IsCombination-empty equal is_label);
+    table = subst IsWholeTable (sym c.new-list.ensures) (IsCombination-empty equal is_label whole);
   },
 )
 
@@ -50,13 +48,13 @@ returns-in_err-add_term-clause-small c = λ large.
     let inv = c.loop-alloc.invariant in
     let label = c.current.result.now in
     let on = listed_on inv.0 _ _ _ _ label inv.1.listed c.advance.ensures.next c.current.ensures in
-    let refused = c.in_err-add_term.ensures.large.0 (ap Err (error_is _ _ _ c.from_residual-in_err-add_term.ensures.1 large)) in
-    refused_next inv.0 _ c.args.k label c.in_ok-from_valid_parts.field-0 c.loop-alloc.list (whole c.one.result) inv.1.finds on c.in_ok-from_valid_parts.ensures.ok
-    (ap whole c.one.ensures.one) refused
+    not_refused _ c.one.result
+    (inv.1.finds c.in_ok-from_valid_parts.field-0 ∙ ap (coefficient (ones inv.0)) c.in_ok-from_valid_parts.ensures.ok ∙ coefficient-listed inv.0 _ c.args.k label on)
+    (c.in_err-add_term.ensures.large.0 (ap Err (error_is _ _ _ c.from_residual-in_err-add_term.ensures.1 large)))
 
 pub returns-clause-value : goal.returns-clause-value
 returns-clause-value c =
     let inv = c.loop-alloc.invariant in
     let all : inv.0 ≡ partitions_of c.args.k = all_done inv.0 _ _ _ c.loop-alloc-test.ensures.ended inv.1.listed refl in
-    subst (λ (labels : List (List ℕ)). Same (numerators c.loop-alloc.list) (ones labels)) all
+    subst (λ (labels : List (List ℕ)). Same c.loop-alloc.list (ones labels)) all
     (Same-from_look_ups c.loop-alloc.list (ones inv.0) inv.1.table inv.1.finds)

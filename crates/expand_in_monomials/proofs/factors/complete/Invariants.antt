@@ -1,6 +1,6 @@
 use Rattle.std.proofs.Common.{◌≡◌, ℕ, List, ◌++◌, length}
 use Rattle.sym_model.specs.PartitionList.{partitions_of}
-use Rattle.whole_lists.specs.Tables.{IsTable}
+use Rattle.whole_lists.specs.Tables.{IsWholeTable}
 use Rattle.whole_lists.proofs.WholeLists.{Finds}
 use Rattle.whole_lists.proofs.PartitionTerms.{ones}
 use Rattle.expand_in_monomials.proofs.factors.complete.Given as goal
@@ -10,7 +10,7 @@ abbrev pub invariant-loop-alloc : goal.invariant-loop-alloc
 invariant-loop-alloc l = (done : List (List ℕ)) × record {
   listed : done ++ l.labels.0 ≡ partitions_of l.k;
   finds : Finds l.list (ones done);
-  table : IsTable l.list;
+  table : IsWholeTable l.list;
 }
 
 abbrev pub decreases-loop-alloc : goal.decreases-loop-alloc

@@ -1,5 +1,5 @@
 use Rattle.std.proofs.Common.{◌-◌}
-use Rattle.sym_model.specs.WholeTerms.{numerators}
+use Rattle.whole_lists.specs.Tables.{IsWholeTable}
 use Rattle.expand_in_monomials.specs.Contents.{CountsContents}
 use Rattle.expand_in_monomials.proofs.schur.+add_contents.Given as goal
 
@@ -8,4 +8,8 @@ decreases-add_contents l = l.left
 
 -- the contents with smaller parts are added
 abbrev pub invariant-loop-part : goal.invariant-loop-part
-invariant-loop-part l = CountsContents (numerators l.terms) l.chosen (l.part - 1) l.left (numerators l.fn.list) (numerators l.list)
+invariant-loop-part l = record {
+  counted : CountsContents l.terms l.chosen (l.part - 1) l.left l.fn.list l.list;
+  terms : IsWholeTable l.terms;
+  table : IsWholeTable l.list;
+}

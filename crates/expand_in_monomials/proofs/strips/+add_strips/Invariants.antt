@@ -1,5 +1,4 @@
-use Rattle.std.proofs.Common.{◌≡◌, ◌++◌, length}
-use Rattle.sym_model.specs.Sum.{each}
+use Rattle.std.proofs.Common.{◌≡◌, ◌++◌, length, flat_map}
 use Rattle.schur_laws.specs.Kostka.{below}
 use Rattle.expand_in_monomials.proofs.StripLists.{with_cells, under}
 use Rattle.expand_in_monomials.proofs.strips.+add_strips.Given as goal
@@ -11,5 +10,5 @@ decreases-add_strips l = length l.rows.now
 abbrev pub invariant-loop-cells : goal.invariant-loop-cells
 invariant-loop-cells l = record {
   same : l.above.items ≡ l.fn.above.items;
-  listed : l.shapes.items ≡ l.fn.shapes.items ++ under l.fn.above.items (each (with_cells l.k l.row l.below) (below l.cells));
+  listed : l.shapes.items ≡ l.fn.shapes.items ++ under l.fn.above.items (flat_map (with_cells l.k l.row l.below) (below l.cells));
 }

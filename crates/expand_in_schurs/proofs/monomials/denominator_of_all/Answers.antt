@@ -4,10 +4,10 @@ use Rattle.std.proofs.lemmas.List.{map-append}
 use Rattle.sym_model.specs.Expansion.{Fraction, Terms}
 use Rattle.sym_model.specs.Expression.{lcm}
 use Rattle.sparse_polys.specs.Combination.{terms_of}
-use Rattle.sparse_polys.specs.MonomialProducts.{IsCommonDenominator}
 use Rattle.sparse_polys.proofs.Steps.{all_done}
 use Rattle.change_from_monomials.proofs.Bounds.{itself}
 use Rattle.expand_in_schurs.proofs.InMonomials.{common-none, common-next}
+use Rattle.sparse_polys.specs.Products.{IsCommonDenominator}
 use Rattle.expand_in_schurs.proofs.monomials.denominator_of_all.Goals as goal
 
 pub loop-c-init : goal.loop-c-init

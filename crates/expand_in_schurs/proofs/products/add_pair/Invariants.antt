@@ -4,8 +4,8 @@ use Rattle.std.specs.Vec.Iter.{into_iter_items}
 use Rattle.coeff_rings.specs.Fractions.{scaled}
 use Rattle.sym_model.specs.Polynomial.{pair}
 use Rattle.sym_model.specs.Schur.{schur}
-use Rattle.sparse_polys.specs.MonomialProducts.{AreCleared}
 use Rattle.expand_in_schurs.specs.SchurLists.{Adds}
+use Rattle.sparse_polys.specs.Products.{AreCleared}
 use Rattle.expand_in_schurs.proofs.products.add_pair.Given as goal
 
 -- the terms so far are added, and they and the rest are all

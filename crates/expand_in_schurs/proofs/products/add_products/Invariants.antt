@@ -4,8 +4,8 @@ use Rattle.std.specs.Map.Iter.{deref_pair}
 use Rattle.coeff_rings.specs.Fractions.{scaled}
 use Rattle.sym_model.specs.Expansion.{Fraction}
 use Rattle.sparse_polys.specs.Combination.{terms_of}
-use Rattle.sparse_polys.specs.MonomialProducts.{AreCleared, IsCommonDenominator}
 use Rattle.expand_in_schurs.specs.SchurLists.{Adds, row_at}
+use Rattle.sparse_polys.specs.Products.{IsCommonDenominator, AreCleared}
 use Rattle.expand_in_schurs.proofs.products.add_products.Given as goal
 
 -- the products with the terms so far are added, and they and the rest are all

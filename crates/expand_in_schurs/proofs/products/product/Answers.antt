@@ -1,16 +1,15 @@
 use Rattle.std.proofs.Common.{◌≡◌, ℕ, ◌*◌, [], ◌∷◌, ◌++◌, List, map, sym, ◌∙◌, ap, subst, ◌*ℤ◌, refl, append_assoc}
 use Rattle.std.specs.Map.Iter.{deref_pair}
 use Rattle.std.proofs.lemmas.List.{map-append}
-use Rattle.sym_model.specs.Expansion.{Terms, Fraction, denominators}
+use Rattle.sym_model.specs.Expansion.{Terms, Fraction}
 use Rattle.sparse_polys.specs.Combination.{terms_of}
 use Rattle.sparse_polys.proofs.Steps.{all_done}
-use Rattle.sparse_polys.proofs.Accumulating.{AreCleared-nothing}
-use Rattle.sparse_polys.proofs.Expansions.{common-denominators}
 use Rattle.sparse_polys.proofs.Rows.{list_whole, list_among}
 use Rattle.coeff_rings.specs.Fractions.{scaled}
 use Rattle.expand_in_schurs.specs.SchurLists.{Adds, row_at, products_at}
 use Rattle.expand_in_schurs.proofs.ListProducts.{products_next, terms_next, product-list}
 use Rattle.expand_in_schurs.proofs.Tables.{Adds-none, Adds-then}
+use Rattle.sparse_polys.proofs.ClearedSums.{AreCleared-nothing}
 use Rattle.expand_in_schurs.proofs.products.product.Goals as goal
 
 pub loop-label-init : goal.loop-label-init
@@ -61,6 +60,6 @@ returns c =
     ap (terms_of (λ (r : Fraction). r))
     (all_done done c.loop-label.label-iterator _ _ c.in-None.ensures.steps.0 c.loop-label.invariant.so_far c.into_iter-label-iterator.ensures.into_iter_gives)
     ∙ c.iter-label-items.ensures.rest in
-    product-list c.args.left.now c.args.right.now c.loop-label.sum c.is_table.ensures c.is_table-2.ensures c.is_table-3.ensures
-    (subst (λ (l : Terms (List ℕ)). Adds (denominators left * denominators right) [] (λ n φ. products_at (denominators left) l (denominators right) right n φ) c.loop-label.sum) is
-    (c.loop-label.invariant.sums (denominators left) (denominators right) (common-denominators left c.is_table.ensures) (common-denominators right c.is_table-2.ensures)))
+    product-list left right c.loop-label.sum
+    (λ d e common other.
+    subst (λ (l : Terms (List ℕ)). Adds (d * e) [] (λ n φ. products_at d l e right n φ) c.loop-label.sum) is (c.loop-label.invariant.sums d e common other))

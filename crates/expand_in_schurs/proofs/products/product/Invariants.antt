@@ -2,8 +2,8 @@ use Rattle.std.proofs.Common.{◌≡◌, ℕ, ◌*◌, ◌++◌, [], map}
 use Rattle.std.specs.Map.Iter.{deref_pair}
 use Rattle.sym_model.specs.Expansion.{Fraction}
 use Rattle.sparse_polys.specs.Combination.{terms_of}
-use Rattle.sparse_polys.specs.MonomialProducts.{IsCommonDenominator}
 use Rattle.expand_in_schurs.specs.SchurLists.{Adds, products_at}
+use Rattle.sparse_polys.specs.Products.{IsCommonDenominator}
 use Rattle.expand_in_schurs.proofs.products.product.Given as goal
 
 -- the products of the terms so far are added, and they and the rest are all

@@ -1,16 +1,21 @@
-use Rattle.sym_model.specs.Bases.{elementary_of, complete_of, power_sum_of}
-use Rattle.sparse_polys.proofs.Coefficients.{if_answered}
+use Rattle.std.proofs.Common.{ℕ, List, sym, subst}
+use Rattle.sym_model.specs.Expansion.{schurs, Fraction, Terms, denominators, value, IsExpansionOf}
+use Rattle.sym_model.specs.Polynomial.{times}
+use Rattle.sym_model.specs.Sum.{Among}
+use Rattle.sparse_polys.specs.Combination.{terms_of}
+use Rattle.sparse_polys.proofs.ValueLists.{among_values}
+use Rattle.whole_lists.specs.Families.{polynomial_of}
 use Rattle.expand_in_schurs.proofs.Expansions.{expansion_times}
 use Rattle.expand_in_schurs.proofs.strips.times_part.Goals as goal
 
-pub returns-in-Elementary : goal.returns-in-Elementary
-returns-in-Elementary c =
-    rw c.in-Elementary.is (if_answered c.add_column.result c.add_column.ensures.value (λ product made n f q is. expansion_times c.args.list product n (elementary_of c.args.k n) f q (made n) is))
+pub times_family-requires-clause-room : goal.times_family-requires-clause-room
+times_family-requires-clause-room c t m =
+    c.has_room.ensures.0 c.if-not-has_room.false (t.0, t.1) (subst (λ (l : Terms (List ℕ)). Among (t.0, t.1) l) c.as_table.ensures (among_values (λ (r : Fraction). r) t _ m))
 
-pub returns-in-Complete : goal.returns-in-Complete
-returns-in-Complete c =
-    rw c.in-Complete.is (if_answered c.add_row.result c.add_row.ensures.value (λ product made n f q is. expansion_times c.args.list product n (complete_of c.args.k n) f q (made n) is))
-
-pub returns-in-PowerSum : goal.returns-in-PowerSum
-returns-in-PowerSum c =
-    rw c.in-PowerSum.is (if_answered c.add_hook.result c.add_hook.ensures.value (λ product made n f q is. expansion_times c.args.list product n (power_sum_of c.args.k n) f q (made n) is))
+pub returns : goal.returns
+returns c n f q is =
+    let h = polynomial_of c.args.family c.args.k n in
+    let product = terms_of (λ (r : Fraction). r) c.in_ok-product.product in
+    let made =
+    subst (λ (l : Terms (List ℕ)). IsExpansionOf schurs product n (times h (value schurs l n)) (denominators l)) c.as_table.ensures (c.in_ok-product.ensures.value n) in
+    subst (λ (l : Terms (List ℕ)). IsExpansionOf schurs l n (times h f) q) (sym c.from_table.ensures) (expansion_times c.args.list product n h f q made is)

@@ -1,10 +1,8 @@
-use Rattle.std.proofs.Common.{◌≡◌, ℕ, ◌+◌, ◌-◌, ◌*◌, ◌<◌, ◌^◌, List, length, ap, subst, sym, ◌∙◌, arith, Err}
-use Rattle.sym_model.specs.Sum.{each}
+use Rattle.std.proofs.Common.{◌≡◌, ◌+◌, ◌-◌, ◌*◌, ◌<◌, ◌^◌, length, ap, subst, sym, ◌∙◌, arith, Err, flat_map}
 use Rattle.sym_model.specs.Partition.{after}
 use Rattle.sym_model.specs.Bases.{power_sum_of}
-use Rattle.sym_model.specs.Expansion.{Terms}
 use Rattle.sym_model.specs.Weight.{factorial}
-use Rattle.sym_model.specs.WholeTerms.{numerators}
+use Rattle.sym_model.specs.WholeTerms.{WholeTerms}
 use Rattle.sparse_polys.proofs.Steps.{error_is}
 use Rattle.basis_change_laws.specs.JoinedLists.{Stands}
 use Rattle.whole_lists.specs.Families.{polynomial_of}
@@ -29,12 +27,12 @@ add_products-requires c =
     let i : c.from.result < length c.args.powers.now = omega arith in
     let j : c.from-in-loop-done.result < length c.args.before.now = omega arith in
     let w =
-    subst (λ (ts : Terms (List ℕ)). Stands (polynomial_of c.args.target) 1 (2 ^ (c.loop-done.done + 1)) (c.loop-done.done + 1) (λ n. power_sum_of (c.loop-done.done + 1) n) (numerators ts))
+    subst (λ (ts : WholeTerms). Stands (polynomial_of c.args.target) 1 (2 ^ (c.loop-done.done + 1)) (c.loop-done.done + 1) (λ n. power_sum_of (c.loop-done.done + 1) n) ts)
     (ap (list_at c.args.powers.now) (sym from) ∙ list_at-index c.args.powers.now c.from.result _ c.index-powers-from.result i c.index-powers-from.is)
     (stands-weaken (polynomial_of c.args.target) 1 (2 ^ (c.loop-done.done + 1) - 1) (2 ^ (c.loop-done.done + 1)) (c.loop-done.done + 1) (c.loop-done.done + 1) (λ n. power_sum_of (c.loop-done.done + 1) n)
-    (numerators (list_at c.args.powers.now (c.loop-done.done + 1))) (c.requires.powers (c.loop-done.done + 1) (omega arith) (omega arith)) (omega arith) (omega arith)) in
+    ((list_at c.args.powers.now (c.loop-done.done + 1))) (c.requires.powers (c.loop-done.done + 1) (omega arith) (omega arith)) (omega arith) (omega arith)) in
     let v =
-    subst (λ (ts : Terms (List ℕ)). Stands (polynomial_of c.args.target) (factorial (c.args.k - 1 - c.loop-done.done)) (factorial (c.args.k - 1 - c.loop-done.done) * 2 ^ (c.args.k - 1 - c.loop-done.done)) (c.args.k - 1 - c.loop-done.done) (λ n. polynomial_of c.args.family (c.args.k - 1 - c.loop-done.done) n) (numerators ts))
+    subst (λ (ts : WholeTerms). Stands (polynomial_of c.args.target) (factorial (c.args.k - 1 - c.loop-done.done)) (factorial (c.args.k - 1 - c.loop-done.done) * 2 ^ (c.args.k - 1 - c.loop-done.done)) (c.args.k - 1 - c.loop-done.done) (λ n. polynomial_of c.args.family (c.args.k - 1 - c.loop-done.done) n) ts)
     (ap (list_at c.args.before.now) (sym at) ∙ list_at-index c.args.before.now c.from-in-loop-done.result _ c.index-before-from.result j c.index-before-from.is) (c.requires.before (c.args.k - 1 - c.loop-done.done) (omega arith)) in
     let x = stands-greatest (polynomial_of c.args.target) 1 (2 ^ (c.loop-done.done + 1)) (c.loop-done.done + 1) (λ n. power_sum_of (c.loop-done.done + 1) n) c.index-powers-from.result w in
     let y =
@@ -53,12 +51,12 @@ returns-in_err-add_products-clause-small c err =
     let i : c.from.result < length c.args.powers.now = omega arith in
     let j : c.from-in-loop-done.result < length c.args.before.now = omega arith in
     let w =
-    subst (λ (ts : Terms (List ℕ)). Stands (polynomial_of c.args.target) 1 (2 ^ (c.loop-done.done + 1)) (c.loop-done.done + 1) (λ n. power_sum_of (c.loop-done.done + 1) n) (numerators ts))
+    subst (λ (ts : WholeTerms). Stands (polynomial_of c.args.target) 1 (2 ^ (c.loop-done.done + 1)) (c.loop-done.done + 1) (λ n. power_sum_of (c.loop-done.done + 1) n) ts)
     (ap (list_at c.args.powers.now) (sym from) ∙ list_at-index c.args.powers.now c.from.result _ c.index-powers-from.result i c.index-powers-from.is)
     (stands-weaken (polynomial_of c.args.target) 1 (2 ^ (c.loop-done.done + 1) - 1) (2 ^ (c.loop-done.done + 1)) (c.loop-done.done + 1) (c.loop-done.done + 1) (λ n. power_sum_of (c.loop-done.done + 1) n)
-    (numerators (list_at c.args.powers.now (c.loop-done.done + 1))) (c.requires.powers (c.loop-done.done + 1) (omega arith) (omega arith)) (omega arith) (omega arith)) in
+    ((list_at c.args.powers.now (c.loop-done.done + 1))) (c.requires.powers (c.loop-done.done + 1) (omega arith) (omega arith)) (omega arith) (omega arith)) in
     let v =
-    subst (λ (ts : Terms (List ℕ)). Stands (polynomial_of c.args.target) (factorial (c.args.k - 1 - c.loop-done.done)) (factorial (c.args.k - 1 - c.loop-done.done) * 2 ^ (c.args.k - 1 - c.loop-done.done)) (c.args.k - 1 - c.loop-done.done) (λ n. polynomial_of c.args.family (c.args.k - 1 - c.loop-done.done) n) (numerators ts))
+    subst (λ (ts : WholeTerms). Stands (polynomial_of c.args.target) (factorial (c.args.k - 1 - c.loop-done.done)) (factorial (c.args.k - 1 - c.loop-done.done) * 2 ^ (c.args.k - 1 - c.loop-done.done)) (c.args.k - 1 - c.loop-done.done) (λ n. polynomial_of c.args.family (c.args.k - 1 - c.loop-done.done) n) ts)
     (ap (list_at c.args.before.now) (sym at) ∙ list_at-index c.args.before.now c.from-in-loop-done.result _ c.index-before-from.result j c.index-before-from.is) (c.requires.before (c.args.k - 1 - c.loop-done.done) (omega arith)) in
     newton-small c.args.target c.args.family c.requires.newton c.args.k c.loop-done.done c.loop-done.factor c.index-powers-from.result c.index-before-from.result lo (c.loop-done.invariant.is_factor lo) w v c.loop-done.sum c.signed.result low.1 c.signed.ensures
     c.loop-done.invariant.stands.few (c.in_err-add_products.ensures.large (ap Err (error_is _ _ _ c.from_residual.ensures.1 err)))
@@ -82,12 +80,12 @@ loop-done-preserved c =
     let i : c.from.result < length c.args.powers.now = omega arith in
     let j : c.from-in-loop-done.result < length c.args.before.now = omega arith in
     let w =
-    subst (λ (ts : Terms (List ℕ)). Stands (polynomial_of c.args.target) 1 (2 ^ (c.loop-done.done + 1)) (c.loop-done.done + 1) (λ n. power_sum_of (c.loop-done.done + 1) n) (numerators ts))
+    subst (λ (ts : WholeTerms). Stands (polynomial_of c.args.target) 1 (2 ^ (c.loop-done.done + 1)) (c.loop-done.done + 1) (λ n. power_sum_of (c.loop-done.done + 1) n) ts)
     (ap (list_at c.args.powers.now) (sym from) ∙ list_at-index c.args.powers.now c.from.result _ c.index-powers-from.result i c.index-powers-from.is)
     (stands-weaken (polynomial_of c.args.target) 1 (2 ^ (c.loop-done.done + 1) - 1) (2 ^ (c.loop-done.done + 1)) (c.loop-done.done + 1) (c.loop-done.done + 1) (λ n. power_sum_of (c.loop-done.done + 1) n)
-    (numerators (list_at c.args.powers.now (c.loop-done.done + 1))) (c.requires.powers (c.loop-done.done + 1) (omega arith) (omega arith)) (omega arith) (omega arith)) in
+    ((list_at c.args.powers.now (c.loop-done.done + 1))) (c.requires.powers (c.loop-done.done + 1) (omega arith) (omega arith)) (omega arith) (omega arith)) in
     let v =
-    subst (λ (ts : Terms (List ℕ)). Stands (polynomial_of c.args.target) (factorial (c.args.k - 1 - c.loop-done.done)) (factorial (c.args.k - 1 - c.loop-done.done) * 2 ^ (c.args.k - 1 - c.loop-done.done)) (c.args.k - 1 - c.loop-done.done) (λ n. polynomial_of c.args.family (c.args.k - 1 - c.loop-done.done) n) (numerators ts))
+    subst (λ (ts : WholeTerms). Stands (polynomial_of c.args.target) (factorial (c.args.k - 1 - c.loop-done.done)) (factorial (c.args.k - 1 - c.loop-done.done) * 2 ^ (c.args.k - 1 - c.loop-done.done)) (c.args.k - 1 - c.loop-done.done) (λ n. polynomial_of c.args.family (c.args.k - 1 - c.loop-done.done) n) ts)
     (ap (list_at c.args.before.now) (sym at) ∙ list_at-index c.args.before.now c.from-in-loop-done.result _ c.index-before-from.result j c.index-before-from.is) (c.requires.before (c.args.k - 1 - c.loop-done.done) (omega arith)) in
     record {
       stands =
@@ -102,6 +100,6 @@ returns-clause-value c =
     let over = c.loop-done-test.false in
     let low = c.requires.low in
     let end : c.loop-done.done ≡ c.args.k = omega arith in
-    newton-done (polynomial_of c.args.target) (In-family c.args.target) (polynomial_of c.args.family) (λ i. sign c.args.family (i - 1)) (newton-family c.args.family c.requires.newton) c.args.k (numerators c.loop-done.sum) low.0
-    (subst (λ j. Stands (polynomial_of c.args.target) (factorial (c.args.k - 1)) (j * (factorial (c.args.k - 1) * 2 ^ c.args.k)) c.args.k (λ n. each (newton_term (polynomial_of c.args.family) (λ i. sign c.args.family (i - 1)) c.args.k n) (after 0 j)) (numerators c.loop-done.sum)) end
+    newton-done (polynomial_of c.args.target) (In-family c.args.target) (polynomial_of c.args.family) (λ i. sign c.args.family (i - 1)) (newton-family c.args.family c.requires.newton) c.args.k c.loop-done.sum low.0
+    (subst (λ j. Stands (polynomial_of c.args.target) (factorial (c.args.k - 1)) (j * (factorial (c.args.k - 1) * 2 ^ c.args.k)) c.args.k (λ n. flat_map (newton_term (polynomial_of c.args.family) (λ i. sign c.args.family (i - 1)) c.args.k n) (after 0 j)) c.loop-done.sum) end
     c.loop-done.invariant.stands)

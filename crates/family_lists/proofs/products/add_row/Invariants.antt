@@ -1,15 +1,12 @@
 use Rattle.std.proofs.Common.{◌≡◌, ◌++◌, map}
 use Rattle.std.specs.Map.Iter.{deref_pair}
-use Rattle.sym_model.specs.WholeTerms.{numerators}
-use Rattle.whole_lists.specs.Tables.{IsTable}
-use Rattle.whole_lists.proofs.WholeLists.{Finds}
+use Rattle.linear_combinations.specs.Gains.{Gains}
 use Rattle.basis_change_laws.specs.JoinedLists.{row}
 use Rattle.family_lists.proofs.products.add_row.Given as goal
 
--- the products so far are added, and they and the rest are all
+-- the products with the labels so far are added
 abbrev pub invariant-loop-label : goal.invariant-loop-label
 invariant-loop-label l = record {
-  finds : Finds l.sum (numerators l.fn.sum ++ row l.left l.z (map deref_pair l.yielded));
-  table : IsTable l.sum;
+  gains : Gains l.fn.sum (row l.left l.z (map deref_pair l.yielded)) l.sum;
   so_far : map deref_pair l.yielded ++ l.label-iterator ≡ l.initial.label-iterator;
 }

@@ -40,6 +40,6 @@ loop-i-preserved c =
 pub returns : goal.returns
 returns c =
     let over : (length c.args.more.now ≤ c.loop-i.i) ⊎ (length c.args.parts.now ≤ c.loop-i.j) = elim (c.loop-i-test.branch) [ then-loop-i-test+else-j-parts w ↦ inr (let k = w.if-j-parts in omega arith) | else-loop-i-test w ↦ inl (let h = w.loop-i-test in omega arith) ] in
-    written c.extend_from_slice-2.result c.extend_from_slice-2.new.self.items c.loop-i.buffer.items c.extend_from_slice.new.self.items c.args.more.now c.args.parts.now (merged c.args.more.now c.args.parts.now) c.loop-i.i c.loop-i.j
-    c.in_ok-extend_from_slice.ensures.items c.extend_from_slice-2.ensures.items
+    written c.extend_from_slice-2.new.self.items c.loop-i.buffer.items c.extend_from_slice.new.self.items c.args.more.now c.args.parts.now (merged c.args.more.now c.args.parts.now) c.loop-i.i c.loop-i.j
+    c.in_ok-extend_from_slice.ensures.items c.in_ok-extend_from_slice-2.ensures.items
     (merged-end (merged c.args.more.now c.args.parts.now) c.args.more.now c.args.parts.now c.loop-i.i c.loop-i.j c.requires.more c.requires.parts c.loop-i.buffer.items c.loop-i.invariant.so_far over)

@@ -18,7 +18,7 @@ plethysm-requires-clause-inner c = subst (λ e. IsBounded (numerator e) (denomin
 
 pub plethysm-requires-clause-natural : goal.plethysm-requires-clause-natural
 plethysm-requires-clause-natural c =
-    natural-expansion (tree_of c.args.formula.now.tree) c.in_ok-list.list (subst HasNoSigns (sym c.requires) tt) c.is_table.ensures c.in_ok-list.ensures.bounded c.in_ok-list.ensures.value
+    natural-expansion (tree_of c.args.formula.now.tree) c.in_ok-list.list (subst HasNoSigns (sym c.requires) tt) c.in_ok-list.ensures.table c.in_ok-list.ensures.bounded c.in_ok-list.ensures.value
 
 pub plethysm-requires-clause-sizes : goal.plethysm-requires-clause-sizes
 plethysm-requires-clause-sizes c =

@@ -1,15 +1,18 @@
-use Rattle.std.proofs.Common.{ℕ, List, ◌≤◌, sym, subst, arith}
-use Rattle.sym_model.specs.Expansion.{Terms}
+use Rattle.std.proofs.Common.{ℕ, ℤ, List, ◌+◌, ◌≤◌, ap, sym, subst, inl, inr, arith}
+use Rattle.std.specs.Cmp.Lexicographic.{nat_list_eq_equiv}
 use Rattle.sym_model.specs.Partition.{size, rows}
-use Rattle.strip_rules.specs.Room.{AreWithin}
-use Rattle.strip_rules.proofs.ShapeSums.{AreWithin-next}
+use Rattle.linear_combinations.specs.Gains.{HaveLabels}
+use Rattle.linear_combinations.specs.Labels.{same_partition}
+use Rattle.linear_combinations.proofs.Masses.{labels_gained}
 use Rattle.library_rows.proofs.strips.one_cell.Goals as goal
+
+-- the label has room for two cells more
+abbrev Fits : List ℕ → Type 0
+Fits label = (size label + 2 ≤ 4096) × (rows label + 2 ≤ 512)
 
 pub returns : goal.returns
 returns c t m =
-    let none = subst (λ (l : Terms (List ℕ)). AreWithin 1 1 l) (sym c.new-list.ensures) (λ u n. absurd n) in
-    let one = subst (λ (l : List ℕ). (size l ≤ 1) × (rows l ≤ 1)) (sym c.in_ok-from_parts.ensures.ok) (omega arith, omega arith) in
-    let w = AreWithin-next 1 1 _ _ _ _ c.in_ok-add_term.ensures.combination c.in_ok-add_term.ensures.ok one none t m in
-    let a = w.0 in
-    let b = w.1 in
-    (omega arith, omega arith)
+    let one = subst Fits (sym c.in_ok-from_parts.ensures.ok) (omega arith, omega arith) in
+    labels_gained nat_list_eq_equiv same_partition _ _ c.add_at_label.new.self c.in_ok-add_at_label.ensures.table c.in_ok-add_at_label.ensures.gains Fits
+    (subst (HaveLabels Fits) (sym c.new-list.ensures) (λ u n. absurd n))
+    (λ u n. elim n [ inl e ↦ subst Fits (sym (ap (λ (x : List ℕ × ℤ). x.0) e)) one | inr x ↦ absurd x ]) t m

@@ -4,10 +4,8 @@ use Rattle.coeff_rings.specs.Fractions.{whole}
 use Rattle.sym_model.specs.Polynomial.{coefficient}
 use Rattle.sym_model.specs.LabelLimits.{is_label}
 use Rattle.sym_model.specs.PrintedOrder.{printed_order}
-use Rattle.sym_model.specs.Expansion.{Terms}
-use Rattle.sym_model.specs.WholeTerms.{numerators}
-use Rattle.sym_model.proofs.Orders.{is_label-tells}
-use Rattle.sparse_polys.specs.Combination.{terms_of, IsCanonicalList}
+use Rattle.sym_model.specs.WholeTerms.{WholeTerms}
+use Rattle.linear_combinations.specs.Entries.{IsCanonicalList}
 use Rattle.lr_coproduct.proofs.Lookups.{to_label, found, not_found}
 use Rattle.lr_coproduct.proofs.exchange.coefficient_in.Goals as goal
 
@@ -16,19 +14,19 @@ returns-in-Ok-clause-value c =
     let xs = c.as_slice-terms.result.now in
     let label = c.args.label.now in
     let x = c.index-terms-at.result in
-    let e : terms_of whole xs ≡ c.args.list.now = ap (terms_of whole) c.as_slice-terms.ensures.value ∙ c.iter-terms.ensures.rest in
+    let e : xs ≡ c.args.list.now = c.as_slice-terms.ensures.value ∙ c.iter-terms.ensures.rest in
     let equal = c.in-Ok.ensures.position (to_label label) (always_returns_same _ _ _ (λ a r f k. search (rules, of_calls))) x in
     sym (ap (λ (y : List ℕ × ℤ). y.1) c.index-terms-at.is)
-    ∙ sym (subst (λ (l : Terms (List ℕ)). coefficient (numerators l) label ≡ x.1) e
-    (found xs label c.in-Ok.at x (subst (IsCanonicalList printed_order is_label) (sym e) c.iter-terms.ensures.canonical) (is_label-tells label c.lies_in_limits.ensures).partition
+    ∙ sym (subst (λ (l : WholeTerms). coefficient l label ≡ x.1) e
+    (found xs label c.in-Ok.at x (subst (IsCanonicalList printed_order is_label whole) (sym e) c.iter-terms.ensures.canonical) c.requires
     c.in-Ok.ensures.bound c.index-terms-at.is (ap (to_label label) c.index-terms-at.is ∙ equal)))
 
 pub returns-in-Err-clause-value : goal.returns-in-Err-clause-value
 returns-in-Err-clause-value c =
     let xs = c.as_slice-terms.result.now in
     let label = c.args.label.now in
-    let e : terms_of whole xs ≡ c.args.list.now = ap (terms_of whole) c.as_slice-terms.ensures.value ∙ c.iter-terms.ensures.rest in
+    let e : xs ≡ c.args.list.now = c.as_slice-terms.ensures.value ∙ c.iter-terms.ensures.rest in
     c.new.ensures
-    ∙ sym (subst (λ (l : Terms (List ℕ)). coefficient (numerators l) label ≡ pos 0) e
-    (not_found xs label c.in-Err.field-0 (subst (IsCanonicalList printed_order is_label) (sym e) c.iter-terms.ensures.canonical)
+    ∙ sym (subst (λ (l : WholeTerms). coefficient l label ≡ pos 0) e
+    (not_found xs label c.in-Err.field-0 (subst (IsCanonicalList printed_order is_label whole) (sym e) c.iter-terms.ensures.canonical)
     (c.in-Err.ensures.position (to_label label) (always_returns_same _ _ _ (λ a r f k. search (rules, of_calls))))))

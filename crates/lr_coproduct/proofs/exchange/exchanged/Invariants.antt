@@ -1,8 +1,6 @@
 use Rattle.std.proofs.Common.{take}
-use Rattle.coeff_rings.specs.Fractions.{whole}
-use Rattle.sparse_polys.specs.Combination.{terms_of}
 use Rattle.lr_coproduct.proofs.Exchanging.{ListsExchanged}
 use Rattle.lr_coproduct.proofs.exchange.exchanged.Given as goal
 
 abbrev pub invariant-loop-at : goal.invariant-loop-at
-invariant-loop-at l = ListsExchanged l.shape l.inner (take l.at l.inners) (terms_of whole l.terms.items)
+invariant-loop-at l = ListsExchanged l.shape l.inner (take l.at l.inners) l.terms.items

@@ -1,49 +1,21 @@
-use Rattle.std.proofs.Common.{◌≡◌, ◌∙◌, ap, arith, rules}
-use Rattle.sym_model.specs.Partition.{columns}
-use Rattle.lr_product.specs.ColumnLine.{column_line}
-use Rattle.lr_product.proofs.Agreeing.{agree_same, agree_then}
-use Rattle.lr_product.proofs.Rounds.{first_counts, first_reached, round_room, round_counts, round_reached, last_counts, last_reached}
+use Rattle.std.proofs.Common.{◌-◌, arith}
+use Rattle.sym_model.specs.Partition.{size}
+use Rattle.tableau_laws.specs.ColumnFold.{column_lines}
+use Rattle.linear_combinations.proofs.Steps.{if_answered}
+use Rattle.lr_product.specs.WeighedSum.{over_states}
+use Rattle.lr_product.proofs.Agreeing.{agree_then}
+use Rattle.lr_product.proofs.Rounds.{first_reached}
 use Rattle.lr_product.proofs.columns.ways_by_columns.Goals as goal
 
-pub loop-at-init : goal.loop-at-init
-loop-at-init c =
-    let at : c.part-at.result ≡ columns c.args.outer.now = c.part-at.ensures.value in
-    let falls = c.part-at.ensures.limits.partition.falls in
-    record {
-      within = omega arith;
-      counts = λ f v. first_counts c.args.letters c.args.start.now c.args.outer.now c.args.inner.now c.in_ok-table.table.entries c.part-at.result falls c.requires.inside at c.in_ok-table.ensures f;
-      reached = first_reached c.args.letters c.args.start.now c.args.outer.now c.args.inner.now c.in_ok-table.table.entries c.part-at.result c.requires.start falls c.requires.inside at c.in_ok-table.ensures;
-    }
+pub with_columns-requires-clause-size : goal.with_columns-requires-clause-size
+with_columns-requires-clause-size c = omega (arith, c.requires.size)
 
-pub with_column-requires-clause-reached : goal.with_column-requires-clause-reached
-with_column-requires-clause-reached c =
-    let line : c.deref.result.now ≡ column_line c.loop-at.at c.args.outer.now c.args.inner.now = c.deref.ensures.value ∙ c.in_ok-line.ensures ∙ ap (λ o. column_line c.loop-at.at o c.args.inner.now) c.parts.ensures.value in
-    (round_room c.args.letters c.args.start.now c.args.outer.now c.args.inner.now c.loop-at.table.entries c.loop-at.at c.deref.result.now c.part-at.ensures.limits.partition.falls c.requires.inside c.loop-at-test.true c.loop-at.invariant.within c.requires.size line c.loop-at.invariant.reached).0
-
-pub with_column-requires-clause-short : goal.with_column-requires-clause-short
-with_column-requires-clause-short c =
-    let line : c.deref.result.now ≡ column_line c.loop-at.at c.args.outer.now c.args.inner.now = c.deref.ensures.value ∙ c.in_ok-line.ensures ∙ ap (λ o. column_line c.loop-at.at o c.args.inner.now) c.parts.ensures.value in
-    (round_room c.args.letters c.args.start.now c.args.outer.now c.args.inner.now c.loop-at.table.entries c.loop-at.at c.deref.result.now c.part-at.ensures.limits.partition.falls c.requires.inside c.loop-at-test.true c.loop-at.invariant.within c.requires.size line c.loop-at.invariant.reached).1
-
-pub loop-at-preserved : goal.loop-at-preserved
-loop-at-preserved c =
-    let n = c.args.letters in
-    let start = c.args.start.now in
-    let outer = c.args.outer.now in
-    let inner = c.args.inner.now in
-    let at = c.loop-at.at in
-    let falls = c.part-at.ensures.limits.partition.falls in
-    let line : c.deref.result.now ≡ column_line at outer inner = c.deref.ensures.value ∙ c.in_ok-line.ensures ∙ ap (λ o. column_line at o inner) c.parts.ensures.value in
-    record {
-      within = omega (arith, c.loop-at.invariant.within);
-      counts = round_counts n start outer inner c.args.bound.now c.loop-at.table.entries c.in_ok-table-2.table.entries at c.deref.result.now _ falls c.requires.inside c.loop-at-test.true c.loop-at.invariant.within line (search rules) c.loop-at.invariant.counts c.in_ok-table-2.ensures.counts;
-      reached = round_reached n start outer inner c.in_ok-table-2.table.entries at c.deref.result.now falls c.requires.inside c.loop-at-test.true c.loop-at.invariant.within line (c.in_ok-table-2.ensures.reached _ c.loop-at.invariant.reached);
-    }
+pub with_columns-requires-clause-reached : goal.with_columns-requires-clause-reached
+with_columns-requires-clause-reached c =
+    first_reached c.args.letters (4096 - size c.args.outer.now) c.args.start.now c.in_ok-starts.starts.entries c.requires.start (omega (arith, c.requires.size)) c.in_ok-starts.ensures
 
 pub returns-clause-ways : goal.returns-clause-ways
-returns-clause-ways c f v =
-    agree_then _ _ _ (c.loop-at.invariant.counts (λ ν right. f ν) v)
-    (agree_same _ _ (last_counts c.args.letters c.args.start.now c.args.outer.now c.args.inner.now c.loop-at.at f c.loop-at-test.false))
-
-pub returns-clause-reached : goal.returns-clause-reached
-returns-clause-reached c = last_reached c.args.letters c.args.start.now c.args.outer.now c.args.inner.now c.loop-at.table.entries c.loop-at.at c.requires.inside c.requires.size c.loop-at.invariant.reached
+returns-clause-ways c =
+    if_answered c.with_columns.result c.with_columns.ensures.ways
+    (λ table ways f v. agree_then _ _ _ (ways f v)
+    (c.in_ok-starts.ensures (over_states c.args.letters (column_lines c.args.outer.now c.args.inner.now) (λ ν right. f ν))))

@@ -1,79 +1,82 @@
-use Rattle.std.proofs.Common.{Iter, ◌≡◌, ℕ, List, [], ◌∷◌, ◌++◌, append-nil, map, refl, sym, ap, subst, ℤ, ◌∙◌}
-use Rattle.std.specs.Prelude.{Err}
-use Rattle.std.proofs.lemmas.List.{map-append}
+use Rattle.std.proofs.Common.{◌≡◌, ◌≤◌, ◌-◌, ◌+◌, ℕ, ℤ, min, List, [], arith}
 use Rattle.sym_model.specs.Sum.{Among}
-use Rattle.sym_model.specs.Polynomial.{scale}
-use Rattle.sym_model.specs.WholeTerms.{WholeTerms}
-use Rattle.sym_model.specs.Target.{classical_product}
-use Rattle.sym_model.proofs.Lists.{all_read}
-use Rattle.linear_combinations.specs.Gains.{Gains, Overflows}
-use Rattle.linear_combinations.proofs.Gains.{gains_none, pairs_gain, pairs_overflow, all_pairs, so_far_next, next_among}
-use Rattle.linear_combinations.proofs.Steps.{error_is}
-use Rattle.product_laws.specs.FactorSteps.{multiplied}
-use Rattle.lr_product.proofs.FactorSums.{equal, multiplied-append, overflow_reaches, sorted_product, sorted_small}
+use Rattle.sym_model.specs.Partition.{rows, size}
+use Rattle.tableau_laws.specs.ColumnFold.{column_lines}
+use Rattle.tableau_laws.proofs.ColumnCounts.{contains_nothing}
+use Rattle.linear_combinations.proofs.Steps.{if_answered}
+use Rattle.lr_product.specs.ProductOfFactors.{AllMayMeet}
+use Rattle.lr_product.specs.WeighedSum.{over_states, comes_to, unreached}
+use Rattle.lr_product.proofs.Agreeing.{agree_then}
+use Rattle.lr_product.proofs.GoodCounts.{no_bound}
+use Rattle.lr_product.proofs.ManyStarts.{starts_within, is_product, product_small, product_past}
+use Rattle.lr_product.proofs.Rounds.{agree_zero}
 use Rattle.lr_product.proofs.next_factor.times_factor.Goals as goal
 
-pub loop-label-init : goal.loop-label-init
-loop-label-init c = record { gains = subst (Gains [] []) (sym c.new-sums.ensures) (gains_none []); so_far = refl }
+-- the letters are enough for each label
+enough : (n k : ℕ) (m : ℕ) (next : List ℕ) (product : List (List ℕ × ℤ)) → n ≡ min k (m + rows next) → AllMayMeet k next product
+    → ((t : List ℕ × ℤ) → Among t product → rows t.0 ≤ m) → (t : List ℕ × ℤ) → Among t product → (rows t.0 ≤ n) × (min k (rows t.0 + rows next) ≤ n)
+enough n k m next product is may most t a = let f = (may t a).few in let b = most t a in (omega arith, omega arith)
 
--- the products of one label
-alone : (c : ℤ) (product : WholeTerms) → scale c product ≡ scale c product ++ []
-alone c product = sym (append-nil (scale c product))
+pub starts_of-requires-clause-rows : goal.starts_of-requires-clause-rows
+starts_of-requires-clause-rows c = λ t m.
+    let a = (c.requires.terms t m).few in
+    let b = c.most_rows.ensures.most t m in
+    omega (arith, c.min-letters.ensures)
 
-pub add_product-requires-clause-sizes : goal.add_product-requires-clause-sizes
-add_product-requires-clause-sizes c =
-    let done = map (λ item. item.now) c.loop-label.yielded in
-    let p : List ℕ × ℤ = c.in-Some.field-0.now in
-    let rest = c.next.new.self.rest.now in
-    let all = all_pairs done rest c.loop-label.label-iterator.rest.now _ _ c.args.product.now p c.in-Some.ensures.steps c.loop-label.invariant.so_far (ap (λ (it : Iter (List ℕ × ℤ)). it.rest.now) c.into_iter-label-iterator.ensures.into_iter_gives) c.iter-label-items.ensures.rest in
-    (c.requires.terms p (subst (λ l. Among p l) all (next_among done p rest))).cells
+pub starts_of-requires-clause-counts : goal.starts_of-requires-clause-counts
+starts_of-requires-clause-counts c = λ t m. (c.requires.terms t m).positive
 
-pub add_product-requires-clause-count : goal.add_product-requires-clause-count
-add_product-requires-clause-count c =
-    let done = map (λ item. item.now) c.loop-label.yielded in
-    let p : List ℕ × ℤ = c.in-Some.field-0.now in
-    let rest = c.next.new.self.rest.now in
-    let all = all_pairs done rest c.loop-label.label-iterator.rest.now _ _ c.args.product.now p c.in-Some.ensures.steps c.loop-label.invariant.so_far (ap (λ (it : Iter (List ℕ × ℤ)). it.rest.now) c.into_iter-label-iterator.ensures.into_iter_gives) c.iter-label-items.ensures.rest in
-    (c.requires.terms p (subst (λ l. Among p l) all (next_among done p rest))).positive
+pub with_columns-requires-clause-inside : goal.with_columns-requires-clause-inside
+with_columns-requires-clause-inside c = contains_nothing c.args.next.now
 
-pub loop-label-preserved : goal.loop-label-preserved
-loop-label-preserved c =
-    let done = map (λ item. item.now) c.loop-label.yielded in
-    let p : List ℕ × ℤ = c.in-Some.field-0.now in
-    let rest = c.next.new.self.rest.now in
-    let pushed : done ++ p ∷ [] ≡ map (λ item. item.now) (c.loop-label.yielded ++ c.in-Some.field-0 ∷ []) =
-    sym (map-append (λ item. item.now) c.loop-label.yielded (c.in-Some.field-0 ∷ [])) in
-    let k = c.args.variables in
-    let next = c.args.next.now in
-    record {
-      gains = pairs_gain (multiplied k next) (multiplied-append k next) done p [] c.loop-label.sums c.loop-label.invariant.gains _ c.add_product.new.sums pushed
-          (subst (λ (l : WholeTerms). Gains c.loop-label.sums l c.add_product.new.sums) (alone p.1 (classical_product k (p.0 ∷ next ∷ []))) c.in_ok-add_product.ensures.gains);
-      so_far = so_far_next done rest c.loop-label.label-iterator.rest.now _ _ p pushed c.in-Some.ensures.steps c.loop-label.invariant.so_far;
-    }
+pub with_columns-requires-clause-size : goal.with_columns-requires-clause-size
+with_columns-requires-clause-size c = omega (arith, c.rows.ensures.limits.small)
 
-pub returns-in_err-add_product-clause-large : goal.returns-in_err-add_product-clause-large
-returns-in_err-add_product-clause-large c err =
-    let done = map (λ item. item.now) c.loop-label.yielded in
-    let p : List ℕ × ℤ = c.in-Some.field-0.now in
-    let rest = c.next.new.self.rest.now in
-    let all = all_pairs done rest c.loop-label.label-iterator.rest.now _ _ c.args.product.now p c.in-Some.ensures.steps c.loop-label.invariant.so_far (ap (λ (it : Iter (List ℕ × ℤ)). it.rest.now) c.into_iter-label-iterator.ensures.into_iter_gives) c.iter-label-items.ensures.rest in
-    let k = c.args.variables in
-    let next = c.args.next.now in
-    overflow_reaches k next c.args.product.now c.requires.factor c.requires.terms
-    (pairs_overflow (multiplied k next) (multiplied-append k next) done p [] c.loop-label.sums c.loop-label.invariant.gains equal rest c.args.product.now all
-    (subst (λ (l : WholeTerms). Overflows equal c.loop-label.sums l) (alone p.1 (classical_product k (p.0 ∷ next ∷ [])))
-    (c.in_err-add_product.ensures.large (ap Err (error_is _ _ _ c.from_residual.ensures.1 err)))))
+pub with_columns-requires-clause-reached : goal.with_columns-requires-clause-reached
+with_columns-requires-clause-reached c =
+    let n = c.min-letters.result in
+    let m = 4096 - size c.args.next.now in
+    let small = c.rows.ensures.limits.small in
+    let is : n ≡ min c.args.variables (c.most_rows.result + rows c.args.next.now) = omega (arith, c.min-letters.ensures, c.rows.ensures.value) in
+    agree_zero _ _ (c.in_ok-starts.ensures (unreached n m))
+    (starts_within n c.args.variables c.args.next.now c.args.product.now c.requires.factor c.requires.terms (omega arith)
+    (enough n c.args.variables c.most_rows.result c.args.next.now c.args.product.now is c.requires.terms c.most_rows.ensures.most) m (omega arith) (omega arith))
 
 pub returns-clause-product : goal.returns-clause-product
 returns-clause-product c =
-    let gains = subst (λ l. Gains [] (multiplied c.args.variables c.args.next.now l) c.loop-label.sums)
-    (all_read (map (λ item. item.now) c.loop-label.yielded) c.loop-label.label-iterator.rest.now _ c.in-None.ensures.steps.0 (c.loop-label.invariant.so_far ∙ (ap (λ (it : Iter (List ℕ × ℤ)). it.rest.now) c.into_iter-label-iterator.ensures.into_iter_gives) ∙ c.iter-label-items.ensures.rest)) c.loop-label.invariant.gains in
-    sorted_product c.args.variables c.args.next.now c.args.product.now c.requires.factor c.requires.terms c.loop-label.sums c.in_ok-sorted_terms.field-0 gains
-    c.sorted_terms.ensures.was c.in_ok-sorted_terms.ensures.combination c.in_ok-sorted_terms.ensures.same
+    let n = c.min-letters.result in
+    let k = c.args.variables in
+    let next = c.args.next.now in
+    let product = c.args.product.now in
+    let is : n ≡ min k (c.most_rows.result + rows next) = omega (arith, c.min-letters.ensures, c.rows.ensures.value) in
+    is_product n k next product c.in_ok-table.table.entries c.requires.factor c.requires.terms (omega arith)
+    (enough n k c.most_rows.result next product is c.requires.terms c.most_rows.ensures.most)
+    (λ ν. agree_then _ _ _ (c.in_ok-table.ensures.ways (λ μ. comes_to ν μ []) (no_bound (comes_to ν))) (c.in_ok-starts.ensures (over_states n (column_lines next []) (comes_to ν))))
+    c.terms_of_table.result c.terms_of_table.ensures.fits c.terms_of_table.ensures.counts
+
+pub returns-clause-table : goal.returns-clause-table
+returns-clause-table c = if_answered c.terms_of_table.result c.terms_of_table.ensures.counts (λ terms l. l.table)
 
 pub returns-clause-small : goal.returns-clause-small
 returns-clause-small c =
-    let gains = subst (λ l. Gains [] (multiplied c.args.variables c.args.next.now l) c.loop-label.sums)
-    (all_read (map (λ item. item.now) c.loop-label.yielded) c.loop-label.label-iterator.rest.now _ c.in-None.ensures.steps.0 (c.loop-label.invariant.so_far ∙ (ap (λ (it : Iter (List ℕ × ℤ)). it.rest.now) c.into_iter-label-iterator.ensures.into_iter_gives) ∙ c.iter-label-items.ensures.rest)) c.loop-label.invariant.gains in
-    sorted_small c.args.variables c.args.next.now c.args.product.now c.requires.factor c.requires.terms c.loop-label.sums c.in_ok-sorted_terms.field-0 gains
-    c.sorted_terms.ensures.was c.in_ok-sorted_terms.ensures.combination c.in_ok-sorted_terms.ensures.same c.in_ok-sorted_terms.ensures.held
+    let n = c.min-letters.result in
+    let k = c.args.variables in
+    let next = c.args.next.now in
+    let product = c.args.product.now in
+    let is : n ≡ min k (c.most_rows.result + rows next) = omega (arith, c.min-letters.ensures, c.rows.ensures.value) in
+    product_small n k next product c.in_ok-table.table.entries c.requires.factor c.requires.terms (omega arith)
+    (enough n k c.most_rows.result next product is c.requires.terms c.most_rows.ensures.most)
+    (λ ν. agree_then _ _ _ (c.in_ok-table.ensures.ways (λ μ. comes_to ν μ []) (no_bound (comes_to ν))) (c.in_ok-starts.ensures (over_states n (column_lines next []) (comes_to ν))))
+    c.terms_of_table.result c.terms_of_table.ensures.fits
+
+pub returns-clause-large : goal.returns-clause-large
+returns-clause-large c = λ e.
+    let n = c.min-letters.result in
+    let k = c.args.variables in
+    let next = c.args.next.now in
+    let product = c.args.product.now in
+    let is : n ≡ min k (c.most_rows.result + rows next) = omega (arith, c.min-letters.ensures, c.rows.ensures.value) in
+    product_past n k next product c.in_ok-table.table.entries c.requires.factor c.requires.terms (omega arith)
+    (enough n k c.most_rows.result next product is c.requires.terms c.most_rows.ensures.most)
+    (λ ν. agree_then _ _ _ (c.in_ok-table.ensures.ways (λ μ. comes_to ν μ []) (no_bound (comes_to ν))) (c.in_ok-starts.ensures (over_states n (column_lines next []) (comes_to ν))))
+    (c.terms_of_table.ensures.large e)

@@ -1,4 +1,4 @@
-use Rattle.std.proofs.Common.{◌≡◌, ℕ, ◌+◌, ◌^◌, ◌<◌, min, List, [], subst, sym, arith}
+use Rattle.std.proofs.Common.{ℕ, ◌+◌, ◌^◌, ◌<◌, ◌≤◌, min, List, [], subst, sym, arith}
 use Rattle.sym_model.specs.Partition.{rows}
 use Rattle.sym_model.specs.GoodTableau.{product_count}
 use Rattle.lr_product.specs.Counts.{good_count, HasCounts, IsPastSomewhere}
@@ -22,23 +22,26 @@ returns-then-rows-letters-clause-fits c =
 
 pub returns-clause-counts : goal.returns-clause-counts
 returns-clause-counts c =
-    let n : c.min-letters.result ≡ min c.args.variables (rows c.args.left.now + rows c.args.right.now) = omega (arith, c.min-letters.ensures, c.rows.ensures.value, c.rows-2.ensures.value) in
-    let same = same_product c.min-letters.result c.args.variables c.args.left.now c.args.right.now n c.rows.ensures.limits.partition c.rows-2.ensures.limits.partition (omega (arith, c.if-rows-letters.false, c.rows-3.ensures.value)) in
+    let most : c.min-letters.result ≤ c.args.variables = omega (arith, c.min-letters.ensures) in
+    let enough : min c.args.variables (rows c.args.left.now + rows c.args.right.now) ≤ c.min-letters.result = omega (arith, c.min-letters.ensures, c.rows.ensures.value, c.rows-2.ensures.value) in
+    let same = same_product c.min-letters.result c.args.variables c.args.left.now c.args.right.now most enough c.rows.ensures.limits.partition c.rows-2.ensures.limits.partition (omega (arith, c.if-rows-letters.false, c.rows-3.ensures.value)) in
     if_answered c.good_counts.result c.good_counts.ensures.counts
     (λ terms l. lists_in c.min-letters.result c.args.variables (good_count c.min-letters.result c.args.left.now c.args.right.now []) (product_count c.args.variables c.args.left.now c.args.right.now) terms same
     (subst (λ s. HasCounts c.min-letters.result (good_count c.min-letters.result s c.args.right.now []) terms) c.parts.ensures.value l))
 
 pub returns-clause-fits : goal.returns-clause-fits
 returns-clause-fits c =
-    let n : c.min-letters.result ≡ min c.args.variables (rows c.args.left.now + rows c.args.right.now) = omega (arith, c.min-letters.ensures, c.rows.ensures.value, c.rows-2.ensures.value) in
-    let same = same_product c.min-letters.result c.args.variables c.args.left.now c.args.right.now n c.rows.ensures.limits.partition c.rows-2.ensures.limits.partition (omega (arith, c.if-rows-letters.false, c.rows-3.ensures.value)) in
+    let most : c.min-letters.result ≤ c.args.variables = omega (arith, c.min-letters.ensures) in
+    let enough : min c.args.variables (rows c.args.left.now + rows c.args.right.now) ≤ c.min-letters.result = omega (arith, c.min-letters.ensures, c.rows.ensures.value, c.rows-2.ensures.value) in
+    let same = same_product c.min-letters.result c.args.variables c.args.left.now c.args.right.now most enough c.rows.ensures.limits.partition c.rows-2.ensures.limits.partition (omega (arith, c.if-rows-letters.false, c.rows-3.ensures.value)) in
     on_ok c.good_counts.result c.good_counts.ensures.fits
     (λ f. fits_in c.min-letters.result c.args.variables (good_count c.min-letters.result c.args.left.now c.args.right.now []) (product_count c.args.variables c.args.left.now c.args.right.now) same
     (subst (λ s. (parts : List ℕ) → good_count c.min-letters.result s c.args.right.now [] parts < 2 ^ 127) c.parts.ensures.value f))
 
 pub returns-clause-large : goal.returns-clause-large
 returns-clause-large c = λ e.
-    let n : c.min-letters.result ≡ min c.args.variables (rows c.args.left.now + rows c.args.right.now) = omega (arith, c.min-letters.ensures, c.rows.ensures.value, c.rows-2.ensures.value) in
-    let same = same_product c.min-letters.result c.args.variables c.args.left.now c.args.right.now n c.rows.ensures.limits.partition c.rows-2.ensures.limits.partition (omega (arith, c.if-rows-letters.false, c.rows-3.ensures.value)) in
+    let most : c.min-letters.result ≤ c.args.variables = omega (arith, c.min-letters.ensures) in
+    let enough : min c.args.variables (rows c.args.left.now + rows c.args.right.now) ≤ c.min-letters.result = omega (arith, c.min-letters.ensures, c.rows.ensures.value, c.rows-2.ensures.value) in
+    let same = same_product c.min-letters.result c.args.variables c.args.left.now c.args.right.now most enough c.rows.ensures.limits.partition c.rows-2.ensures.limits.partition (omega (arith, c.if-rows-letters.false, c.rows-3.ensures.value)) in
     past_in c.min-letters.result c.args.variables (good_count c.min-letters.result c.args.left.now c.args.right.now []) (product_count c.args.variables c.args.left.now c.args.right.now) same
     (subst (λ s. IsPastSomewhere c.min-letters.result (good_count c.min-letters.result s c.args.right.now [])) c.parts.ensures.value (c.good_counts.ensures.large e))

@@ -3,10 +3,10 @@ use Rattle.std.specs.Prelude.{Err}
 use Rattle.sym_model.specs.Polynomial.{pair, times}
 use Rattle.sym_model.specs.Schubert.{schubert_in}
 use Rattle.sym_model.specs.DividedDifference.{variable_in}
-use Rattle.sym_model.specs.WholeTerms.{combined}
-use Rattle.sparse_polys.proofs.Steps.{error_is}
+use Rattle.sym_model.specs.WholeTerms.{combined, WholeTerms}
+use Rattle.linear_combinations.proofs.Steps.{error_is}
 use Rattle.linear_combinations.proofs.Masses.{represents_sums, weight_is, weight_grows}
-use Rattle.monk_product.specs.Monk.{Schuberts, AreShort, over, mass, monk_terms, greatest_length}
+use Rattle.monk_product.specs.Monk.{AreShort, over, mass, monk_terms, greatest_length}
 use Rattle.linear_combinations.specs.Gains.{replaced}
 use Rattle.monk_product.proofs.MonkGains.{longest, over_product, product_mass, product_short, product_large, pair_product}
 use Rattle.monk_product.proofs.monk.times_var.Goals as goal
@@ -27,7 +27,7 @@ returns-clause-value c n =
     represents_sums (λ w. schubert_in w n) c.add_by.new.self (times (variable_in c.args.r n) (combined (λ w. schubert_in w n) c.args.list))
     (λ φ.
     c.in_ok-add_by.ensures.gains.sums (λ w. pair (schubert_in w n) φ)
-    ∙ ap (λ (ts : Schuberts). over (λ w. pair (schubert_in w n) φ) ts +ℤ over (λ w. pair (schubert_in w n) φ) (replaced (monk_terms c.args.r) c.args.list)) c.new-product.ensures
+    ∙ ap (λ (ts : WholeTerms). over (λ w. pair (schubert_in w n) φ) ts +ℤ over (λ w. pair (schubert_in w n) φ) (replaced (monk_terms c.args.r) c.args.list)) c.new-product.ensures
     ∙ +ℤ_idl (over (λ w. pair (schubert_in w n) φ) (replaced (monk_terms c.args.r) c.args.list))
     ∙ over_product c.args.r c.requires.first c.args.list (λ w. pair (schubert_in w n) φ)
     ∙ pair_product c.args.r c.requires.first c.args.list n φ c.in_ok-add_by.ensures.list)
@@ -43,4 +43,4 @@ returns-clause-weight c =
 pub returns-clause-short : goal.returns-clause-short
 returns-clause-short c =
     product_short c.args.r c.requires.first c.args.list c.new-product.result c.add_by.new.self c.in_ok-add_by.ensures.table c.in_ok-add_by.ensures.gains (max c.args.r (greatest_length c.args.list)) (longest c.args.list c.args.r) (omega arith)
-    (subst (λ (ts : Schuberts). AreShort (max c.args.r (greatest_length c.args.list) + 1) ts) (sym c.new-product.ensures) (λ t m. absurd m))
+    (subst (λ (ts : WholeTerms). AreShort (max c.args.r (greatest_length c.args.list) + 1) ts) (sym c.new-product.ensures) (λ t m. absurd m))

@@ -2,12 +2,13 @@ use Rattle.sym_model.specs.Polynomial.{times}
 use Rattle.sym_model.specs.Schubert.{schubert_in}
 use Rattle.sym_model.specs.WholeTerms.{as_fractions}
 use Rattle.sym_model.proofs.PolynomialLaws.{times_comm}
-use Rattle.schubert_transition.proofs.Answering.{if_ok, represents_as}
+use Rattle.linear_combinations.proofs.Steps.{if_answered}
+use Rattle.transition_walk.proofs.Answering.{represents_as}
 use Rattle.monk_product.proofs.product.schubmult.Goals as goal
 
 pub returns-else-inversions-clause-meets : goal.returns-else-inversions-clause-meets
 returns-else-inversions-clause-meets c =
-    if_ok c.act-else-inversions.result c.act-else-inversions.ensures.value
+    if_answered c.act-else-inversions.result c.act-else-inversions.ensures.value
     (λ terms h n.
     represents_as (λ x. schubert_in x n) (as_fractions terms) (times (schubert_in c.args.v.now n) (schubert_in c.args.u.now n)) (times (schubert_in c.args.u.now n) (schubert_in c.args.v.now n))
     (times_comm (schubert_in c.args.v.now n) (schubert_in c.args.u.now n)) (h n))

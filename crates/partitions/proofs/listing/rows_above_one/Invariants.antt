@@ -1,4 +1,4 @@
--- Ones alone stand behind.
+-- Ones alone come after.
 use Rattle.std.proofs.Common.{◌≤◌, length, drop}
 use Rattle.partitions.specs.Listing.{AreOnes}
 use Rattle.partitions.proofs.listing.rows_above_one.Given as goal

@@ -1,6 +1,5 @@
-use Rattle.std.proofs.Common.{◌+◌, ◌-◌, ◌++◌, reverse, sym, ◌∙◌, ap, append_assoc}
+use Rattle.std.proofs.Common.{◌+◌, ◌-◌, ◌++◌, reverse, sym, ◌∙◌, ap, append_assoc, flat_map}
 use Rattle.std.proofs.lemmas.Result.{on_ok_weaker}
-use Rattle.sym_model.specs.Sum.{each}
 use Rattle.sym_model.specs.Partition.{after}
 use Rattle.sym_model.specs.GoodTableau.{column}
 use Rattle.plain_programs.specs.Words.{words_of}
@@ -16,7 +15,7 @@ returns t c =
     on_ok_weaker c.push_columns.result
     (λ e.
     e
-    ∙ ap (λ l. l ++ each f (reverse (after j (k - 1)))) c.in_ok-push_column.ensures
-    ∙ append_assoc before (f (j + k)) (each f (reverse (after j (k - 1))))
+    ∙ ap (λ l. l ++ flat_map f (reverse (after j (k - 1)))) c.in_ok-push_column.ensures
+    ∙ append_assoc before (f (j + k)) (flat_map f (reverse (after j (k - 1))))
     ∙ ap (λ l. before ++ l) (sym (each_reverse-after f j k c.if-count-eq0.false)))
     c.push_columns.ensures

@@ -6,9 +6,9 @@ use Rattle.sym_model.specs.WholeTerms.{numerators}
 use Rattle.monomial_laws.specs.ExpressionTerms.{in_monomials}
 use Rattle.expression_reading.specs.Trees.{basis_of}
 use Rattle.sparse_polys.specs.MonomialProducts.{greatest_size}
-use Rattle.sparse_polys.proofs.Coefficients.{if_answered}
+use Rattle.linear_combinations.proofs.Steps.{if_answered}
 use Rattle.sparse_polys.proofs.Rows.{greatest_size-among}
-use Rattle.sparse_polys.proofs.Steps.{error_is}
+use Rattle.linear_combinations.proofs.Steps.{error_is}
 use Rattle.whole_lists.proofs.Bounds.{greatest-within}
 use Rattle.change_from_monomials.proofs.ClearedAnswers.{greatest_is}
 use Rattle.plethysm_laws.proofs.RepeatedMonomials.{repeated-places}
@@ -45,7 +45,7 @@ returns-in_err-finished-clause-large c err a b v w =
     let x = greatest_size c.args.outer.now in
     let y = greatest_size c.args.inner.now in
     let h =
-    bounded_sum c.args.inner_bound.num y c.args.inner.now c.requires.positive.2 c.is_table-2.ensures c.requires.natural (λ t m. greatest_size-among c.args.inner.now t m)
+    bounded_sum c.args.inner_bound.num y c.args.inner.now c.requires.positive.2 c.greatest_size-b.ensures.table c.requires.natural (λ t m. greatest_size-among c.args.inner.now t m)
     (subst (λ d. IsBounded c.args.inner_bound.num d c.args.inner.now) c.requires.whole c.requires.inner) in
     let l = c.in_err-finished.ensures.large (ap Err (error_is _ _ _ c.from_residual.ensures.1 err)) c.args.inner_bound.num y c.requires.positive.2 h in
     let more =
@@ -59,11 +59,11 @@ to_basis-requires-clause-bounded c =
     let b = greatest_is c.greatest_size-b.result c.args.inner.now c.greatest_size-b.ensures.within c.greatest_size-b.ensures.least in
     let y = greatest_size c.args.inner.now in
     let h =
-    bounded_sum c.args.inner_bound.num y c.args.inner.now c.requires.positive.2 c.is_table-2.ensures c.requires.natural (λ t m. greatest_size-among c.args.inner.now t m)
+    bounded_sum c.args.inner_bound.num y c.args.inner.now c.requires.positive.2 c.greatest_size-b.ensures.table c.requires.natural (λ t m. greatest_size-among c.args.inner.now t m)
     (subst (λ d. IsBounded c.args.inner_bound.num d c.args.inner.now) c.requires.whole c.requires.inner) in
     subst (λ k. IsBounded k c.args.outer_bound.den c.in_ok-finished.finished)
     (sym (c.in-Some.ensures ∙ finished_as c.args.outer_bound.num c.args.inner_bound.num c.greatest_size-a.result (greatest_size c.args.outer.now) c.greatest_size-b.result (greatest_size c.args.inner.now) a b))
-    (c.in_ok-finished.ensures.bounded (c.args.inner_bound.num * (y + 1)) y h)
+    (c.in_ok-finished.ensures.bounded (c.args.inner_bound.num * (y + 1)) y h).0
 
 pub to_basis-requires-clause-positive : goal.to_basis-requires-clause-positive
 to_basis-requires-clause-positive c =
@@ -74,9 +74,9 @@ pub to_basis-requires-clause-sizes : goal.to_basis-requires-clause-sizes
 to_basis-requires-clause-sizes c t m =
     let y = greatest_size c.args.inner.now in
     let h =
-    bounded_sum c.args.inner_bound.num y c.args.inner.now c.requires.positive.2 c.is_table-2.ensures c.requires.natural (λ t m. greatest_size-among c.args.inner.now t m)
+    bounded_sum c.args.inner_bound.num y c.args.inner.now c.requires.positive.2 c.greatest_size-b.ensures.table c.requires.natural (λ t m. greatest_size-among c.args.inner.now t m)
     (subst (λ d. IsBounded c.args.inner_bound.num d c.args.inner.now) c.requires.whole c.requires.inner) in
-    let s = c.in_ok-finished.ensures.labels (c.args.inner_bound.num * (y + 1)) y h t m in
+    let s = (c.in_ok-finished.ensures.bounded (c.args.inner_bound.num * (y + 1)) y h).1 t m in
     let ten = most_cells-ten (basis_of c.args.target) in
     omega (arith, c.requires.sizes.2)
 
@@ -87,11 +87,11 @@ returns-clause-large c err a b v w =
     let x = greatest_size c.args.outer.now in
     let y = greatest_size c.args.inner.now in
     let h =
-    bounded_sum c.args.inner_bound.num y c.args.inner.now c.requires.positive.2 c.is_table-2.ensures c.requires.natural (λ t m. greatest_size-among c.args.inner.now t m)
+    bounded_sum c.args.inner_bound.num y c.args.inner.now c.requires.positive.2 c.greatest_size-b.ensures.table c.requires.natural (λ t m. greatest_size-among c.args.inner.now t m)
     (subst (λ d. IsBounded c.args.inner_bound.num d c.args.inner.now) c.requires.whole c.requires.inner) in
     let e =
     c.in-Some.ensures ∙ finished_as c.args.outer_bound.num c.args.inner_bound.num c.greatest_size-a.result (greatest_size c.args.outer.now) c.greatest_size-b.result (greatest_size c.args.inner.now) i j in
-    let l = c.to_basis.ensures.large err (x * y) (c.in_ok-finished.ensures.labels (c.args.inner_bound.num * (y + 1)) y h) in
+    let l = c.to_basis.ensures.large err (x * y) (c.in_ok-finished.ensures.bounded (c.args.inner_bound.num * (y + 1)) y h).1 in
     let finished =
     weight-finished c.args.outer_bound.num c.args.outer_bound.den x c.args.inner_bound.num y c.requires.positive.0 c.requires.positive.1 c.requires.positive.2 (basis_of c.args.target) in
     let more =
@@ -104,7 +104,7 @@ returns-clause-value c =
     if_answered c.to_basis.result c.to_basis.ensures.value
     (λ answer changed b w n f g q x y.
     let h =
-    bounded_sum c.args.inner_bound.num b c.args.inner.now c.requires.positive.2 c.is_table-2.ensures c.requires.natural w
+    bounded_sum c.args.inner_bound.num b c.args.inner.now c.requires.positive.2 c.greatest_size-b.ensures.table c.requires.natural w
     (subst (λ d. IsBounded c.args.inner_bound.num d c.args.inner.now) c.requires.whole c.requires.inner) in
     changed n (plethysm f b n g) q (c.in_ok-finished.ensures.value (c.args.inner_bound.num * (b + 1)) b h n f g q x y))
 
@@ -114,10 +114,10 @@ returns-clause-constant c =
     (λ answer changed none n b q f g x.
     let d = greatest_size c.args.inner.now in
     let h =
-    bounded_sum c.args.inner_bound.num d c.args.inner.now c.requires.positive.2 c.is_table-2.ensures c.requires.natural (λ t m. greatest_size-among c.args.inner.now t m)
+    bounded_sum c.args.inner_bound.num d c.args.inner.now c.requires.positive.2 c.greatest_size-b.ensures.table c.requires.natural (λ t m. greatest_size-among c.args.inner.now t m)
     (subst (λ d. IsBounded c.args.inner_bound.num d c.args.inner.now) c.requires.whole c.requires.inner) in
     let own = in_monomials (numerators c.args.inner.now) n in
     changed n (plethysm f b n g) q
-    (constant-expansion c.args.outer.now f q c.is_table.ensures none x Basis.monomials c.in_ok-finished.finished n (repeated_monomials d n own) (repeated_monomials b n g)
+    (constant-expansion c.args.outer.now f q c.greatest_size-a.ensures.table none x Basis.monomials c.in_ok-finished.finished n (repeated_monomials d n own) (repeated_monomials b n g)
     (repeated-places d n own) (repeated-places b n g)
     (c.in_ok-finished.ensures.value (c.args.inner_bound.num * (d + 1)) d h n f own q x (inner-expansion c.args.inner.now n (λ t m. (c.requires.natural t m).0)))))

@@ -3,12 +3,12 @@ use Rattle.sym_model.specs.Partition.{ArePositive, size}
 use Rattle.sym_model.specs.WholeTerms.{numerators}
 use Rattle.sym_model.proofs.Parts.{split_first}
 use Rattle.sparse_polys.specs.MonomialProducts.{greatest_size}
-use Rattle.sparse_polys.proofs.Coefficients.{if_answered}
-use Rattle.sparse_polys.proofs.Steps.{error_is}
+use Rattle.linear_combinations.proofs.Steps.{if_answered}
+use Rattle.linear_combinations.proofs.Steps.{error_is}
 use Rattle.whole_lists.proofs.Bounds.{greatest-within}
 use Rattle.whole_lists.proofs.WholeLists.{Once-labels}
 use Rattle.plethysm.specs.PathSums.{IsProductPast}
-use Rattle.plethysm.proofs.FactorLists.{list-dilated, list-none, list-more, within-product, large-factor, large-later}
+use Rattle.plethysm.proofs.FactorLists.{list-dilated, list-none, list-more, within-product, within-dilated, large-factor, large-later}
 use Rattle.plethysm.proofs.factors.+over_parts.Goals as goal
 
 -- the parts taken apart
@@ -22,7 +22,7 @@ split_size parts b h =
 
 pub returns-in_default-clause-value : goal.returns-in_default-clause-value
 returns-in_default-clause-value t c =
-    if_answered c.single.result c.single.ensures.value (λ list e. list-none (numerators c.args.inner.now) (numerators list) c.args.parts.now c.in_default.len_below e)
+    if_answered c.single.result c.single.ensures.value (λ list e. list-none (numerators c.args.inner.now) list c.args.parts.now c.in_default.len_below e)
 
 pub returns-in_default-clause-labels : goal.returns-in_default-clause-labels
 returns-in_default-clause-labels t c =
@@ -53,7 +53,9 @@ pub times_whole_in_m-requires : goal.times_whole_in_m-requires
 times_whole_in_m-requires t c =
     let k = get_or c.args.parts.now 0 0 in
     let rest = take (length c.args.parts.now - 1) (drop 1 c.args.parts.now) in
-    let first = greatest-within (k * greatest_size c.args.inner.now) c.in_ok-first.first c.in_ok-first.ensures.labels in
+    let first =
+    greatest-within (k * greatest_size c.args.inner.now) c.in_ok-first.first
+    (within-dilated k c.args.inner.now c.in_ok-first.first c.in_ok-first.ensures.table c.in_ok-first.ensures.value) in
     let others = greatest-within (size rest * greatest_size c.args.inner.now) c.in_ok-others.others c.in_ok-others.ensures.labels in
     let sizes = split_size c.args.parts.now (greatest_size c.args.inner.now) c.in-len1-up.len_at_least in
     omega (arith, c.requires.low)
@@ -65,7 +67,7 @@ returns-clause-labels t c =
     let sizes = split_size c.args.parts.now (greatest_size c.args.inner.now) c.in-len1-up.len_at_least in
     if_answered c.times_whole_in_m.result c.times_whole_in_m.ensures.labels
     (λ list s. within-product c.in_ok-first.first c.in_ok-others.others list (k * greatest_size c.args.inner.now) (size rest * greatest_size c.args.inner.now) (size c.args.parts.now * greatest_size c.args.inner.now)
-    c.in_ok-first.ensures.labels c.in_ok-others.ensures.labels (omega arith) s)
+    (within-dilated k c.args.inner.now c.in_ok-first.first c.in_ok-first.ensures.table c.in_ok-first.ensures.value) c.in_ok-others.ensures.labels (omega arith) s)
 
 pub returns-clause-value : goal.returns-clause-value
 returns-clause-value t c =
@@ -74,8 +76,8 @@ returns-clause-value t c =
     let rest = take (length c.args.parts.now - 1) (drop 1 c.args.parts.now) in
     let p = split_positive c.args.parts.now c.in-len1-up.len_at_least c.requires.positive in
     if_answered c.times_whole_in_m.result c.times_whole_in_m.ensures.coefficients
-    (λ list e. list-more W k rest c.args.parts.now (numerators c.in_ok-first.first) (numerators c.in_ok-others.others) (numerators list)
-    (split_first c.args.parts.now c.in-len1-up.len_at_least) (list-dilated k W (numerators c.in_ok-first.first) p.0 c.in_ok-first.ensures.value) c.in_ok-others.ensures.value e)
+    (λ list e. list-more W k rest c.args.parts.now c.in_ok-first.first c.in_ok-others.others list
+    (split_first c.args.parts.now c.in-len1-up.len_at_least) (list-dilated k W c.in_ok-first.first p.0 c.in_ok-first.ensures.value) c.in_ok-others.ensures.value e)
 
 pub returns-clause-large : goal.returns-clause-large
 returns-clause-large t c = λ large K b h.
@@ -84,6 +86,6 @@ returns-clause-large t c = λ large K b h.
     let rest = take (length c.args.parts.now - 1) (drop 1 c.args.parts.now) in
     let p = split_positive c.args.parts.now c.in-len1-up.len_at_least c.requires.positive in
     subst (IsProductPast K b) (split_first c.args.parts.now c.in-len1-up.len_at_least)
-    (large-factor W K b h k rest (numerators c.in_ok-first.first) (numerators c.in_ok-others.others) p.0 p.1
-    (Once-labels c.in_ok-first.first c.is_whole.ensures.table) (Once-labels c.in_ok-others.others c.is_whole-2.ensures.table)
-    (list-dilated k W (numerators c.in_ok-first.first) p.0 c.in_ok-first.ensures.value) c.in_ok-others.ensures.value (c.times_whole_in_m.ensures.large large))
+    (large-factor W K b h k rest c.in_ok-first.first c.in_ok-others.others p.0 p.1
+    (Once-labels c.in_ok-first.first c.in_ok-first.ensures.table) (Once-labels c.in_ok-others.others c.in_ok-others.ensures.table)
+    (list-dilated k W c.in_ok-first.first p.0 c.in_ok-first.ensures.value) c.in_ok-others.ensures.value (c.times_whole_in_m.ensures.large large))

@@ -1,34 +1,31 @@
-use Rattle.std.proofs.Common.{◌≡◌, ◌∷◌, ◌++◌, [], ◌*◌, ◌≤◌, List, ℕ, map, sym, ◌∙◌, ap, subst, refl, append_assoc, arith, Err}
+use Rattle.std.proofs.Common.{◌≡◌, ◌∷◌, ◌++◌, [], ◌*◌, ◌≤◌, List, ℕ, map, sym, ◌∙◌, ap, subst, refl, append_assoc, arith, pos, Err}
 use Rattle.std.specs.Map.Iter.{deref_pair}
-use Rattle.std.specs.Cmp.Lexicographic.{nat_list_eq_equiv}
 use Rattle.std.proofs.lemmas.List.{map-append}
 use Rattle.sym_model.specs.Plethysm.{multiplied}
-use Rattle.sym_model.specs.Polynomial.{coefficient, Same}
+use Rattle.sym_model.specs.Polynomial.{Same}
 use Rattle.sym_model.specs.Partition.{size}
+use Rattle.coeff_rings.specs.Fractions.{whole}
 use Rattle.sym_model.specs.LabelLimits.{is_label}
 use Rattle.sym_model.specs.Expansion.{Fraction, Terms}
 use Rattle.sym_model.specs.WholeTerms.{numerators}
 use Rattle.partitions.specs.Limits.{IsWithinLimits}
 use Rattle.sparse_polys.specs.Combination.{terms_of}
-use Rattle.sparse_polys.specs.MonomialProducts.{greatest_size}
-use Rattle.sparse_polys.proofs.Steps.{all_done, error_is, IsCombination-empty}
+use Rattle.linear_combinations.specs.Entries.{coefficient as found}
+use Rattle.linear_combinations.proofs.Steps.{all_done, error_is, IsCombination-empty}
 use Rattle.sparse_polys.proofs.Rows.{list_whole, list_among}
-use Rattle.sparse_polys.proofs.WholeTables.{labels_term}
-use Rattle.whole_lists.specs.Tables.{equal, found, IsTable}
-use Rattle.whole_lists.specs.LabelSizes.{AreWithin}
-use Rattle.whole_lists.proofs.WholeLists.{Finds, Finds-next, equal_tells, more_as, Same-from_look_ups}
+use Rattle.whole_lists.specs.Tables.{equal, IsWholeTable}
+use Rattle.whole_lists.proofs.WholeLists.{Finds, Finds-next, more_as, not_refused, Same-from_look_ups}
 use Rattle.change_from_monomials.proofs.Bounds.{itself}
 use Rattle.plethysm_laws.specs.PowerSumPlethysm.{dilated}
 use Rattle.plethysm_laws.proofs.Dilations.{coefficient-dilated}
-use Rattle.plethysm.proofs.FactorLists.{IsWithinLimits-multiplied, size-multiplied, label_of, dilated-push, none_before, refused-found}
+use Rattle.plethysm.proofs.FactorLists.{IsWithinLimits-multiplied, label_of, dilated-push, none_before}
 use Rattle.plethysm.proofs.factors.dilated.Goals as goal
 use native.Mathlib.Nat.{mul-le-mul_left}
 
 pub loop-label-init : goal.loop-label-init
 loop-label-init c = record {
   finds = subst (λ terms. Finds terms []) (sym c.new-list.ensures) (λ label. refl);
-  table = subst IsTable (sym c.new-list.ensures) (IsCombination-empty equal is_label);
-  labels = subst (AreWithin (c.args.k * greatest_size c.args.inner.now)) (sym c.new-list.ensures) (λ t m. absurd m);
+  table = subst IsWholeTable (sym c.new-list.ensures) (IsCombination-empty equal is_label whole);
   so_far = refl;
 }
 
@@ -38,7 +35,7 @@ multiplied-requires c =
     list_whole (λ (r : Fraction). r) (map deref_pair c.loop-label.yielded) c.next.new.self c.loop-label.label-iterator _ _ c.in-Some.label.now c.in-Some.c.now c.args.inner.now
     c.in-Some.ensures.steps c.loop-label.invariant.so_far c.into_iter-label-iterator.ensures.into_iter_gives c.iter-label-items.ensures.rest in
     let here = list_among (λ (r : Fraction). r) (map deref_pair c.loop-label.yielded) c.next.new.self c.in-Some.label.now c.in-Some.c.now c.args.inner.now whole in
-    let l = label_of c.args.inner.now c.in-Some.label.now c.in-Some.c.now c.is_table.ensures here in
+    let l = label_of c.args.inner.now c.in-Some.label.now c.in-Some.c.now c.iter-label-items.ensures.combination here in
     let m = mul-le-mul_left c.args.k l.1 in
     subst (λ p. c.args.k * size p ≤ 512) (sym c.parts.ensures.value) (omega (arith, c.requires.low))
 
@@ -48,7 +45,7 @@ from_valid_parts-requires c =
     list_whole (λ (r : Fraction). r) (map deref_pair c.loop-label.yielded) c.next.new.self c.loop-label.label-iterator _ _ c.in-Some.label.now c.in-Some.c.now c.args.inner.now
     c.in-Some.ensures.steps c.loop-label.invariant.so_far c.into_iter-label-iterator.ensures.into_iter_gives c.iter-label-items.ensures.rest in
     let here = list_among (λ (r : Fraction). r) (map deref_pair c.loop-label.yielded) c.next.new.self c.in-Some.label.now c.in-Some.c.now c.args.inner.now whole in
-    let l = label_of c.args.inner.now c.in-Some.label.now c.in-Some.c.now c.is_table.ensures here in
+    let l = label_of c.args.inner.now c.in-Some.label.now c.in-Some.c.now c.iter-label-items.ensures.combination here in
     let m = mul-le-mul_left c.args.k l.1 in
     subst IsWithinLimits (sym (c.deref.ensures.value ∙ c.in_ok-parts.ensures ∙ ap (multiplied c.args.k) c.parts.ensures.value))
     (IsWithinLimits-multiplied c.args.k c.in-Some.label.now c.requires.positive l.0 (omega (arith, c.requires.low)))
@@ -61,13 +58,6 @@ loop-label-preserved c =
     let v = c.in-Some.c.now in
     let old = c.loop-label.list in
     let new = c.add_term.new.self in
-    let whole =
-    list_whole (λ (r : Fraction). r) (map deref_pair c.loop-label.yielded) c.next.new.self c.loop-label.label-iterator _ _ c.in-Some.label.now c.in-Some.c.now c.args.inner.now
-    c.in-Some.ensures.steps c.loop-label.invariant.so_far c.into_iter-label-iterator.ensures.into_iter_gives c.iter-label-items.ensures.rest in
-    let here = list_among (λ (r : Fraction). r) (map deref_pair c.loop-label.yielded) c.next.new.self c.in-Some.label.now c.in-Some.c.now c.args.inner.now whole in
-    let l = label_of c.args.inner.now c.in-Some.label.now c.in-Some.c.now c.is_table.ensures here in
-    let m = mul-le-mul_left c.args.k l.1 in
-    let s = size-multiplied c.args.k c.in-Some.label.now in
     let label = c.in_ok-from_valid_parts.ensures.ok ∙ c.deref.ensures.value ∙ c.in_ok-parts.ensures ∙ ap (multiplied c.args.k) c.parts.ensures.value in
     let more = more_as old old new c.in_ok-from_valid_parts.field-0 (multiplied c.args.k k) c.numerator_of.result v.0 refl label c.numerator_of.ensures c.in_ok-add_term.ensures.ok in
     let pushed : done ++ (k, v) ∷ [] ≡ map deref_pair (c.loop-label.yielded ++ (c.in-Some.label, c.in-Some.c) ∷ []) =
@@ -78,9 +68,6 @@ loop-label-preserved c =
           (subst (Finds new) (sym (dilated-push c.args.k done k v))
           (Finds-next old new (dilated c.args.k (numerators done)) (multiplied c.args.k k) v.0 c.loop-label.invariant.finds more));
       table = c.in_ok-add_term.ensures.combination;
-      labels =
-          labels_term nat_list_eq_equiv equal_tells old new c.loop-label.invariant.table c.in_ok-add_term.ensures.combination (multiplied c.args.k k) v.0 more
-          (λ (x : List ℕ). size x ≤ c.args.k * greatest_size c.args.inner.now) c.loop-label.invariant.labels (omega arith);
       so_far =
           ap (λ es. es ++ rest) (sym pushed) ∙ append_assoc done ((k, v) ∷ []) rest
           ∙ ap (λ es. done ++ es) (sym c.in-Some.ensures.steps) ∙ c.loop-label.invariant.so_far;
@@ -98,11 +85,10 @@ returns-in_err-add_term-clause-small c = λ large.
     let all : map deref_pair c.loop-label.yielded ++ ((c.in-Some.label.now, c.in-Some.c.now) ∷ c.next.new.self) ≡ c.args.inner.now =
     sym (itself (map deref_pair c.loop-label.yielded ++ ((c.in-Some.label.now, c.in-Some.c.now) ∷ c.next.new.self))) ∙ whole in
     let label = c.in_ok-from_valid_parts.ensures.ok ∙ c.deref.ensures.value ∙ c.in_ok-parts.ensures ∙ ap (multiplied c.args.k) c.parts.ensures.value in
-    let refused = c.in_err-add_term.ensures.large.0 (ap Err (error_is _ _ _ c.from_residual-in_err-add_term.ensures.1 large)) in
-    refused-found (found c.loop-label.list c.in_ok-from_valid_parts.field-0) (coefficient (dilated c.args.k (numerators done)) (multiplied c.args.k k)) c.numerator_of.result
-    (ap (found c.loop-label.list) label ∙ c.loop-label.invariant.finds (multiplied c.args.k k))
-    (coefficient-dilated c.args.k (numerators done) k c.requires.positive ∙ none_before c.args.inner.now done rest k v c.is_table.ensures all)
-    refused
+    not_refused _ c.numerator_of.result
+    (ap (found equal (pos 0) c.loop-label.list) label ∙ c.loop-label.invariant.finds (multiplied c.args.k k)
+    ∙ coefficient-dilated c.args.k (numerators done) k c.requires.positive ∙ none_before c.args.inner.now done rest k v c.iter-label-items.ensures.combination all)
+    (c.in_err-add_term.ensures.large.0 (ap Err (error_is _ _ _ c.from_residual-in_err-add_term.ensures.1 large)))
 
 pub returns-clause-value : goal.returns-clause-value
 returns-clause-value c =
@@ -110,5 +96,5 @@ returns-clause-value c =
     let entries = all_done (map deref_pair c.loop-label.yielded) c.loop-label.label-iterator _ _ c.in-None.ensures.steps.0 c.loop-label.invariant.so_far c.into_iter-label-iterator.ensures.into_iter_gives in
     let all : map deref_pair c.loop-label.yielded ≡ c.args.inner.now =
     sym (itself (map deref_pair c.loop-label.yielded)) ∙ ap (terms_of (λ (r : Fraction). r)) entries ∙ c.iter-label-items.ensures.rest in
-    subst (λ (es : Terms (List ℕ)). Same (numerators c.loop-label.list) (dilated c.args.k (numerators es))) all
+    subst (λ (es : Terms (List ℕ)). Same c.loop-label.list (dilated c.args.k (numerators es))) all
     (Same-from_look_ups c.loop-label.list (dilated c.args.k (numerators done)) c.loop-label.invariant.table c.loop-label.invariant.finds)

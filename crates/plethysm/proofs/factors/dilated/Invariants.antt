@@ -1,9 +1,7 @@
-use Rattle.std.proofs.Common.{◌≡◌, ◌++◌, ◌*◌, map}
+use Rattle.std.proofs.Common.{◌≡◌, ◌++◌, map}
 use Rattle.std.specs.Map.Iter.{deref_pair}
 use Rattle.sym_model.specs.WholeTerms.{numerators}
-use Rattle.sparse_polys.specs.MonomialProducts.{greatest_size}
-use Rattle.whole_lists.specs.Tables.{IsTable}
-use Rattle.whole_lists.specs.LabelSizes.{AreWithin}
+use Rattle.whole_lists.specs.Tables.{IsWholeTable}
 use Rattle.whole_lists.proofs.WholeLists.{Finds}
 use Rattle.plethysm_laws.specs.PowerSumPlethysm.{dilated}
 use Rattle.plethysm.proofs.factors.dilated.Given as goal
@@ -12,7 +10,6 @@ use Rattle.plethysm.proofs.factors.dilated.Given as goal
 abbrev pub invariant-loop-label : goal.invariant-loop-label
 invariant-loop-label l = record {
   finds : Finds l.list (dilated l.k (numerators (map deref_pair l.yielded)));
-  table : IsTable l.list;
-  labels : AreWithin (l.k * greatest_size l.inner) l.list;
+  table : IsWholeTable l.list;
   so_far : map deref_pair l.yielded ++ l.label-iterator ≡ l.initial.label-iterator;
 }

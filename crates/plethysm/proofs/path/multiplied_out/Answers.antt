@@ -40,7 +40,7 @@ returns-in_err-sum-clause-large c err K b h =
     c.in-Some.ensures.steps c.loop-label.invariant.so_far c.into_iter-label-iterator.ensures.into_iter_gives c.iter-label-items.ensures.rest in
     let here = list_among (λ (r : Fraction). r) (map deref_pair c.loop-label.yielded) c.next.new.self c.in-Some.label.now c.in-Some.c.now c.args.outer.now whole in
     let all : map deref_pair c.loop-label.yielded ++ (x ∷ c.next.new.self) ≡ c.args.outer.now = sym (itself (map deref_pair c.loop-label.yielded ++ (x ∷ c.next.new.self))) ∙ whole in
-    past-from_step c.args.den K b (numerators c.args.inner.now) (numerators c.loop-label.sum) (map deref_pair c.loop-label.yielded) c.next.new.self c.args.outer.now x c.in-Some-scaled_number.z
+    past-from_step c.args.den K b (numerators c.args.inner.now) c.loop-label.sum (map deref_pair c.loop-label.yielded) c.next.new.self c.args.outer.now x c.in-Some-scaled_number.z
     c.in-Some-scaled_number.ensures all here c.loop-label.invariant.value
     (c.in_err-sum.ensures.large (ap Err (error_is _ _ _ c.from_residual.ensures.1 err)) K b h)
 
@@ -55,8 +55,8 @@ loop-label-preserved c =
     sym (map-append deref_pair c.loop-label.yielded ((c.in-Some.label, c.in-Some.c) ∷ [])) in
     record {
       value = λ n.
-          subst (λ (es : Terms (List ℕ)). Same (in_monomials (numerators c.in_ok-sum.sum) n) (combined (λ label. power_sum_in (numerators c.args.inner.now) label n) (over c.args.den es))) pushed
-          (path-step c.args.den n (numerators c.args.inner.now) (numerators c.loop-label.sum) (numerators c.in_ok-sum.sum) (map deref_pair c.loop-label.yielded) x c.in-Some-scaled_number.z
+          subst (λ (es : Terms (List ℕ)). Same (in_monomials c.in_ok-sum.sum n) (combined (λ label. power_sum_in (numerators c.args.inner.now) label n) (over c.args.den es))) pushed
+          (path-step c.args.den n (numerators c.args.inner.now) c.loop-label.sum c.in_ok-sum.sum (map deref_pair c.loop-label.yielded) x c.in-Some-scaled_number.z
           c.in-Some-scaled_number.ensures (c.loop-label.invariant.value n) (c.in_ok-sum.ensures.value n));
       so_far =
           ap (λ es. es ++ rest) (sym pushed) ∙ append_assoc done ((k, v) ∷ []) rest
@@ -68,4 +68,4 @@ returns-clause-value c =
     let entries = all_done (map deref_pair c.loop-label.yielded) c.loop-label.label-iterator _ _ c.in-None.ensures.steps.0 c.loop-label.invariant.so_far c.into_iter-label-iterator.ensures.into_iter_gives in
     let all : map deref_pair c.loop-label.yielded ≡ c.args.outer.now = sym (itself (map deref_pair c.loop-label.yielded)) ∙ ap (terms_of (λ (r : Fraction). r)) entries ∙ c.iter-label-items.ensures.rest in
     λ n.
-    subst (λ (es : Terms (List ℕ)). Same (in_monomials (numerators c.loop-label.sum) n) (combined (λ label. power_sum_in (numerators c.args.inner.now) label n) (over c.args.den es))) all (c.loop-label.invariant.value n)
+    subst (λ (es : Terms (List ℕ)). Same (in_monomials c.loop-label.sum n) (combined (λ label. power_sum_in (numerators c.args.inner.now) label n) (over c.args.den es))) all (c.loop-label.invariant.value n)

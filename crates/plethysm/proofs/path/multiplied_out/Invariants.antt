@@ -8,6 +8,6 @@ use Rattle.plethysm.proofs.path.multiplied_out.Given as goal
 
 abbrev pub invariant-loop-label : goal.invariant-loop-label
 invariant-loop-label l = record {
-  value : (n : ℕ) → Same (in_monomials (numerators l.sum) n) (combined (λ label. power_sum_in (numerators l.inner) label n) (over l.den (map deref_pair l.yielded)));
+  value : (n : ℕ) → Same (in_monomials l.sum n) (combined (λ label. power_sum_in (numerators l.inner) label n) (over l.den (map deref_pair l.yielded)));
   so_far : map deref_pair l.yielded ++ l.label-iterator ≡ l.initial.label-iterator;
 }

@@ -3,8 +3,7 @@ use Rattle.std.specs.Prelude.{OnOk}
 use Rattle.coeff_rings.specs.Checked.{checked_i128}
 use Rattle.coeff_rings.proofs.Sizes.{answered_is, refused_size}
 use Rattle.linear_combinations.specs.Gains.{Gains, Overflows}
-use Rattle.linear_combinations.proofs.Gains.{gains_term, overflows_alone, overflows_term}
-use Rattle.linear_combinations.proofs.Steps.{on_ok}
+use Rattle.linear_combinations.proofs.Gains.{overflows_alone}
 use Rattle.rim_hooks.proofs.SignCasts.{kept_through}
 use Rattle.rim_hooks.proofs.collecting.add_signed.Goals as goal
 
@@ -18,13 +17,11 @@ pub returns-clause-gains : goal.returns-clause-gains
 returns-clause-gains g c =
     let sign = kept_through c.args.sign c.from.result c.new.result c.requires c.from.ensures c.new.ensures in
     let signed : c.in-Some.signed ≡ c.args.c *ℤ c.args.sign = answered_is (c.args.c *ℤ c.new.result) c.in-Some.signed c.in-Some.ensures.product ∙ ap (λ s. c.args.c *ℤ s) sign in
-    subst (λ z. OnOk c.add_term.result (Gains c.args.sums.now ((c.args.label, z) ∷ []) c.add_term.new.self)) signed
-    (on_ok c.add_term.result c.add_term.ensures.ok
-    (λ more. gains_term g.met.L.Eq.laws g.met.L.Label.same_label c.args.sums.now c.add_term.new.self c.add_term.ensures.was c.add_term.ensures.combination c.args.label c.in-Some.signed more))
+    subst (λ z. OnOk c.add_owned.result (Gains c.args.sums.now ((c.args.label, z) ∷ []) c.add_owned.new.self)) signed c.add_owned.ensures.gains
 
 pub returns-clause-large : goal.returns-clause-large
 returns-clause-large g c err =
     let sign = kept_through c.args.sign c.from.result c.new.result c.requires c.from.ensures c.new.ensures in
     let signed : c.in-Some.signed ≡ c.args.c *ℤ c.args.sign = answered_is (c.args.c *ℤ c.new.result) c.in-Some.signed c.in-Some.ensures.product ∙ ap (λ s. c.args.c *ℤ s) sign in
     subst (λ z. Overflows g.L.PartialEq.eq c.args.sums.now ((c.args.label, z) ∷ [])) signed
-    (overflows_term g.met.L.Eq.laws g.met.L.Label.same_label c.args.sums.now c.add_term.ensures.was.distinct c.args.label c.in-Some.signed (c.add_term.ensures.large.0 err).refused)
+    (c.add_owned.ensures.large err)

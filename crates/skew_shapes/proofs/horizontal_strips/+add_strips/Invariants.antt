@@ -1,5 +1,4 @@
-use Rattle.std.proofs.Common.{◌≡◌, ◌++◌, map, length}
-use Rattle.sym_model.specs.Sum.{each}
+use Rattle.std.proofs.Common.{◌≡◌, ◌++◌, map, length, flat_map}
 use Rattle.skew_shapes.specs.HorizontalStrips.{counting_down}
 use Rattle.skew_shapes.proofs.StripLists.{grown}
 use Rattle.skew_shapes.proofs.horizontal_strips.+add_strips.Given as goal
@@ -12,5 +11,5 @@ abbrev pub invariant-loop-shorter : goal.invariant-loop-shorter
 invariant-loop-shorter l = record {
   same : l.above.items ≡ l.fn.above.items;
   listed :
-      l.shapes.items ≡ l.fn.shapes.items ++ map (λ rest. l.fn.above.items ++ rest) (each (grown l.first l.left l.below) (counting_down l.longest l.shorter));
+      l.shapes.items ≡ l.fn.shapes.items ++ map (λ rest. l.fn.above.items ++ rest) (flat_map (grown l.first l.left l.below) (counting_down l.longest l.shorter));
 }

@@ -1,7 +1,7 @@
-use Rattle.std.proofs.Common.{◌≡◌, ◌+◌, ◌-◌, ◌≤◌, ◌++◌, [], ◌∷◌, List, ℕ, get_or, take, drop, length, map, subst, sym, ap, ◌∙◌, arith, append_assoc, append-nil, refl}
+use Rattle.std.proofs.Common.{◌≡◌, ◌+◌, ◌-◌, ◌≤◌, ◌++◌, [], ◌∷◌, List, ℕ, get_or, take, drop, length, map, subst, sym, ap, ◌∙◌, arith, append_assoc, append-nil, refl, flat_map}
 use Rattle.std.proofs.lemmas.List.{take_at}
 use Rattle.sym_model.specs.Partition.{Falls}
-use Rattle.sym_model.specs.Sum.{Among, each}
+use Rattle.sym_model.specs.Sum.{Among}
 use Rattle.sym_model.proofs.Parts.{split_first}
 use Rattle.partitions.specs.Limits.{IsWithinLimits}
 use Rattle.skew_shapes.specs.HorizontalStrips.{counting_down}
@@ -74,5 +74,5 @@ returns-clause-shapes t c =
     widened_all c.args.most c.args.left a c.loop-shorter.shorter below above c.args.inner.now
     c.args.shapes.now.items c.loop-shorter.shapes.items split (let m = c.min.ensures in omega arith)
     (c.loop-shorter.invariant.listed
-    ∙ ap (λ n. c.args.shapes.now.items ++ map (λ rest. above ++ rest) (each (λ row. map (λ rest. row ∷ rest) (vertical_on row (c.args.left + a - row) below)) (counting_down n c.loop-shorter.shorter)))
+    ∙ ap (λ n. c.args.shapes.now.items ++ map (λ rest. above ++ rest) (flat_map (λ row. map (λ rest. row ∷ rest) (vertical_on row (c.args.left + a - row) below)) (counting_down n c.loop-shorter.shorter)))
     (let m = c.min.ensures in omega arith))

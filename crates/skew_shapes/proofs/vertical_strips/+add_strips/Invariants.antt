@@ -1,5 +1,4 @@
-use Rattle.std.proofs.Common.{◌≡◌, ◌+◌, ◌-◌, ◌++◌, ◌∷◌, map, length}
-use Rattle.sym_model.specs.Sum.{each}
+use Rattle.std.proofs.Common.{◌≡◌, ◌+◌, ◌-◌, ◌++◌, ◌∷◌, map, length, flat_map}
 use Rattle.skew_shapes.specs.HorizontalStrips.{counting_down}
 use Rattle.skew_shapes.specs.VerticalStrips.{vertical_on}
 use Rattle.skew_shapes.proofs.vertical_strips.+add_strips.Given as goal
@@ -13,5 +12,5 @@ invariant-loop-shorter l = record {
   same : l.above.items ≡ l.fn.above.items;
   listed :
       l.shapes.items
-      ≡ l.fn.shapes.items ++ map (λ rest. l.fn.above.items ++ rest) (each (λ row. map (λ rest. row ∷ rest) (vertical_on row (l.left + l.first - row) l.below)) (counting_down l.longest l.shorter));
+      ≡ l.fn.shapes.items ++ map (λ rest. l.fn.above.items ++ rest) (flat_map (λ row. map (λ rest. row ∷ rest) (vertical_on row (l.left + l.first - row) l.below)) (counting_down l.longest l.shorter));
 }

@@ -5,7 +5,7 @@ use Rattle.std.proofs.lemmas.List.{take_all, take_at}
 use Rattle.partitions.specs.Limits.{IsWithinLimits}
 use Rattle.skew_shapes.proofs.vertical_strips.add_ones.Goals as goal
 
--- the rows with rows of one cell behind them
+-- the rows with rows of one cell after them
 resized : (above longer : List ℕ) (left len n : ℕ) → len ≡ length above → n ≡ len + left → longer ≡ take n above ++ replicate (n - len) 1
     → longer ≡ above ++ replicate left 1
 resized above longer left len n l e r = r ∙ ap₂ ◌++◌ (take_all n above (omega arith)) (ap (λ (k : ℕ). replicate {A = ℕ} k 1) (let m : n - len ≡ left = omega arith in m))

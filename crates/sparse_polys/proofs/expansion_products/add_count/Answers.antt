@@ -31,7 +31,7 @@ returns-clause-ok g c =
     (λ more d e h cleared.
     let v = c.in-Some.ensures.value d e h in
     Adds-term (d * e) c.args.term.now.count (scaled d (value c.args.left) *ℤ scaled e (value c.args.right)) old c.add_term.new.self label (value c.in-Some.product)
-    c.add_term.ensures.was
+    c.add_term.ensures.was c.add_term.ensures.combination
     (g.met.R.Scalar.lowest c.in-Some.product c.in-Some.ensures.held)
     (mul-pos h.left_positive h.right_positive) v.0 v.1 cleared
     (subst (λ l. HasMoreAt (pointwise nat_eq) old l (value c.in-Some.product) c.add_term.new.self) is more))

@@ -1,7 +1,8 @@
 use Rattle.std.proofs.Common.{ℕ, ◌*◌, take, pos, ◌*ℤ◌}
 use Rattle.coeff_rings.specs.Fractions.{scaled}
 use Rattle.sparse_polys.specs.Search.{count_at}
-use Rattle.sparse_polys.specs.MonomialProducts.{AreDenominators, AreCleared, Adds}
+use Rattle.sparse_polys.specs.MonomialProducts.{Adds}
+use Rattle.sparse_polys.specs.Products.{AreDenominators, AreCleared}
 use Rattle.sparse_polys.proofs.expansion_products.add_pair.Given as goal
 
 abbrev pub invariant-loop-term : goal.invariant-loop-term

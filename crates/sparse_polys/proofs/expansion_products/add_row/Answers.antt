@@ -1,8 +1,9 @@
 use Rattle.std.proofs.Common.{◌≡◌, ℕ, ◌+◌, ◌*◌, ◌≤◌, [], ◌∷◌, ◌++◌, List, map, sym, ◌∙◌, ap, subst, arith, ◌*ℤ◌, pos, refl, append_assoc}
-use Rattle.std.specs.Prelude.{Err}
+use Rattle.std.specs.Prelude.{nat_eq, Err}
+use Rattle.std.specs.Cmp.Lexicographic.{pointwise}
+use Rattle.sym_model.specs.Canonical.{is_label}
 use Rattle.std.specs.Map.Iter.{deref_pair}
 use Rattle.std.proofs.lemmas.List.{map-append}
-use Rattle.sym_model.specs.Partition.{size}
 use Rattle.sym_model.specs.Expansion.{Terms, Fraction}
 use Rattle.sym_model.proofs.Numbers.{many-within}
 use Rattle.coeff_rings.specs.Fractions.{scaled}
@@ -10,9 +11,10 @@ use Rattle.coeff_rings.specs.Room.{magnitude}
 use Rattle.sparse_polys.specs.Combination.{terms_of}
 use Rattle.sparse_polys.proofs.Steps.{all_done, error_is}
 use Rattle.monomial_laws.specs.MonomialProduct.{arrangements}
-use Rattle.sparse_polys.specs.MonomialProducts.{row, absolute_row, greatest_size, Adds}
+use Rattle.sparse_polys.specs.MonomialProducts.{row, absolute_row, Adds}
+use Rattle.sparse_polys.proofs.ValueLists.{combination_values}
 use Rattle.sparse_polys.proofs.Accumulating.{Adds-then, Adds-none, Overflows-then, distribute_next, times-nothing, magnitude-positive}
-use Rattle.sparse_polys.proofs.Rows.{row-next, absolute_row-next, row-within, times-within, greatest_size-among, list_whole, list_among, scaled-within}
+use Rattle.sparse_polys.proofs.Rows.{row-next, absolute_row-next, row-within, times-within, greatest_size-among, greatest_size-values, list_whole, list_among, scaled-within}
 use Rattle.sparse_polys.proofs.expansion_products.add_row.Goals as goal
 
 pub loop-other-init : goal.loop-other-init
@@ -24,19 +26,20 @@ loop-other-init g c = record {
 pub add_pair-requires : goal.add_pair-requires
 add_pair-requires g c =
     let whole =
-    list_whole g.R.Scalar.value (map deref_pair c.loop-other.yielded) c.next.new.self c.loop-other.other-iterator _ _ c.in-Some.other.now c.in-Some.c.now c.args.right.now
-    c.in-Some.ensures.steps c.loop-other.invariant.so_far c.into_iter-other-iterator.ensures.into_iter_gives c.iter-other-items.ensures.rest in
-    let here = list_among g.R.Scalar.value (map deref_pair c.loop-other.yielded) c.next.new.self c.in-Some.other.now c.in-Some.c.now c.args.right.now whole in
+    list_whole g.R.Scalar.value (map deref_pair c.loop-other.yielded) c.next.new.self c.loop-other.other-iterator _ _ c.in-Some.other.now c.in-Some.c.now (terms_of g.R.Scalar.value c.args.right.now)
+    c.in-Some.ensures.steps c.loop-other.invariant.so_far c.into_iter-other-iterator.ensures.into_iter_gives (ap (terms_of g.R.Scalar.value) c.iter-other-items.ensures.rest) in
+    let here = list_among g.R.Scalar.value (map deref_pair c.loop-other.yielded) c.next.new.self c.in-Some.other.now c.in-Some.c.now (terms_of g.R.Scalar.value c.args.right.now) whole in
     let t : List ℕ × Fraction = (c.in-Some.other.now, (g.R.Scalar.value c.in-Some.c.now)) in
-    let s : size c.in-Some.other.now ≤ greatest_size c.args.right.now = greatest_size-among c.args.right.now t here in
+    let s = greatest_size-among (terms_of g.R.Scalar.value c.args.right.now) t here in
+    let same = greatest_size-values g.R.Scalar.value c.args.right.now in
     record { sizes = omega (arith, c.requires.sizes) }
 
 pub loop-other-preserved : goal.loop-other-preserved
 loop-other-preserved g c =
     let whole =
-    list_whole g.R.Scalar.value (map deref_pair c.loop-other.yielded) c.next.new.self c.loop-other.other-iterator _ _ c.in-Some.other.now c.in-Some.c.now c.args.right.now
-    c.in-Some.ensures.steps c.loop-other.invariant.so_far c.into_iter-other-iterator.ensures.into_iter_gives c.iter-other-items.ensures.rest in
-    let here = list_among g.R.Scalar.value (map deref_pair c.loop-other.yielded) c.next.new.self c.in-Some.other.now c.in-Some.c.now c.args.right.now whole in
+    list_whole g.R.Scalar.value (map deref_pair c.loop-other.yielded) c.next.new.self c.loop-other.other-iterator _ _ c.in-Some.other.now c.in-Some.c.now (terms_of g.R.Scalar.value c.args.right.now)
+    c.in-Some.ensures.steps c.loop-other.invariant.so_far c.into_iter-other-iterator.ensures.into_iter_gives (ap (terms_of g.R.Scalar.value) c.iter-other-items.ensures.rest) in
+    let here = list_among g.R.Scalar.value (map deref_pair c.loop-other.yielded) c.next.new.self c.in-Some.other.now c.in-Some.c.now (terms_of g.R.Scalar.value c.args.right.now) whole in
     let value = g.R.Scalar.value in
     let done = map deref_pair c.loop-other.yielded in
     let rest = c.next.new.self in
@@ -66,9 +69,9 @@ loop-other-preserved g c =
 pub returns-in_err-add_pair-clause-large : goal.returns-in_err-add_pair-clause-large
 returns-in_err-add_pair-clause-large g c err d e some den common small a cleared =
     let whole =
-    list_whole g.R.Scalar.value (map deref_pair c.loop-other.yielded) c.next.new.self c.loop-other.other-iterator _ _ c.in-Some.other.now c.in-Some.c.now c.args.right.now
-    c.in-Some.ensures.steps c.loop-other.invariant.so_far c.into_iter-other-iterator.ensures.into_iter_gives c.iter-other-items.ensures.rest in
-    let here = list_among g.R.Scalar.value (map deref_pair c.loop-other.yielded) c.next.new.self c.in-Some.other.now c.in-Some.c.now c.args.right.now whole in
+    list_whole g.R.Scalar.value (map deref_pair c.loop-other.yielded) c.next.new.self c.loop-other.other-iterator _ _ c.in-Some.other.now c.in-Some.c.now (terms_of g.R.Scalar.value c.args.right.now)
+    c.in-Some.ensures.steps c.loop-other.invariant.so_far c.into_iter-other-iterator.ensures.into_iter_gives (ap (terms_of g.R.Scalar.value) c.iter-other-items.ensures.rest) in
+    let here = list_among g.R.Scalar.value (map deref_pair c.loop-other.yielded) c.next.new.self c.in-Some.other.now c.in-Some.c.now (terms_of g.R.Scalar.value c.args.right.now) whole in
     let value = g.R.Scalar.value in
     let done = map deref_pair c.loop-other.yielded in
     let rest = c.next.new.self in
@@ -80,27 +83,27 @@ returns-in_err-add_pair-clause-large g c err d e some den common small a cleared
     let before = c.loop-other.invariant.sums d e some den common cleared in
     let vd = common.multiple (k, (value v)) here in
     Overflows-then (d * e) c.args.sum.now c.loop-other.sum
-    (λ ν. z *ℤ row label e (terms_of value done) ν) (λ ν. A * absolute_row label e (terms_of value done) ν) (λ ν. A * magnitude e (value v) * arrangements label k ν) (λ ν. A * absolute_row label e c.args.right.now ν)
+    (λ ν. z *ℤ row label e (terms_of value done) ν) (λ ν. A * absolute_row label e (terms_of value done) ν) (λ ν. A * magnitude e (value v) * arrangements label k ν) (λ ν. A * absolute_row label e (terms_of g.R.Scalar.value c.args.right.now) ν)
     (λ ν p. times-within z (row label e (terms_of value done) ν) A (absolute_row label e (terms_of value done) ν) (scaled-within d (value c.args.left)) (row-within label e (terms_of value done) ν))
     (λ ν p.
     let m =
-    many-within A (absolute_row label e (terms_of value done) ν) (magnitude e (value v) * arrangements label k ν) (absolute_row label e c.args.right.now ν)
+    many-within A (absolute_row label e (terms_of value done) ν) (magnitude e (value v) * arrangements label k ν) (absolute_row label e (terms_of g.R.Scalar.value c.args.right.now) ν)
     (subst (λ (l : Terms (List ℕ)). absolute_row label e (terms_of value done) ν + magnitude e (value v) * arrangements label k ν ≤ absolute_row label e l ν) whole
     (absolute_row-next value label e done k v rest ν)) in
     omega arith)
     before
     (c.in_err-add_pair.ensures.large (ap Err (error_is _ _ _ c.from_residual.ensures.1 err)) d e
     (record { left_positive = some; right_positive = common.positive; left = den; right = vd }) small a
-    (magnitude-positive e c.args.right.now (k, (value v)) c.iter-other-items.ensures.combination here common.positive vd)
+    (magnitude-positive e (terms_of g.R.Scalar.value c.args.right.now) (k, (value v)) (combination_values g.R.Scalar.value (pointwise nat_eq) is_label c.args.right.now c.iter-other-items.ensures.combination) here common.positive vd)
     before.cleared)
 
 pub returns-clause-ok : goal.returns-clause-ok
 returns-clause-ok g c d e some den common cleared =
     let value = g.R.Scalar.value in
     let done = map deref_pair c.loop-other.yielded in
-    let is : terms_of value done ≡ c.args.right.now =
+    let is : terms_of value done ≡ (terms_of g.R.Scalar.value c.args.right.now) =
     ap (terms_of value)
     (all_done done c.loop-other.other-iterator _ _ c.in-None.ensures.steps.0 c.loop-other.invariant.so_far c.into_iter-other-iterator.ensures.into_iter_gives)
-    ∙ c.iter-other-items.ensures.rest in
+    ∙ (ap (terms_of g.R.Scalar.value) c.iter-other-items.ensures.rest) in
     subst (λ (l : Terms (List ℕ)). Adds (d * e) c.args.sum.now (λ ν. scaled d (value c.args.left) *ℤ row c.args.label.now e l ν) c.loop-other.sum) is
     (c.loop-other.invariant.sums d e some den common cleared)

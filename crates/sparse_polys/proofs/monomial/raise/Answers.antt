@@ -2,11 +2,12 @@ use Rattle.std.proofs.Common.{◌≡◌, ℕ, zero, suc, ◌+◌, ◌<◌, List,
 use Rattle.sym_model.specs.Partition.{size}
 use Rattle.sym_model.proofs.Parts.{get_or-le-size}
 use Rattle.sparse_polys.specs.Raised.{raised}
-use Rattle.sparse_polys.proofs.Raising.{zeros, length-then, set-raised, size-padded, refilled}
+use Rattle.sparse_polys.proofs.Raising.{length-then, set-raised, size-padded, refilled}
 use Rattle.std.proofs.lemmas.List.{length-set}
+use Rattle.sym_model.specs.Polynomial.{no_exponents}
 use Rattle.sparse_polys.proofs.monomial.raise.Goals as goal
 
-more_zeros : (k : ℕ) → zeros k ++ (0 ∷ []) ≡ zeros (suc k)
+more_zeros : (k : ℕ) → no_exponents k ++ (0 ∷ []) ≡ no_exponents (suc k)
 more_zeros zero = refl
 more_zeros (suc k) = ap (λ x. 0 ∷ x) (more_zeros k)
 
@@ -15,8 +16,8 @@ loop-exponents-preserved c =
     let inv = c.loop-exponents.invariant in
     let pushed = c.in_ok-push.ensures.ok in
     let old = c.args.exponents.now.items in
-    let e : c.push.new.self.items ≡ old ++ zeros (suc inv.0) =
-    pushed ∙ ap (λ x. x ++ (0 ∷ [])) inv.1 ∙ append_assoc old (zeros inv.0) (0 ∷ []) ∙ ap (λ x. old ++ x) (more_zeros inv.0) in
+    let e : c.push.new.self.items ≡ old ++ no_exponents (suc inv.0) =
+    pushed ∙ ap (λ x. x ++ (0 ∷ [])) inv.1 ∙ append_assoc old (no_exponents inv.0) (0 ∷ []) ∙ ap (λ x. old ++ x) (more_zeros inv.0) in
     (suc inv.0, e, inr (omega (arith, ap length pushed, length-then c.loop-exponents.exponents.items (0 ∷ []))))
 
 pub add_one-requires-clause-small : goal.add_one-requires-clause-small

@@ -1,6 +1,6 @@
 use Rattle.std.proofs.Common.{◌≡◌, ℕ, ◌+◌, ◌∷◌, List, drop}
-use Rattle.monomial_laws.specs.MonomialProduct.{AreBelow}
 use Rattle.sparse_polys.specs.Ways.{capped, ways, AreStates, LeaveOnce}
+use Rattle.sym_model.specs.Bounded.{AreBelow}
 use Rattle.sparse_polys.proofs.part_steps.step.Given as goal
 
 abbrev pub invariant-loop-state : goal.invariant-loop-state

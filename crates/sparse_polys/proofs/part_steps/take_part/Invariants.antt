@@ -1,8 +1,9 @@
 use Rattle.std.proofs.Common.{◌≡◌, ℕ, ◌+◌, ◌*◌, ◌∷◌, List, drop}
 use Rattle.sym_model.specs.RaisedPart.{distinct}
-use Rattle.monomial_laws.specs.MonomialProduct.{arrangements, AreBelow}
+use Rattle.monomial_laws.specs.MonomialProduct.{arrangements}
 use Rattle.sparse_polys.specs.Ways.{capped, ways, IsRest, AreStates, LeaveOnce}
 use Rattle.sparse_polys.proofs.StepWays.{taken_over}
+use Rattle.sym_model.specs.Bounded.{AreBelow}
 use Rattle.sparse_polys.proofs.part_steps.take_part.Given as goal
 
 abbrev pub invariant-loop-i : goal.invariant-loop-i

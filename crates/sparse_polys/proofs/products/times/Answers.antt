@@ -12,7 +12,8 @@ use Rattle.sparse_polys.proofs.Steps.{all_done, error_is}
 use Rattle.sparse_polys.specs.Products.{value_in, cleared_sum, Adds}
 use Rattle.sparse_polys.proofs.ClearedSums.{Adds-none, Adds-then, AreCleared-nothing}
 use Rattle.sparse_polys.proofs.ListSteps.{sum_next, absolute_next, list_whole, list_among, so_far_next, rows_sizes, rows_large}
-use Rattle.sparse_polys.proofs.PolynomialValues.{shown, represents, product_value, common-denominators, least-denominators, weights-large}
+use Rattle.sparse_polys.proofs.PolynomialValues.{represents, product_value, common-denominators, least-denominators, weights-large}
+use Rattle.sym_model.proofs.PolynomialLaws.{restricted_test}
 use Rattle.sparse_polys.proofs.products.times.Goals as goal
 use lib.IntN.{+ℤ_idl}
 
@@ -99,7 +100,7 @@ returns-clause-value g c n =
     let all = c.loop-monomial.invariant.sums d e (common-denominators left c.iter-monomial-items.ensures.combination) (common-denominators right c.is_table.ensures) in
     represents c.loop-monomial.sum (d * e) n (times (value_in left n) (value_in right n)) c.is_table-2.ensures all.cleared
     (λ φ.
-    all.sums (shown n φ)
-    ∙ +ℤ_idl (cleared_sum d (λ α. cleared_sum e (λ β. shown n φ (join α β)) right) (terms_of value done))
-    ∙ ap (λ (l : Terms (List ℕ)). cleared_sum d (λ α. cleared_sum e (λ β. shown n φ (join α β)) right) l) is
+    all.sums (restricted_test n φ)
+    ∙ +ℤ_idl (cleared_sum d (λ α. cleared_sum e (λ β. restricted_test n φ (join α β)) right) (terms_of value done))
+    ∙ ap (λ (l : Terms (List ℕ)). cleared_sum d (λ α. cleared_sum e (λ β. restricted_test n φ (join α β)) right) l) is
     ∙ product_value n left right φ)

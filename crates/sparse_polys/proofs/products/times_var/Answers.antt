@@ -16,7 +16,8 @@ use Rattle.sparse_polys.proofs.ClearedSums.{Adds-none, Adds-then, Adds-term, Are
 use Rattle.sparse_polys.proofs.ListSteps.{sum_next, list_whole, list_among, so_far_next}
 use Rattle.sparse_polys.proofs.NewTerms.{new_label, labels_next}
 use Rattle.sparse_polys.proofs.Raising.{size-raised}
-use Rattle.sparse_polys.proofs.PolynomialValues.{shown, represents, variable_value, common-denominators}
+use Rattle.sparse_polys.proofs.PolynomialValues.{represents, variable_value, common-denominators}
+use Rattle.sym_model.proofs.PolynomialLaws.{restricted_test}
 use Rattle.sparse_polys.proofs.products.times_var.Goals as goal
 use lib.IntN.{+ℤ_idl}
 
@@ -106,7 +107,7 @@ returns g c n =
     let all = (c.loop-monomial.invariant.sums d (common-denominators list c.iter-monomial-items.ensures.combination)).1 in
     represents c.loop-monomial.product d n (times (variable_in r n) (value_in list n)) c.is_table.ensures all.cleared
     (λ φ.
-    all.sums (shown n φ)
-    ∙ +ℤ_idl (cleared_sum d (λ e. shown n φ (raised r e)) (terms_of value done))
-    ∙ ap (λ (l : Terms (List ℕ)). cleared_sum d (λ e. shown n φ (raised r e)) l) is
+    all.sums (restricted_test n φ)
+    ∙ +ℤ_idl (cleared_sum d (λ e. restricted_test n φ (raised r e)) (terms_of value done))
+    ∙ ap (λ (l : Terms (List ℕ)). cleared_sum d (λ e. restricted_test n φ (raised r e)) l) is
     ∙ variable_value n r list φ)

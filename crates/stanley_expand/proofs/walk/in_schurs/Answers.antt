@@ -2,9 +2,9 @@ use Rattle.std.proofs.Common.{◌+◌, ◌<◌, ◌∙◌, sym, subst, ap, ◌+�
 use Rattle.std.specs.Prelude.{Err}
 use Rattle.sym_model.specs.Polynomial.{pair}
 use Rattle.sym_model.specs.Schubert.{schubert_in}
-use Rattle.sparse_polys.proofs.Steps.{error_is}
-use Rattle.schubert_transition.specs.Todo.{weigh}
-use Rattle.schubert_transition.specs.Transitions.{weight}
+use Rattle.linear_combinations.proofs.Steps.{error_is}
+use Rattle.transition_walk.specs.Todo.{weigh}
+use Rattle.transition_walk.specs.Transitions.{weight}
 use Rattle.stanley_expand.specs.Walk.{walked}
 use Rattle.stanley_expand.proofs.Popped.{popped_rising, popped_weights, popped_walked, large_as}
 use Rattle.stanley_expand.proofs.walk.in_schurs.Goals as goal
@@ -27,7 +27,7 @@ loop-perm-preserved-in_ok-work_off c = record {
       ∙ popped_walked c.loop-perm.todo.items c.pop.new.self.items c.in-Some.perm c.in-Some.ensures.items c.args.rows φ c.loop-perm.sum
       ∙ c.loop-perm.invariant.value φ;
   rising = c.in_ok-work_off.ensures.rising (popped_rising c.loop-perm.todo.items c.pop.new.self.items c.in-Some.perm c.in-Some.ensures.items c.args.rows (c.args.rows + 16) c.loop-perm.invariant.rising).1;
-  terms = c.in_ok-work_off.ensures.terms c.loop-perm.invariant.terms;
+  shapes = c.in_ok-work_off.ensures.shapes c.loop-perm.invariant.shapes;
 }
 
 pub loop-perm-preserved : goal.loop-perm-preserved
@@ -37,7 +37,7 @@ loop-perm-preserved c = record {
       ∙ popped_walked c.loop-perm.todo.items c.pop.new.self.items c.in-Some.perm c.in-Some.ensures.items c.args.rows φ c.loop-perm.sum
       ∙ c.loop-perm.invariant.value φ;
   rising = c.in_ok-work_off.ensures.rising (popped_rising c.loop-perm.todo.items c.pop.new.self.items c.in-Some.perm c.in-Some.ensures.items c.args.rows (c.args.rows + 16) c.loop-perm.invariant.rising).1;
-  terms = c.in_ok-work_off.ensures.terms c.loop-perm.invariant.terms;
+  shapes = c.in_ok-work_off.ensures.shapes c.loop-perm.invariant.shapes;
 }
 
 pub returns-in_err-work_off-clause-large : goal.returns-in_err-work_off-clause-large
@@ -46,4 +46,4 @@ returns-in_err-work_off-clause-large c err =
     (λ φ. popped_walked c.loop-perm.todo.items c.pop.new.self.items c.in-Some.perm c.in-Some.ensures.items c.args.rows φ c.loop-perm.sum ∙ c.loop-perm.invariant.value φ)
     (c.in_err-work_off.ensures.large (ap Err (error_is _ _ _ c.from_residual-in_err-work_off.ensures.1 err))
     (popped_rising c.loop-perm.todo.items c.pop.new.self.items c.in-Some.perm c.in-Some.ensures.items c.args.rows (c.args.rows + 16) c.loop-perm.invariant.rising).1
-    c.loop-perm.invariant.terms)
+    c.loop-perm.invariant.shapes)

@@ -1,8 +1,12 @@
 use Rattle.std.proofs.Common.{◌≤◌, ◌+◌, arith, ap, unwrap_or}
 use Rattle.sym_model.specs.Permutation.{last_descent_place}
-use Rattle.sparse_polys.proofs.ClearedSums.{on_ok}
-use Rattle.schubert_transition.proofs.Ranks.{weight_positive}
-use Rattle.stanley_expand.proofs.Steps.{walked_expand, rising_expand, walked_shape, large_shape}
+use Rattle.linear_combinations.proofs.Masses.{on_both}
+use Rattle.linear_combinations.proofs.Steps.{on_ok}
+use Rattle.transition_walk.proofs.Ranks.{weight_positive}
+use Rattle.stanley_expand.proofs.Steps.{walked_expand, rising_expand, more_shapes, walked_shape, large_shape}
+use Rattle.stanley_laws.specs.Grassmannian.{front_shape}
+use Rattle.stanley_laws.proofs.SchurPositive.{front_rows}
+use Rattle.stanley_expand.specs.Walk.{IsHeld, IsTable}
 use Rattle.stanley_expand.proofs.ShapeLimits.{shape_limits}
 use Rattle.stanley_expand.proofs.Weights.{weights_expand}
 use Rattle.stanley_expand.proofs.walk.replace.Goals.{in-Some+else-r-rows, in-None}
@@ -34,12 +38,18 @@ small c = elim c.match-transition_places.branch [
 
 pub returns-clause-value : goal.returns-clause-value
 returns-clause-value c =
-    on_ok c.add_shape.result c.add_shape.ensures.value
+    on_ok c.add_shape.result c.add_shape.ensures.gains
     (λ more φ. walked_shape c.args.rows (c.args.rows + 16) c.args.perm.now c.requires.rising (small c) φ c.args.sum.now c.add_shape.new.sum c.args.todo.now.items more)
 
+pub returns-clause-shapes : goal.returns-clause-shapes
+returns-clause-shapes c =
+    on_both {Q = IsTable c.add_shape.new.sum × IsHeld c.add_shape.new.sum} c.add_shape.result c.add_shape.ensures.gains
+    (on_both c.add_shape.result c.add_shape.ensures.table c.add_shape.ensures.held (λ table held. (table, held)))
+    (λ more is. more_shapes c.args.rows (front_shape c.args.rows c.args.perm.now) c.args.sum.now c.add_shape.new.sum (front_rows c.args.rows c.args.perm.now) more is.0 is.1)
+
 pub returns-clause-large : goal.returns-clause-large
-returns-clause-large c err rising terms =
-    large_shape c.args.rows (c.args.rows + 16) c.args.perm.now c.requires.rising (small c) c.args.sum.now c.args.todo.now.items c.is_whole.ensures.table rising (c.add_shape.ensures.large err terms)
+returns-clause-large c err rising shapes =
+    large_shape c.args.rows (c.args.rows + 16) c.args.perm.now c.requires.rising (small c) c.args.sum.now c.args.todo.now.items shapes rising (c.add_shape.ensures.large err)
 
 pub returns-clause-weight : goal.returns-clause-weight
-returns-clause-weight c = on_ok c.add_shape.result c.add_shape.ensures.value (λ _. let p = weight_positive c.args.perm.now in omega arith)
+returns-clause-weight c = on_ok c.add_shape.result c.add_shape.ensures.gains (λ _. let p = weight_positive c.args.perm.now in omega arith)

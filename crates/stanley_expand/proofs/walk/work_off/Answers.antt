@@ -3,7 +3,7 @@ use Rattle.std.proofs.lemmas.Int.{ints}
 use Rattle.sym_model.specs.Polynomial.{pair, nothing}
 use Rattle.sym_model.specs.Schubert.{schubert_in}
 use Rattle.sym_model.proofs.Polynomials.{pair_determined}
-use Rattle.schubert_transition.proofs.Ranks.{weight_positive}
+use Rattle.transition_walk.proofs.Ranks.{weight_positive}
 use Rattle.stanley_laws.proofs.GreaterBefore.{no_polynomial}
 use Rattle.stanley_expand.proofs.walk.work_off.Goals as goal
 

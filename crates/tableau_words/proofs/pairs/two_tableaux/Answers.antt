@@ -2,7 +2,8 @@ use Rattle.std.proofs.Common.{map, refl, ◌∙◌}
 use Rattle.std.specs.Prelude.{string_bytes}
 use Rattle.std.proofs.lemmas.Result.{err_from_is_err_and}
 use Rattle.sym_model.specs.Grammar.{unrsk_entry}
-use Rattle.tableau_words.proofs.CutTableaux.{rows_of, rows_spelled, rows_numbers, some_row, pair_cut}
+use Rattle.word_laws.specs.WrittenRows.{written_rows}
+use Rattle.tableau_words.proofs.CutTableaux.{rows_spelled, rows_numbers, some_row, pair_cut}
 use Rattle.tableau_words.proofs.pairs.two_tableaux.Goals as goal
 
 pub returns-in_err-places-clause-wrong : goal.returns-in_err-places-clause-wrong
@@ -16,5 +17,5 @@ returns-clause-ok c =
     let x = k.parts.0 in
     let y = k.parts.3.3.0 in
     pair_cut (map string_bytes c.args.words.now) c.in_ok-places.places k _ _
-    (c.in_ok-first.ensures (rows_of x) (some_row x) (rows_numbers x k.parts.1) ((c.piece_at-insertion.ensures.is _ _ k.parts.2).1 ∙ rows_spelled x))
-    (c.in_ok-second.ensures (rows_of y) (some_row y) (rows_numbers y k.parts.3.3.1) ((c.piece_at-recording.ensures.is _ _ k.parts.3.3.2).1 ∙ rows_spelled y))
+    (c.in_ok-first.ensures (written_rows x) (some_row x) (rows_numbers x k.parts.1) ((c.piece_at-insertion.ensures.is _ _ k.parts.2).1 ∙ rows_spelled x))
+    (c.in_ok-second.ensures (written_rows y) (some_row y) (rows_numbers y k.parts.3.3.1) ((c.piece_at-recording.ensures.is _ _ k.parts.3.3.2).1 ∙ rows_spelled y))

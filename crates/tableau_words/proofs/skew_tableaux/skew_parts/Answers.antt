@@ -2,7 +2,8 @@ use Rattle.std.proofs.Common.{map, refl, ◌∙◌}
 use Rattle.std.specs.Prelude.{string_bytes}
 use Rattle.std.proofs.lemmas.Result.{err_from_is_err_and}
 use Rattle.sym_model.specs.Grammar.{rect_entry}
-use Rattle.tableau_words.proofs.CutTableaux.{rows_of, rows_spelled, rows_numbers, some_row, skew_cut}
+use Rattle.word_laws.specs.WrittenRows.{written_rows}
+use Rattle.tableau_words.proofs.CutTableaux.{rows_spelled, rows_numbers, some_row, skew_cut}
 use Rattle.tableau_words.proofs.skew_tableaux.skew_parts.Goals as goal
 
 pub returns-in_err-places-clause-wrong : goal.returns-in_err-places-clause-wrong
@@ -16,4 +17,4 @@ returns-clause-ok c =
     let x = k.parts.3.3.3.3.0 in
     skew_cut (map string_bytes c.args.words.now) c.in_ok-places.places k _ _ _ (c.piece_at-outer.ensures.is _ _ k.parts.2).1
     (c.piece_at-inner.ensures.is _ _ k.parts.3.3.2).1
-    (c.in_ok-rows.ensures (rows_of x) (some_row x) (rows_numbers x k.parts.3.3.3.3.1) ((c.piece_at-tableau.ensures.is _ _ k.parts.3.3.3.3.2).1 ∙ rows_spelled x))
+    (c.in_ok-rows.ensures (written_rows x) (some_row x) (rows_numbers x k.parts.3.3.3.3.1) ((c.piece_at-tableau.ensures.is _ _ k.parts.3.3.3.3.2).1 ∙ rows_spelled x))

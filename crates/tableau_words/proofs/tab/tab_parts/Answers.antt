@@ -2,7 +2,8 @@ use Rattle.std.proofs.Common.{map, refl, ap, ◌∙◌}
 use Rattle.std.specs.Prelude.{string_bytes}
 use Rattle.std.proofs.lemmas.Result.{err_from_is_err_and}
 use Rattle.sym_model.specs.Grammar.{tab_entry}
-use Rattle.tableau_words.proofs.CutTableaux.{rows_from, none_from, some_from, tab_cut}
+use Rattle.tableau_words.specs.TabWords.{from_rows}
+use Rattle.tableau_words.proofs.CutTableaux.{none_from, some_from, tab_cut}
 use Rattle.tableau_words.proofs.tab.tab_parts.Goals as goal
 
 pub returns-in_err-places-clause-wrong : goal.returns-in_err-places-clause-wrong
@@ -24,4 +25,4 @@ returns-clause-ok c =
     let x = k.parts.3.3.3.0 in
     let s = some_from x _ (map string_bytes c.in-Some.more.now) k.parts.3.3.3.1 (c.piece_at-last.ensures.is _ _ k.parts.3.3.3.2).1 c.in-Some.ensures in
     tab_cut (map string_bytes c.args.words.now) c.in_ok-places.places k _ _ _ (c.piece_at-outer.ensures.is _ _ k.parts.2).1
-    (c.piece_at-inner.ensures.is _ _ k.parts.3.3.2).1 (c.in_ok-rows.ensures (rows_from x) s.0 s.1 s.2)
+    (c.piece_at-inner.ensures.is _ _ k.parts.3.3.2).1 (c.in_ok-rows.ensures (from_rows x) s.0 s.1 s.2)

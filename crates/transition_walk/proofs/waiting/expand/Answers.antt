@@ -1,10 +1,10 @@
-use Rattle.std.proofs.Common.{[], ◌∷◌, refl, sym, ap, ◌∙◌, subst, arith}
+use Rattle.std.proofs.Common.{[], ◌∷◌, refl, sym, ap, subst, arith}
 use Rattle.std.specs.Prelude.{Err}
 use Rattle.schubert_laws.proofs.Members.{short_transition, place_within}
 use Rattle.linear_combinations.specs.Gains.{replaced}
-use Rattle.schubert_transition.specs.Transitions.{IsShort}
-use Rattle.sparse_polys.proofs.ClearedSums.{on_ok}
-use Rattle.sparse_polys.proofs.Steps.{error_is}
+use Rattle.transition_walk.specs.Transitions.{IsShort}
+use Rattle.linear_combinations.proofs.Steps.{on_ok}
+use Rattle.linear_combinations.proofs.Steps.{error_is}
 use Rattle.transition_walk.specs.Waiting.{Joins, WaitingOverflows, each_waits}
 use Rattle.transition_walk.proofs.JoinedLists.{joins_both, overflows_both, overflows_more}
 use Rattle.transition_walk.proofs.Steps.{stepped_as}
@@ -18,14 +18,16 @@ times_swap-requires-clause-order g c = let p = place_within c.args.waiting.now.p
 
 pub times_swap-requires-clause-second : goal.times_swap-requires-clause-second
 times_swap-requires-clause-second g c =
-    let p = place_within c.args.waiting.now.perm c.args.r c.args.s c.requires.permutation.one_line c.requires.places in let q = p.3 in let f = c.requires.permutation.few in omega arith
+    let p = place_within c.args.waiting.now.perm c.args.r c.args.s c.requires.permutation.one_line c.requires.places in let q = p.3 in let f =
+    c.requires.permutation.few in omega arith
 
 pub covers_down-requires-clause-place : goal.covers_down-requires-clause-place
 covers_down-requires-clause-place g c = let p = place_within c.args.waiting.now.perm c.args.r c.args.s c.requires.permutation.one_line c.requires.places in p.0
 
 pub covers_down-requires-clause-last : goal.covers_down-requires-clause-last
 covers_down-requires-clause-last g c =
-    let p = place_within c.args.waiting.now.perm c.args.r c.args.s c.requires.permutation.one_line c.requires.places in let q = p.1 in let f = c.requires.permutation.few in omega arith
+    let p = place_within c.args.waiting.now.perm c.args.r c.args.s c.requires.permutation.one_line c.requires.places in let q = p.1 in let f =
+    c.requires.permutation.few in omega arith
 
 pub at-factor-requires : goal.at-factor-requires
 at-factor-requires g c = let p = place_within c.args.waiting.now.perm c.args.r c.args.s c.requires.permutation.one_line c.requires.places in p.0
@@ -34,30 +36,35 @@ pub add_waiting_by-requires : goal.add_waiting_by-requires
 add_waiting_by-requires g c t m =
     let p = place_within c.args.waiting.now.perm c.args.r c.args.s c.requires.permutation.one_line c.requires.places in
     let p1 = p.1 in
-    let few = c.requires.permutation.few in
-    let lower = subst (IsShort 254) (sym c.in_ok-lower.ensures) (short_transition 254 c.args.waiting.now.perm c.args.r c.args.s c.requires.permutation c.requires.places) in
-    subst (λ f. g.F.Rule.takes f t.0) (sym c.at-factor.ensures) (g.met.F.Factor.grows 254 c.args.r c.in_ok-lower.lower t.0 lower p.0 (omega arith) (omega arith) (c.requires.labels t m)).taken
+    let few = c.requires.few in
+    let small = c.requires.permutation.few in
+    let lower = subst (IsShort g.F.Factor.most) (sym c.in_ok-lower.ensures)
+    (short_transition g.F.Factor.most c.args.waiting.now.perm c.args.r c.args.s (record { one_line = c.requires.permutation.one_line; few = few }) c.requires.places) in
+    subst (λ f. g.F.Rule.takes f t.0) (sym c.at-factor.ensures)
+    (g.met.F.Factor.grows g.F.Factor.most c.args.r c.in_ok-lower.lower t.0 lower p.0 (omega arith) (omega arith) (omega arith) (c.requires.labels t m)).taken
 
 pub returns-clause-joins : goal.returns-clause-joins
 returns-clause-joins g c =
     on_ok c.add_waiting_by.result c.add_waiting_by.ensures.joins
     (λ more.
     subst (λ l. Joins c.args.todo.now.items l c.add_waiting_by.new.todo.items)
-    (stepped_as g.F.Rule.image (g.F.Factor.made c.args.r) c.args.r c.args.s c.args.waiting.now c.as_slice.result.now c.in_ok-lower.lower c.at-factor.result c.in_ok-lower.ensures (c.as_slice.ensures.value ∙ c.in_ok-covers.ensures) c.at-factor.ensures)
-    (joins_both c.args.todo.now.items (each_waits c.args.waiting.now.factor c.as_slice.result.now) c.add_covers.new.todo.items
-    ((record { perm = c.in_ok-lower.lower; factor = replaced (g.F.Rule.image c.at-factor.result) c.args.waiting.now.factor }) ∷ []) c.add_waiting_by.new.todo.items c.in_ok-add_covers.ensures.joins more))
+    (stepped_as g.F.Rule.image (g.F.Factor.made c.args.r) c.args.r c.args.s c.args.waiting.now c.in_ok-covers.covers.items c.in_ok-lower.lower c.at-factor.result c.in_ok-lower.ensures c.in_ok-covers.ensures c.at-factor.ensures)
+    (joins_both c.args.todo.now.items (each_waits c.args.waiting.now.factor c.in_ok-covers.covers.items) c.add_covers.new.todo.items
+    ((record { perm = c.in_ok-lower.lower; factor = replaced (g.F.Rule.image c.at-factor.result) c.args.waiting.now.factor }) ∷ []) c.add_waiting_by.new.todo.items
+    c.in_ok-add_covers.ensures.joins more))
 
 pub returns-clause-large : goal.returns-clause-large
 returns-clause-large g c err =
     subst (WaitingOverflows c.args.todo.now.items)
-    (stepped_as g.F.Rule.image (g.F.Factor.made c.args.r) c.args.r c.args.s c.args.waiting.now c.as_slice.result.now c.in_ok-lower.lower c.at-factor.result c.in_ok-lower.ensures (c.as_slice.ensures.value ∙ c.in_ok-covers.ensures) c.at-factor.ensures)
-    (overflows_both c.args.todo.now.items (each_waits c.args.waiting.now.factor c.as_slice.result.now) c.add_covers.new.todo.items
-    ((record { perm = c.in_ok-lower.lower; factor = replaced (g.F.Rule.image c.at-factor.result) c.args.waiting.now.factor }) ∷ []) c.in_ok-add_covers.ensures.joins (c.add_waiting_by.ensures.large err))
+    (stepped_as g.F.Rule.image (g.F.Factor.made c.args.r) c.args.r c.args.s c.args.waiting.now c.in_ok-covers.covers.items c.in_ok-lower.lower c.at-factor.result c.in_ok-lower.ensures c.in_ok-covers.ensures c.at-factor.ensures)
+    (overflows_both c.args.todo.now.items (each_waits c.args.waiting.now.factor c.in_ok-covers.covers.items) c.add_covers.new.todo.items
+    ((record { perm = c.in_ok-lower.lower; factor = replaced (g.F.Rule.image c.at-factor.result) c.args.waiting.now.factor }) ∷ []) c.in_ok-add_covers.ensures.joins
+    (c.add_waiting_by.ensures.large err))
 
 pub returns-in_err-add_covers-clause-large : goal.returns-in_err-add_covers-clause-large
 returns-in_err-add_covers-clause-large g c err =
     subst (WaitingOverflows c.args.todo.now.items)
-    (stepped_as g.F.Rule.image (g.F.Factor.made c.args.r) c.args.r c.args.s c.args.waiting.now c.as_slice.result.now c.in_ok-lower.lower (g.F.Factor.made c.args.r c.in_ok-lower.lower) c.in_ok-lower.ensures (c.as_slice.ensures.value ∙ c.in_ok-covers.ensures) refl)
-    (overflows_more c.args.todo.now.items (each_waits c.args.waiting.now.factor c.as_slice.result.now)
+    (stepped_as g.F.Rule.image (g.F.Factor.made c.args.r) c.args.r c.args.s c.args.waiting.now c.in_ok-covers.covers.items c.in_ok-lower.lower (g.F.Factor.made c.args.r c.in_ok-lower.lower) c.in_ok-lower.ensures c.in_ok-covers.ensures refl)
+    (overflows_more c.args.todo.now.items (each_waits c.args.waiting.now.factor c.in_ok-covers.covers.items)
     ((record { perm = c.in_ok-lower.lower; factor = replaced (g.F.Rule.image (g.F.Factor.made c.args.r c.in_ok-lower.lower)) c.args.waiting.now.factor }) ∷ [])
     (c.in_err-add_covers.ensures.large (ap Err (error_is _ _ _ c.from_residual-in_err-add_covers.ensures.1 err))))

@@ -1,14 +1,12 @@
-use Rattle.std.proofs.Common.{◌≡◌, ◌++◌, ◌∷◌, [], map, sym, ◌∙◌, ap, subst, refl, append_assoc, Err}
+use Rattle.std.proofs.Common.{◌≡◌, ◌++◌, ◌∷◌, [], map, sym, ◌∙◌, ap, subst, refl, Err}
 use Rattle.std.specs.Map.Iter.{deref_pair}
 use Rattle.std.proofs.lemmas.List.{map-append}
-use Rattle.coeff_rings.specs.Fractions.{whole, lowest_terms}
+use Rattle.coeff_rings.specs.Fractions.{lowest_terms}
 use Rattle.sym_model.specs.Expansion.{Fraction}
 use Rattle.sym_model.specs.LabelLimits.{is_label}
-use Rattle.sym_model.specs.WholeTerms.{numerators}
-use Rattle.sparse_polys.specs.Combination.{terms_of, HasMoreAt}
+use Rattle.sparse_polys.specs.Combination.{HasMoreAt}
 use Rattle.sparse_polys.proofs.Steps.{all_done, error_is, IsCombination-empty}
-use Rattle.sparse_polys.proofs.Rows.{list_whole}
-use Rattle.sparse_polys.proofs.Coefficients.{numerators-terms}
+use Rattle.linear_combinations.proofs.Gains.{all_pairs, so_far_next}
 use Rattle.whole_lists.specs.Tables.{equal, found, IsTable}
 use Rattle.whole_lists.proofs.Quotients.{Quotients, Quotients-none, Quotients-next, coefficient-before, not_refused_quotient}
 use Rattle.whole_lists.proofs.division.divided.Goals as goal
@@ -36,9 +34,7 @@ loop-label-preserved c =
     record {
       quotients = subst (Quotients c.args.den new) pushed (Quotients-next c.args.den old new done k v c.requires.0 c.loop-label.invariant.quotients more);
       table = c.in_ok-add_term.ensures.combination;
-      so_far =
-          ap (λ es. es ++ rest) (sym pushed) ∙ append_assoc done ((k, v) ∷ []) rest
-          ∙ ap (λ es. done ++ es) (sym c.in-Some.ensures.steps) ∙ c.loop-label.invariant.so_far;
+      so_far = so_far_next done rest c.loop-label.label-iterator _ _ (k, v) pushed c.in-Some.ensures.steps c.loop-label.invariant.so_far;
     }
 
 pub returns-in_err-add_term-clause-small : goal.returns-in_err-add_term-clause-small
@@ -48,16 +44,14 @@ returns-in_err-add_term-clause-small c = λ large.
     let k = c.in-Some.label.now in
     let v = c.in-Some.c.now in
     let all =
-    list_whole whole (map deref_pair c.loop-label.yielded) c.next.new.self c.loop-label.label-iterator _ _ c.in-Some.label.now c.in-Some.c.now c.args.terms.now
+    all_pairs done rest c.loop-label.label-iterator _ _ c.args.terms.now (k, v)
     c.in-Some.ensures.steps c.loop-label.invariant.so_far c.into_iter-label-iterator.ensures.into_iter_gives c.iter-label-items.ensures.rest in
     let refused = c.in_err-add_term.ensures.large.0 (ap Err (error_is _ _ _ c.from_residual-in_err-add_term.ensures.1 large)) in
     not_refused_quotient c.args.den (found c.loop-label.list c.in_ok-copy.field-0) c.quotient_of.result _ c.requires.0
-    (coefficient-before c.args.terms.now c.is_whole.ensures.table done rest k v all)
+    (coefficient-before c.args.terms.now c.iter-label-items.ensures.combination done rest k v all)
     (ap (found c.loop-label.list) c.in_ok-copy.ensures.ok ∙ c.loop-label.invariant.quotients k) refused
 
 pub returns-clause-value : goal.returns-clause-value
 returns-clause-value c =
-    let done = map deref_pair c.loop-label.yielded in
     let entries = all_done (map deref_pair c.loop-label.yielded) c.loop-label.label-iterator _ _ c.in-None.ensures.steps.0 c.loop-label.invariant.so_far c.into_iter-label-iterator.ensures.into_iter_gives in
-    let all : numerators (terms_of whole (map deref_pair c.loop-label.yielded)) ≡ numerators c.args.terms.now = ap numerators (ap (terms_of whole) entries ∙ c.iter-label-items.ensures.rest) in
-    subst (Quotients c.args.den c.loop-label.list) (sym (numerators-terms done) ∙ all) c.loop-label.invariant.quotients
+    subst (Quotients c.args.den c.loop-label.list) (entries ∙ c.iter-label-items.ensures.rest) c.loop-label.invariant.quotients

@@ -1,7 +1,6 @@
 -- Each is computed.
-use Rattle.std.proofs.Common.{true, false, [], ◌∷◌, ◌++◌, refl}
+use Rattle.std.proofs.Common.{true, false, [], ◌∷◌, ◌++◌, refl, flat_map}
 use Rattle.std.specs.Prelude.{codes, replicate}
-use Rattle.sym_model.specs.Sum.{each}
 use Rattle.sym_model.specs.Expansion.{monomials, power_sums, schurs}
 use Rattle.sym_model.specs.Expression.{number, atom, negation}
 use Rattle.sym_model.specs.ExpressionOffence.{literal, range, shape}
@@ -44,16 +43,16 @@ pub returns-clause-depth_64 : goal.returns-clause-depth_64
 returns-clause-depth_64 c = said (codes "expand m " ++ (replicate 64 40 ++ (codes "1" ++ replicate 64 41))) (expand monomials false (number 1)) refl
 
 pub returns-clause-entries_65 : goal.returns-clause-entries_65
-returns-clause-entries_65 c = offended (codes "expand m p[0" ++ (each (λ b. 44 ∷ b ∷ []) (replicate 64 48) ++ codes "]")) (2, 130, range) refl
+returns-clause-entries_65 c = offended (codes "expand m p[0" ++ (flat_map (λ b. 44 ∷ b ∷ []) (replicate 64 48) ++ codes "]")) (2, 130, range) refl
 
 pub returns-clause-entries_64 : goal.returns-clause-entries_64
-returns-clause-entries_64 c = said (codes "expand m p[0" ++ (each (λ b. 44 ∷ b ∷ []) (replicate 63 48) ++ codes "]")) (expand monomials false (atom power_sums [])) refl
+returns-clause-entries_64 c = said (codes "expand m p[0" ++ (flat_map (λ b. 44 ∷ b ∷ []) (replicate 63 48) ++ codes "]")) (expand monomials false (atom power_sums [])) refl
 
 pub returns-clause-bytes_4096 : goal.returns-clause-bytes_4096
-returns-clause-bytes_4096 c = said (codes "expand m p[" ++ (zeros_of 63 ++ (each (λ n. 44 ∷ zeros_of n) (replicate 61 63 ++ (62 ∷ 62 ∷ [])) ++ codes "]"))) (expand monomials false (atom power_sums [])) refl
+returns-clause-bytes_4096 c = said (codes "expand m p[" ++ (zeros_of 63 ++ (flat_map (λ n. 44 ∷ zeros_of n) (replicate 61 63 ++ (62 ∷ 62 ∷ [])) ++ codes "]"))) (expand monomials false (atom power_sums [])) refl
 
 pub returns-clause-bytes_4097 : goal.returns-clause-bytes_4097
-returns-clause-bytes_4097 c = offended (codes "expand m p[" ++ (zeros_of 63 ++ (each (λ n. 44 ∷ zeros_of n) (replicate 62 63 ++ (62 ∷ [])) ++ codes "]"))) (2, 4096, range) refl
+returns-clause-bytes_4097 c = offended (codes "expand m p[" ++ (zeros_of 63 ++ (flat_map (λ n. 44 ∷ zeros_of n) (replicate 62 63 ++ (62 ∷ [])) ++ codes "]"))) (2, 4096, range) refl
 
 pub returns-clause-widest_after_minus : goal.returns-clause-widest_after_minus
 returns-clause-widest_after_minus c = said (codes "expand m -170141183460469231731687303715884105727") (expand monomials false (negation (number 170141183460469231731687303715884105727))) refl

@@ -5,8 +5,8 @@ use Rattle.sym_model.specs.Permutation.{covers_up, covers_down, letter}
 use Rattle.sym_model.specs.DividedDifference.{raised}
 use Rattle.schubert_laws.proofs.Ranks.{letter_counts}
 use Rattle.double_schubert_laws.proofs.DoubleFromOne.{letter_small}
-use Rattle.sparse_polys.proofs.ClearedSums.{on_ok}
-use Rattle.sparse_polys.proofs.Steps.{error_is}
+use Rattle.linear_combinations.proofs.Steps.{on_ok}
+use Rattle.linear_combinations.proofs.Steps.{error_is}
 use Rattle.linear_combinations.specs.Gains.{Gains, Overflows, scaled}
 use Rattle.coeff_rings.specs.Proved.Whole.{whole_fitted}
 use Rattle.double_schubert.specs.Shifts.{IsWithin, equal, factor_terms}

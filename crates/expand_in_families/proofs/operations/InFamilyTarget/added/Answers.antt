@@ -55,7 +55,7 @@ returns c e f t h k =
     done (ClearsTo (polynomial_of c.args.self.now.family)) IsHeavy (sum e f) _
     (clears-sum (polynomial_of c.args.self.now.family) e f c.args.left c.args.right c.rise-by_left.result c.rise-by_right.result t.plain.0 t.plain.1 h k
     (c.rise-by_left.ensures.value ∙ ap factorial c.max-degree.ensures) (c.rise-by_right.ensures.value ∙ ap factorial c.max-degree.ensures)
-    _ _ _ c.is_whole.ensures.table common.0 c.max-degree.ensures
+    _ _ _ common.0 c.max-degree.ensures
     (left ∙ c.in-Some-times.ensures ∙ ap (λ z. z *ℤ pos c.rise-by_left.result) (from_left-again c.args.left.den c.args.right.den c.in-Some.common.den c.in-Some.common.from_left common.0 common.1 common.3 ∙ common.3))
     (right ∙ c.in-Some-times-2.ensures ∙ ap (λ z. z *ℤ pos c.rise-by_right.result) (from_right-again c.args.left.den c.args.right.den c.in-Some.common.den c.in-Some.common.from_right common.0 common.1 common.4 ∙ common.4))
     c.in_ok-terms.ensures.value)

@@ -1,9 +1,8 @@
-use Rattle.std.proofs.Common.{◌+◌, ◌*◌, ◌<◌, ◌≤◌, ◌^◌, ◌++◌, List, ℕ, arith, ap, subst, refl, Err}
+use Rattle.std.proofs.Common.{◌+◌, ◌*◌, ◌<◌, ◌≤◌, ◌^◌, ◌++◌, arith, ap, subst, refl, Err}
 use Rattle.std.specs.Prelude.{nat_abs}
 use Rattle.sym_model.specs.Expression.{product}
-use Rattle.sym_model.specs.Expansion.{Terms}
 use Rattle.sym_model.specs.Polynomial.{Same, scale}
-use Rattle.sym_model.specs.WholeTerms.{numerators, absolute_total}
+use Rattle.sym_model.specs.WholeTerms.{WholeTerms, absolute_total}
 use Rattle.basis_change_laws.specs.JoinedLists.{joined}
 use Rattle.expression_evaluation.proofs.Making.{failed, done, refused}
 use Rattle.whole_lists.specs.Families.{polynomial_of}
@@ -22,15 +21,15 @@ returns-in_err-add_products c e f t h k =
     (λ large.
     large-product (polynomial_of c.args.self.now.family) e f c.args.left c.args.right c.binomial.result c.whole_of-ways.result t.plain.0 t.plain.1 c.whole_of-ways.ensures c.binomial.ensures.value h k
     (λ m l o.
-    subst (λ (ts : Terms (List ℕ)). 2 ^ 127 ≤ absolute_total (numerators ts) + nat_abs c.whole_of-ways.result * absolute_total (numerators c.args.left.terms) * m) c.new-terms.ensures
+    subst (λ (ts : WholeTerms). 2 ^ 127 ≤ absolute_total ts + nat_abs c.whole_of-ways.result * absolute_total c.args.left.terms * m) c.new-terms.ensures
     (c.in_err-add_products.ensures.large (ap Err large) m l o)))
 
 pub returns : goal.returns
 returns c e f t h k =
     done (ClearsTo (polynomial_of c.args.self.now.family)) IsHeavy (product e f) _
-    (clears-product (polynomial_of c.args.self.now.family) (In-family c.args.self.now.family) e f c.args.left c.args.right _ c.binomial.result c.is_whole.ensures.table c.in-Some.ensures.1 refl c.binomial.ensures.value
-    (subst (λ z. Same (numerators c.add_products.new.sum) (joined (scale z (numerators c.args.left.terms)) (numerators c.args.right.terms))) c.whole_of-ways.ensures
-    (subst (λ (ts : Terms (List ℕ)). Same (numerators c.add_products.new.sum) (numerators ts ++ joined (scale c.whole_of-ways.result (numerators c.args.left.terms)) (numerators c.args.right.terms))) c.new-terms.ensures
+    (clears-product (polynomial_of c.args.self.now.family) (In-family c.args.self.now.family) e f c.args.left c.args.right _ c.binomial.result c.in-Some.ensures.1 refl c.binomial.ensures.value
+    (subst (λ z. Same c.add_products.new.sum (joined (scale z c.args.left.terms) c.args.right.terms)) c.whole_of-ways.ensures
+    (subst (λ (ts : WholeTerms). Same c.add_products.new.sum (ts ++ joined (scale c.whole_of-ways.result c.args.left.terms) c.args.right.terms)) c.new-terms.ensures
     c.in_ok-add_products.ensures.value))
     h k)
 

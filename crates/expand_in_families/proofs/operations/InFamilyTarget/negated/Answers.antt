@@ -1,7 +1,6 @@
 use Rattle.std.proofs.Common.{refl, ap, subst, Err, negsuc, ◌≡◌}
 use Rattle.sym_model.specs.Expression.{negation}
 use Rattle.sym_model.specs.Polynomial.{Same, scale}
-use Rattle.sym_model.specs.WholeTerms.{numerators}
 use Rattle.whole_lists.specs.Large.{HasLarge}
 use Rattle.whole_lists.proofs.TableSums.{Same-multiple, large_product}
 use Rattle.expression_evaluation.proofs.Making.{failed, done}
@@ -17,14 +16,14 @@ returns-in_err-terms c e t h =
     let refused = c.in_err-terms.ensures.large.0 (ap Err large) in
     let q : c.new.result ≡ negsuc 0 = c.new.ensures in
     large-negation (polynomial_of c.args.self.now.family) e c.args.inner t.plain h
-    (subst (λ z. HasLarge (scale z (numerators c.args.inner.terms))) q
-    (large_product c.args.inner.terms c.new.result c.is_whole.ensures.table c.is_whole.ensures.whole refused)))
+    (subst (λ z. HasLarge (scale z c.args.inner.terms)) q
+    (large_product c.args.inner.terms c.new.result c.args.inner.table refused)))
 
 pub returns : goal.returns
 returns c e t h =
     let q : c.new.result ≡ negsuc 0 = c.new.ensures in
     done (ClearsTo (polynomial_of c.args.self.now.family)) IsHeavy (negation e) _
-    (clears-negation (polynomial_of c.args.self.now.family) e c.args.inner _ c.is_whole-2.ensures.table refl refl
-    (subst (λ z. Same (numerators c.in_ok-terms.terms) (scale z (numerators c.args.inner.terms))) q
-    (Same-multiple c.args.inner.terms c.in_ok-terms.terms c.new.result c.is_whole.ensures.table c.is_whole.ensures.whole c.is_whole-2.ensures.table c.in_ok-terms.ensures.product))
+    (clears-negation (polynomial_of c.args.self.now.family) e c.args.inner _ refl refl
+    (subst (λ z. Same c.in_ok-terms.terms (scale z c.args.inner.terms)) q
+    (Same-multiple c.args.inner.terms c.in_ok-terms.terms c.new.result c.args.inner.table c.in_ok-terms.ensures.combination c.in_ok-terms.ensures.product))
     h)

@@ -16,7 +16,7 @@ returns-in_err-terms c e f t h k =
     failed ClearsTo IsHeavy (product e f) _ _ c.from_residual.ensures.0 c.from_residual.ensures.1
     (λ large.
     large-product e f _ _ t.plain.0 t.plain.1
-    (Once-labels c.args.left.terms c.is_whole.ensures.table) (Once-labels c.args.right.terms c.is_whole-2.ensures.table) h.value k.value
+    (Once-labels c.args.left.terms c.args.left.table) (Once-labels c.args.right.terms c.args.right.table) h.value k.value
     (c.in_err-terms.ensures.large (ap Err large)))
 
 pub returns : goal.returns
@@ -28,7 +28,7 @@ times_whole_in_m-requires c =
     let e = c.requires.0 in
     let f = c.requires.1 in
     let t = c.requires.2 in
-    let left = greatest-within (degree e) c.args.left.terms (AreWithin-cleared e c.args.left.terms c.is_whole.ensures.table c.requires.3.value) in
-    let right = greatest-within (degree f) c.args.right.terms (AreWithin-cleared f c.args.right.terms c.is_whole-2.ensures.table c.requires.4.value) in
+    let left = greatest-within (degree e) c.args.left.terms (AreWithin-cleared e c.args.left.terms c.args.left.table c.requires.3.value) in
+    let right = greatest-within (degree f) c.args.right.terms (AreWithin-cleared f c.args.right.terms c.args.right.table c.requires.4.value) in
     let low = t.low in
     omega arith

@@ -23,5 +23,5 @@ returns-in_err-list c e f t h k = failed IsOperand MayBeLarge (sum e f) _ _ c.fr
 pub returns : goal.returns
 returns c e f t h k =
     done IsOperand MayBeLarge (sum e f) _
-    (sum-list e f c.in_ok-first.first c.in_ok-second.second c.in_ok-list.list t.plain.0 t.plain.1 c.is_table.ensures c.is_table-2.ensures
-    c.in_ok-list.ensures.combination c.in_ok-list.ensures.sum (c.in_ok-first.ensures e h) (c.in_ok-second.ensures f k))
+    (sum-list e f c.in_ok-first.first c.in_ok-second.second c.in_ok-list.list t.plain.0 t.plain.1 c.sum_of.ensures.tables.0 c.sum_of.ensures.tables.1
+    c.in_ok-list.ensures.table c.in_ok-list.ensures.sum (c.in_ok-first.ensures e h) (c.in_ok-second.ensures f k))

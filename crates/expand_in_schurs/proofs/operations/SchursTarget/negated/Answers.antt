@@ -1,4 +1,4 @@
-use Rattle.std.proofs.Common.{subst}
+use Rattle.std.proofs.Common.{subst, sym, ◌∙◌}
 use Rattle.std.specs.Prelude.{nat_eq}
 use Rattle.std.specs.Cmp.Lexicographic.{pointwise}
 use Rattle.sym_model.specs.Expansion.{Fraction}
@@ -6,7 +6,7 @@ use Rattle.sym_model.specs.Expression.{negation}
 use Rattle.sparse_polys.specs.Combination.{IsMultipleOf}
 use Rattle.expression_evaluation.proofs.Making.{done, failed}
 use Rattle.expand_in_schurs.specs.Operands.{IsOperand, MayBeLarge}
-use Rattle.expand_in_schurs.proofs.Expressions.{negation-list}
+use Rattle.expand_in_schurs.proofs.Expressions.{negation-list, negation-nothing}
 use Rattle.expand_in_schurs.proofs.operations.SchursTarget.negated.Goals as goal
 
 pub list_of-requires : goal.list_of-requires
@@ -21,6 +21,11 @@ returns-in_err-list c e t h = failed IsOperand MayBeLarge (negation e) _ _ c.fro
 pub returns : goal.returns
 returns c e t h =
     done IsOperand MayBeLarge (negation e) _
-    (negation-list e c.in_ok-terms.terms c.in_ok-list.list c.is_table.ensures c.in_ok-list.ensures.combination
+    (negation-list e c.in_ok-terms.terms c.in_ok-list.list c.len.ensures.combination c.in_ok-list.ensures.combination
     (subst (λ (x : Fraction). IsMultipleOf (pointwise nat_eq) c.in_ok-terms.terms x c.in_ok-list.list) c.from_whole.ensures.value c.in_ok-list.ensures.product)
     (c.in_ok-terms.ensures e h))
+
+pub returns-then-len-eq0 : goal.returns-then-len-eq0
+returns-then-len-eq0 c e t h =
+    done IsOperand MayBeLarge (negation e) _
+    (negation-nothing e c.in_ok-terms.terms (sym c.len.ensures.len ∙ c.if-len-eq0.true) (c.in_ok-terms.ensures e h))

@@ -10,7 +10,8 @@ use Rattle.linear_combinations.specs.Entries.{coefficient, IsCombination, IsMult
 use Rattle.linear_combinations.proofs.LowestTerms.{product-zero}
 use Rattle.linear_combinations.proofs.Steps.{all_done}
 use Rattle.linear_combinations.proofs.Tables.{lowest-coefficient}
-use Rattle.linear_combinations.proofs.Multiples.{among-next, held-Relates, zero_product, Relates, IsProduct, Relates-push, keys-Relates, next_at, set_next, length-both, place_within, rest_empty, IsMultipleOf-Relates, are_terms-Relates, fits-Relates}
+use Rattle.linear_combinations.proofs.Gains.{next_among}
+use Rattle.linear_combinations.proofs.Multiples.{held-Relates, zero_product, Relates, IsProduct, Relates-push, keys-Relates, next_at, set_next, length-both, place_within, rest_empty, IsMultipleOf-Relates, are_terms-Relates, fits-Relates}
 use Rattle.linear_combinations.proofs.lin.Lin.scale.Goals as goal
 
 pub loop-at-init : goal.loop-at-init
@@ -63,7 +64,7 @@ returns-in_err-ok_or-clause-large g c =
     let next = next_at done rest p here in
     let tail = next.0 in
     let all : before ++ (k, a) ∷ tail ≡ old = ap (λ es. before ++ es) (sym next.1) ∙ inv.was in
-    let among : Among p c.args.self = subst (Among p) (all ∙ c.self.view_is) (among-next before p tail) in (
+    let among : Among p c.args.self = subst (Among p) (all ∙ c.self.view_is) (next_among before p tail) in (
       λ large. (
         p,
         among,

@@ -2,8 +2,8 @@ use Rattle.std.proofs.Common.{◌≡◌, ℕ, ℤ, List, ◌++◌, ap, ap₂, �
 use Rattle.std.specs.Prelude.{Err, nat_eq, neg_ℤ}
 use Rattle.std.specs.Cmp.Lexicographic.{pointwise}
 use Rattle.sym_model.specs.Permutation.{covers_up, covers_down}
-use Rattle.sparse_polys.proofs.ClearedSums.{on_ok}
-use Rattle.sparse_polys.proofs.Steps.{error_is}
+use Rattle.linear_combinations.proofs.Steps.{on_ok}
+use Rattle.linear_combinations.proofs.Steps.{error_is}
 use Rattle.linear_combinations.specs.Gains.{Gains, Overflows, scaled, each_with}
 use Rattle.linear_combinations.proofs.Gains.{gains_both, overflows_both, overflows_more}
 use Rattle.monk_product.specs.Monk.{monk_terms}

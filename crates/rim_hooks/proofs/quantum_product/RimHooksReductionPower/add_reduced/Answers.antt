@@ -8,11 +8,12 @@ use Rattle.beta_list_laws.proofs.Ends.{goes_cells}
 use Rattle.linear_combinations.specs.Gains.{Gains, Overflows, scaled}
 use Rattle.rim_hooks.specs.Collected.{IsSign}
 use Rattle.rim_hooks.specs.Reduced.{reduction}
-use Rattle.rim_hooks.specs.ReducedLists.{PowerTerms, at_power}
+use Rattle.rim_hooks.specs.ReducedLists.{at_power}
 use Rattle.rim_hooks.specs.QuantumLaws.{power_equal_self}
 use Rattle.rim_hooks.specs.SignLaws.{core_sign, signed_size}
 use Rattle.rim_hooks.proofs.ReducedProducts.{overflow_one}
 use Rattle.rim_hooks.proofs.SignCasts.{kept_narrow}
+use Rattle.product_laws.specs.FactorSteps.{PowerTerms}
 use Rattle.rim_hooks.proofs.quantum_product.RimHooksReductionPower.add_reduced.Goals as goal
 
 abbrev equal : ℕ × List ℕ → ℕ × List ℕ → Bool

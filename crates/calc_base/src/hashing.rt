@@ -1,0 +1,18 @@
+//! One number made of many, to be hashed in their place.
+ghost use Rattle.std.specs.Prelude.{◌≡◌};
+ghost use Rattle.calc_base.specs.Mixing.{mixed as mixed_of};
+
+/// The base of the digits that are mixed into one number: a prime.
+const BASE: u64 = 1_000_003;
+
+/// The numbers as the digits of one, modulo 2^64. Hashing it in place of the list is quicker, as a
+/// hasher takes a list number by number.
+pub fn mixed(numbers: &[u16]) -> u64
+    ensures { result ≡ mixed_of 0 numbers.now }
+{
+    let mut sum: u64 = 0;
+    for number in numbers {
+        sum = sum.wrapping_mul(BASE).wrapping_add(u64::from(*number));
+    }
+    sum
+}

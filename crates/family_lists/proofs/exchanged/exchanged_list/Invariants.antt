@@ -1,0 +1,17 @@
+use Rattle.std.proofs.Common.{◌≡◌, ℕ, List, ◌++◌, length}
+use Rattle.sym_model.specs.PartitionList.{partitions_of}
+use Rattle.whole_lists.specs.Tables.{IsWholeTable}
+use Rattle.whole_lists.proofs.WholeLists.{Finds}
+use Rattle.family_lists.proofs.ExchangedLists.{exchanged}
+use Rattle.family_lists.proofs.exchanged.exchanged_list.Given as goal
+
+-- the table has the partitions so far, and they and the rest are all
+abbrev pub invariant-loop-alloc : goal.invariant-loop-alloc
+invariant-loop-alloc l = (done : List (List ℕ)) × record {
+  listed : done ++ l.labels.0 ≡ partitions_of l.k;
+  finds : Finds l.list (exchanged l.k done);
+  table : IsWholeTable l.list;
+}
+
+abbrev pub decreases-loop-alloc : goal.decreases-loop-alloc
+decreases-loop-alloc l = length l.labels.0

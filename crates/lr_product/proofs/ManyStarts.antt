@@ -1,0 +1,174 @@
+-- Tables that start with all labels of a list: what they come to is the product of the list with one factor more.
+use Rattle.std.proofs.Common.{◌≡◌, ℕ, ◌+◌, ◌*◌, ◌^◌, ◌<◌, ◌≤◌, ◌⊎◌, inl, inr, min, nat_abs, true, false, List, [], ◌∷◌, ◌++◌, refl, sym, ap, ap₂, ◌∙◌, subst, arith, ℤ, pos, negsuc, ◌+ℤ◌, ◌*ℤ◌}
+use Rattle.std.specs.Prelude.{◌≤ℤ◌, ◌<ℤ◌, Result, IfOk, OnOk}
+use Rattle.std.proofs.lemmas.Bool.{cases_lt, cases_Bool, both_ways}
+use Rattle.std.proofs.lemmas.Int.{ints}
+use Rattle.sym_model.specs.Sum.{Among}
+use Rattle.sym_model.specs.Partition.{IsPartition, rows, size}
+use Rattle.sym_model.specs.Polynomial.{Term, Same, coefficient, resize, scale}
+use Rattle.sym_model.specs.GoodTableau.{product_count}
+use Rattle.sym_model.specs.LabelLimits.{is_partition}
+use Rattle.sym_model.specs.Target.{classical_product}
+use Rattle.sym_model.specs.WholeTerms.{WholeTerms}
+use Rattle.sym_model.proofs.Orders.{is_partition-tells, is_partition-from}
+use Rattle.sym_model.proofs.Polynomials.{coefficient_plus, coefficient_scale}
+use Rattle.sym_model.proofs.Sums.{Among_from_each, Among_from_map}
+use Rattle.tableau_laws.specs.ColumnFold.{column_lines}
+use Rattle.alternant_laws.proofs.ClassicalProducts.{classical_product-coefficient, classical_product-term}
+use Rattle.product_laws.specs.FactorSteps.{multiplied}
+use Rattle.product_laws.specs.CountedProducts.{Reaches}
+use Rattle.linear_combinations.proofs.Steps.{if_answered, on_ok}
+use Rattle.lr_product.specs.Capped.{Agree}
+use Rattle.lr_product.specs.Counts.{good_count, HasCounts, IsPastSomewhere}
+use Rattle.lr_product.specs.ProductOfFactors.{AreSmallCounts, AllMayMeet}
+use Rattle.lr_product.specs.WeighedSum.{sum_over, weighed, started, over_states, comes_to, unreached}
+use Rattle.lr_product.proofs.GoodCounts.{SameCounts, same_product, product_counts, no_label, counts_agree, fits_agree, past_agree, lists_in, fits_in, past_in}
+use Rattle.lr_product.proofs.Ranges.{sum-append}
+use Rattle.lr_product.proofs.Rounds.{start_within}
+
+-- sums over a list of functions that are the same on its elements
+sum-among : {A : Type 0} (f g : A → ℕ) (xs : List A) → ((x : A) → Among x xs → f x ≡ g x) → sum_over f xs ≡ sum_over g xs
+sum-among f g [] e = refl
+sum-among f g (x ∷ xs) e = ap₂ ◌+◌ (e x (inl refl)) (sum-among f g xs (λ y m. e y (inr m)))
+
+sum-nothing : {A : Type 0} (f : A → ℕ) (xs : List A) → ((x : A) → Among x xs → f x ≡ 0) → sum_over f xs ≡ 0
+sum-nothing f [] e = refl
+sum-nothing f (x ∷ xs) e =
+    let here = e x (inl refl) in
+    let rest = sum-nothing f xs (λ y m. e y (inr m)) in
+    omega arith
+
+-- one label more
+pub started-push : (n : ℕ) (f : List ℕ → List ℕ → ℕ) (done : WholeTerms) (t : Term)
+    → started n f done + nat_abs t.1 * f (resize n t.0) [] ≡ started n f (done ++ t ∷ [])
+started-push n f done t =
+    let e = sum-append (λ (u : List ℕ × ℤ). nat_abs u.1 * f (resize n u.0) []) done (t ∷ []) in
+    omega arith
+
+module _ (n k : ℕ) (next : List ℕ) (product : WholeTerms) (q : IsPartition next) (may : AllMayMeet k next product) (most : n ≤ k)
+    (enough : (t : Term) → Among t product → (rows t.0 ≤ n) × (min k (rows t.0 + rows next) ≤ n)) where
+  -- the labels leave the factor room
+  pub starts_within : (m : ℕ) → m + size next ≤ 4096 → 4096 ≤ m + size next → started n (unreached n m) product ≡ 0
+  starts_within m l g =
+      sum-nothing (λ (t : List ℕ × ℤ). nat_abs t.1 * unreached n m (resize n t.0) []) product
+      (λ t a.
+      let h = may t a in
+      let c = h.cells in
+      let z = start_within n m t.0 [] h.partition (omega arith) in
+      ap (λ x. nat_abs t.1 * x) z ∙ (let o : nat_abs t.1 * 0 ≡ 0 = omega arith in o))
+
+  -- how often the table comes to a partition, and the coefficient there of the product
+  abbrev pub good_sum : List ℕ → ℕ
+  good_sum ν = started n (over_states n (column_lines next []) (comes_to ν)) product
+
+  abbrev pub count_sum : List ℕ → ℕ
+  count_sum ν = sum_over (λ (t : List ℕ × ℤ). nat_abs t.1 * product_count k t.0 next ν) product
+
+  at_label : (t : Term) → Among t product → SameCounts n k (good_count n t.0 next []) (product_count k t.0 next)
+  at_label t a = let e = enough t a in same_product n k t.0 next most e.1 (may t a).partition q e.0
+
+  pub sums_same : SameCounts n k good_sum count_sum
+  sums_same = record {
+    fewer = most;
+    same_within = λ ν p l.
+        sum-among (λ (t : List ℕ × ℤ). nat_abs t.1 * product_count k t.0 next ν) (λ (t : List ℕ × ℤ). nat_abs t.1 * good_count n t.0 next [] ν) product
+        (λ t a. ap (λ x. nat_abs t.1 * x) ((at_label t a).same_within ν p l));
+    none_past = λ ν p l g.
+        sum-nothing (λ (t : List ℕ × ℤ). nat_abs t.1 * product_count k t.0 next ν) product
+        (λ t a. ap (λ x. nat_abs t.1 * x) ((at_label t a).none_past ν p l g) ∙ (let o : nat_abs t.1 * 0 ≡ 0 = omega arith in o));
+  }
+
+-- the coefficients of the product are the sums of the counts
+multiplied-counted : (k : ℕ) (next : List ℕ) (product : WholeTerms) → IsPartition next → AllMayMeet k next product → (ν : List ℕ) → IsPartition ν → rows ν ≤ k
+    → coefficient (multiplied k next product) ν ≡ pos (sum_over (λ (t : List ℕ × ℤ). nat_abs t.1 * product_count k t.0 next ν) product)
+multiplied-counted k next [] q may ν p l = refl
+multiplied-counted k next (t ∷ product) q may ν p l =
+    let first = may t (inl refl) in
+    let here : coefficient (classical_product k (t.0 ∷ next ∷ [])) ν ≡ pos (product_count k t.0 next ν) =
+    classical_product-coefficient k (t.0 ∷ next ∷ []) ν p l ∙ product_counts k t.0 next first.partition q ν p l in
+    coefficient_plus (scale t.1 (classical_product k (t.0 ∷ next ∷ []))) (multiplied k next product) ν
+    ∙ ap₂ ◌+ℤ◌ (coefficient_scale t.1 (classical_product k (t.0 ∷ next ∷ [])) ν ∙ ap (λ z. t.1 *ℤ z) here ∙ positive t.1 first.positive (product_count k t.0 next ν))
+    (multiplied-counted k next product q (λ u m. may u (inr m)) ν p l)
+  where
+    positive : (z : ℤ) → pos 1 ≤ℤ z → (c : ℕ) → z *ℤ pos c ≡ pos (nat_abs z * c)
+    positive (pos a) h c = refl
+    positive (negsuc a) h c = absurd (omega (arith, ints))
+
+-- a label that is no partition with at most k rows has no term
+multiplied-outside : (k : ℕ) (next : List ℕ) (product : WholeTerms) (ν : List ℕ) → (IsPartition ν → rows ν ≤ k → ⊥) → coefficient (multiplied k next product) ν ≡ pos 0
+multiplied-outside k next product ν out =
+    no_label (multiplied k next product) ν
+    (λ t m e.
+    let from = Among_from_each (λ (t : List ℕ × ℤ). scale t.1 (classical_product k (t.0 ∷ next ∷ []))) t product m in
+    let u = Among_from_map (λ (v : Term). let term : Term = (v.0, from.0.1 *ℤ v.1) in term) t (classical_product k (from.0.0 ∷ next ∷ [])) from.2 in
+    let c = classical_product-term k (from.0.0 ∷ next ∷ []) u.0 u.1 in
+    let label : u.0.0 ≡ ν = sym (ap (λ (v : Term). v.0) u.2) ∙ e in
+    out (subst IsPartition label c.partition) (subst (λ l. rows l ≤ k) label c.few))
+
+module _ (k : ℕ) (next : List ℕ) (product : WholeTerms) (q : IsPartition next) (may : AllMayMeet k next product) where
+  counts : List ℕ → ℕ
+  counts ν = sum_over (λ (t : List ℕ × ℤ). nat_abs t.1 * product_count k t.0 next ν) product
+
+  -- a statement of each label, by whether it is a partition with at most k rows
+  by_label : (P : List ℕ → Type 0) → ((ν : List ℕ) → IsPartition ν → rows ν ≤ k → P ν) → ((ν : List ℕ) → (IsPartition ν → rows ν ≤ k → ⊥) → P ν) → (ν : List ℕ) → P ν
+  by_label P inside outside ν = by (cases_Bool (is_partition ν)) (cases_lt k (rows ν))
+    where
+      by : (is_partition ν ≡ true) ⊎ (is_partition ν ≡ false) → (k < rows ν) ⊎ (rows ν ≤ k) → P ν
+      by (inl e) (inr l) = inside ν (is_partition-tells ν e) l
+      by (inl e) (inl l) = outside ν (λ p h. omega arith)
+      by (inr e) l = outside ν (λ p h. both_ways (is_partition ν) e (is_partition-from ν p))
+
+  pub is_multiplied : (terms : WholeTerms)
+      → HasCounts k (λ ν. sum_over (λ (t : List ℕ × ℤ). nat_abs t.1 * product_count k t.0 next ν) product) terms → Same terms (multiplied k next product)
+  is_multiplied terms c =
+      by_label (λ ν. coefficient terms ν ≡ coefficient (multiplied k next product) ν)
+      (λ ν p l. c.counts ν p l ∙ sym (multiplied-counted k next product q may ν p l))
+      (λ ν out.
+      no_label terms ν (λ t m e. let h = c.labels t m in out (subst IsPartition e h.0) (subst (λ l. rows l ≤ k) e h.1))
+      ∙ sym (multiplied-outside k next product ν out))
+
+  pub multiplied-small : ((ν : List ℕ) → IsPartition ν → rows ν ≤ k → sum_over (λ (t : List ℕ × ℤ). nat_abs t.1 * product_count k t.0 next ν) product < 2 ^ 127)
+      → AreSmallCounts (multiplied k next product)
+  multiplied-small fits =
+      by_label (λ ν. (pos 0 ≤ℤ coefficient (multiplied k next product) ν) × (coefficient (multiplied k next product) ν <ℤ pos (2 ^ 127)))
+      (λ ν p l.
+      let e = multiplied-counted k next product q may ν p l in
+      let f = fits ν p l in
+      (omega (arith, ints), omega (arith, ints)))
+      (λ ν out. let e = multiplied-outside k next product ν out in (omega (arith, ints), omega (arith, ints)))
+
+  pub multiplied-past : IsPastSomewhere k (λ ν. sum_over (λ (t : List ℕ × ℤ). nat_abs t.1 * product_count k t.0 next ν) product)
+      → Reaches k (2 ^ 127) (multiplied k next product)
+  multiplied-past past = record {
+    parts = past.parts;
+    partition = past.partition;
+    within = past.within;
+    reaches =
+        let e = multiplied-counted k next product q may past.parts past.partition past.within in
+        let l = past.past in
+        omega (arith, ints);
+  }
+
+-- ---- the table that is reached
+
+module _ (n k : ℕ) (next : List ℕ) (product : WholeTerms) (es : List (List ℕ × ℕ)) (q : IsPartition next) (may : AllMayMeet k next product) (most : n ≤ k)
+    (enough : (t : Term) → Among t product → (rows t.0 ≤ n) × (min k (rows t.0 + rows next) ≤ n))
+    (agree : (ν : List ℕ) → Agree (weighed n (comes_to ν) es) (started n (over_states n (column_lines next []) (comes_to ν)) product)) where
+  same : SameCounts n k (good_sum n k next product q may most enough) (count_sum n k next product q may most enough)
+  same = sums_same n k next product q may most enough
+
+  module _ {E : Type 0} (r : Result WholeTerms E) (fits : OnOk r ((ν : List ℕ) → weighed n (comes_to ν) es < 2 ^ 127)) where
+    pub is_product : IfOk r (HasCounts n (λ ν. weighed n (comes_to ν) es)) → IfOk r (λ terms. Same terms (multiplied k next product))
+    is_product counts =
+        if_answered r (counts_agree n (λ ν. weighed n (comes_to ν) es) (good_sum n k next product q may most enough) r agree counts fits)
+        (λ terms l. is_multiplied k next product q may terms (lists_in n k _ _ terms same l))
+
+    pub product_small : OnOk r (AreSmallCounts (multiplied k next product))
+    product_small =
+        on_ok r (fits_agree (λ ν. weighed n (comes_to ν) es) (good_sum n k next product q may most enough) r agree fits)
+        (λ small. multiplied-small k next product q may (fits_in n k _ _ same small))
+
+  pub product_past : IsPastSomewhere n (λ ν. weighed n (comes_to ν) es) → Reaches k (2 ^ 127) (multiplied k next product)
+  product_past past =
+      multiplied-past k next product q may
+      (past_in n k _ _ same (past_agree n (λ ν. weighed n (comes_to ν) es) (good_sum n k next product q may most enough) agree past))

@@ -1,0 +1,40 @@
+-- What is known of an answer's list, in other words.
+use Rattle.std.proofs.Common.{◌≡◌, Bool, true, pos, List, ℕ, ℤ, ◌*ℤ◌, sym, ap, ◌∙◌}
+use Rattle.std.specs.Cmp.{IsEquivalence}
+use Rattle.coeff_rings.specs.Fractions.{whole}
+use Rattle.sym_model.specs.Polynomial.{Poly, Same, pair, scale}
+use Rattle.sym_model.specs.Expansion.{Terms, Represents, denominators, value_by}
+use Rattle.sym_model.specs.WholeTerms.{WholeTermsOf, as_fractions}
+use Rattle.sym_model.proofs.Polynomials.{Same_trans, scale_respects, pair_scale, pair_determined}
+use Rattle.sym_model.proofs.Ring.{one-product}
+use Rattle.sym_model.proofs.WholeTerms.{pair_of_combined, denominators-as_fractions, value_by-as_fractions}
+use Rattle.linear_combinations.specs.Entries.{IsCombination, HasSameCoefficients}
+use Rattle.linear_combinations.specs.Gains.{over}
+use Rattle.linear_combinations.proofs.Masses.{over_same, represents_sums}
+
+-- a list of the one polynomial is one of the other, where they are the same
+pub represents_as : {L : Type 0} (polynomial : L → Poly) (terms : Terms L) (f g : Poly) → Same f g → Represents polynomial terms f 1 → Represents polynomial terms g 1
+represents_as polynomial terms f g e h = record {
+  positive = h.positive;
+  equal = Same_trans (scale (pos 1) (value_by polynomial terms)) (scale (pos (denominators terms)) f) (scale (pos (denominators terms)) g) h.equal (scale_respects (pos (denominators terms)) f g e);
+}
+
+-- the sums of a list of a polynomial
+pub sums_represented : {L : Type 0} (polynomial : L → Poly) (terms : WholeTermsOf L) (f : Poly) → Represents polynomial (as_fractions terms) f 1
+    → (φ : List ℕ → ℤ) → over (λ x. pair (polynomial x) φ) terms ≡ pair f φ
+sums_represented polynomial terms f h φ =
+    sym (pair_of_combined polynomial terms φ)
+    ∙ sym (ap (λ g. pair g φ) (value_by-as_fractions polynomial terms))
+    ∙ sym (pair_scale (pos 1) (value_by polynomial (as_fractions terms)) φ ∙ one-product (pair (value_by polynomial (as_fractions terms)) φ))
+    ∙ pair_determined (scale (pos 1) (value_by polynomial (as_fractions terms))) (scale (pos (denominators (as_fractions terms))) f) φ h.equal
+    ∙ pair_scale (pos (denominators (as_fractions terms))) f φ
+    ∙ ap (λ d. pos d *ℤ pair f φ) (denominators-as_fractions terms)
+    ∙ one-product (pair f φ)
+
+-- a list with the same coefficients is one of the same polynomial
+pub represents_same : {L : Type 0} {eq : L → L → Bool} (laws : IsEquivalence eq) (same : (x y : L) → eq x y ≡ true → x ≡ y) {is_label : L → Bool}
+    (first second : WholeTermsOf L) → IsCombination eq is_label whole first → IsCombination eq is_label whole second → HasSameCoefficients eq (pos 0) first second
+    → (polynomial : L → Poly) (f : Poly) → Represents polynomial (as_fractions first) f 1 → Represents polynomial (as_fractions second) f 1
+represents_same laws same first second is also equal polynomial f h =
+    represents_sums polynomial second f
+    (λ φ. sym (over_same laws same first second is also equal (λ x. pair (polynomial x) φ)) ∙ sums_represented polynomial first f h φ)

@@ -1,0 +1,49 @@
+-- A list of permutations that wait for the transition rule, each with a factor,
+-- in the order that the rule lowers.
+use Rattle.std.specs.Prelude.{◌≡◌, ◌⊎◌, ℕ, ◌+◌, List, [], ◌∷◌, map, slice_index_or}
+use Rattle.std.specs.Cmp.Lexicographic.{slice_cmp}
+use Rattle.std.specs.List.{insert}
+use Rattle.std.specs.List.Sorted.{IsPartitionPoint, IsStrictlySortedBy}
+use Rattle.std.specs.declared.cmp.Ordering.{Ordering}
+use Rattle.std.specs.declared.cmp.Ordering.TheVariants.{Less, Greater}
+use Rattle.std.specs.Ordering.{nat_cmp, ordering_then}
+use Rattle.sym_model.specs.PlaceOrders.{inversions}
+use Rattle.transition_walk.specs.declared.todo.Waiting.{Waiting}
+use Rattle.transition_walk.specs.Transitions.{weight}
+
+-- the sum of a number for each element of a list
+abbrev pub weigh : {A : Type 0} → (A → ℕ) → List A → ℕ
+weigh f [] = 0
+weigh f (x ∷ xs) = f x + weigh f xs
+
+-- the sum of the weights of the permutations, which each step lowers
+abbrev pub load : {F : Type 0} → List (Waiting F) → ℕ
+load [] = 0
+load (w ∷ todo) = weight w.perm + load todo
+
+-- the entry at an index, counted from 0, has this permutation
+abbrev pub HasPermutation : {F : Type 0} → List ℕ → List (Waiting F) → ℕ → Type 0
+HasPermutation {F} perm todo at = (w : Waiting F) → w ≡ slice_index_or todo at w → w.perm ≡ perm
+
+-- the list is as it was, or has the element more
+abbrev pub MayGain : {A : Type 0} → List A → A → List A → Type 0
+MayGain old x new = (new ≡ old) ⊎ ((at : ℕ) × (new ≡ insert old at x))
+
+-- the order of what waits, which the transition rule lowers:
+-- by inversions and then by falling order of the letters
+abbrev pub waiting_order : List ℕ → List ℕ → Ordering
+waiting_order v w = ordering_then (nat_cmp (inversions v) (inversions w)) (slice_cmp nat_cmp w v)
+
+-- the permutations that wait
+abbrev pub permutations : {F : Type 0} → List (Waiting F) → List (List ℕ)
+permutations {F} todo = map (λ (w : Waiting F). w.perm) todo
+
+-- each permutation comes before those after it in this order, so that no two are the same
+abbrev pub AreInOrder : {F : Type 0} → List (Waiting F) → Type 0
+AreInOrder todo = IsStrictlySortedBy waiting_order (permutations todo)
+
+-- the permutations before the place come before this one, and those from the place on come after it
+abbrev pub IsGapFor : {F : Type 0} → List ℕ → List (Waiting F) → ℕ → Type 0
+IsGapFor {F} perm todo at =
+    IsPartitionPoint (λ (w : Waiting F). waiting_order w.perm perm ≡ Less)
+    (λ (w : Waiting F). waiting_order w.perm perm ≡ Greater) todo at

@@ -1,0 +1,38 @@
+//! The places of the transition rule.
+ghost use Rattle.std.specs.Prelude.{◌≡◌, ◌+◌, ◌↔◌, [], ◌∷◌, Some, IfSome, IfNone};
+ghost use Rattle.sym_model.specs.Permutation.{IsTransition, last_descent, times_swap};
+ghost use Rattle.sym_model.specs.PlaceOrders.{inversions};
+ghost use Rattle.transition_walk.specs.Transitions.{IsShort};
+
+use perm_codes::Perm;
+
+/// The last descent of a permutation, and the last place whose letter is smaller than the one
+/// there. None exactly for the identity. The letters at these places in each other's place make one
+/// inversion less.
+pub fn transition_places(w: &Perm) -> Option<(u16, u16)>
+    ensures places { IfSome result (λ p. IsTransition w.now p.0 p.1) }
+    ensures fewer { IfSome result (λ p.
+        inversions w.now ≡ inversions (times_swap p.0 p.1 w.now) + 1) }
+    ensures short { IsShort 255 w.now }
+    ensures identity { (result ≡ None) ↔ (w.now ≡ 1 ∷ []) }
+    ensures none { IfNone result (last_descent w.now ≡ None) }
+{
+    let r = w.last_descent()?;
+    Some((r, last_smaller(w, r)))
+}
+
+/// The last place whose letter is smaller than the one at the last descent.
+fn last_smaller(w: &Perm, r: u16) -> u16
+    requires { last_descent w.now ≡ Some r }
+    ensures { IsTransition w.now r result }
+{
+    let bound = w.letter(r);
+    let mut s = w.len();
+    while s > r + 1 {
+        if w.letter(s) < bound {
+            return s;
+        }
+        s -= 1;
+    }
+    s
+}

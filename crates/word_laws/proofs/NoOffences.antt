@@ -1,0 +1,61 @@
+-- What has no offence: lists that are empty, numbers by a rule, expressions.
+use Rattle.std.proofs.Common.{◌≡◌, ℕ, ◌+◌, ◌≤◌, nat_lt, Bool, true, false, cond, List, [], ◌∷◌, ◌++◌, map, length, refl, ap, None, flat_map}
+use Rattle.std.proofs.lemmas.Bool.{ltb-false}
+use Rattle.sym_model.specs.Expression.{degree}
+use Rattle.sym_model.specs.Phrase.{Phrase, tree, spelling}
+use Rattle.sym_model.specs.ExpressionOffence.{OffenceKind, WordOffence, range, offences_at, marks, offences_of_whole_within, offences_within}
+use Rattle.sym_model.specs.CommandOffence.{Offence, Rule, first_offence, judged_against, offences_after, offences_in_word, when}
+use Rattle.word_laws.proofs.FirstOffences.{first_none}
+
+pub none_append : {A : Type 0} (xs ys : List A) → xs ++ ys ≡ [] → (xs ≡ []) × (ys ≡ [])
+none_append [] ys h = (refl, h)
+none_append (x ∷ xs) ys h = cc
+
+pub none_map : {A B : Type 0} (f : A → B) (xs : List A) → map f xs ≡ [] → xs ≡ []
+none_map f [] h = refl
+none_map f (x ∷ xs) h = cc
+
+pub none_judged : (xs ys : List Offence) → first_offence xs ≡ None → judged_against xs ys ≡ ys
+none_judged xs ys h = ap (λ zs. judged_against zs ys) (first_none xs h)
+
+pub not_when : (test : Bool) (kind : OffenceKind) → when test kind ≡ [] → test ≡ false
+not_when true kind h = cc
+not_when false kind h = refl
+
+pub none_first : (xs ys : List Offence) → first_offence (xs ++ ys) ≡ None → (first_offence xs ≡ None) × (first_offence ys ≡ None)
+none_first xs ys h =
+    let p = none_append xs ys (first_none (xs ++ ys) h) in (ap first_offence p.0, ap first_offence p.1)
+
+-- the first of a list of numbers offends by nothing, and the others neither
+pub none_next : (rule : Rule) (before : List ℕ) (k a : ℕ) (ns : List ℕ) → offences_after rule before k (a ∷ ns) ≡ []
+    → (rule before a ≡ []) × (offences_after rule (a ∷ before) (k + 1) ns ≡ [])
+none_next rule before k a ns h =
+    let p = none_append (map (λ kind. (k, 0, kind)) (rule before a)) (offences_after rule (a ∷ before) (k + 1) ns) h in
+    (none_map (λ kind. (k, 0, kind)) (rule before a) p.0, p.1)
+
+-- ---- expressions
+
+-- the one offence of a number past its limit is not there
+pub not_past : {A : Type 0} (limit d : ℕ) (o : A) → cond (nat_lt limit d) (o ∷ []) [] ≡ [] → d ≤ limit
+not_past limit d o h = ltb-false limit d (by (nat_lt limit d) h)
+  where
+    by : (b : Bool) → cond b (o ∷ []) [] ≡ [] → b ≡ false
+    by true h = cc
+    by false h = refl
+
+-- the degree of an expression without an offence is within the limit
+pub within_limit : (limit : ℕ) (phrase : Phrase) → offences_within limit phrase ≡ [] → degree (tree phrase) ≤ limit
+within_limit limit phrase h =
+    let long = cond (nat_lt 4096 (length (spelling phrase))) ((4096, range) ∷ []) [] in
+    let past = cond (nat_lt limit (degree (tree phrase))) ((length (spelling phrase), range) ∷ []) [] in
+    let whole = (none_append (flat_map offences_at (marks 0 0 phrase)) (offences_of_whole_within limit phrase) h).1 in
+    not_past limit (degree (tree phrase)) (length (spelling phrase), range) (none_append long past whole).1
+
+-- a word without an offence at its place in the command has none
+pub none_in_word : (k : ℕ) (found : List WordOffence) → first_offence (offences_in_word k found) ≡ None → found ≡ []
+none_in_word k found h = none_map (λ (o : WordOffence). (k, o.0, o.1)) found (first_none (offences_in_word k found) h)
+
+-- the same of an expression at a word
+pub within_degree : (k limit : ℕ) (phrase : Phrase) → first_offence (offences_in_word k (offences_within limit phrase)) ≡ None
+    → degree (tree phrase) ≤ limit
+within_degree k limit phrase h = within_limit limit phrase (none_in_word k (offences_within limit phrase) h)
