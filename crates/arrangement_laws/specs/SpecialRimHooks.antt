@@ -23,7 +23,7 @@ straight_value g entries =
 abbrev pub arranged_value : (List ℕ → ℤ) → List ℕ → ℕ → ℤ
 arranged_value g parts n = total (λ α. straight_value g (shifted α)) (arrangements parts n)
 
--- the beta list of ν in so many rows, more than ν has, with a in place of the last entry, 0: a rim
+-- the beta list of ν in more rows than ν has, with a in place of the last entry, 0: a rim
 -- hook of a cells is added that begins in that row
 abbrev pub hooked : List ℕ → ℕ → ℕ → List ℕ
 hooked ν count a = map suc (beta (count - 1) ν) ++ a ∷ []
@@ -49,6 +49,6 @@ pub record AreStraightenings (parts : List ℕ) (lists : List (ℕ × WholeTerms
   pub straightens : (l : ℕ × WholeTerms) → Among l lists
       → IsStraightening (without_one l.0 parts) l.1
 
--- the values at the outcome of adding special rim hooks of so many cells to the terms of each list
+-- the values at the outcome of adding special rim hooks of a cells to the terms of each list
 abbrev pub all_hooks : (List ℕ → ℤ) → List (ℕ × WholeTerms) → ℤ
 all_hooks g lists = total (λ (l : ℕ × WholeTerms). pair l.1 (hooks_value g l.0)) lists

@@ -175,17 +175,6 @@ stands-raised P q A M d r c f W h e m = record {
     grouped : (c q x : ℤ) → c *ℤ (q *ℤ x) ≡ (c *ℤ q) *ℤ x
     grouped c q x = simp ring (omega (arith, ints))
 
--- a multiple of the polynomial over a multiple of the denominator
-pub stands-divided : (P : ℕ → ℕ → Poly) (q r A d c : ℕ) (f : ℕ → Poly) (W : WholeTerms) → Stands P q A d (λ n. scale (pos c) (f n)) W → c * q ≡ r → Stands P r A d f W
-stands-divided P q r A d c f W h e = record {
-  value = λ n φ. h.value n φ ∙ ap (λ z. pos q *ℤ z) (pair_scale (pos c) (f n) φ) ∙ regroup (pos q) (pos c) (pair (f n) φ) ∙ ap (λ (k : ℕ). pos k *ℤ pair (f n) φ) e;
-  few = h.few;
-  labels = h.labels;
-}
-  where
-    regroup : (q c x : ℤ) → q *ℤ (c *ℤ x) ≡ (c *ℤ q) *ℤ x
-    regroup q c x = simp ring (omega (arith, ints))
-
 pub stands-weaken : (P : ℕ → ℕ → Poly) (q A M d e : ℕ) (f : ℕ → Poly) (W : WholeTerms) → Stands P q A d f W → A ≤ M → d ≤ e → Stands P q M e f W
 stands-weaken P q A M d e f W h m l = record {
   value = h.value;

@@ -18,7 +18,7 @@ abbrev pub sums_with : Sums → List ℕ → Sums
 sums_with s block =
     record { lines = s.lines + 1; terms = s.terms + terms_in block; bytes = s.bytes + length block }
 
--- no more terms and bytes than so many blocks in memory can have
+-- no more terms and bytes than that number of blocks in memory can have
 pub record AreSmall (s : Sums) : Type 0 where
   pub terms : s.terms ≤ s.lines * 2 ^ 64
   pub bytes : s.bytes ≤ s.lines * 2 ^ 64

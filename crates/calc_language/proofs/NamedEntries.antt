@@ -1,4 +1,4 @@
--- Lists of commands whose first word is the name: each is told by it, and words with another first word go wrong there.
+-- Lists of commands whose first word is the name: each is told by it, and words with another first word first fail there.
 use Rattle.std.proofs.Common.{◌≡◌, ℕ, zero, suc, take, ◌≤◌, ◌<◌, Bool, true, false, not, ◌&&◌, ◌||◌, List, [], ◌∷◌, ◌++◌, map, length, refl, sym, ap, ◌∙◌, subst, arith, ◌⊎◌, inl, inr}
 use Rattle.sym_model.specs.Sum.{Among}
 use Rattle.sym_model.specs.GoodTableau.{is_among}
@@ -14,7 +14,7 @@ use Rattle.word_laws.proofs.LongestPrefixes.{CanBe, some_words, some_out}
 use Rattle.calc_words.specs.Joined.{Named}
 use Rattle.calc_words.proofs.Joining.{first_spells, first_awaits}
 
--- what stands behind the first of two forms
+-- what stands after the first of two forms
 abbrev pub behind : Form → Form
 behind (sequence f g) = g
 behind f = f

@@ -1,4 +1,4 @@
--- The commands that are read, on the command line and in a line of a batch (this project's own).
+-- The commands that are read, on the command line and in a line of a batch.
 use Rattle.std.specs.Prelude.{List}
 use Rattle.sym_model.specs.Entry.{Entry}
 use Rattle.sym_model.specs.Grammar.{entries_of, line_entries, all_bases}

@@ -1,4 +1,4 @@
--- What a line of a batch is read as (this project's own).
+-- What a line of a batch is read as.
 use Rattle.std.specs.Prelude.{◌≡◌, Option, Some, None, Result, Ok, Err}
 use Rattle.sym_model.specs.BatchLine.{BatchLine, too_long, passed_over, spoken, too_long_offence}
 use Rattle.sym_model.specs.Command.{Command as PlainCommand}
@@ -11,8 +11,8 @@ use Rattle.calc_commands.specs.Commands.{IsSound}
 use Rattle.calc_commands.specs.declared.command.Command.{Command}
 use Rattle.calc_language.specs.Reading.{command_of, IsWithinItsLimits}
 
--- a line that is too long is refused by its offence, one that is passed over is no command, and the
--- words of another are read among the commands of a line; want of memory says nothing
+-- a line that is too long is refused by its offence, one that is skipped is no command, and the
+-- words of another are read among the commands of a line; running out of memory says nothing
 abbrev pub IsLineRead : BatchLine → Result (Option Command) WordsFault → Type 0
 IsLineRead too_long (Ok answer) = ⊥
 IsLineRead too_long (Err NoMemory) = Unit {0}
@@ -31,13 +31,13 @@ abbrev pub KeepsItsLimits : Option Command → Type 0
 KeepsItsLimits None = Unit {0}
 KeepsItsLimits (Some command) = IsWithinItsLimits command
 
--- no command is read, but for want of memory
+-- no command is read, unless memory runs out
 abbrev pub IsPassedOver : Result (Option Command) WordsFault → Type 0
 IsPassedOver (Ok None) = Unit {0}
 IsPassedOver (Ok (Some command)) = ⊥
 IsPassedOver (Err fault) = fault ≡ NoMemory
 
--- the command is accepted, but for want of memory
+-- the command is accepted, unless memory runs out
 abbrev pub AcceptsInLine : PlainCommand → Result (Option Command) WordsFault → Type 0
 AcceptsInLine c (Ok None) = ⊥
 AcceptsInLine c (Ok (Some command)) = command_of command ≡ c

@@ -1,4 +1,4 @@
--- What the words of a command are read as (this project's own).
+-- What the words of a command are read as.
 use Rattle.std.specs.Prelude.{◌≡◌, ℕ, cond, List, [], ◌∷◌, Option, Some, None, Result, Err}
 use Rattle.sym_model.specs.Entry.{Entry}
 use Rattle.sym_model.specs.Polynomial.{same}
@@ -24,7 +24,7 @@ entry_named name [] = None
 entry_named name (e ∷ entries) = cond (same name e.name) (Some e) (entry_named name entries)
 
 -- the words are read as those of the entry, where there is one,
--- and otherwise go wrong at the first word
+-- and otherwise first fail at the first word
 abbrev pub IsReadAs : Option Entry → List (List ℕ) → Result Command WordsFault → Type 0
 IsReadAs None words result = result ≡ Err (Syntax (record { word = 0; byte = 0 }))
 IsReadAs (Some e) words result = IsReadBy (e ∷ []) words result
@@ -33,8 +33,8 @@ IsReadAs (Some e) words result = IsReadBy (e ∷ []) words result
 abbrev pub IsWithinItsLimits : Command → Type 0
 IsWithinItsLimits command = KeepsLimits (command_of command)
 
--- the words are this command without offence, and it is sound, or they go wrong or first offend at
--- this place; want of memory says nothing of them
+-- the words are this command without offence, and it is sound, or they first fail or first offend
+-- at this place; running out of memory says nothing of them
 abbrev pub IsRead : List (List ℕ) → Result Command WordsFault → Type 0
 IsRead words result = IsReadBy command_entries words result
 

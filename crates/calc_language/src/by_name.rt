@@ -16,7 +16,7 @@ use std::alloc::Global;
 use tableau_words::{read_rect, read_tab, read_unrsk};
 
 /// The words as those of the command of this name alone; where there is none,
-/// they go wrong at the first word.
+/// they first fail at the first word.
 pub(crate) fn by_name(alloc: Global, name: &str, words: &[String]) -> Result<Command, WordsFault>
     ensures { IsReadAs (entry_named name.now command_entries) (map string_bytes words.now) result }
 {

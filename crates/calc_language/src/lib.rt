@@ -1,5 +1,5 @@
 //! The words of a command, and how they are read. The expressions in them are those of
-//! `expression_reading`, which are passed on.
+//! `expression_reading`, which are re-exported.
 //!
 //! What is proved:
 //!

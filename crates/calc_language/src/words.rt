@@ -14,10 +14,10 @@ use calc_base::WordsFault;
 use calc_words::syntax;
 use std::alloc::Global;
 
-/// Reads the words of a command: its name, and behind it what the entry of that name asks for
+/// Reads the words of a command: its name, and after it what the entry of that name asks for
 /// (`sym_model/specs/Grammar.antt`).
 ///
-/// Words that are no command are refused as `Syntax`, at the word where they go wrong, and in the
+/// Words that are no command are refused as `Syntax`, at the word where they first fail, and in the
 /// word of an expression at the byte after its longest prefix that begins one. Otherwise the first
 /// offence is refused, as the readers of the commands say,
 /// `calc_words::read_mult` and its like, and

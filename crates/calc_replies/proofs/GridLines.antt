@@ -10,7 +10,7 @@ use Rattle.sym_model.specs.TableauText.{shapes_line, grid_text}
 abbrev pub first_lines : List ℕ → ℕ → List ℕ
 first_lines w k = flat_map shapes_line (take k (grid_lines w))
 
--- the text of the lines behind them
+-- the text of the lines after them
 abbrev pub last_lines : List ℕ → ℕ → List ℕ
 last_lines w k = flat_map shapes_line (drop k (grid_lines w))
 

@@ -1,4 +1,4 @@
--- What is computed for the words of a command, and what is put for that (this project's own).
+-- What is computed for the words of a command, and what is put for that.
 use Rattle.std.specs.Prelude.{◌≡◌, ◌≢◌, ℕ, List, Option, Some, None, Result, Ok, Err, codes}
 use Rattle.calc_base.specs.declared.faults.NoMemory.{NoMemory}
 use Rattle.calc_base.specs.declared.faults.SumFault.{SumFault}
@@ -62,14 +62,15 @@ Tells (rect outer inner rows) text =
 Tells (growth w) text = text ≡ grid_text w
 Tells _ text = ⊥
 
--- what comes of a command that names an expansion, by what was computed for it
+-- the outcome of a command that names an expansion, by what was computed for it
 abbrev pub reply_of : Result Answer SumFault → Form → Result Outcome NoMemory
 reply_of (Ok answer) form = Ok (Answered answer form)
 reply_of (Err sums.Large) form = Ok Large
 reply_of (Err sums.NoMemory) form = Err (record {})
 
--- what comes of a command: an answer that is what it names, in the form that it asks for, where it
--- need not be refused as too large, or that it can be refused so; want of memory says nothing
+-- the outcome of a command: an answer that is what it names, in the form that it asks for, where it
+-- need not be refused as too large, or that it can be refused so; running out of memory says
+-- nothing
 abbrev pub IsReplyTo : PlainCommand → Result Outcome NoMemory → Type 0
 IsReplyTo command (Ok (Answered answer form)) =
     (MustBeLarge command → ⊥) × Meets command (plain_answer answer)
@@ -79,19 +80,19 @@ IsReplyTo command (Ok Large) = MayBeLarge command
 IsReplyTo command (Ok (Told lines)) = Tells command (lines_text lines)
 IsReplyTo command (Err e) = Unit {0}
 
--- the words spell this command of the list without an offence, and the outcome is what comes of it
+-- the words spell this command of the list without an offence, and the outcome is the outcome of it
 pub record RepliesTo (entries : List Entry) (words : List (List ℕ))
     (result : Result Outcome NoMemory) : Type 0 where
   pub command : PlainCommand
   pub spelled : SpellsWithoutOffence entries words command
   pub reply : IsReplyTo command result
 
--- the words are refused for this reason, which is no want of memory
+-- the words are refused for this reason, which is not that memory ran out
 abbrev pub AreRefused : List Entry → List (List ℕ) → WordsFault → Type 0
 AreRefused entries words reason = IsRefusal entries words reason × (reason ≢ fault.NoMemory)
 
--- what comes of the words: what comes of the command of the list that they spell, or their refusal;
--- want of memory says nothing
+-- the outcome of the words: the outcome of the command of the list that they spell, or their
+-- refusal; running out of memory says nothing
 abbrev pub Computes : List Entry → List (List ℕ) → Result Outcome NoMemory → Type 0
 Computes entries words (Ok (Answered answer form)) =
     RepliesTo entries words (Ok (Answered answer form))
@@ -117,7 +118,7 @@ Refuses offence (Ok Large) = ⊥
 Refuses offence (Ok (Told lines)) = ⊥
 Refuses offence (Err e) = Unit {0}
 
--- words that go wrong at this place are refused there
+-- words that first fail at this place are refused there
 abbrev pub GoesWrong : ℕ → ℕ → Result Outcome NoMemory → Type 0
 GoesWrong word byte (Ok (Answered answer form)) = ⊥
 GoesWrong word byte (Ok (Refused reason)) =
@@ -135,7 +136,7 @@ RunsNoOther (work lines seed) = ⊥
 RunsNoOther command = Unit {0}
 
 -- what is to be done for a command: lines are to be run for `batch` and `work`, and for the others
--- what comes of them is to be put
+-- the outcome of them is to be put
 abbrev pub IsTaskOf : PlainCommand → Result Task NoMemory → Type 0
 IsTaskOf command (Ok Lines) = command ≡ batch
 IsTaskOf command (Ok (Workload lines seed)) = command ≡ work lines seed
@@ -164,7 +165,7 @@ RefusesTask offence (Ok (Workload lines seed)) = ⊥
 RefusesTask offence (Ok (Put outcome)) = Refuses offence (Ok outcome)
 RefusesTask offence (Err e) = Unit {0}
 
--- words that go wrong at this place are refused there
+-- words that first fail at this place are refused there
 abbrev pub TaskGoesWrong : ℕ → ℕ → Result Task NoMemory → Type 0
 TaskGoesWrong word byte (Ok Lines) = ⊥
 TaskGoesWrong word byte (Ok (Workload lines seed)) = ⊥
@@ -180,7 +181,7 @@ text_of (Refused reason) = refusal_text reason
 text_of Large = large_line
 text_of (Told lines) = lines_text lines
 
--- what is put is a line: a refusal is no want of memory
+-- what is put is a line: a refusal is not for memory
 abbrev pub HasText : Outcome → Type 0
 HasText (Answered answer form) = Unit {0}
 HasText (Refused reason) = reason ≢ fault.NoMemory

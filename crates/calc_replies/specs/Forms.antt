@@ -1,4 +1,4 @@
--- The printed forms of answers (this project's own).
+-- The printed forms of answers.
 use Rattle.std.specs.Prelude.{Bool, cond}
 use Rattle.calc_base.specs.declared.words.Basis.{Basis}
 use Rattle.expression_reading.specs.Trees.{basis_of}

@@ -61,8 +61,6 @@ fn composition(
         (degree g) }
 {
     let list = in_target(alloc, target, outer, inner)?;
-    // This tells the proof that no label stands twice in it.
-    list.len();
     let terms = list.sorted_terms()?;
     Ok(terms)
 }

@@ -57,8 +57,6 @@ fn expansion(
         → 2 ^ 127 ≤ weight (basis_of target) (tree_of formula.now.tree) }
 {
     let list = in_target(alloc, target, formula)?;
-    // This tells the proof that no label stands twice in it.
-    list.len();
     let terms = list.sorted_terms()?;
     Ok(terms)
 }

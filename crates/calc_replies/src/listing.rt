@@ -28,8 +28,8 @@ pub struct Listing {
     pub lattice: Lattice,
 }
 
-/// A lister of the lattice tableaux of a shape, whose outer one has so many rows: of all of them,
-/// or of those behind the one with this column reading, which is one of them.
+/// A lister of the lattice tableaux of a shape, whose outer one has `rows` rows: of all of them,
+/// or of those after the one with this column reading, which is one of them.
 fn listed(alloc: Global, shape: &Skew, rows: u16, after: &Option<Word>) -> Result<Lattice, NoMemory>
     requires rows { rows ≡ length shape.now.0 }
     requires small { size shape.now.0 ≤ 512 }
@@ -49,7 +49,7 @@ fn listed(alloc: Global, shape: &Skew, rows: u16, after: &Option<Word>) -> Resul
     }
 }
 
-/// The lattice tableaux of a shape over another one, from behind the one with this column reading
+/// The lattice tableaux of a shape over another one, from after the one with this column reading
 /// where one is given, which is one of them. Where the second shape is not contained in the first
 /// there are none.
 pub(crate) fn tab(

@@ -1,4 +1,4 @@
-//! What comes of the words of a command, before anything is put.
+//! The outcome of the words of a command, before anything is put.
 ghost use Rattle.std.specs.Prelude.{◌≡◌, ℕ, Some, map, string_bytes};
 ghost use Rattle.sym_model.specs.Command.{Command as PlainCommand};
 ghost use Rattle.sym_model.specs.CommandOffence.{Offence};
@@ -21,11 +21,11 @@ use expansion_printer::Answer;
 use schubert_transition::Memo;
 use std::alloc::Global;
 
-/// What comes of the words of a command.
+/// The outcome of the words of a command.
 pub enum Outcome {
     /// The whole answer, and the form in which it is printed.
     Answered { answer: Answer, form: Form },
-    /// The words are no command that can be run. The fault is no want of memory.
+    /// The words are no command that can be run. The fault is not that memory ran out.
     Refused { fault: WordsFault },
     /// The answer is too large.
     Large,
@@ -53,7 +53,7 @@ pub enum Task {
     Lines,
     /// So many lines of the generator are to be run.
     Workload { lines: u16, seed: u32 },
-    /// What comes of the words is to be put.
+    /// The outcome of the words is to be put.
     Put { outcome: Outcome },
 }
 
@@ -67,7 +67,7 @@ pub(crate) fn as_block(answer: Answer) -> Outcome
     }
 }
 
-/// What comes of a command that names an expansion: its answer, which is printed in the form,
+/// The outcome of a command that names an expansion: its answer, which is printed in the form,
 /// or that this is too large.
 pub(crate) fn answered(answer: Result<Answer, SumFault>, form: Form) -> Result<Outcome, NoMemory>
     ensures { result ≡ reply_of answer form }
@@ -126,7 +126,7 @@ fn task_for(alloc: Global, command: &Command) -> Result<Task, NoMemory>
     }
 }
 
-/// What comes of a command of a line, of which Schubert polynomials are kept.
+/// The outcome of a command of a line, of which Schubert polynomials are kept.
 pub fn reply_by(alloc: Global, memo: &mut Memo, command: &Command) -> Result<Outcome, NoMemory>
     requires limits { IsWithinItsLimits command.now }
     requires sound { IsSound command.now }
@@ -139,7 +139,7 @@ pub fn reply_by(alloc: Global, memo: &mut Memo, command: &Command) -> Result<Out
     }
 }
 
-/// What comes of a command: its answer, or that this is too large.
+/// The outcome of a command: its answer, or that this is too large.
 pub fn reply_to(alloc: Global, command: &Command) -> Result<Outcome, NoMemory>
     requires limits { IsWithinItsLimits command.now }
     requires sound { IsSound command.now }

@@ -65,7 +65,7 @@ pub(crate) fn dschubmult(alloc: Global, left: &Perm, right: &Perm) -> Result<Out
     }
 }
 
-/// The Stanley polynomial of a permutation, in so many variables.
+/// The Stanley polynomial of a permutation, in `rows` variables.
 pub(crate) fn stanley(alloc: Global, rows: u16, perm: &Perm) -> Result<Outcome, NoMemory>
     requires { KeepsLimits (commands.stanley rows perm.now) }
     ensures { IsReplyTo (commands.stanley rows perm.now) result }

@@ -34,7 +34,8 @@ fn as_pairs(list: List<Pair, Int>) -> Answer
     }
 }
 
-/// The product of Schur functions, in so many variables where a number of rows is there.
+/// The product of Schur functions, in as many variables as there are rows where a number of rows is
+/// given.
 pub(crate) fn mult(
     alloc: Global,
     rows: Option<u16>,
@@ -50,7 +51,8 @@ pub(crate) fn mult(
     )
 }
 
-/// A skew Schur function in Schur functions, in so many variables where a number of rows is there.
+/// A skew Schur function in Schur functions, in as many variables as there are rows where a number
+/// of rows is given.
 pub(crate) fn skew(
     alloc: Global,
     rows: Option<u16>,

@@ -12,7 +12,7 @@ use partitions::Factors;
 use sparse_polys::Terms;
 use std::alloc::Global;
 
-/// The quantum product of shapes, among those with so many rows and columns.
+/// The quantum product of shapes, among those with at most k rows and n columns.
 pub(crate) fn quantum(
     alloc: Global,
     rows: u16,
@@ -30,7 +30,7 @@ pub(crate) fn quantum(
     )
 }
 
-/// The fusion product of shapes, with so many rows, at a level.
+/// The fusion product of shapes, with at most k rows, at a level.
 pub(crate) fn fusion(
     alloc: Global,
     rows: u16,

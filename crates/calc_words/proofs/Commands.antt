@@ -48,7 +48,7 @@ judged_on first later (Range at) f h = f (at.word, at.byte, range) h
 judged_on first later (Shape at) f h = f (at.word, at.byte, shape) h
 judged_on first later NoMemory f h = h
 
--- two lists, one behind the other
+-- two lists, one after the other
 pub judged_err : (xs ys : List Offence) (fault : WordsFault) → AllBefore xs ys
     → IsFirst (first_offence xs) fault → IsFirst (first_offence (xs ++ ys)) fault
 judged_err xs ys fault b h = judged_on (first_offence xs) (first_offence (xs ++ ys)) fault (λ o e. first-append xs ys o e b) h

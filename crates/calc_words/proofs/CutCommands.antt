@@ -120,7 +120,7 @@ reduction_parts name rows bound x =
     append_assoc (offences_by rows_rule 1 (decimal_value rows ∷ [])) (offences_by rows_rule 2 (decimal_value bound ∷ []))
     (factor_offences 0 3 (factor_numbers x))
 
--- two permutations of which at most so many letters may be written
+-- two permutations of which at most that number of letters may be written
 two_permutations : (most : ℕ) (left right : Written permutation_words)
     → permutation_offences_within most 1 (letters left) ++ permutation_offences_within most (2 + length (letters left)) (letters right)
     ≡ permutation_offences_within most 1 (letters left)

@@ -10,7 +10,7 @@ use Rattle.calc_words.specs.NumberRuns.{IsNumber, BeginsOtherwise}
 use Rattle.calc_words.proofs.Commands.{may_be, singles}
 use Rattle.calc_words.specs.FactorWords.{IsPieceWord, next_text, BeginsWithDigit}
 
--- numbers, and further factors behind them
+-- numbers, and further factors after them
 pub record Cut (words : Words) : Type 0 where
   pub second : Words
   pub others : List Words
@@ -40,7 +40,7 @@ cut (t ∷ words) e = by e.0 (cut words e.1)
           other_numbers = (k.second_numbers, k.other_numbers);
         }
 
--- numbers begin with a digit, and what stands behind a factor with none
+-- numbers begin with a digit, and what stands after a factor with none
 number_begins : (t : List ℕ) → IsNumber t → BeginsWithDigit t
 number_begins [] h = cc
 number_begins (byte ∷ text) h = (and_parts (is_digit byte) (are_digits text) h).0
@@ -77,7 +77,7 @@ pub run_cut : (words second list rest : Words) (others : List Words) → words �
 run_cut words second list rest others e n f m b =
     let r = one_run BeginsWithDigit second list (next_text others) rest (all_begin second n) m (next_begins others) b (sym e ∙ f) in (r.0, sym r.1)
 
--- the numbers behind a `-` are the next factor
+-- the numbers after a `-` are the next factor
 pub record NextCut (others : List Words) (list rest : Words) : Type 0 where
   pub more : List Words
   pub others_are : others ≡ list ∷ more
@@ -91,7 +91,7 @@ next_cut words later list rest (l ∷ more) e n f g m b =
     let r = run_cut later l list rest more (ap behind_first (sym f ∙ e)) n.0 g m b in
     record { more = more; others_are = ap (λ x. x ∷ more) r.0; rest_are = r.1; more_numbers = n.1 }
 
--- nothing stands behind the last factor
+-- nothing stands after the last factor
 pub nothing_behind : (words : Words) (others : List Words) → words ≡ next_text others → BeginsOtherwise (λ t. t ≡ codes "-") words → others ≡ []
 nothing_behind words [] e b = refl
 nothing_behind words (l ∷ others) e b = absurd (subst (BeginsOtherwise (λ t. t ≡ codes "-")) e b refl)

@@ -24,7 +24,7 @@ the_ninth false o p m = absurd m
 ninth_word : (count word : ℕ) (p : Offence) → Among p (ninth_offences count word) → p.0 ≡ word
 ninth_word count word p m = ap (λ (q : Offence). q.0) (the_ninth (count == most_factors) (word, 0, range) p m)
 
--- the offences of factors stand behind the word in front of the first
+-- the offences of factors stand after the word in front of the first
 factor_within : (count k : ℕ) (ns : List (List ℕ)) (p : Offence) → Among p (factor_offences count k ns) → k ≤ p.0 + 1
 factor_within count k [] p m = absurd m
 factor_within count k (n ∷ ns) p m =
@@ -48,7 +48,7 @@ factors_from k n ns p m = by (Among_from_append p (part_offences k n) (factor_of
     by (inl a) = (within part_rule [] k n p a).0
     by (inr a) = let w = factor_within 1 (k + length n + 1) ns p a in omega (arith, w)
 
--- the next factor, behind the word
+-- the next factor, after the word
 abbrev next_offences : ℕ → ℕ → Words → List Offence
 next_offences count at list = ninth_offences count at ++ part_offences (at + 1) (numbers list)
 

@@ -9,7 +9,7 @@ use Rattle.calc_words.proofs.WrittenLists.{written}
 use Rattle.word_laws.proofs.NoOffences.{none_first}
 use Rattle.calc_words.specs.ReadProducts.{ninth_offences}
 
--- so many factors have at most so many cells and rows
+-- the factors so far are counted, and have at most these cells and rows
 bounded : (ps : List (List ℕ)) → EachOf IsWritten ps → (cells_of ps ≤ 512 * length ps) × (rows_of ps ≤ 64 * length ps)
 bounded [] e = (omega arith, omega arith)
 bounded (p ∷ ps) e =

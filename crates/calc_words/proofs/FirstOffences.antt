@@ -1,4 +1,4 @@
--- The first offence of a list of numbers, and of two lists, the second of which stands behind the first.
+-- The first offence of a list of numbers, and of two lists, the second of which stands after the first.
 use Rattle.std.proofs.Common.{◌≡◌, ℕ, ◌+◌, ◌<◌, ◌≤◌, ◌==◌, nat_le, nat_lt, Bool, true, false, ◌&&◌, ◌||◌, cond, List, [], ◌∷◌, ◌++◌, append_assoc, map, length, refl, sym, ap, ◌∙◌, subst, arith, Option, Some, None, ◌⊎◌, inl, inr, eq-eqb}
 use Rattle.std.proofs.lemmas.Bool.{lt-ltb}
 use Rattle.sym_model.specs.Sum.{Among}
@@ -29,7 +29,7 @@ no_later_kind k a b h =
     ∙ ap (λ x. nat_lt k k || x) h
     ∙ or_true (nat_lt k k)
 
--- each offence stands behind the word
+-- each offence stands after the word
 abbrev pub Behind : ℕ → List Offence → Type 0
 Behind k os = (p : Offence) → Among p os → k < p.0
 

@@ -17,7 +17,7 @@ use Rattle.calc_words.specs.LineBytes.{seen_byte, seen}
 use Rattle.calc_words.specs.Reading.{IsRead}
 use Rattle.calc_words.proofs.PlainBytes.{is_plain, are_plain, all_plain, entries_plain, not_plain, not_all_plain, expression_plain, begins_plain, spells_plain, freely_plain, first_plain}
 
--- ---- longest prefixes of lists that are the same up to a place behind which no prefix has the property
+-- ---- longest prefixes of lists that are the same up to a place after which no prefix has the property
 
 abbrev Stops : {A : Type 0} → (List A → Type 0) → List A → A → Type 0
 Stops {A} P pre x = (ys : List A) → P (pre ++ x ∷ ys) → ⊥
@@ -53,7 +53,7 @@ longest_same P pre x y xs ys k s t h =
           h.longest j (let n = length-append pre (x ∷ xs) in omega (arith, m, n)) (subst P (same_front pre (y ∷ ys) (x ∷ xs) j m) b);
     }
 
--- ---- where words go wrong
+-- ---- where words first fail
 
 stops_words : (entries : List Entry) (before : Words) (w : List ℕ) → entries_plain entries ≡ true → (are_plain w ≡ true → ⊥) → Stops (BeginsCommand entries) before w
 stops_words entries before w p n ys h = not_all_plain before ys w n (begins_plain entries (before ++ w ∷ ys) p h)
@@ -92,7 +92,7 @@ moved_byte before u v x b c rest more k byte n m h l = by (at_most k (length bef
         subst (λ t. IsLongestPrefix BeginsExpression t byte) (sym new)
         (longest_same BeginsExpression u b c v x byte (stops_bytes u b n) (stops_bytes u c m) (subst (λ t. IsLongestPrefix BeginsExpression t byte) old l))
 
--- words with the same front go wrong at the same place
+-- words with the same front first fail at the same place
 moved_place : (entries : List Entry) → entries_plain entries ≡ true → (before : Words) (u v x : List ℕ) (b c : ℕ) (rest more : Words) (k byte : ℕ)
     → is_plain b ≡ false → is_plain c ≡ false → IsSyntaxPlace entries (before ++ (u ++ b ∷ v) ∷ rest) k byte
     → IsSyntaxPlace entries (before ++ (u ++ c ∷ x) ∷ more) k byte

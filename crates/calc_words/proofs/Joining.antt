@@ -104,7 +104,7 @@ longest_of_all e entries j words rest word w l zero k b = omega arith
 longest_of_all e entries j words rest word w l (suc n) k b =
     l (suc n) k (own_begins e entries j (take (suc n) words) (take n rest) (ap (take (suc n)) w) b)
 
--- words that begin with the name of a command go wrong among all commands where they go wrong for that one
+-- words that begin with the name of a command first fail among all commands where they first fail for that one
 pub joined_syntax : (e : Entry) (entries : List Entry) → Joined e entries → (words rest : Words) (word byte : ℕ) → words ≡ e.name ∷ rest
     → IsSyntaxPlace (e ∷ []) words word byte → IsSyntaxPlace entries words word byte
 joined_syntax e entries j words rest word byte w p = record {

@@ -1,4 +1,4 @@
--- Words are read in one way: one command, one first offence, one place where they go wrong.
+-- Words are read in one way: one command, one first offence, one place where they first fail.
 use Rattle.std.proofs.Common.{◌≡◌, ℕ, ◌<◌, ◌==◌, true, false, List, [], ◌∷◌, map, length, arith, refl, sym, ap, ◌∙◌, Option, Some, None, Result, Ok, Err, inl, inr}
 use Rattle.std.proofs.lemmas.Bool.{eqb-true, eqb-false}
 use Rattle.sym_model.specs.Command.{Command}
@@ -68,7 +68,7 @@ same_syntax : (at : Place) (w b : ℕ) → at.word ≡ w → at.byte ≡ b → S
 same_syntax at w b h k =
     ap (λ n. Syntax (record { word = n; byte = at.byte })) h ∙ ap (λ n. Syntax (record { word = w; byte = n })) k
 
--- where words go wrong
+-- where words first fail
 pub goes_wrong : (entries : List Entry) → Clear entries → (words : Words) (r : Result Read WordsFault)
     → IsRead entries words r → (w b : ℕ) → IsSyntaxPlace entries words w b → GoesWrong w b r
 goes_wrong entries u words (Ok k) h w b s = s.no_command (command_of k) (freely_spells entries words (command_of k) h.0)

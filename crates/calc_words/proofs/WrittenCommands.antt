@@ -42,7 +42,7 @@ pub not_ninth : (ninth : Bool) (o : Offence) → cond ninth (o ∷ []) [] ≡ []
 not_ninth true o h = cc
 not_ninth false o h = refl
 
--- factors after so many others
+-- factors after others, which are counted
 factors_keep : (count k : ℕ) (ns : List (List ℕ)) → count ≤ 8 → factor_offences count k ns ≡ []
     → (count + length ns ≤ 8) × EachOf IsWritten (map without_last_zeros ns)
 factors_keep count k [] c h = (omega arith, tt)
@@ -98,7 +98,7 @@ quantum_keeps (name, (rows, (columns, x))) h = reduction_keeps rows columns x h
 fusion_keeps : Keeps fusion_entry
 fusion_keeps (name, (rows, (level, x))) h = reduction_keeps rows level x h
 
--- the tableau behind which a list goes on
+-- the tableau after which a list goes on
 last_kept : (k : ℕ) (outer inner : List ℕ) (after : Written (optional from_words)) → first_offence (not_listed k outer inner after) ≡ None
     → IsInList outer inner (last_reading outer inner after)
 last_kept k outer inner (inl x) h = tt

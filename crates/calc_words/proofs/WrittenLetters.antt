@@ -1,4 +1,4 @@
--- What letters without an offence are: those of a permutation of at most so many letters.
+-- What letters without an offence are: those of a permutation of at most that number of letters.
 use Rattle.std.proofs.Common.{◌≡◌, ℕ, suc, ◌+◌, ◌<◌, ◌≤◌, ◌==◌, nat_lt, Bool, true, false, ◌||◌, cond, List, [], ◌∷◌, ◌++◌, length, refl, ap, ◌∙◌, arith, None, inl, inr, eq-eqb}
 use Rattle.std.proofs.lemmas.Bool.{eqb-false}
 use Rattle.sym_model.specs.Sum.{Among, Once}
@@ -13,7 +13,7 @@ use Rattle.calc_words.specs.WrittenLimits.{IsPermutationWithin, IsWrittenPermuta
 use Rattle.calc_words.proofs.WrittenLists.{inside}
 use Rattle.word_laws.proofs.NoOffences.{none_append, none_next, not_when}
 
--- letters that stand behind others, none of which they are
+-- letters that stand after others, none of which they are
 record AreLetters (most count : ℕ) (before ns : List ℕ) : Type 0 where
   letters : (b : ℕ) → Among b ns → (1 ≤ b) × (b ≤ count)
   new : (b : ℕ) → Among b ns → stands_in b before ≡ false
@@ -52,7 +52,7 @@ letters_fine most count before k (a ∷ ns) f h =
     itself : stands_in a (a ∷ before) ≡ false → ⊥
     itself e = let x = (or_both (a == a) (stands_in a before) e).0 in let y = eq-eqb a a refl in cc
 
--- letters of a permutation without an offence, of which at most so many may be written
+-- letters of a permutation without an offence, of which at most that number of may be written
 pub short_within : (most k : ℕ) (ns : List ℕ) → most ≤ 16 → 0 < length ns → first_offence (permutation_offences_within most k ns) ≡ None
     → IsShortPermutation ns × (length ns ≤ most)
 short_within most k ns m s h =

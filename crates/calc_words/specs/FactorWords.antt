@@ -1,4 +1,4 @@
--- The words of the factors of a product (this project's own).
+-- The words of the factors of a product.
 use Rattle.std.specs.Prelude.{◌≡◌, ℕ, Bool, true, false, List, [], ◌∷◌, ◌++◌, codes, ◌⊎◌}
 use Rattle.sym_model.specs.Form.{is_digit}
 use Rattle.calc_words.specs.NumberRuns.{IsNumber}
@@ -7,7 +7,7 @@ use Rattle.calc_words.specs.NumberRuns.{IsNumber}
 abbrev pub IsPieceWord : List ℕ → Type 0
 IsPieceWord text = IsNumber text ⊎ (text ≡ codes "-")
 
--- further factors, each behind a `-`
+-- further factors, each after a `-`
 abbrev pub next_text : List (List (List ℕ)) → List (List ℕ)
 next_text [] = []
 next_text (list ∷ lists) = codes "-" ∷ (list ++ next_text lists)

@@ -1,4 +1,4 @@
--- The refusals of the words of a command (this project's own).
+-- The refusals of the words of a command.
 use Rattle.std.specs.Prelude.{ℕ}
 use Rattle.calc_base.specs.declared.words.WordsFault.{WordsFault}
 use Rattle.calc_base.specs.declared.words.WordsFault.TheVariants.{Literal, Range, Shape}

@@ -1,4 +1,4 @@
--- A command among others, whose names tell them apart (this project's own).
+-- A command among others, whose names tell them apart.
 use Rattle.std.specs.Prelude.{◌≡◌, ℕ, List, ◌∷◌}
 use Rattle.sym_model.specs.Sum.{Among}
 use Rattle.sym_model.specs.Form.{Has, Awaits}

@@ -1,5 +1,5 @@
 -- The bytes of a line as they are kept in its words: those past ASCII, which stand in no word of a
--- command, as `?`, which does not either (this project's own).
+-- command, as `?`, which does not either.
 use Rattle.std.specs.Prelude.{ℕ, ◌==◌, nat_lt, Bool, true, false, ◌||◌, cond, List, [], ◌∷◌, map}
 use Rattle.sym_model.specs.BatchLine.{is_some_text}
 
@@ -19,7 +19,7 @@ word_with_bytes word = cond (is_some_text word) (word ∷ []) []
 abbrev pub is_space : ℕ → Bool
 is_space byte = (byte == 32) || (byte == 9)
 
--- whether words are passed over: there is none, or the first begins with `#`
+-- whether words are skipped: there is none, or the first begins with `#`
 abbrev pub is_passed_over : List (List ℕ) → Bool
 is_passed_over [] = true
 is_passed_over ([] ∷ words) = false

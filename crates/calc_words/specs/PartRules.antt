@@ -1,4 +1,4 @@
--- By which kind a number of a partition offends, where its value is not wide (this project's own).
+-- By which kind a number of a partition offends, where its value is not wide.
 use Rattle.std.specs.Prelude.{ℕ, ◌+◌, ◌==◌, nat_lt, Bool, ◌||◌, cond, Option, Some, None}
 use Rattle.sym_model.specs.ExpressionOffence.{rises}
 use Rattle.sym_model.specs.CommandOffence.{most_parts, most_cells}
@@ -9,7 +9,7 @@ use Rattle.calc_words.specs.declared.offence.Kind.TheVariants.{Range, Shape}
 abbrev pub range_or_shape : Bool → Bool → Option Kind
 range_or_shape y z = cond y (Some Range) (cond z (Some Shape) None)
 
--- the kind of a number behind so many with so many cells, the last of them this one
+-- the kind of a number after `rows` numbers with `cells` cells together, the last of them this one
 abbrev pub part_kind : ℕ → ℕ → Option ℕ → ℕ → Option Kind
 part_kind count cells last value =
     range_or_shape ((count == most_parts) || nat_lt most_cells (cells + value)) (rises last value)

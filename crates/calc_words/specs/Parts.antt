@@ -1,5 +1,5 @@
 -- The parts of the words of a command: their forms, what they offend by, and words that are cut
--- into them (this project's own).
+-- into them.
 use Rattle.std.specs.Prelude.{◌≡◌, ◌⊎◌, ℕ, ◌≤◌, ◌<◌, ◌+◌, ◌-◌, Bool, true, false, ◌&&◌, List, []}
 use Rattle.std.specs.Prelude.{◌∷◌, ◌++◌, drop, length, codes, slice_index_or, None}
 use Rattle.sym_model.specs.PrintedBlock.{decimal_value}
@@ -59,7 +59,7 @@ abbrev pub command_form : List ℕ → List Part → Form
 command_form name [] = the name
 command_form name (p ∷ ps) = sequence (the name) (form_of (p ∷ ps))
 
--- whether each word behind the words of a part tells that they end
+-- whether each word after the words of a part tells that they end
 abbrev pub is_clear : List Part → Bool
 is_clear [] = true
 is_clear (p ∷ ps) = are_apart (continuing (form_of_part p)) (firsts (form_of ps)) && is_clear ps
@@ -87,7 +87,7 @@ parts_offend (p ∷ q ∷ ps) k x =
     part_offends p k x.0 ++ parts_offend (q ∷ ps) (k + length (words_of (form_of_part p) x.0)) x.1
 
 -- the i-th part begins at the word and has these words; the places are those of the first words,
--- and of what stands behind the last
+-- and of what stands after the last
 abbrev pub IsPiece : List ℕ → List (List ℕ) → ℕ → ℕ → List (List ℕ) → Type 0
 IsPiece places words i k piece =
     (slice_index_or places i 0 ≡ k) × (slice_index_or places (i + 1) 0 ≡ k + length piece)

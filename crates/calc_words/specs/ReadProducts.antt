@@ -1,4 +1,4 @@
--- What factors offend by, one after another (this project's own).
+-- What factors offend by, one after another.
 use Rattle.std.specs.Prelude.{ℕ, ◌==◌, cond, List, [], ◌∷◌}
 use Rattle.sym_model.specs.CommandOffence.{Offence, most_factors}
 use Rattle.sym_model.specs.ExpressionOffence.{range}

@@ -1,4 +1,4 @@
--- What the words of a command are read as, for any list of commands (this project's own).
+-- What the words of a command are read as, for any list of commands.
 use Rattle.std.specs.Prelude.{◌≡◌, ℕ, List, Option, Some, None, Result, Ok, Err, ◌⊎◌}
 use Rattle.sym_model.specs.ExpressionOffence.{literal, range, shape}
 use Rattle.sym_model.specs.Command.{Command as PlainCommand}
@@ -11,7 +11,7 @@ use Rattle.calc_base.specs.declared.words.WordsFault.TheVariants.{NoMemory}
 use Rattle.calc_commands.specs.Commands.{command_of, IsSound}
 use Rattle.calc_commands.specs.declared.command.Command.{Command}
 
--- the words go wrong or first offend at this place; want of memory says nothing of them
+-- the words first fail or first offend at this place; running out of memory says nothing of them
 abbrev pub IsRefusal : List Entry → List (List ℕ) → WordsFault → Type 0
 IsRefusal entries words (Syntax at) = IsSyntaxPlace entries words at.word at.byte
 IsRefusal entries words (Literal at) =
@@ -27,7 +27,7 @@ IsRead entries words (Ok command) =
     SpellsWithoutOffence entries words (command_of command) × IsSound command
 IsRead entries words (Err fault) = IsRefusal entries words fault
 
--- the refusal is that of the first offence; want of memory says nothing
+-- the refusal is that of the first offence; running out of memory says nothing
 abbrev pub IsFirst : Option Offence → WordsFault → Type 0
 IsFirst first (Syntax at) = ⊥
 IsFirst first (Literal at) = first ≡ Some (at.word, at.byte, literal)
@@ -47,17 +47,17 @@ IsFaultOf o (Range at) = o ≡ (at.word, at.byte, range)
 IsFaultOf o (Shape at) = o ≡ (at.word, at.byte, shape)
 IsFaultOf o _ = ⊥
 
--- the command is accepted, but for want of memory
+-- the command is accepted, unless memory runs out
 abbrev pub Accepts : PlainCommand → Result Command WordsFault → Type 0
 Accepts c (Ok command) = command_of command ≡ c
 Accepts c (Err fault) = fault ≡ NoMemory
 
--- the offence is refused, but for want of memory
+-- the offence is refused, unless memory runs out
 abbrev pub Refuses : {A : Type 0} → Offence → Result A WordsFault → Type 0
 Refuses o (Ok answer) = ⊥
 Refuses o (Err fault) = IsFaultOf o fault ⊎ (fault ≡ NoMemory)
 
--- words that go wrong at a place are refused there, but for want of memory
+-- words that first fail at a place are refused there, unless memory runs out
 abbrev pub GoesWrong : {A : Type 0} → ℕ → ℕ → Result A WordsFault → Type 0
 GoesWrong word byte (Ok answer) = ⊥
 GoesWrong word byte (Err fault) =

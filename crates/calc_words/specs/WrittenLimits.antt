@@ -1,4 +1,4 @@
--- The limits that the words of a command keep where they have no offence (this project's own).
+-- The limits that the words of a command keep where they have no offence.
 use Rattle.std.specs.Prelude.{◌≡◌, ◌≤◌, ℕ, ◌*◌, true, List, length, Option, Some, None}
 use Rattle.sym_model.specs.Partition.{IsPartition, size, rows}
 use Rattle.sym_model.specs.GoodTableau.{is_among, lattice_readings}
@@ -21,7 +21,7 @@ pub record IsWritten (parts : List ℕ) : Type 0 where
   pub few : rows parts ≤ most_parts
   pub small : size parts ≤ most_cells
 
--- a permutation of at most so many letters, as it is kept
+-- a permutation of at most that number of letters, as it is kept
 pub record IsPermutationWithin (most : ℕ) (w : List ℕ) : Type 0 where
   pub kept : IsKept w
   pub few : length w ≤ most
@@ -45,7 +45,7 @@ abbrev pub IsRowLimit : Option ℕ → Type 0
 IsRowLimit None = Unit {0}
 IsRowLimit (Some n) = IsRowNumber n
 
--- the tableau behind which a list goes on is one of the list, where there is one
+-- the tableau after which a list goes on is one of the list, where there is one
 abbrev pub IsInList : List ℕ → List ℕ → Option (List ℕ) → Type 0
 IsInList outer inner None = Unit {0}
 IsInList outer inner (Some w) = is_among w (lattice_readings outer inner) ≡ true

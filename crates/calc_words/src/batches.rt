@@ -10,7 +10,7 @@ use calc_base::WordsFault;
 use calc_commands::Command;
 
 /// Reads the words of `batch`, which is that word alone. Other words are refused as `Syntax`, at
-/// the word where they go wrong.
+/// the word where they first fail.
 pub fn read_batch(words: &[String]) -> Result<Command, WordsFault>
     ensures { IsRead (batch_entry ∷ []) (map string_bytes words.now) result }
 {
@@ -20,7 +20,7 @@ pub fn read_batch(words: &[String]) -> Result<Command, WordsFault>
 
 /// Reads the words of `work`: that word, a number of lines and a seed.
 ///
-/// Words that are no such command are refused as `Syntax`, at the word where they go wrong.
+/// Words that are no such command are refused as `Syntax`, at the word where they first fail.
 /// Otherwise the first offence is refused: a number past 2^127 - 1 as `Literal`; a number of lines
 /// that is not from 1 to 10,000, and a seed past 65,536, as
 /// `Range`.

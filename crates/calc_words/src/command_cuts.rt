@@ -13,8 +13,8 @@ use crate::splitting::behind;
 use crate::word_parts::{Part, byte_of, taken};
 use calc_base::WordsFault;
 
-/// The words at which the parts of a command begin, the first at the word behind its name, and the
-/// word behind each part; no command has more than five.
+/// The words at which the parts of a command begin, the first at the word after its name, and the
+/// word after each part; no command has more than five.
 pub type Places = [usize; 6];
 
 /// Where words first fail.
@@ -55,8 +55,8 @@ fn places_of(words: &[String], parts: &[Part], count: usize) -> Result<Places, W
     Ok(places)
 }
 
-/// The places of the parts behind the name of a command, where the words are the name and words of
-/// these parts; else the refusal of the words, at the one where they go wrong.
+/// The places of the parts after the name of a command, where the words are the name and words of
+/// these parts; else the refusal of the words, at the one where they first fail.
 pub fn cut(words: &[String], name: &str, parts: &[Part]) -> Result<Places, WordsFault>
     requires few { length parts.now ≤ 5 }
     requires clear { is_clear parts.now ≡ true }

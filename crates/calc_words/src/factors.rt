@@ -36,7 +36,7 @@ fn pushed(factors: Factors, next: Partition) -> Result<Factors, WordsFault>
     }
 }
 
-/// These factors and, behind the word `at`, the next one, or its first offence:
+/// These factors and, after the word `at`, the next one, or its first offence:
 /// the ninth one offends at that word.
 fn next_factor(
     alloc: Global,
@@ -59,7 +59,7 @@ fn next_factor(
     pushed(factors, next)
 }
 
-/// These factors and those behind them, each behind a `-`, the first of which is the word `at`,
+/// These factors and those after them, each after a `-`, the first of which is the word `at`,
 /// or the first offence.
 fn read_later(
     alloc: Global,
@@ -97,7 +97,7 @@ fn paired(alloc: Global, left: Partition, right: Partition) -> Result<Factors, W
     }
 }
 
-/// The factors of which the first begins at the word `at` and the others stand behind a `-`,
+/// The factors of which the first begins at the word `at` and the others stand after a `-`,
 /// or the first offence.
 pub(crate) fn read_factors(
     alloc: Global,

@@ -16,7 +16,7 @@ const MOST_LETTERS: usize = 256;
 
 const GREATEST_LETTER: u128 = 65_535;
 
-/// Whether a letter behind so many is past a limit.
+/// Whether a letter after that number of others exceeds a limit.
 fn is_past(count: usize, value: u128) -> bool
     ensures { result ≡ (is_outside greatest_letter value || (count == most_letters)) }
 {

@@ -71,7 +71,7 @@ pub fn without_return(line: &[u8]) -> &[u8]
     if *last == b'\r' { front } else { line }
 }
 
-/// Whether words are passed over: there is none, or the first begins with `#`.
+/// Whether words are skipped: there is none, or the first begins with `#`.
 pub fn are_passed_over(words: &[String]) -> bool
     ensures { result ≡ is_passed_over (map string_bytes words.now) }
 {

@@ -173,7 +173,7 @@ pub(crate) fn doubled_of(alloc: Global, at: u64, words: &[String]) -> Result<Per
     read_permutation(alloc, MOST_DOUBLED, at, words)
 }
 
-/// The words behind the first.
+/// The words after the first.
 fn behind_first(words: &[String]) -> &[String]
     ensures later { (more : List (List ℕ)) → map string_bytes words.now ≡ codes "-" ∷ more
         → map string_bytes result.now ≡ more }

@@ -19,7 +19,7 @@ const MOST_PARTS: usize = 64;
 
 const MOST_CELLS: u128 = 512;
 
-/// What a number offends by that stands behind so many with so many cells,
+/// What a number offends by that stands after that number of rows and cells,
 /// the last of them this one.
 fn part_offence(count: usize, cells: u16, last: Option<u16>, value: u128) -> Option<Kind>
     requires { value < 2 ^ 127 }

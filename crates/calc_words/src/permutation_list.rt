@@ -28,8 +28,8 @@ fn stands_in(letter: u16, letters: &[u16]) -> bool
     letters.contains(&letter)
 }
 
-/// What a letter offends by that stands behind these in a list of so many,
-/// where at most so many may be written.
+/// What a letter offends by that stands after these in a list of a given length,
+/// where at most `most` may be written.
 fn letter_offence(most: usize, count: usize, before: &[u16], value: u128) -> Option<Kind>
     requires { most ≤ 16 }
     ensures { result ≡ letter_kind most count before.now value }
@@ -53,7 +53,7 @@ fn permutation_of(alloc: Global, letters: &[u16]) -> Result<Perm, WordsFault>
 }
 
 /// The permutation of the letters that are these words, the first of which is the word `at`, or
-/// their first offence; at most so many letters may be written.
+/// their first offence; at most that number of letters may be written.
 pub(crate) fn read_permutation(
     alloc: Global,
     most: usize,

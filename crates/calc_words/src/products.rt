@@ -13,7 +13,7 @@ use std::alloc::Global;
 /// Reads the words of `mult`: that word, `-r` and a number of rows where a bound is wanted, `-m`
 /// where the answer is wanted on one line, and two to eight partitions with `-` between them.
 ///
-/// Words that are no such command are refused as `Syntax`, at the word where they go wrong.
+/// Words that are no such command are refused as `Syntax`, at the word where they first fail.
 /// Otherwise the first offence is refused: a number past 2^127 - 1 as `Literal`; a number of rows
 /// that is not from 1 to 64, the 65th number of a partition, the one at which its sum passes 512,
 /// and the `-` in front of a ninth partition, as `Range`; a number of a partition greater than the
@@ -39,7 +39,7 @@ pub fn read_mult(alloc: Global, words: &[String]) -> Result<Command, WordsFault>
 /// Reads the words of `skew`: that word, `-r` and a number of rows where a bound is wanted, `-m`
 /// where the answer is wanted on one line, and two partitions with `/` between them.
 ///
-/// Words that are no such command are refused as `Syntax`, at the word where they go wrong.
+/// Words that are no such command are refused as `Syntax`, at the word where they first fail.
 /// Otherwise the first offence is refused: a number past 2^127 - 1 as `Literal`; a number of rows
 /// that is not from 1 to 64, the 65th number of a partition, and the one at which its sum passes
 /// 512, as `Range`; a number of a partition greater than the one before it as `Shape`.

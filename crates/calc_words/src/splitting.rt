@@ -12,7 +12,7 @@ ghost use Rattle.calc_words.specs.NumberRuns.{IsNumber, BeginsOtherwise};
 use crate::numbers::{is_digit_byte, is_number};
 use calc_base::Basis;
 
-/// The words behind the first, where that is this one.
+/// The words after the first, where that is this one.
 pub fn behind<'a>(words: &'a [String], text: &str) -> Option<&'a [String]>
     ensures { MatchOption result (BeginsOtherwise (λ t. t ≡ text.now) (map string_bytes words.now))
         (λ rest. map string_bytes words.now ≡ text.now ∷ map string_bytes rest.now) }
@@ -30,7 +30,7 @@ pub fn behind<'a>(words: &'a [String], text: &str) -> Option<&'a [String]>
     Some(rest)
 }
 
-/// The first word and those behind it, where it is a number.
+/// The first word and those after it, where it is a number.
 pub(crate) fn first_number(words: &[String]) -> Option<(&String, &[String])>
     ensures { MatchOption result (BeginsOtherwise IsNumber (map string_bytes words.now))
         (λ p. (map string_bytes words.now ≡ string_bytes p.0.now ∷ map string_bytes p.1.now)
@@ -74,7 +74,7 @@ pub(crate) fn first_target(words: &[String]) -> Option<(Basis, &[String])>
     Some((target, rest))
 }
 
-/// The numbers at the front, and the words behind them.
+/// The numbers at the front, and the words after them.
 pub fn numbers(words: &[String]) -> (&[String], &[String])
     ensures parts { map string_bytes words.now
         ≡ map string_bytes result.0.now ++ map string_bytes result.1.now }
@@ -99,7 +99,7 @@ fn begins_with_digit(word: &[u8]) -> bool
     is_digit_byte(*byte)
 }
 
-/// The words at the front that begin with a digit, and those behind them.
+/// The words at the front that begin with a digit, and those after them.
 pub(crate) fn list_first(words: &[String]) -> (&[String], &[String])
     ensures parts { map string_bytes words.now
         ≡ map string_bytes result.0.now ++ map string_bytes result.1.now }

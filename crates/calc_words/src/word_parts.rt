@@ -145,7 +145,7 @@ fn is_piece(word: &String) -> bool
     is_number(word.as_bytes()) || word.as_str() == "-"
 }
 
-/// The numbers and `-` at the front, and the words behind them.
+/// The numbers and `-` at the front, and the words after them.
 fn pieces(words: &[String]) -> (&[String], &[String])
     ensures parts { map string_bytes words.now
         ≡ map string_bytes result.0.now ++ map string_bytes result.1.now }
@@ -173,7 +173,7 @@ fn factors(words: &[String]) -> Result<usize, usize>
     Ok(words.len() - rest.len())
 }
 
-/// The words behind the row at the front; else how many words are left from the wrong one on.
+/// The words after the row at the front; else how many words are left from the wrong one on.
 fn behind_row(words: &[String]) -> Result<&[String], usize>
     ensures ok { IfOk result (λ rest.
         StandsBehind row_words (map string_bytes rest.now) (map string_bytes words.now)) }

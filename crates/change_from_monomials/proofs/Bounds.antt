@@ -1,35 +1,18 @@
 -- Bounds of the numbers at the two ends of a conversion.
-use Rattle.std.proofs.Common.{◌≡◌, ◌⊎◌, ℕ, zero, suc, ◌+◌, ◌-◌, ◌*◌, ◌/◌, ◌^◌, ◌<◌, ◌≤◌, Bool, true, false, cond, List, [], ◌∷◌, ◌++◌, take, refl, sym, ap, ◌∙◌, subst, inl, inr, arith, ℤ, pos, ◌*ℤ◌}
-use Rattle.std.specs.Prelude.{nat_abs, slice_get, Some, IsSome}
-use Rattle.std.specs.Int.{◌∣◌}
-use Rattle.std.proofs.lemmas.Int.{ints, unsigned_abs-mul}
-use Rattle.std.proofs.lemmas.Bool.{cases_lt}
-use Rattle.coeff_rings.specs.Fractions.{lowest_terms}
-use Rattle.coeff_rings.specs.Room.{magnitude, HasRoomForSum}
-use Rattle.coeff_rings.specs.Checked.{IsFraction, checked_fraction_sum}
-use Rattle.coeff_rings.specs.Proved.Fractions.{Stands, Stands-lowest_terms}
-use Rattle.coeff_rings.specs.Proved.Cleared.{scaled-Stands}
-use Rattle.coeff_rings.specs.Proved.FractionAnswers.{sum_answers_fraction}
+use Rattle.std.proofs.Common.{◌≡◌, ◌⊎◌, ℕ, zero, suc, ◌+◌, ◌-◌, ◌*◌, ◌/◌, ◌^◌, ◌<◌, ◌≤◌, List, [], ◌∷◌, ◌++◌, refl, sym, ap, subst, inl, inr, arith, ℤ, pos, ◌*ℤ◌}
+use Rattle.std.specs.Prelude.{nat_abs}
+use Rattle.std.proofs.lemmas.Int.{unsigned_abs-mul}
 use Rattle.sym_model.specs.Sum.{Among}
 use Rattle.sym_model.specs.Partition.{size}
-use Rattle.sym_model.specs.Polynomial.{same, coefficient}
 use Rattle.sym_model.specs.Expansion.{Fraction, Terms}
 use Rattle.sym_model.proofs.Sums.{Among_from_append}
 use Rattle.sparse_polys.specs.Combination.{terms_of}
-use Rattle.sparse_polys.specs.Refusal.{IsRefused}
-use Rattle.whole_lists.specs.Tables.{found}
 use Rattle.whole_lists.specs.LabelSizes.{AreWithin}
-use Rattle.whole_lists.proofs.Quotients.{Quotients}
-use Rattle.change_from_monomials.specs.declared.mixed.MixedLabel.{MixedLabel}
-use Rattle.change_from_monomials.specs.Mixed.{Mixed, weight, converted_terms}
-use Rattle.change_from_monomials.specs.Arranging.{at_label}
-use Rattle.change_from_monomials.proofs.Tables.{at_label-itself}
 use Rattle.std.proofs.lemmas.Nat.{le-div, mul-le}
 use Rattle.std.proofs.Common.{lit≤, pow-suc}
 use Rattle.sym_model.specs.Expansion.{Basis}
 use Rattle.sym_model.specs.Weight.{factorial, growth}
 use Rattle.sym_model.proofs.Numbers.{power-base, power-positive}
-use Rattle.sym_model.proofs.Integers.{nat_abs-sum}
 use Rattle.whole_lists.specs.declared.family.Family.{Family}
 use Rattle.whole_lists.specs.declared.family.Family.TheVariants.{Elementary, Complete, PowerSum}
 use Rattle.whole_lists.specs.Families.{basis_in}
@@ -60,57 +43,6 @@ large-product z q n h p =
 
 pub quotient-positive : (a b : ℕ) → 0 < b → b ≤ a → 0 < a / b
 quotient-positive a b p h = le-div 1 a b p (omega arith)
-
--- ---- a refused quotient
-
-coefficient-size : (es : Mixed) (label : List ℕ) → nat_abs (coefficient (converted_terms es) label) ≤ weight (at_label label) es
-coefficient-size [] label = omega (arith, ints)
-coefficient-size (t ∷ es) label =
-    let r = coefficient-size es label in
-    let s = nat_abs-sum (cond (same t.0.converted label) t.1 (pos 0)) (coefficient (converted_terms es) label) in
-    let h = by (same t.0.converted label) t.1 in
-    omega arith
-  where
-    by : (b : Bool) (z : ℤ) → nat_abs (cond b z (pos 0)) ≤ nat_abs z * cond b 1 0
-    by true z = omega arith
-    by false z = let e : nat_abs (pos 0) ≡ 0 = refl in omega arith
-
-refused-quotients : (d : ℕ) (z c : ℤ) (a b : Fraction) → 0 < d → d < 2 ^ 127 → a ≡ lowest_terms z d → b ≡ lowest_terms c d → IsRefused IsFraction (λ (r : Fraction). r) checked_fraction_sum a b → 2 ^ 127 ≤ nat_abs z + nat_abs c
-refused-quotients d z c a b p l e f r = by (cases_lt (nat_abs z + nat_abs c) (2 ^ 127))
-  where
-    size-of : (x : ℤ) (t : Fraction) → t ≡ lowest_terms x d → (t.1 ∣ d) × (magnitude d t ≡ nat_abs x)
-    size-of x t e =
-        let s = scaled-Stands d x t (subst (λ (u : Fraction). Stands u x d) (sym e) (Stands-lowest_terms x d p)) in
-        (s.0, sym (unsigned_abs-mul t.0 (pos (d / t.1))) ∙ ap nat_abs s.1)
-
-    by : (nat_abs z + nat_abs c < 2 ^ 127) ⊎ (2 ^ 127 ≤ nat_abs z + nat_abs c) → 2 ^ 127 ≤ nat_abs z + nat_abs c
-    by (inr h) = h
-    by (inl h) =
-        let u = size-of z r.left (r.left_value ∙ e) in
-        let v = size-of c r.right (r.right_value ∙ f) in
-        let m = u.1 in
-        let n = v.1 in
-        let room : HasRoomForSum d r.left r.right = record { positive = p; small = l; left = u.0; right = v.0; room = omega arith } in
-        let some = (sum_answers_fraction r.left r.right r.left_held r.right_held).room d room in
-        absurd (let t : IsSome (checked_fraction_sum r.left r.right) = some in let none = r.refused in cc)
-
-pub refused-weight : (d : ℕ) (es : Mixed) (i : ℕ) (l : MixedLabel) (c : ℤ) (old : Terms (List ℕ)) → 0 < d → d < 2 ^ 127 → slice_get es i ≡ Some (l, c) → Quotients d old (converted_terms (take i es))
-    → (key : List ℕ) (b : Fraction) → key ≡ l.converted → b ≡ lowest_terms c d → IsRefused IsFraction (λ (r : Fraction). r) checked_fraction_sum (found old key) b → 2 ^ 127 ≤ weight (at_label l.converted) es
-refused-weight d es i l c old p s e q key b k f r =
-    let z = coefficient (converted_terms (take i es)) l.converted in
-    let h = refused-quotients d z c (found old key) b p s (ap (found old) k ∙ q l.converted) f r in
-    let w = coefficient-size (take i es) l.converted in
-    let t = weight-at es i e in
-    omega arith
-  where
-    weight-at : (es : Mixed) (i : ℕ) → slice_get es i ≡ Some (l, c) → weight (at_label l.converted) (take i es) + nat_abs c ≤ weight (at_label l.converted) es
-    weight-at [] i e = cc
-    weight-at (t ∷ es) zero e =
-        let here : t ≡ (l, c) = cc in
-        let x = ap (λ (u : MixedLabel × ℤ). nat_abs u.1 * at_label l.converted u.0) here in
-        let y = mul-le-mul_left (nat_abs c) (at_label-itself l) in
-        omega arith
-    weight-at (t ∷ es) (suc i) e = let r = weight-at es i e in omega arith
 
 -- ---- the growth into the families
 
@@ -174,15 +106,3 @@ large-denominator family N D size d h l large =
   where
     closing : (n x N k D : ℕ) → n ≤ x → x ≤ D * k → 1 * (D * k) ≤ N * (D * k) → n ≤ N * D * k
     closing n x N k D a b c = let e : N * (D * k) ≡ N * D * k = omega arith in omega arith
-
-pub at_label-within : (ν : List ℕ) (l : MixedLabel) → at_label ν l ≤ 1
-at_label-within ν l = by (same l.converted ν)
-  where
-    by : (b : Bool) → cond {A = ℕ} b 1 0 ≤ 1
-    by true = omega arith
-    by false = omega arith
-
--- every label costs at least 1
-pub weight-mono : (w v : MixedLabel → ℕ) (es : Mixed) → ((l : MixedLabel) → w l ≤ v l) → weight w es ≤ weight v es
-weight-mono w v [] h = omega arith
-weight-mono w v (t ∷ es) h = let r = weight-mono w v es h in let m : nat_abs t.1 * w t.0 ≤ nat_abs t.1 * v t.0 = mul-le-mul_left (nat_abs t.1) (h t.0) in omega arith

@@ -19,7 +19,7 @@ use Rattle.whole_lists.specs.Tables.{IsTable}
 use Rattle.whole_lists.specs.LabelSizes.{AreWithin}
 use Rattle.whole_lists.proofs.WholeLists.{Once-keys}
 use Rattle.change_from_monomials.proofs.Fractions.{label-partition}
-use Rattle.change_from_monomials.specs.Mixed.{mixed, weight}
+use Rattle.change_from_monomials.specs.AugmentedProducts.{weight}
 use Rattle.change_from_monomials.specs.Clearing.{cleared_number, cleared_terms, HasFactors}
 use Rattle.change_from_monomials.specs.Costs.{doubled, cost}
 use native.Mathlib.Nat.{mul-le-mul_left, mul-le-mul_right}
@@ -134,7 +134,7 @@ cancel-le a b c p h = by (cases_lt b a)
 
 module _ (N D d : ℕ) (low : d ≤ 15) where
   term-cost : (t : List ℕ × Fraction) → IsPartition t.0 → size t.0 ≤ d → nat_abs t.1.0 * (D / t.1.1) * factorials t.0 ≤ N * factorial (size t.0)
-      → nat_abs (cleared_number D (factorial d) t.0 t.1) * cost (mixed [] t.0) ≤ N * label_cost d t.0
+      → nat_abs (cleared_number D (factorial d) t.0 t.1) * cost ([], t.0) ≤ N * label_cost d t.0
   term-cost t p s b =
       let W = nat_abs t.1.0 * (D / t.1.1) in
       let M = multinomial t.0 in

@@ -1,7 +1,7 @@
 -- What the list and the answer stand for.
 --     expansion-by          from a list in m to an answer in another basis
 --     expansion-changed     to the answer in a family
-use Rattle.std.proofs.Common.{◌≡◌, ℕ, ◌*◌, ◌/◌, ◌<◌, ◌≤◌, List, [], ◌∷◌, length, refl, sym, ap, ap₂, ◌∙◌, inl, inr, arith, ℤ, pos, ◌+ℤ◌, ◌*ℤ◌}
+use Rattle.std.proofs.Common.{◌≡◌, ℕ, ◌*◌, ◌/◌, ◌<◌, ◌≤◌, List, [], ◌∷◌, refl, sym, ap, ap₂, ◌∙◌, inl, inr, arith, ℤ, pos, ◌+ℤ◌, ◌*ℤ◌}
 use Rattle.std.proofs.lemmas.Int.{ints}
 use Rattle.std.proofs.Math.Nat.{div-mul_cancel}
 use Rattle.std.proofs.lemmas.Nat.Gcd.{dvd_of_mod-eq-zero}
@@ -25,16 +25,13 @@ use Rattle.whole_lists.specs.LabelSizes.{AreWithin}
 use Rattle.whole_lists.proofs.WholeLists.{Once-keys}
 use Rattle.whole_lists.proofs.Quotients.{Quotients, IsDivided-quotients}
 use Rattle.change_from_monomials.proofs.Fractions.{label-partition}
-use Rattle.change_from_monomials.specs.declared.mixed.MixedLabel.{MixedLabel}
 use Rattle.whole_lists.specs.declared.family.Family.{Family}
 use Rattle.whole_lists.specs.declared.family.Family.TheVariants.{Elementary, Complete, PowerSum}
-use Rattle.change_from_monomials.specs.Mixed.{Mixed, mixed, weighed, unready, AreReady, converted_terms}
+use Rattle.linear_combinations.specs.Gains.{over as sum_over}
 use Rattle.change_from_monomials.specs.Clearing.{cleared_number, cleared_terms}
 use Rattle.whole_lists.specs.Families.{polynomial_of, basis_in}
-use Rattle.change_from_monomials.specs.Factors.{product_value}
-use Rattle.change_from_monomials.proofs.Walks.{ready_label}
-use Rattle.change_from_monomials.proofs.Values.{In-augmented, weighed-agree}
-use Rattle.change_from_monomials.proofs.PowerSums.{label_value, label_value-is}
+use Rattle.change_from_monomials.specs.Factors.{target_value, product_value}
+use Rattle.change_from_monomials.proofs.Values.{In-augmented}
 use Rattle.change_from_monomials.proofs.CostTable.{divides-at}
 use Rattle.sym_model.proofs.Integers.{product_cancel}
 use native.Mathlib.Nat.{mul-pos}
@@ -43,13 +40,13 @@ use lib.IntN.{*ℤ-zero}
 -- ---- the start
 
 start-term : (family : Family) (n D q : ℕ) (φ : List ℕ → ℤ) (t : List ℕ × Fraction) → (q / multiplicity_factorials t.0) * multiplicity_factorials t.0 ≡ q
-    → cleared_number D q t.0 t.1 *ℤ product_value family n φ (mixed [] t.0) ≡ pos q *ℤ ((t.1.0 *ℤ pos (D / t.1.1)) *ℤ pair (monomial t.0 n) φ)
+    → cleared_number D q t.0 t.1 *ℤ product_value family n φ ([], t.0) ≡ pos q *ℤ ((t.1.0 *ℤ pos (D / t.1.1)) *ℤ pair (monomial t.0 n) φ)
 start-term family n D q φ t e =
     let m = multiplicity_factorials t.0 in
     let k = q / multiplicity_factorials t.0 in
     let w = t.1.0 *ℤ pos (D / t.1.1) in
     let x = pair (monomial t.0 n) φ in
-    let v : product_value family n φ (mixed [] t.0) ≡ pos m *ℤ x =
+    let v : product_value family n φ ([], t.0) ≡ pos m *ℤ x =
     pair_determined (times (one n) (augmented t.0 n)) (augmented t.0 n) φ (one-times n (augmented t.0 n) (In-augmented t.0 n)) ∙ pair_scale (pos m) (monomial t.0 n) φ in
     ap (λ z. (w *ℤ pos k) *ℤ z) v ∙ regroup w (pos k) (pos m) x ∙ ap (λ z. pos z *ℤ (w *ℤ x)) e
   where
@@ -57,7 +54,7 @@ start-term family n D q φ t e =
     regroup w k m x = simp ring (omega (arith, ints))
 
 start-value : (family : Family) (n D q : ℕ) (φ : List ℕ → ℤ) (terms : Terms (List ℕ)) → ((t : List ℕ × Fraction) → Among t terms → (q / multiplicity_factorials t.0) * multiplicity_factorials t.0 ≡ q)
-    → weighed (product_value family n φ) (cleared_terms D q terms) ≡ pos q *ℤ total (λ (t : List ℕ × Fraction). (t.1.0 *ℤ pos (D / t.1.1)) *ℤ pair (monomial t.0 n) φ) terms
+    → sum_over (product_value family n φ) (cleared_terms D q terms) ≡ pos q *ℤ total (λ (t : List ℕ × Fraction). (t.1.0 *ℤ pos (D / t.1.1)) *ℤ pair (monomial t.0 n) φ) terms
 start-value family n D q φ [] h = sym (*ℤ-zero (pos q))
 start-value family n D q φ (t ∷ terms) h =
     ap₂ ◌+ℤ◌ (start-term family n D q φ t (h t (inl refl))) (start-value family n D q φ terms (λ u m. h u (inr m)))
@@ -70,19 +67,6 @@ pub pair-over : (n D : ℕ) (φ : List ℕ → ℤ) (terms : Terms (List ℕ)) �
 pair-over n D φ terms =
     pair_of_combined (λ label. monomial label n) (over D terms) φ
     ∙ total_map (λ (t : List ℕ × ℤ). t.1 *ℤ pair (monomial t.0 n) φ) (λ (t : List ℕ × Fraction). (t.0, t.1.0 *ℤ pos (D / t.1.1))) terms
-
--- ---- the end
-
-end-value : (family : Family) (n d : ℕ) (φ : List ℕ → ℤ) (es : Mixed) → AreReady d 0 es → weighed (product_value family n φ) es ≡ pair (combined (λ label. product_over (polynomial_of family) label n) (converted_terms es)) φ
-end-value family n d φ es ready =
-    weighed-agree (product_value family n φ) (label_value family n φ) (unready d 0) es
-    (λ l z. let r = ready_label d 0 l z in let f = r.few in none l.augmented l refl (omega arith)) ready
-    ∙ sym (pair_of_combined (λ label. product_over (polynomial_of family) label n) (converted_terms es) φ
-    ∙ total_map (λ (t : List ℕ × ℤ). t.1 *ℤ pair (product_over (polynomial_of family) t.0 n) φ) (λ (t : MixedLabel × ℤ). (t.0.converted, t.1)) es)
-  where
-    none : (aug : List ℕ) (l : MixedLabel) → l.augmented ≡ aug → length l.augmented ≤ 0 → product_value family n φ l ≡ label_value family n φ l
-    none [] l e h = ap (λ a. product_value family n φ (mixed l.converted a)) e ∙ sym (label_value-is family n φ l)
-    none (a ∷ rest) l e h = absurd (let s = ap length e in omega arith)
 
 -- ---- a list and its whole multiple
 
@@ -147,26 +131,26 @@ expansion-by basis N D q terms answer R some positive is b js quotients n same_v
           ∙ sym (coefficient_scale (pos (denominators answer)) f α);
     }
 
-pub expansion-changed : (family : Family) (N D d : ℕ) (terms answer : Terms (List ℕ)) (end : Mixed) → 0 < D → d ≤ 15 → IsTable terms → AreWithin d terms → IsBounded N D terms
-    → ((n : ℕ) (φ : List ℕ → ℤ) → weighed (product_value family n φ) end ≡ weighed (product_value family n φ) (cleared_terms D (factorial d) terms))
-    → (e : ℕ) → AreReady e 0 end → IsTable answer → Quotients (D * factorial d) answer (converted_terms end) → 0 < factorial d
+pub expansion-changed : (family : Family) (N D d : ℕ) (terms answer : Terms (List ℕ)) (end : WholeTerms) → 0 < D → d ≤ 15 → IsTable terms → AreWithin d terms → IsBounded N D terms
+    → ((n : ℕ) (φ : List ℕ → ℤ) → sum_over (target_value family n φ) end ≡ sum_over (product_value family n φ) (cleared_terms D (factorial d) terms))
+    → IsTable answer → Quotients (D * factorial d) answer end → 0 < factorial d
     → (n : ℕ) (f : Poly) (p : ℕ) → IsExpansionOf Basis.monomials terms n f p → IsExpansionOf (basis_in family) answer n f p
-expansion-changed family N D d terms answer end some low is w b same_value e ready js quotients positive n f p h =
-    expansion-by (basis_in family) N D (factorial d) terms answer (converted_terms end) some positive is b js quotients n total-value f p h
+expansion-changed family N D d terms answer end some low is w b same_value js quotients positive n f p h =
+    expansion-by (basis_in family) N D (factorial d) terms answer end some positive is b js quotients n total-value f p h
   where
-    same_combined : (R : WholeTerms) → combined (λ label. basis_polynomial (basis_in family) label n) R ≡ combined (λ label. product_over (polynomial_of family) label n) R
-    same_combined R = by family
+    same_combined : combined (λ label. basis_polynomial (basis_in family) label n) end ≡ combined (λ label. product_over (polynomial_of family) label n) end
+    same_combined = by family
       where
-        by : (g : Family) → combined (λ label. basis_polynomial (basis_in g) label n) R ≡ combined (λ label. product_over (polynomial_of g) label n) R
+        by : (g : Family) → combined (λ label. basis_polynomial (basis_in g) label n) end ≡ combined (λ label. product_over (polynomial_of g) label n) end
         by Elementary = refl
         by Complete = refl
         by PowerSum = refl
 
-    total-value : (α : List ℕ) → coefficient (combined (λ label. basis_polynomial (basis_in family) label n) (converted_terms end)) α ≡ pos (factorial d) *ℤ coefficient (in_monomials (over D terms) n) α
+    total-value : (α : List ℕ) → coefficient (combined (λ label. basis_polynomial (basis_in family) label n) end) α ≡ pos (factorial d) *ℤ coefficient (in_monomials (over D terms) n) α
     total-value α =
-        ap (λ g. coefficient g α) (same_combined (converted_terms end))
-        ∙ coefficient_pair (combined (λ label. product_over (polynomial_of family) label n) (converted_terms end)) α
-        ∙ sym (end-value family n e (at_only α) end ready)
+        ap (λ g. coefficient g α) same_combined
+        ∙ coefficient_pair (combined (λ label. product_over (polynomial_of family) label n) end) α
+        ∙ pair_of_combined (λ label. product_over (polynomial_of family) label n) end (at_only α)
         ∙ same_value n (at_only α)
         ∙ start-value family n D (factorial d) (at_only α) terms (λ t m. (divides-at d t.0 low (label-partition terms is t m) (w t m)).multiplicities)
         ∙ ap (λ z. pos (factorial d) *ℤ z) (sym (pair-over n D (at_only α) terms) ∙ sym (coefficient_pair (in_monomials (over D terms) n) α))

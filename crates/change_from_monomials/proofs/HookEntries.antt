@@ -1,102 +1,162 @@
--- The entry of a rim hook, put among the entries of the other rows of a beta list.
-use Rattle.std.proofs.Common.{◌≡◌, ℕ, zero, suc, ◌+◌, ◌-◌, ◌<◌, ◌≤◌, true, false, cond, nat_le, List, [], ◌∷◌, ◌++◌, map, length, take, drop, refl, sym, ap, ap₂, ◌∙◌, subst, inl, inr, ◌⊎◌, arith, ℤ, pos, ◌*ℤ◌}
-use Rattle.std.specs.Prelude.{nat_abs}
-use Rattle.std.proofs.lemmas.Int.{ints}
-use Rattle.std.proofs.lemmas.Bool.{cases_lt}
-use Rattle.std.proofs.lemmas.Bool.Decides.{nat_tests}
-use Rattle.sym_model.specs.WholeTerms.{WholeTerms}
-use Rattle.sym_model.specs.Partition.{Falls, IsPartition, size, rows}
+-- The number of a rim hook, put among the beta numbers of the other rows.
+use Rattle.std.proofs.Common.{◌≡◌, ℕ, suc, ◌+◌, ◌-◌, ◌*◌, ◌^◌, ◌<◌, ◌≤◌, nat_le, Bool, true, false, cond, List, [], ◌∷◌, ◌++◌, map, length, refl, sym, ap, ap₂, ◌∙◌, subst, arith, ℤ, ◌*ℤ◌}
+use Rattle.std.specs.Prelude.{nat_lt, nat_abs, nat_eq}
+use Rattle.std.specs.Cmp.{nat_eq_equiv}
+use Rattle.std.proofs.lemmas.Nat.{or_lt}
+use Rattle.std.proofs.Math.Nat.{pow-le-pow_right}
+use Rattle.sym_model.specs.Partition.{ArePositive, IsPartition, size, rows}
 use Rattle.sym_model.specs.Bases.{has}
-use Rattle.sym_model.specs.BetaList.{beta, put_falling, greater, from_beta}
+use Rattle.sym_model.specs.BetaList.{beta, put_falling, greater, from_beta, less_the_rest}
 use Rattle.sym_model.specs.PlaceOrders.{minus_one_to}
-use Rattle.sym_model.proofs.Numbers.{counts-less}
+use Rattle.sym_model.proofs.Parts.{without_last_zeros-positive}
+use Rattle.sym_model.proofs.Integers.{sign_size, nat_abs-product}
 use Rattle.sym_model.proofs.Ring.{ring}
-use Rattle.sym_model.proofs.SortedParts.{Falls_tail}
-use Rattle.partitions.specs.Limits.{IsWithinLimits}
-use Rattle.beta_list_laws.proofs.BetaLists.{from_beta_partition}
-use Rattle.beta_list_laws.proofs.SortedLists.{greater_first}
+use Rattle.beta_list_laws.specs.StrictFall.{FallsStrictly}
+use Rattle.beta_list_laws.proofs.BetaLists.{from_beta_partition, beta-from_beta, length-less, strict_tail}
 use Rattle.arrangement_laws.specs.SpecialRimHooks.{straight_value, hooked}
-use Rattle.arrangement_laws.proofs.HookSteps.{beta-last, length-others, strict-others, value-again, value-put, strict-put, size-put}
-use Rattle.change_from_monomials.specs.Sums.{Grows}
-use Rattle.change_from_monomials.proofs.SumSteps.{grows_as}
-use Rattle.whole_lists.proofs.PartitionTerms.{IsWithinLimits-low}
-use Rattle.change_from_monomials.proofs.StraightBounds.{sign-size}
-use Rattle.beta_list_laws.proofs.Lowest.{strict_falls}
+use Rattle.arrangement_laws.proofs.HookSteps.{beta-last, length-others, value-again, value-put, strict-put, size-put}
+use Rattle.linear_combinations.specs.Gains.{WholeTermsOf, over, mass, scaled, HaveLabels, Overflows}
+use Rattle.linear_combinations.proofs.Gains.{overflows_alone}
+use Rattle.change_from_monomials.specs.RimHooks.{hook}
+use Rattle.change_from_monomials.specs.BetaSets.{numbers, shape, IsBetaSet, IsShape, same_set}
+use Rattle.change_from_monomials.proofs.BinaryPlaces.{places-even, places-odd, places-more, places-put}
+use Rattle.change_from_monomials.proofs.BetaSets.{digit-absent, or_digit}
+use Rattle.change_from_monomials.proofs.ShapeSums.{one_label}
+use lib.IntN.{+ℤ_idr}
 
-take_front : (front t : List ℕ) (n : ℕ) → n ≡ length front → take n (front ++ t) ≡ front
-take_front [] t zero e = none t
+-- ---- a falling list without 0 is of a partition with as many rows
+
+above_rest : (a : ℕ) (b : List ℕ) → FallsStrictly (a ∷ b) → ArePositive (a ∷ b) → length b < a
+above_rest a [] f p = p.0
+above_rest a (c ∷ b) f p = let l = f.0 in let r = above_rest c b f.1 p.1 in omega arith
+
+positive_less : (b : List ℕ) → FallsStrictly b → ArePositive b → ArePositive (less_the_rest b)
+positive_less [] f p = tt
+positive_less (a ∷ b) f p = (let l = above_rest a b f p in omega arith, positive_less b (strict_tail a b f) p.1)
+
+positive_put : (a : ℕ) (xs : List ℕ) → 0 < a → ArePositive (put_falling a (map suc xs))
+positive_put a [] h = (h, tt)
+positive_put a (x ∷ xs) h = by (nat_le (suc x) a) (positive_put a xs h)
   where
-    none : (t : List ℕ) → take 0 t ≡ []
-    none [] = refl
-    none (x ∷ t) = refl
-take_front [] t (suc n) e = absurd (omega arith)
-take_front (x ∷ front) t zero e = absurd (omega arith)
-take_front (x ∷ front) t (suc n) e = ap (λ l. x ∷ l) (take_front front t n (omega arith))
+    others : (xs : List ℕ) → ArePositive (map suc xs)
+    others [] = tt
+    others (x ∷ xs) = (omega arith, others xs)
 
--- where a number is put into a falling list
-put-place : (a : ℕ) (l : List ℕ) (n : ℕ) → Falls l → n ≡ greater a l → take n l ++ (a ∷ drop n l) ≡ put_falling a l
-put-place a [] zero f e = refl
-put-place a [] (suc n) f e = absurd (omega arith)
-put-place a (b ∷ l) zero f e = ap (λ t. cond t (a ∷ b ∷ l) (b ∷ put_falling a l)) (sym (within (cases_lt a b)))
+    by : (t : Bool) → ArePositive (put_falling a (map suc xs)) → ArePositive (cond t (a ∷ suc x ∷ map suc xs) (suc x ∷ put_falling a (map suc xs)))
+    by true r = (h, (omega arith, others xs))
+    by false r = (omega arith, r)
+
+rows-put : (ν : List ℕ) (k a : ℕ) → 0 < a → FallsStrictly (put_falling a (map suc (beta k ν))) → rows (from_beta (put_falling a (map suc (beta k ν)))) ≡ length (put_falling a (map suc (beta k ν)))
+rows-put ν k a h f =
+    ap length (without_last_zeros-positive (less_the_rest (put_falling a (map suc (beta k ν)))) (positive_less (put_falling a (map suc (beta k ν))) f (positive_put a (beta k ν) h)))
+    ∙ length-less (put_falling a (map suc (beta k ν)))
+
+-- ---- the outcome of it
+
+-- one row more
+pub lengthened_is : (ν : List ℕ) (k set next m : ℕ) → IsBetaSet ν k set → set < 2 ^ 63 → next ≡ 2 * set + 1 → m ≡ k + 1 → IsBetaSet ν m next
+lengthened_is ν k set next m is low e s = record {
+  partition = is.partition;
+  enough = let r = is.enough in omega arith;
+  numbers =
+      ap numbers e ∙ places-odd 63 set ∙ ap (λ b. map suc b ++ 0 ∷ []) (sym (places-more 63 set low) ∙ is.numbers)
+      ∙ sym (beta-last ν k is.enough) ∙ ap (λ n. beta n ν) (sym s);
+}
+
+pub greater_within : (a : ℕ) (b : List ℕ) → greater a b ≤ length b
+greater_within a [] = omega arith
+greater_within a (x ∷ b) = by (nat_lt a x) (greater_within a b)
   where
-    within : (a < b) ⊎ (b ≤ a) → nat_le b a ≡ true
-    within (inl h) = absurd (let c = counts-less a b h in omega arith)
-    within (inr h) = grind (arith, nat_tests)
-put-place a (b ∷ l) (suc n) f e = by (cases_lt a b) (λ h. put-place a l n (Falls_tail b l f) h)
+    by : (t : Bool) → greater a b ≤ length b → cond {A = ℕ} t 1 0 + greater a b ≤ suc (length b)
+    by true r = omega arith
+    by false r = omega arith
+
+pub pow_next : (d : ℕ) → 2 ^ (d + 1) ≡ 2 * 2 ^ d
+pow_next d = ap (λ n. 2 ^ n) (let e : d + 1 ≡ suc d = omega arith in e) ∙ (let e : 2 ^ suc d ≡ 2 * 2 ^ d = omega arith in e)
+
+pub hook-none : (a set : ℕ) → has a (numbers (2 * set)) ≡ true → hook a set ≡ []
+hook-none a set h = ap (λ t. cond t [] ((2 * set + 2 ^ a, minus_one_to (length (numbers (2 * set)) - greater a (numbers (2 * set)))) ∷ [])) h
+
+pub hook-one : (a set : ℕ) → has a (numbers (2 * set)) ≡ false → hook a set ≡ (2 * set + 2 ^ a, minus_one_to (length (numbers (2 * set)) - greater a (numbers (2 * set)))) ∷ []
+hook-one a set h = ap (λ t. cond t [] ((2 * set + 2 ^ a, minus_one_to (length (numbers (2 * set)) - greater a (numbers (2 * set)))) ∷ [])) h
+
+module _ (a set others : ℕ) (c : ℤ) (twice : others ≡ 2 * set) (none : has a (numbers others) ≡ false) where
+  here : has a (numbers (2 * set)) ≡ false
+  here = ap (λ o. has a (numbers o)) (sym twice) ∙ none
+
+  -- the term that is added
+  pub hook-added : (made passed : ℕ) (number : ℤ) → made ≡ others + 2 ^ a → number ≡ minus_one_to passed *ℤ c → passed ≡ length (numbers others) - greater a (numbers others) → (made, number) ∷ [] ≡ scaled c (hook a set)
+  hook-added made passed number m n e =
+      ap₂ (λ (s : ℕ) (z : ℤ). (s, z) ∷ []) (m ∙ ap (λ o. o + 2 ^ a) twice)
+      (n ∙ turned (minus_one_to passed) c ∙ ap (λ k. c *ℤ minus_one_to k) (e ∙ ap (λ o. length (numbers o) - greater a (numbers o)) twice))
+      ∙ sym (ap (scaled c) (hook-one a set here))
+    where
+      turned : (x y : ℤ) → x *ℤ y ≡ y *ℤ x
+      turned x y = simp ring
+
+  -- its number is too large
+  pub hook-past : (old : WholeTermsOf ℕ) → 2 ^ 127 ≤ nat_abs c → Overflows nat_eq old (scaled c (hook a set))
+  hook-past old large =
+      let passed = length (numbers (2 * set)) - greater a (numbers (2 * set)) in
+      let p = nat_abs-product c (minus_one_to passed) in
+      let s = ap (λ n. nat_abs c * n) (sign_size passed) in
+      subst (Overflows nat_eq old) (sym (ap (scaled c) (hook-one a set here))) (overflows_alone nat_eq_equiv same_set old (2 * set + 2 ^ a) (c *ℤ minus_one_to passed) (omega arith))
+
+pub hook-mass : (a set : ℕ) → mass (hook a set) ≤ 1
+hook-mass a set = by (has a (numbers (2 * set)))
   where
-    past : a < b → nat_le b a ≡ false
-    past h = grind (arith, nat_tests)
+    by : (t : Bool) → mass (cond t [] ((2 * set + 2 ^ a, minus_one_to (length (numbers (2 * set)) - greater a (numbers (2 * set)))) ∷ [])) ≤ 1
+    by true = omega arith
+    by false = let s = sign_size (length (numbers (2 * set)) - greater a (numbers (2 * set))) in omega arith
 
-    by : (a < b) ⊎ (b ≤ a) → (n ≡ greater a l → take n l ++ (a ∷ drop n l) ≡ put_falling a l) → take (suc n) (b ∷ l) ++ (a ∷ drop (suc n) (b ∷ l)) ≡ cond (nat_le b a) (a ∷ b ∷ l) (b ∷ put_falling a l)
-    by (inl h) r =
-        let c = counts-less a b h in
-        ap (λ k. b ∷ k) (r (omega arith)) ∙ ap (λ t. cond t (a ∷ b ∷ l) (b ∷ put_falling a l)) (sym (past h))
-    by (inr h) r = absurd (let g = greater_first a b l f h in omega arith)
+module _ (ν : List ℕ) (k set a : ℕ) (is : IsBetaSet ν k set) (low : set < 2 ^ 63) where
+  others_are : numbers (2 * set) ≡ map suc (beta k ν)
+  others_are = places-even 63 set ∙ ap (map suc) (sym (places-more 63 set low) ∙ is.numbers)
 
-module _ (ν l : List ℕ) (k n a : ℕ) (p : IsPartition ν) (r : rows ν ≤ k) (is : l ≡ beta (k + 1) ν) (e : n ≡ k) where
-  others : take n l ≡ map suc (beta k ν)
-  others =
-      ap (take n) (is ∙ beta-last ν k r)
-      ∙ take_front (map suc (beta k ν)) (0 ∷ []) n (let h = length-others ν k in omega arith)
-
-  pub others-length : length (take n l) ≡ k
-  others-length = ap length others ∙ length-others ν k
-
-  pub again : has a (take n l) ≡ true → (g : List ℕ → ℤ) → straight_value g (hooked ν (k + 1) a) ≡ pos 0
-  again h g = value-again g ν k a (ap (has a) (sym others) ∙ h)
-
-  module _ (at : ℕ) (count : at ≡ greater a (take n l)) (none : has a (take n l) ≡ false) (entries : List ℕ) (made : entries ≡ take at (take n l) ++ (a ∷ drop at (take n l))) where
+  module _ (few : a ≤ 20) (none : has a (numbers (2 * set)) ≡ false) where
     absent : has a (map suc (beta k ν)) ≡ false
-    absent = ap (has a) (sym others) ∙ none
+    absent = ap (has a) (sym others_are) ∙ none
 
-    entries_are : entries ≡ put_falling a (map suc (beta k ν))
-    entries_are =
-        made
-        ∙ ap (λ m. take at m ++ (a ∷ drop at m)) others
-        ∙ put-place a (map suc (beta k ν)) at (strict_falls (map suc (beta k ν)) (strict-others ν k p.falls)) (count ∙ ap (greater a) others)
+    numbers_are : numbers (2 * set + 2 ^ a) ≡ put_falling a (map suc (beta k ν))
+    numbers_are = places-put 64 a (2 * set) (omega arith) (digit-absent (2 * set) a (omega arith) none) ∙ ap (put_falling a) others_are
 
-    pub size-made : size (from_beta entries) ≡ size ν + a
-    size-made = ap (λ m. size (from_beta m)) entries_are ∙ size-put ν k a p absent r
+    strict : FallsStrictly (put_falling a (map suc (beta k ν)))
+    strict = strict-put ν k a is.partition absent
 
-    pub limits-made : size ν + a ≤ 512 → IsWithinLimits (from_beta entries)
-    limits-made low =
-        IsWithinLimits-low (from_beta entries)
-        (subst (λ m. IsPartition (from_beta m)) (sym entries_are) (from_beta_partition (put_falling a (map suc (beta k ν))) (strict-put ν k a p absent)))
-        (let s = size-made in omega arith)
+    shape-made : (d : ℕ) → 0 < a → size ν + a ≤ d → set < 2 ^ d → IsShape d (2 * set + 2 ^ a)
+    shape-made d h cells below = record {
+      beta = record {
+        partition = subst (λ m. IsPartition (from_beta m)) (sym numbers_are) (from_beta_partition (put_falling a (map suc (beta k ν))) strict);
+        enough = omega arith;
+        numbers =
+            subst (λ m. m ≡ beta (rows (from_beta m)) (from_beta m)) (sym numbers_are)
+            (sym (ap (λ n. beta n (from_beta (put_falling a (map suc (beta k ν))))) (rows-put ν k a h strict) ∙ beta-from_beta (put_falling a (map suc (beta k ν))) strict));
+      };
+      cells = let e = ap (λ m. size (from_beta m)) numbers_are in let s = size-put ν k a is.partition absent is.enough in omega arith;
+      low =
+          let p = pow_next d in
+          let q : 2 ^ a ≤ 2 ^ d = pow-le-pow_right {n = 2} (omega arith) (omega arith) in
+          subst (λ m. m < 2 ^ (d + 1)) (or_digit (2 * set) a (omega arith) none) (or_lt (d + 1) (2 * set) (2 ^ a) (omega arith) (omega arith));
+    }
 
-    pub abs-made : (c number : ℤ) (passes : ℕ) → number ≡ minus_one_to passes *ℤ c → nat_abs number ≡ nat_abs c
-    abs-made c number passes s = ap nat_abs s ∙ sign-size passes c
+    value-made : (φ : List ℕ → ℤ) → over (λ s. φ (shape s)) ((2 * set + 2 ^ a, minus_one_to (length (numbers (2 * set)) - greater a (numbers (2 * set)))) ∷ []) ≡ straight_value φ (hooked ν (k + 1) a)
+    value-made φ =
+        +ℤ_idr _ ∙ ap (λ (m : List ℕ). minus_one_to (length (numbers (2 * set)) - greater a (numbers (2 * set))) *ℤ φ (from_beta m)) numbers_are
+        ∙ sym (value-put ν k a is.partition absent φ (length (numbers (2 * set)) - greater a (numbers (2 * set)))
+        (let w = greater_within a (numbers (2 * set)) in let g = ap (greater a) others_are in let n = ap length others_are in let m = length-others ν k in omega arith))
 
-    pub gains-made : (c number : ℤ) (passes : ℕ) → number ≡ minus_one_to passes *ℤ c → passes ≡ k - at → at ≤ k → (label : List ℕ) → label ≡ from_beta entries
-        → (old new : WholeTerms) → Grows old new (λ φ. number *ℤ φ label) (nat_abs number) → Grows old new (λ φ. c *ℤ straight_value φ (hooked ν (k + 1) a)) (nat_abs c)
-    gains-made c number passes s t low label i old new gains =
-        grows_as old new (λ φ. number *ℤ φ label) (λ φ. c *ℤ straight_value φ (hooked ν (k + 1) a)) (nat_abs number) (nat_abs c)
-        (λ φ.
-        ap₂ (λ (z : ℤ) (m : List ℕ). z *ℤ φ m) s (i ∙ ap from_beta entries_are)
-        ∙ turned (minus_one_to passes) c (φ (from_beta (put_falling a (map suc (beta k ν)))))
-        ∙ ap (λ z. c *ℤ z) (sym (value-put ν k a p absent φ passes (let g = count ∙ ap (greater a) others in omega arith))))
-        (let h = abs-made c number passes s in omega arith)
-        gains
-      where
-        turned : (m c x : ℤ) → (m *ℤ c) *ℤ x ≡ c *ℤ (m *ℤ x)
-        turned m c x = simp ring (omega (arith, ints))
+  -- ---- what the rim hook adds
+
+  pub hook-over : a ≤ 20 → (φ : List ℕ → ℤ) → over (λ s. φ (shape s)) (hook a set) ≡ straight_value φ (hooked ν (k + 1) a)
+  hook-over few φ = by (has a (numbers (2 * set))) refl
+    where
+      by : (t : Bool) → has a (numbers (2 * set)) ≡ t → over (λ s. φ (shape s)) (hook a set) ≡ straight_value φ (hooked ν (k + 1) a)
+      by true h = ap (over (λ s. φ (shape s))) (hook-none a set h) ∙ sym (value-again φ ν k a (ap (has a) (sym others_are) ∙ h))
+      by false h = ap (over (λ s. φ (shape s))) (hook-one a set h) ∙ value-made few h φ
+
+  pub hook-labels : a ≤ 20 → (d : ℕ) → 0 < a → size ν + a ≤ d → set < 2 ^ d → HaveLabels (IsShape d) (hook a set)
+  hook-labels few d positive cells below = by (has a (numbers (2 * set))) refl
+    where
+      by : (t : Bool) → has a (numbers (2 * set)) ≡ t → HaveLabels (IsShape d) (hook a set)
+      by true h = subst (HaveLabels (IsShape d)) (sym (hook-none a set h)) (λ t m. absurd m)
+      by false h = subst (HaveLabels (IsShape d)) (sym (hook-one a set h)) (one_label (IsShape d) _ _ (shape-made few h d positive cells below))

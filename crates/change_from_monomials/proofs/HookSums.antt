@@ -1,69 +1,65 @@
--- Tables to which special rim hooks are added.
---     gains_zero                   nothing is added
---     hooks_next, list_next        one row more, one term more
-use Rattle.std.proofs.Common.{◌≡◌, ℕ, ◌+◌, ◌*◌, ◌≤◌, List, [], ◌∷◌, ◌++◌, sym, ap, ◌∙◌, arith, ℤ, pos, ◌+ℤ◌, ◌*ℤ◌}
-use Rattle.std.specs.Prelude.{nat_abs}
-use Rattle.sym_model.specs.WholeTerms.{WholeTerms}
-use Rattle.sym_model.specs.Partition.{rows, after}
+-- Special rim hooks added to a table (specs/RimHooks).
+--     hooks-next, hooks-end, hooks_gain, hooks_overflow     one row more
+--     hooks-mass, hooks-over, hooks-labels                  those that begin in the next rows
+use Rattle.std.proofs.Common.{◌≡◌, ℕ, zero, suc, ◌+◌, ◌*◌, ◌^◌, ◌<◌, ◌≤◌, List, ◌++◌, append-nil, refl, sym, ap, ap₂, ◌∙◌, subst, arith, ℤ, ◌+ℤ◌}
+use Rattle.std.specs.Prelude.{nat_eq}
+use Rattle.sym_model.specs.Partition.{size, after}
 use Rattle.sym_model.specs.Sum.{total}
-use Rattle.sym_model.proofs.AfterLists.{after-more}
-use Rattle.sym_model.proofs.Ring.{distributes_left}
-use Rattle.sym_model.proofs.Sums.{total_append}
-use Rattle.arrangement_laws.specs.SpecialRimHooks.{straight_value, hooked, hooks_value}
-use Rattle.linear_combinations.specs.Gains.{over, mass}
-use Rattle.change_from_monomials.specs.Sums.{Grows}
-use Rattle.change_from_monomials.proofs.SumSteps.{grows_both, grows_as, over_push, mass_push}
-use native.Mathlib.Nat.{mul-le-mul_right}
-use lib.IntN.{+ℤ_idr}
+use Rattle.arrangement_laws.specs.SpecialRimHooks.{straight_value, hooked}
+use Rattle.linear_combinations.specs.Gains.{WholeTermsOf, over, mass, scaled, HaveLabels, Gains, Overflows}
+use Rattle.linear_combinations.proofs.Gains.{gains_both, scaled_append, over_append, overflows_both, overflows_more}
+use Rattle.linear_combinations.proofs.Masses.{mass_append, labels_append}
+use Rattle.change_from_monomials.specs.BetaSets.{shape, IsBetaSet, IsShape}
+use Rattle.change_from_monomials.specs.RimHooks.{hook, hooks}
+use Rattle.change_from_monomials.proofs.BetaSets.{below_power}
+use Rattle.change_from_monomials.proofs.HookEntries.{hook-mass, hook-over, hook-labels, lengthened_is, pow_next}
 
--- ---- nothing
+-- ---- one row more
 
-pub gains_zero : (old : WholeTerms) (f : (List ℕ → ℤ) → ℤ) (most : ℕ) → ((φ : List ℕ → ℤ) → f φ ≡ pos 0) → Grows old old f most
-gains_zero old f most e = record { sums = λ φ. sym (ap (λ z. over φ old +ℤ z) (e φ) ∙ +ℤ_idr (over φ old)); grows = omega arith }
+pub hooks-next : (a left more set longer : ℕ) → left ≡ suc more → longer ≡ 2 * set + 1 → hooks a left set ≡ hook a set ++ hooks a more longer
+hooks-next a left more set longer e l = ap (λ n. hooks a n set) e ∙ ap (λ s. hook a set ++ hooks a more s) (sym l)
 
--- ---- the rows below a shape
+pub hooks-end : (a left set : ℕ) (done all : WholeTermsOf ℕ) → left ≡ 0 → done ++ hooks a left set ≡ all → done ≡ all
+hooks-end a left set done all e is = sym (append-nil done) ∙ ap (λ n. done ++ hooks a n set) (sym e) ∙ is
 
--- the sum over so many rows
-abbrev pub rows_value : (List ℕ → ℤ) → ℕ → List ℕ → ℕ → ℤ
-rows_value φ a ν many = total (λ (count : ℕ). straight_value φ (hooked ν count a)) (after (rows ν) many)
+module _ (c : ℤ) (done g old cur : WholeTermsOf ℕ) (so_far : Gains old (scaled c done) cur) where
+  pub hooks_gain : (new : WholeTermsOf ℕ) → Gains cur (scaled c g) new → Gains old (scaled c (done ++ g)) new
+  hooks_gain new more = subst (λ l. Gains old l new) (sym (scaled_append c done g)) (gains_both old (scaled c done) cur (scaled c g) new so_far more)
 
-rows_more : (φ : List ℕ → ℤ) (a : ℕ) (ν : List ℕ) (many : ℕ) → rows_value φ a ν (many + 1) ≡ rows_value φ a ν many +ℤ straight_value φ (hooked ν (rows ν + many + 1) a)
-rows_more φ a ν many =
-    ap (total (λ (count : ℕ). straight_value φ (hooked ν count a))) (after-more (rows ν) many)
-    ∙ total_append (λ (count : ℕ). straight_value φ (hooked ν count a)) (after (rows ν) many) ((rows ν + many + 1) ∷ [])
-    ∙ ap (λ z. rows_value φ a ν many +ℤ z) (+ℤ_idr (straight_value φ (hooked ν (rows ν + many + 1) a)))
+  pub hooks_overflow : (rest all : WholeTermsOf ℕ) → (done ++ g) ++ rest ≡ all → Overflows nat_eq cur (scaled c g) → Overflows nat_eq old (scaled c all)
+  hooks_overflow rest all is large =
+      subst (Overflows nat_eq old) (ap (λ l. l ++ scaled c rest) (sym (scaled_append c done g)) ∙ sym (scaled_append c (done ++ g) rest) ∙ ap (scaled c) is)
+      (overflows_more nat_eq old (scaled c done ++ scaled c g) (scaled c rest) (overflows_both nat_eq old (scaled c done) cur (scaled c g) so_far large))
 
-pub hooks_next : (old cur new : WholeTerms) (a : ℕ) (ν : List ℕ) (c : ℤ) (many : ℕ)
-    → Grows old cur (λ φ. c *ℤ rows_value φ a ν many) (nat_abs c * many)
-    → Grows cur new (λ φ. c *ℤ straight_value φ (hooked ν (rows ν + many + 1) a)) (nat_abs c)
-    → Grows old new (λ φ. c *ℤ rows_value φ a ν (many + 1)) (nat_abs c * (many + 1))
-hooks_next old cur new a ν c many before here =
-    grows_as old new (λ φ. c *ℤ rows_value φ a ν many +ℤ c *ℤ straight_value φ (hooked ν (rows ν + many + 1) a)) (λ φ. c *ℤ rows_value φ a ν (many + 1)) (nat_abs c * many + nat_abs c) (nat_abs c * (many + 1))
-    (λ φ. sym (ap (λ z. c *ℤ z) (rows_more φ a ν many) ∙ distributes_left c (rows_value φ a ν many) (straight_value φ (hooked ν (rows ν + many + 1) a))))
-    (omega arith)
-    (grows_both old cur new (λ φ. c *ℤ rows_value φ a ν many) (λ φ. c *ℤ straight_value φ (hooked ν (rows ν + many + 1) a)) (nat_abs c * many) (nat_abs c) before here)
+-- ---- those that begin in the next rows
 
--- ---- the terms of a list
-
-pub list_next : (old cur new : WholeTerms) (a : ℕ) (done : List (List ℕ × ℤ)) (ν : List ℕ) (c : ℤ)
-    → Grows old cur (λ φ. over (hooks_value φ a) done) (mass done * a)
-    → Grows cur new (λ φ. c *ℤ hooks_value φ a ν) (nat_abs c * a)
-    → Grows old new (λ φ. over (hooks_value φ a) (done ++ (ν, c) ∷ [])) (mass (done ++ (ν, c) ∷ []) * a)
-list_next old cur new a done ν c before here =
-    grows_as old new (λ φ. over (hooks_value φ a) done +ℤ c *ℤ hooks_value φ a ν) (λ φ. over (hooks_value φ a) (done ++ (ν, c) ∷ [])) (mass done * a + nat_abs c * a) (mass (done ++ (ν, c) ∷ []) * a)
-    (λ φ. sym (over_push (hooks_value φ a) done ν c))
-    (within (mass done) (nat_abs c) (mass (done ++ (ν, c) ∷ [])) (mass_push done ν c))
-    (grows_both old cur new (λ φ. over (hooks_value φ a) done) (λ φ. c *ℤ hooks_value φ a ν) (mass done * a) (nat_abs c * a) before here)
-  where
-    within : (x y z : ℕ) → z ≡ x + y → x * a + y * a ≤ z * a
-    within x y z e =
-        let s = ap (λ k. k * a) e in
-        let d : (x + y) * a ≡ x * a + y * a = omega arith in
-        omega arith
-
--- a term that is refused, with those before it and after it
-pub mass_past : (x y z a n old cur : ℕ) → x + y ≤ z → cur ≤ old + x * a → n ≤ cur + y * a → n ≤ old + z * a
-mass_past x y z a n old cur h g r =
-    let m = mul-le-mul_right a h in
-    let d : (x + y) * a ≡ x * a + y * a = omega arith in
+pub hooks-mass : (a many set : ℕ) → mass (hooks a many set) ≤ many
+hooks-mass a zero set = omega arith
+hooks-mass a (suc many) set =
+    let h = hook-mass a set in
+    let r = hooks-mass a many (2 * set + 1) in
+    let m = mass_append (hook a set) (hooks a many (2 * set + 1)) in
     omega arith
+
+module _ (ν : List ℕ) (a d : ℕ) (positive : 0 < a) (cells : size ν + a ≤ d) (few : d ≤ 20) where
+  -- a set in one row more
+  next_is : (k set e : ℕ) → IsBetaSet ν k set → set < 2 ^ e → e ≤ d → IsBetaSet ν (k + 1) (2 * set + 1)
+  next_is k set e is low l = lengthened_is ν k set (2 * set + 1) (k + 1) is (below_power set e 63 low (omega arith)) refl refl
+
+  next-low : (set e : ℕ) → set < 2 ^ e → 2 * set + 1 < 2 ^ (e + 1)
+  next-low set e low = let p = pow_next e in omega arith
+
+  pub hooks-over : (φ : List ℕ → ℤ) (many k set e : ℕ) → IsBetaSet ν k set → set < 2 ^ e → e + many ≤ d + 1
+      → over (λ s. φ (shape s)) (hooks a many set) ≡ total (λ count. straight_value φ (hooked ν count a)) (after k many)
+  hooks-over φ zero k set e is low l = refl
+  hooks-over φ (suc many) k set e is low l =
+      over_append (λ s. φ (shape s)) (hook a set) (hooks a many (2 * set + 1))
+      ∙ ap₂ (λ x y. x +ℤ y) (hook-over ν k set a is (below_power set e 63 low (omega arith)) (omega arith) φ)
+      (hooks-over φ many (k + 1) (2 * set + 1) (e + 1) (next_is k set e is low (omega arith)) (next-low set e low) (omega arith))
+
+  pub hooks-labels : (many k set e : ℕ) → IsBetaSet ν k set → set < 2 ^ e → e + many ≤ d + 1 → HaveLabels (IsShape d) (hooks a many set)
+  hooks-labels zero k set e is low l = λ t m. absurd m
+  hooks-labels (suc many) k set e is low l =
+      labels_append (IsShape d) (hook a set) (hooks a many (2 * set + 1))
+      (hook-labels ν k set a is (below_power set e 63 low (omega arith)) (omega arith) d positive cells (below_power set e d low (omega arith)))
+      (hooks-labels many (k + 1) (2 * set + 1) (e + 1) (next_is k set e is low (omega arith)) (next-low set e low) (omega arith))

@@ -1,6 +1,6 @@
 -- A partition by its last part and the parts before it.
---     insert_part-end      a number that is smaller than no part is put behind all parts
---     last_part            each partition that is not empty is such a number behind a partition
+--     insert_part-end      a number that is smaller than no part is put after all parts
+--     last_part            each partition that is not empty is such a number after a partition
 use Rattle.std.proofs.Common.{◌≡◌, ℕ, suc, ◌+◌, ◌-◌, ◌<◌, List, [], ◌∷◌, ◌++◌, length, take, refl, sym, ap, ◌∙◌, subst, arith}
 use Rattle.std.proofs.lemmas.List.{length-append}
 use Rattle.std.proofs.Math.Seq.{take-append_seam, get_or-append_seam}
@@ -27,7 +27,7 @@ insert_part-end a (b ∷ front) p =
     ∙ ap (insert_part b) (insert_part-end a front (IsPartition_tail b (front ++ a ∷ []) p))
     ∙ insert_part-front b (front ++ a ∷ []) p.positive.0 p.falls
 
--- the parts are those of `rest`, a partition, and a positive number behind them
+-- the parts are those of `rest`, a partition, and a positive number after them
 pub record IsEnded (a : ℕ) (rest parts : List ℕ) : Type 0 where
   pub is : parts ≡ rest ++ a ∷ []
   pub positive : 0 < a

@@ -1,4 +1,4 @@
-pub mod Tables
+pub mod Weights
 pub mod PartLists
 pub mod SortingSigns
 pub mod LastParts
@@ -7,7 +7,6 @@ pub mod Conversions
 pub mod Values
 pub mod Costs
 pub mod PowerSums
-pub mod ListProducts
 pub mod Steps
 pub mod Bounds
 pub mod CostTable
@@ -21,6 +20,7 @@ pub mod HookEntries
 pub mod MultinomialSums
 pub mod StraightBounds
 pub mod StraightValues
-pub mod WholeSteps
-pub mod SumSteps
 mod Fractions
+pub mod BinaryPlaces
+pub mod BetaSets
+pub mod ShapeSums

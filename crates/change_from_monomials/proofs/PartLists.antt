@@ -1,25 +1,9 @@
 -- Partitions with parts put in, one place after another.
-use Rattle.std.proofs.Common.{◌≡◌, ℕ, zero, suc, ◌+◌, ◌<◌, ◌≤◌, Bool, cond, List, [], ◌∷◌, length, get_or, refl, sym, ap, ◌∙◌, subst, arith}
+use Rattle.std.proofs.Common.{◌≡◌, ℕ, zero, suc, ◌<◌, ◌≤◌, List, [], ◌∷◌, length, get_or, refl, sym, ap, ◌∙◌, arith}
 use Rattle.std.proofs.Common.{◌-◌}
 use Rattle.std.proofs.lemmas.Bool.{eq-eqb, ne_eqb, cond-true, cond-false}
 use Rattle.std.proofs.Common.{◌==◌, remove}
-use Rattle.sym_model.specs.Schur.{times_in}
 use Rattle.sym_model.specs.RaisedPart.{without_one}
-use Rattle.basis_change_laws.specs.AugmentedMonomial.{multiplicity_factorials}
-use Rattle.basis_change_laws.proofs.AugmentedMonomials.{multiplicity_factorials-cons}
-use native.Mathlib.Nat.{mul-pos}
-
--- ---- factorials
-
-pub multiplicity_factorials-positive : (parts : List ℕ) → 0 < multiplicity_factorials parts
-multiplicity_factorials-positive [] = omega arith
-multiplicity_factorials-positive (a ∷ parts) =
-    let e = multiplicity_factorials-cons a parts in
-    let t = times_in_first a parts in
-    subst (λ n. 0 < n) (sym e) (mul-pos (let h : 0 < times_in a (a ∷ parts) = omega arith in h) (multiplicity_factorials-positive parts))
-  where
-    times_in_first : (a : ℕ) (parts : List ℕ) → times_in a (a ∷ parts) ≡ suc (times_in a parts)
-    times_in_first a parts = ap (λ (b : Bool). cond {A = ℕ} b 1 0 + times_in a parts) (eq-eqb a a refl) ∙ omega arith
 
 -- ---- a part taken off
 

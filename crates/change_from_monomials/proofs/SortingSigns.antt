@@ -1,12 +1,12 @@
 -- A number with its sign turned so often.
-use Rattle.std.proofs.Common.{◌≡◌, ℕ, ◌%◌, ◌^◌, ◌≤◌, refl, sym, ap, ◌∙◌, arith, ℤ, negsuc, neg_ℤ, ◌*ℤ◌}
+use Rattle.std.proofs.Common.{◌≡◌, ℕ, ◌%◌, ◌^◌, ◌≤◌, sym, ap, ◌∙◌, subst, arith, ℤ, negsuc, neg_ℤ, ◌*ℤ◌}
 use Rattle.std.specs.Prelude.{Option, Some, None, MatchOption, nat_abs}
 use Rattle.std.proofs.lemmas.Int.{ints}
 use Rattle.coeff_rings.specs.Checked.{checked_i128}
 use Rattle.sym_model.specs.PlaceOrders.{minus_one_to}
 use Rattle.sym_model.proofs.Ring.{ring, one-product}
 use Rattle.family_lists.proofs.SignParities.{sign-even, sign-odd}
-use Rattle.change_from_monomials.proofs.Tables.{refused_sum, answered}
+use Rattle.family_lists.proofs.RowSteps.{checked-tells}
 
 minus-times : (z : ℤ) → negsuc 0 *ℤ z ≡ neg_ℤ z
 minus-times z = simp ring (omega (arith, ints))
@@ -18,5 +18,9 @@ odd_sign : (m : ℕ) (z : ℤ) → (m % 2 ≡ 0 → ⊥) → neg_ℤ z ≡ minus
 odd_sign m z n = sym (ap (λ s. s *ℤ z) (sign-odd m (omega (arith, n))) ∙ minus-times z)
 
 pub negated_number : (m : ℕ) (z : ℤ) (o : Option ℤ) → o ≡ checked_i128 (neg_ℤ z) → (m % 2 ≡ 0 → ⊥) → MatchOption o (2 ^ 127 ≤ nat_abs z) (λ v. v ≡ minus_one_to m *ℤ z)
-negated_number m z None h n = let r = refused_sum (neg_ℤ z) None h refl in omega (arith, ints)
-negated_number m z (Some v) h n = answered (neg_ℤ z) v (Some v) h refl ∙ odd_sign m z n
+negated_number m z None h n =
+    let r : 2 ^ 127 ≤ nat_abs (neg_ℤ z) = subst (λ o. MatchOption o (2 ^ 127 ≤ nat_abs (neg_ℤ z)) (λ w. w ≡ neg_ℤ z)) (sym h) (checked-tells (neg_ℤ z)) in
+    omega (arith, ints)
+negated_number m z (Some v) h n =
+    let r : v ≡ neg_ℤ z = subst (λ o. MatchOption o (2 ^ 127 ≤ nat_abs (neg_ℤ z)) (λ w. w ≡ neg_ℤ z)) (sym h) (checked-tells (neg_ℤ z)) in
+    r ∙ odd_sign m z n

@@ -1,6 +1,6 @@
 -- The table that a conversion starts from.
-use Rattle.std.proofs.Common.{◌≡◌, ◌⊎◌, ℕ, ◌+◌, ◌*◌, ◌^◌, ◌<◌, ◌≤◌, List, [], ◌∷◌, refl, sym, ap, subst, inl, inr, arith}
-use Rattle.std.specs.Prelude.{nat_abs, Option, None, Some, SomeIff}
+use Rattle.std.proofs.Common.{◌≡◌, ◌⊎◌, ℕ, ◌*◌, ◌^◌, ◌<◌, ◌≤◌, List, [], ◌∷◌, refl, sym, ap, subst, inl, inr, arith, ℤ}
+use Rattle.std.specs.Prelude.{Option, None, Some, SomeIff}
 use Rattle.std.proofs.lemmas.Bool.{cases_lt}
 use Rattle.sym_model.specs.Sum.{Among}
 use Rattle.sym_model.specs.Partition.{IsPartition}
@@ -11,10 +11,13 @@ use Rattle.sym_model.proofs.SortedParts.{rows_within_size, IsPartition-none}
 use Rattle.whole_lists.specs.Tables.{IsTable}
 use Rattle.whole_lists.specs.LabelSizes.{AreWithin}
 use Rattle.change_from_monomials.proofs.Fractions.{label-partition}
-use Rattle.change_from_monomials.specs.Mixed.{Mixed, mixed, weight, Added, unready, AreReady}
-use Rattle.change_from_monomials.specs.Clearing.{cleared_number, cleared_terms}
+use Rattle.sparse_polys.specs.Labels.{same_pair}
+use Rattle.linear_combinations.specs.Gains.{Gains, HaveLabels}
+use Rattle.linear_combinations.proofs.Masses.{labels_gained}
+use Rattle.change_from_monomials.specs.AugmentedProducts.{MixedLabel, Mixed, IsMixedTable, weight, IsReady}
+use Rattle.change_from_monomials.specs.Clearing.{cleared_terms}
 use Rattle.change_from_monomials.specs.Costs.{cost}
-use Rattle.change_from_monomials.proofs.Walks.{unready-from}
+use Rattle.change_from_monomials.proofs.Weights.{label_laws, gains-weight}
 use Rattle.change_from_monomials.proofs.CostTable.{cost-within}
 
 pub none-large : (n : ℕ) (answer : Option ℕ) → SomeIff answer (n < 2 ^ 127) n → answer ≡ None → 2 ^ 127 ≤ n
@@ -29,19 +32,20 @@ module _ (N D d factor : ℕ) (terms : Terms (List ℕ)) (is_factor : factor ≡
   pub start-cost : IsBounded N D terms → weight cost (cleared_terms D factor terms) ≤ N * growth Basis.completes d
   start-cost b = subst (λ f. weight cost (cleared_terms D f terms) ≤ N * growth Basis.completes d) (sym is_factor) (cost-within N D d terms low is within b)
 
-  pub table-cost : (es : Mixed) → IsBounded N D terms → Added (cleared_terms D factor terms) [] es → weight cost es ≤ N * growth Basis.completes d
-  table-cost es b a = let w = a.weights cost in let s = start-cost b in omega arith
+  pub table-cost : (es : Mixed) → IsBounded N D terms → IsMixedTable es → Gains [] (cleared_terms D factor terms) es → weight cost es ≤ N * growth Basis.completes d
+  table-cost es b table a = let w = gains-weight (cleared_terms D factor terms) es table a cost in let s = start-cost b in omega arith
 
-  pub table-ready : (es : Mixed) → Added (cleared_terms D factor terms) [] es → AreReady d d es
-  table-ready es a = let w = a.weights (unready d d) in let z = ready-terms terms (label-partition terms is) within in (let r : weight (unready d d) es ≡ 0 = omega arith in r)
+  pub table-ready : (es : Mixed) → IsMixedTable es → Gains [] (cleared_terms D factor terms) es → HaveLabels (IsReady d d) es
+  table-ready es table a =
+      labels_gained label_laws same_pair [] (cleared_terms D factor terms) es table a (IsReady d d) (λ t m. absurd m)
+      (ready-terms terms (label-partition terms is) within)
     where
-      ready-terms : (ts : Terms (List ℕ)) → ((t : List ℕ × Fraction) → Among t ts → IsPartition t.0) → AreWithin d ts → AreReady d d (cleared_terms D factor ts)
-      ready-terms [] p w = refl
-      ready-terms (t ∷ ts) p w =
+      ready-terms : (ts : Terms (List ℕ)) → ((t : List ℕ × Fraction) → Among t ts → IsPartition t.0) → AreWithin d ts → HaveLabels (IsReady d d) (cleared_terms D factor ts)
+      ready-terms [] p w u m = absurd m
+      ready-terms (t ∷ ts) p w u (inl e) =
           let q = p t (inl refl) in
           let s = w t (inl refl) in
           let r = rows_within_size t.0 q.positive in
-          let u = unready-from d d (mixed [] t.0) (record { converted = IsPartition-none; augmented = q; low = omega arith; few = omega arith }) in
-          let later = ready-terms ts (λ v m. p v (inr m)) (λ v m. w v (inr m)) in
-          let here : nat_abs (cleared_number D factor t.0 t.1) * unready d d (mixed [] t.0) ≡ nat_abs (cleared_number D factor t.0 t.1) * 0 = ap (λ x. nat_abs (cleared_number D factor t.0 t.1) * x) u in
-          (let sum : nat_abs (cleared_number D factor t.0 t.1) * unready d d (mixed [] t.0) + weight (unready d d) (cleared_terms D factor ts) ≡ 0 = omega arith in sum)
+          subst (IsReady d d) (sym (ap (λ (x : MixedLabel × ℤ). x.0) e))
+          (record { converted = IsPartition-none; augmented = q; low = omega arith; few = omega arith })
+      ready-terms (t ∷ ts) p w u (inr m) = ready-terms ts (λ v n. p v (inr n)) (λ v n. w v (inr n)) u m

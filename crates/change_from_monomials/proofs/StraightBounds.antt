@@ -1,14 +1,13 @@
 -- Bounds of the numbers that straightening meets, for each partition of the target by itself.
 --     list-within          the terms of a bounded list
---     large-start, -end    what is refused is past the bound
-use Rattle.std.proofs.Common.{◌≡◌, ◌⊎◌, ℕ, zero, suc, ◌+◌, ◌-◌, ◌*◌, ◌/◌, ◌^◌, ◌<◌, ◌≤◌, Bool, true, false, cond, eqb, List, [], map, length, refl, sym, ap, ◌∙◌, subst, inl, inr, arith, pow-suc, ℤ, pos, ◌*ℤ◌, flat_map}
+--     large-start          what is refused is past the bound
+use Rattle.std.proofs.Common.{◌≡◌, ◌⊎◌, ℕ, zero, suc, ◌+◌, ◌-◌, ◌*◌, ◌/◌, ◌^◌, ◌<◌, ◌≤◌, Bool, true, false, cond, eqb, List, [], ◌∷◌, map, length, refl, sym, ap, ◌∙◌, subst, inl, inr, arith, pow-suc, ℤ, pos, ◌*ℤ◌, flat_map}
 use Rattle.std.specs.Prelude.{◌≤ℤ◌, nat_abs, Some, None}
 use Rattle.std.proofs.lemmas.Int.{ints, unsigned_abs-mul}
 use Rattle.std.proofs.lemmas.Bool.{cases_eq, cases_lt, eq-eqb, ne_eqb}
 use Rattle.std.proofs.Math.Nat.{pow-zero}
 use Rattle.sym_model.specs.Sum.{total, Among}
 use Rattle.sym_model.specs.Partition.{size}
-use Rattle.sym_model.specs.Polynomial.{same}
 use Rattle.sym_model.specs.Alternant.{staircase}
 use Rattle.sym_model.specs.Arrangement.{arrangements}
 use Rattle.sym_model.specs.BetaList.{has_equal_entries, sorted_falling, rising_pairs, sorting_sign, from_beta}
@@ -18,20 +17,22 @@ use Rattle.sym_model.specs.Expansion.{Basis, Fraction, Terms}
 use Rattle.sym_model.specs.ListWeight.{IsBounded, factorials}
 use Rattle.sym_model.specs.Weight.{factorial, growth}
 use Rattle.sym_model.proofs.Sums.{total_ext, total_map, total_each, total_scale, total_zero}
-use Rattle.sym_model.proofs.Exponents.{same_true, size-join, length-join_same}
+use Rattle.sym_model.proofs.Exponents.{size-join, length-join_same}
 use Rattle.beta_list_laws.proofs.NeighbourExchanges.{size-sorted, length-sorted}
 use Rattle.beta_list_laws.proofs.SortedLists.{sorted_strict}
 use Rattle.beta_list_laws.proofs.BetaLists.{size-from_beta}
 use Rattle.monomial_laws.proofs.WeightBounds.{factorial-within_growth, growth-mono, growth-positive}
-use Rattle.whole_lists.specs.Tables.{IsTable}
+use Rattle.whole_lists.specs.Tables.{equal, IsTable}
 use Rattle.whole_lists.specs.LabelSizes.{AreWithin}
 use Rattle.whole_lists.proofs.WholeLists.{Once-keys}
-use Rattle.change_from_monomials.specs.declared.mixed.MixedLabel.{MixedLabel}
-use Rattle.change_from_monomials.specs.Mixed.{Mixed, weight, Added}
+use Rattle.sym_model.specs.WholeTerms.{WholeTerms}
+use Rattle.linear_combinations.specs.Gains.{mass_at}
+use Rattle.linear_combinations.specs.Labels.{same_partition}
+use Rattle.linear_combinations.proofs.Gains.{over_only_within}
 use Rattle.coeff_rings.specs.Fractions.{scaled}
-use Rattle.change_from_monomials.specs.Arranging.{times_straight, straight_term, straight_terms, at_label}
+use Rattle.change_from_monomials.specs.Arranging.{times_straight, straight_term, straight_terms}
 use Rattle.change_from_monomials.specs.Straightening.{straightened_list, IsPast}
-use Rattle.change_from_monomials.proofs.StraightTerms.{weight-total, straight_term-some}
+use Rattle.change_from_monomials.proofs.StraightTerms.{straight_term-some}
 use Rattle.arrangement_laws.proofs.LastPlaces.{IsArrangement, arrangement}
 use Rattle.change_from_monomials.proofs.MultinomialSums.{total-mono, multinomial, arranged, multinomials-within, arranged-within}
 use Rattle.sym_model.proofs.Ring.{distributes_right}
@@ -66,50 +67,48 @@ straight-size α h =
 
 -- so that an arrangement adds to partitions of its size alone
 one-within : (ν : List ℕ) (z : ℤ) (parts : List ℕ) (n : ℕ) (α : List ℕ) → IsArrangement parts n α
-    → pos (weight (at_label ν) (straight_term z (shifted α))) ≤ℤ cond (eqb (size parts) (size ν)) (pos (nat_abs z)) (pos 0)
+    → pos (mass_at equal ν (straight_term z (shifted α))) ≤ℤ cond (eqb (size parts) (size ν)) (pos (nat_abs z)) (pos 0)
 one-within ν z parts n α a = by (has_equal_entries (shifted α)) refl
   where
     not_negative : (b : Bool) → pos 0 ≤ℤ cond b (pos (nat_abs z)) (pos 0)
     not_negative true = omega (arith, ints)
     not_negative false = omega (arith, ints)
 
-    result : List ℕ
-    result = from_beta (sorted_falling (shifted α))
-
-    number : ℤ
-    number = sorting_sign (shifted α) *ℤ z
-
-    here : (b : Bool) → same (from_beta (sorted_falling (shifted α))) ν ≡ b → has_equal_entries (shifted α) ≡ false
-        → pos (nat_abs (sorting_sign (shifted α) *ℤ z) * cond b 1 0 + 0) ≤ℤ cond (eqb (size parts) (size ν)) (pos (nat_abs z)) (pos 0)
+    here : (b : Bool) → equal ν (from_beta (sorted_falling (shifted α))) ≡ b → has_equal_entries (shifted α) ≡ false
+        → pos (cond b (nat_abs (sorting_sign (shifted α) *ℤ z)) 0 + 0) ≤ℤ cond (eqb (size parts) (size ν)) (pos (nat_abs z)) (pos 0)
     here true e h =
-        let s : size parts ≡ size ν = sym a.sum ∙ sym (straight-size α h) ∙ ap size (same_true (from_beta (sorted_falling (shifted α))) ν e) in
-        subst (λ b. pos (nat_abs (sorting_sign (shifted α) *ℤ z) * 1 + 0) ≤ℤ cond b (pos (nat_abs z)) (pos 0)) (sym (eq-eqb (size parts) (size ν) s))
+        let s : size parts ≡ size ν = sym a.sum ∙ sym (straight-size α h) ∙ sym (ap size (same_partition ν (from_beta (sorted_falling (shifted α))) e)) in
+        subst (λ b. pos (nat_abs (sorting_sign (shifted α) *ℤ z) + 0) ≤ℤ cond b (pos (nat_abs z)) (pos 0)) (sym (eq-eqb (size parts) (size ν) s))
         (let k = sign-size (rising_pairs (shifted α)) z in omega (arith, ints))
     here false e h = let m = not_negative (eqb (size parts) (size ν)) in omega (arith, ints)
 
-    by : (t : Bool) → has_equal_entries (shifted α) ≡ t → pos (weight (at_label ν) (straight_term z (shifted α))) ≤ℤ cond (eqb (size parts) (size ν)) (pos (nat_abs z)) (pos 0)
+    by : (t : Bool) → has_equal_entries (shifted α) ≡ t → pos (mass_at equal ν (straight_term z (shifted α))) ≤ℤ cond (eqb (size parts) (size ν)) (pos (nat_abs z)) (pos 0)
     by true h =
         let m = not_negative (eqb (size parts) (size ν)) in
-        let e : weight (at_label ν) (straight_term z (shifted α)) ≡ 0 =
-        ap (λ t. weight (at_label ν) (times_straight z (cond t None (Some (sorting_sign (shifted α), from_beta (sorted_falling (shifted α))))))) h in
+        let e : mass_at equal ν (straight_term z (shifted α)) ≡ 0 =
+        ap (λ t. mass_at equal ν (times_straight z (cond t None (Some (sorting_sign (shifted α), from_beta (sorted_falling (shifted α))))))) h in
         omega (arith, ints)
     by false h =
-        subst (λ (xs : Mixed). pos (weight (at_label ν) xs) ≤ℤ cond (eqb (size parts) (size ν)) (pos (nat_abs z)) (pos 0)) (sym (straight_term-some z (shifted α) h))
-        (here (same (from_beta (sorted_falling (shifted α))) ν) refl h)
+        subst (λ (xs : WholeTerms). pos (mass_at equal ν xs) ≤ℤ cond (eqb (size parts) (size ν)) (pos (nat_abs z)) (pos 0)) (sym (straight_term-some z (shifted α) h))
+        (here (equal ν (from_beta (sorted_falling (shifted α)))) refl h)
 
 -- ---- one label
 
-weight-each : {A : Type 0} (w : MixedLabel → ℕ) (h : A → Mixed) (xs : List A) → pos (weight w (flat_map h xs)) ≡ total (λ (x : A). pos (weight w (h x))) xs
-weight-each {A} w h xs =
-    weight-total w (flat_map h xs)
-    ∙ total_each (λ (t : MixedLabel × ℤ). pos (nat_abs t.1 * w t.0)) h xs
-    ∙ total_ext (λ (x : A). total (λ (t : MixedLabel × ℤ). pos (nat_abs t.1 * w t.0)) (h x)) (λ (x : A). pos (weight w (h x))) (λ x. sym (weight-total w (h x))) xs
+mass-total : (ν : List ℕ) (es : WholeTerms) → pos (mass_at equal ν es) ≡ total (λ (t : List ℕ × ℤ). pos (cond (equal ν t.0) (nat_abs t.1) 0)) es
+mass-total ν [] = refl
+mass-total ν (e ∷ es) = let r = mass-total ν es in omega (arith, ints)
+
+mass-each : {A : Type 0} (ν : List ℕ) (h : A → WholeTerms) (xs : List A) → pos (mass_at equal ν (flat_map h xs)) ≡ total (λ (x : A). pos (mass_at equal ν (h x))) xs
+mass-each {A} ν h xs =
+    mass-total ν (flat_map h xs)
+    ∙ total_each (λ (t : List ℕ × ℤ). pos (cond (equal ν t.0) (nat_abs t.1) 0)) h xs
+    ∙ total_ext (λ (x : A). total (λ (t : List ℕ × ℤ). pos (cond (equal ν t.0) (nat_abs t.1) 0)) (h x)) (λ (x : A). pos (mass_at equal ν (h x))) (λ x. sym (mass-total ν (h x))) xs
 
 label-within : (N n : ℕ) (ν : List ℕ) (z : ℤ) (parts : List ℕ) → nat_abs z * factorials parts ≤ N * factorial (size parts)
-    → pos (weight (at_label ν) (straight_terms z parts n)) ≤ℤ (pos N *ℤ arranged (size ν) n parts)
+    → pos (mass_at equal ν (straight_terms z parts n)) ≤ℤ (pos N *ℤ arranged (size ν) n parts)
 label-within N n ν z parts h =
-    let e = weight-each (at_label ν) (λ (α : List ℕ). straight_term z (shifted α)) (arrangements parts n) in
-    let m = total-mono (λ (α : List ℕ). pos (weight (at_label ν) (straight_term z (shifted α)))) (λ (α : List ℕ). cond (eqb (size parts) (size ν)) (pos (nat_abs z)) (pos 0)) (arrangements parts n)
+    let e = mass-each ν (λ (α : List ℕ). straight_term z (shifted α)) (arrangements parts n) in
+    let m = total-mono (λ (α : List ℕ). pos (mass_at equal ν (straight_term z (shifted α)))) (λ (α : List ℕ). cond (eqb (size parts) (size ν)) (pos (nat_abs z)) (pos 0)) (arrangements parts n)
     (λ α i. one-within ν z parts n α (arrangement parts n α i)) in
     let b = by (cases_eq (size parts) (size ν)) in
     omega (arith, ints)
@@ -131,10 +130,10 @@ number-bound : (N D : ℕ) (terms : Terms (List ℕ)) → IsBounded N D terms �
 number-bound N D terms b t m =
     subst (λ k. k * factorials t.0 ≤ N * factorial (size t.0)) (sym (unsigned_abs-mul t.1.0 (pos (D / t.1.1)))) (b t m).1
 
-terms-within : (N D n : ℕ) (ν : List ℕ) (terms : Terms (List ℕ)) → IsBounded N D terms → pos (weight (at_label ν) (straightened_list D n terms)) ≤ℤ (pos N *ℤ sum_of (size ν) n terms)
+terms-within : (N D n : ℕ) (ν : List ℕ) (terms : Terms (List ℕ)) → IsBounded N D terms → pos (mass_at equal ν (straightened_list D n terms)) ≤ℤ (pos N *ℤ sum_of (size ν) n terms)
 terms-within N D n ν terms b =
-    let e = weight-each (at_label ν) (λ (t : List ℕ × Fraction). straight_terms (scaled D t.1) t.0 n) terms in
-    let m = total-mono (λ (t : List ℕ × Fraction). pos (weight (at_label ν) (straight_terms (scaled D t.1) t.0 n))) (λ (t : List ℕ × Fraction). pos N *ℤ arranged (size ν) n t.0) terms
+    let e = mass-each ν (λ (t : List ℕ × Fraction). straight_terms (scaled D t.1) t.0 n) terms in
+    let m = total-mono (λ (t : List ℕ × Fraction). pos (mass_at equal ν (straight_terms (scaled D t.1) t.0 n))) (λ (t : List ℕ × Fraction). pos N *ℤ arranged (size ν) n t.0) terms
     (λ t i. label-within N n ν (scaled D t.1) t.0 (number-bound N D terms b t i)) in
     let s = total_scale (pos N) (λ (t : List ℕ × Fraction). arranged (size ν) n t.0) terms in
     omega (arith, ints)
@@ -159,10 +158,10 @@ scaled-le (suc N) x k h =
     let d = distributes_right (pos 1) (pos N) x in
     omega (arith, ints)
 
-pub list-within : (N D n : ℕ) (terms : Terms (List ℕ)) → IsTable terms → AreWithin n terms → IsBounded N D terms → (ν : List ℕ) → weight (at_label ν) (straightened_list D n terms) ≤ N * growth Basis.schurs n
+pub list-within : (N D n : ℕ) (terms : Terms (List ℕ)) → IsTable terms → AreWithin n terms → IsBounded N D terms → (ν : List ℕ) → mass_at equal ν (straightened_list D n terms) ≤ N * growth Basis.schurs n
 list-within N D n terms is w b ν = by (cases_lt n (size ν))
   where
-    by : (n < size ν) ⊎ (size ν ≤ n) → weight (at_label ν) (straightened_list D n terms) ≤ N * growth Basis.schurs n
+    by : (n < size ν) ⊎ (size ν ≤ n) → mass_at equal ν (straightened_list D n terms) ≤ N * growth Basis.schurs n
     by (inl l) =
         let t = terms-within N D n ν terms b in
         let z : sum_of (size ν) n terms ≡ pos 0 =
@@ -198,11 +197,7 @@ large-start N D n terms is w b (inl (t, m, h)) =
     let y : N * factorial (size t.0) ≤ N * growth Basis.monomials n = mul-le-mul_left N (let z : factorial (size t.0) ≤ growth Basis.monomials n = omega arith in z) in
     let e = ap (λ q. N * q) (same_growth n) in
     omega arith
-large-start N D n terms is w b (inr (ν, h)) = let l = list-within N D n terms is w b ν in omega arith
-
-pub large-end : (N D n : ℕ) (terms : Terms (List ℕ)) (end : Mixed) → IsTable terms → AreWithin n terms → IsBounded N D terms → Added (straightened_list D n terms) [] end
-    → (ν : List ℕ) → 2 ^ 127 ≤ weight (at_label ν) end → 2 ^ 127 ≤ N * growth Basis.schurs n
-large-end N D n terms end is w b a ν h = let l = list-within N D n terms is w b ν in let u = a.weights (at_label ν) in omega arith
+large-start N D n terms is w b (inr (ν, h)) = let l = list-within N D n terms is w b ν in let o = over_only_within equal ν [] in omega arith
 
 pub large-schur : (N D n d : ℕ) → 1 ≤ D → n ≤ d → 2 ^ 127 ≤ N * growth Basis.schurs n → 2 ^ 127 ≤ N * D * growth Basis.schurs d
 large-schur N D n d p l h =

@@ -13,9 +13,9 @@ use Rattle.sym_model.specs.Arrangement.{arrangements}
 use Rattle.sym_model.specs.Straightening.{shifted, straightened}
 use Rattle.sym_model.specs.Expansion.{Basis, Fraction, Terms, IsExpansionOf}
 use Rattle.sym_model.specs.ListWeight.{IsBounded}
-use Rattle.sym_model.specs.WholeTerms.{combined}
+use Rattle.sym_model.specs.WholeTerms.{WholeTerms, combined}
 use Rattle.sym_model.proofs.Ring.{ring}
-use Rattle.sym_model.proofs.Sums.{total_ext, total_among, total_map, total_each, total_scale}
+use Rattle.sym_model.proofs.Sums.{total_ext, total_among, total_each, total_scale}
 use Rattle.sym_model.proofs.Polynomials.{pair_determined, at_only, coefficient_pair}
 use Rattle.sym_model.proofs.WholeTerms.{pair_of_combined}
 use Rattle.monomial_laws.specs.ExpressionTerms.{in_monomials, over}
@@ -25,8 +25,7 @@ use Rattle.whole_lists.specs.Tables.{IsTable}
 use Rattle.whole_lists.specs.LabelSizes.{AreWithin}
 use Rattle.whole_lists.proofs.Quotients.{Quotients}
 use Rattle.change_from_monomials.proofs.Fractions.{label-partition}
-use Rattle.change_from_monomials.specs.declared.mixed.MixedLabel.{MixedLabel}
-use Rattle.change_from_monomials.specs.Mixed.{Mixed, weighed, Added, converted_terms}
+use Rattle.linear_combinations.specs.Gains.{Gains, over as sum_over}
 use Rattle.coeff_rings.specs.Fractions.{scaled}
 use Rattle.change_from_monomials.specs.Arranging.{straight, times_straight, straight_term, straight_terms}
 use Rattle.change_from_monomials.specs.Straightening.{straightened_list}
@@ -35,10 +34,10 @@ use Rattle.change_from_monomials.proofs.Ends.{expansion-by, pair-over}
 use lib.IntN.{+ℤ_idl, *ℤ-zero}
 
 -- the pairing of the Schur polynomial of a label with a test function
-abbrev schur_value : ℕ → (List ℕ → ℤ) → MixedLabel → ℤ
-schur_value n φ l = pair (schur l.converted n) φ
+abbrev schur_value : ℕ → (List ℕ → ℤ) → List ℕ → ℤ
+schur_value n φ label = pair (schur label n) φ
 
-abbrev term_value : ℕ → (List ℕ → ℤ) → MixedLabel × ℤ → ℤ
+abbrev term_value : ℕ → (List ℕ → ℤ) → List ℕ × ℤ → ℤ
 term_value n φ t = t.1 *ℤ schur_value n φ t.0
 
 -- one list of exponents
@@ -66,30 +65,29 @@ label-value n d φ c parts p h =
     ∙ sym (pair_determined (monomial parts n) (combined (λ label. schur label n) (straightened_terms (arrangements parts d))) φ (enough_places n d parts p h)))
 
 straightened-value : (n d D : ℕ) (φ : List ℕ → ℤ) (terms : Terms (List ℕ)) → IsTable terms → AreWithin d terms
-    → weighed (schur_value n φ) (straightened_list D d terms) ≡ pair (in_monomials (over D terms) n) φ
+    → sum_over (schur_value n φ) (straightened_list D d terms) ≡ pair (in_monomials (over D terms) n) φ
 straightened-value n d D φ terms is w =
     total_each (term_value n φ) (λ (t : List ℕ × Fraction). straight_terms (scaled D t.1) t.0 d) terms
     ∙ total_among (λ (t : List ℕ × Fraction). total (term_value n φ) (straight_terms (scaled D t.1) t.0 d)) (λ (t : List ℕ × Fraction). scaled D t.1 *ℤ pair (monomial t.0 n) φ) terms
     (λ t m. label-value n d φ (scaled D t.1) t.0 (label-partition terms is t m) (w t m))
     ∙ sym (pair-over n D φ terms)
 
-pub expansion-straightened : (N D d : ℕ) (terms answer : Terms (List ℕ)) (end : Mixed) → 0 < D → IsTable terms → AreWithin d terms → IsBounded N D terms
-    → Added (straightened_list D d terms) [] end → IsTable answer → Quotients D answer (converted_terms end)
+pub expansion-straightened : (N D d : ℕ) (terms answer : Terms (List ℕ)) (end : WholeTerms) → 0 < D → IsTable terms → AreWithin d terms → IsBounded N D terms
+    → Gains [] (straightened_list D d terms) end → IsTable answer → Quotients D answer end
     → (n : ℕ) (f : Poly) (p : ℕ) → IsExpansionOf Basis.monomials terms n f p → IsExpansionOf Basis.schurs answer n f p
 expansion-straightened N D d terms answer end some is w b a js quotients n f p h =
     let one : D ≡ D * 1 = omega arith in
-    expansion-by Basis.schurs N D 1 terms answer (converted_terms end) some (omega arith) is b js (subst (λ k. Quotients k answer (converted_terms end)) one quotients) n same_values f p h
+    expansion-by Basis.schurs N D 1 terms answer end some (omega arith) is b js (subst (λ k. Quotients k answer end) one quotients) n same_values f p h
   where
     front : (x : ℤ) → x ≡ pos 1 *ℤ x
     front x = omega (arith, ints)
 
-    same_values : (α : List ℕ) → coefficient (combined (λ label. schur label n) (converted_terms end)) α ≡ pos 1 *ℤ coefficient (in_monomials (over D terms) n) α
+    same_values : (α : List ℕ) → coefficient (combined (λ label. schur label n) end) α ≡ pos 1 *ℤ coefficient (in_monomials (over D terms) n) α
     same_values α =
-        coefficient_pair (combined (λ label. schur label n) (converted_terms end)) α
-        ∙ pair_of_combined (λ label. schur label n) (converted_terms end) (at_only α)
-        ∙ total_map (λ (t : List ℕ × ℤ). t.1 *ℤ pair (schur t.0 n) (at_only α)) (λ (t : MixedLabel × ℤ). (t.0.converted, t.1)) end
+        coefficient_pair (combined (λ label. schur label n) end) α
+        ∙ pair_of_combined (λ label. schur label n) end (at_only α)
         ∙ a.sums (schur_value n (at_only α))
-        ∙ +ℤ_idl (weighed (schur_value n (at_only α)) (straightened_list D d terms))
+        ∙ +ℤ_idl (sum_over (schur_value n (at_only α)) (straightened_list D d terms))
         ∙ straightened-value n d D (at_only α) terms is w
         ∙ sym (coefficient_pair (in_monomials (over D terms) n) α)
         ∙ front (coefficient (in_monomials (over D terms) n) α)

@@ -1,5 +1,5 @@
 -- A number that clears all fractions of a list,
--- and what the list then adds up to (this project's own).
+-- and what the list then adds up to.
 use Rattle.std.specs.Prelude.{◌≡◌, ℕ, ◌%◌, ◌≤◌, List}
 use Rattle.sym_model.specs.Sum.{Among}
 use Rattle.sym_model.specs.Expansion.{Basis, monomials, elementaries, completes, power_sums, schurs}

@@ -1,10 +1,10 @@
--- A list of terms in m with its fractions cleared, in augmented monomials (this project's own).
+-- A list of terms in m with its fractions cleared, in augmented monomials.
 use Rattle.std.specs.Prelude.{ℕ, ◌/◌, ◌≤◌, ℤ, pos, ◌*ℤ◌, List, [], map}
 use Rattle.coeff_rings.specs.Fractions.{scaled}
 use Rattle.sym_model.specs.Sum.{Among}
 use Rattle.sym_model.specs.Expansion.{Fraction, Terms}
 use Rattle.basis_change_laws.specs.AugmentedMonomial.{multiplicity_factorials}
-use Rattle.change_from_monomials.specs.Mixed.{Mixed, mixed}
+use Rattle.change_from_monomials.specs.AugmentedProducts.{Mixed}
 
 -- a fraction times den, times `factor` over the factorials of the multiplicities of a label
 abbrev pub cleared_number : ℕ → ℕ → List ℕ → Fraction → ℤ
@@ -13,7 +13,7 @@ cleared_number den factor label c = scaled den c *ℤ pos (factor / multiplicity
 -- the list times den and `factor`, in augmented monomials
 abbrev pub cleared_terms : ℕ → ℕ → Terms (List ℕ) → Mixed
 cleared_terms den factor terms =
-    map (λ (t : List ℕ × Fraction). (mixed [] t.0, cleared_number den factor t.0 t.1)) terms
+    map (λ (t : List ℕ × Fraction). (([], t.0), cleared_number den factor t.0 t.1)) terms
 
 -- no label has greater factorials of its multiplicities than `factor`
 abbrev pub HasFactors : ℕ → Terms (List ℕ) → Type 0

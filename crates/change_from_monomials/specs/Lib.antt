@@ -1,10 +1,11 @@
 pub mod Limits
-pub mod Mixed
+pub mod AugmentedProducts
 pub mod Factors
 pub mod Costs
 pub mod Clearing
 pub mod Arranging
+pub mod BetaSets
 pub mod KeptLists
 pub mod Straightening
 pub mod ClearedAnswer
-pub mod Sums
+pub mod RimHooks

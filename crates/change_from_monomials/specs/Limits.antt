@@ -1,5 +1,5 @@
 -- Which lists of terms in m a change of basis takes,
--- by the sizes of their labels (this project's own).
+-- by the sizes of their labels.
 use Rattle.std.specs.Prelude.{ℕ}
 use Rattle.sym_model.specs.Expansion.{Basis, monomials, elementaries, completes, power_sums, schurs}
 

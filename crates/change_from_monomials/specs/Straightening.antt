@@ -1,13 +1,15 @@
--- A list of terms in m with its fractions cleared, in Schur polynomials (this project's own).
+-- A list of terms in m with its fractions cleared, in Schur polynomials.
 use Rattle.std.specs.Prelude.{ℕ, ◌^◌, ◌≤◌, ◌⊎◌, nat_abs, List, [], flat_map}
 use Rattle.sym_model.specs.Sum.{Among}
 use Rattle.sym_model.specs.Expansion.{Fraction, Terms}
-use Rattle.change_from_monomials.specs.Mixed.{Mixed}
+use Rattle.sym_model.specs.WholeTerms.{WholeTerms}
 use Rattle.coeff_rings.specs.Fractions.{scaled}
-use Rattle.change_from_monomials.specs.Arranging.{straight_terms, OverflowsSomewhere}
+use Rattle.linear_combinations.specs.Gains.{Overflows}
+use Rattle.whole_lists.specs.Tables.{equal}
+use Rattle.change_from_monomials.specs.Arranging.{straight_terms}
 
--- the list times den, each label straightened in so many places
-abbrev pub straightened_list : ℕ → ℕ → Terms (List ℕ) → Mixed
+-- the list times den, each label straightened in that number of places
+abbrev pub straightened_list : ℕ → ℕ → Terms (List ℕ) → WholeTerms
 straightened_list den places terms =
     flat_map (λ (t : List ℕ × Fraction). straight_terms (scaled den t.1) t.0 places) terms
 
@@ -15,4 +17,4 @@ straightened_list den places terms =
 abbrev pub IsPast : ℕ → ℕ → Terms (List ℕ) → Type 0
 IsPast den places terms =
     ((t : List ℕ × Fraction) × Among t terms × (2 ^ 127 ≤ nat_abs (scaled den t.1)))
-    ⊎ OverflowsSomewhere (straightened_list den places terms) []
+    ⊎ Overflows equal [] (straightened_list den places terms)

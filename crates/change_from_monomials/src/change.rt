@@ -1,5 +1,5 @@
 //! The change from the monomial basis to any other.
-ghost use Rattle.std.specs.Prelude.{◌≡◌, ℕ, ◌*◌, ◌^◌, ◌≤◌, IfOk, IsErrOf};
+ghost use Rattle.std.specs.Prelude.{ℕ, ◌*◌, ◌^◌, ◌≤◌, IfOk, IsErrOf};
 ghost use Rattle.sym_model.specs.Expansion.{monomials, IsExpansionOf};
 ghost use Rattle.sym_model.specs.ListWeight.{IsBounded};
 ghost use Rattle.sym_model.specs.Polynomial.{Poly};
@@ -13,7 +13,6 @@ ghost use Rattle.whole_lists.specs.Families.{basis_in};
 ghost use Rattle.change_from_monomials.specs.ClearedAnswer.{IsClearedBy, IsMultiplied};
 
 use crate::clearing::{greatest_size, in_augmented};
-use crate::division::divided;
 use crate::rewriting::converted;
 use crate::straightening::by_arrangements;
 use calc_base::{Basis, SumFault, Weight};
@@ -22,7 +21,7 @@ use family_lists::power_sums;
 use partitions::Partition;
 use sparse_polys::Lin;
 use std::alloc::Global;
-use whole_lists::Family;
+use whole_lists::{Family, divided};
 use whole_numbers::{denominator_product, factorial};
 
 /// The list, read as an expansion in m, as an expansion in the target, in every number of
@@ -103,6 +102,6 @@ fn by_augmented(
     };
     let powers = power_sums(alloc, family, size)?;
     let start = in_augmented(alloc, list, bound.den, factor)?;
-    let end = converted(alloc, family, start, &powers[1..], size)?;
+    let end = converted(alloc, start, &powers[1..], size)?;
     divided(alloc, &end, den)
 }

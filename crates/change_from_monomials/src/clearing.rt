@@ -1,6 +1,6 @@
 //! A list of terms with its fractions cleared: with whole coefficients,
 //! and a list in m in augmented monomials.
-ghost use Rattle.std.specs.Prelude.{◌≡◌, ℕ, ◌+◌, ◌*◌, ◌/◌, ◌^◌, ◌<◌, ◌≤◌, [], ◌∷◌, pos, nat_abs};
+ghost use Rattle.std.specs.Prelude.{◌≡◌, ℕ, ◌*◌, ◌/◌, ◌^◌, ◌<◌, ◌≤◌, [], ◌∷◌, pos, nat_abs};
 ghost use Rattle.std.specs.Prelude.{MatchOption, IfOk, OnOk, IsErrOf};
 ghost use Rattle.sym_model.specs.ListWeight.{absolute_sum};
 ghost use Rattle.sym_model.specs.Polynomial.{Same};
@@ -10,17 +10,16 @@ ghost use Rattle.whole_lists.specs.LabelSizes.{AreWithin};
 ghost use Rattle.whole_lists.specs.Tables.{IsTable, IsWholeTable};
 ghost use Rattle.coeff_rings.specs.Fractions.{scaled};
 ghost use Rattle.change_from_monomials.specs.Clearing.{cleared_number, cleared_terms, HasFactors};
-ghost use Rattle.change_from_monomials.specs.Mixed.{mixed, Added, Overflows};
+ghost use Rattle.change_from_monomials.specs.AugmentedProducts.{equal, IsMixedTable};
+ghost use Rattle.linear_combinations.specs.Gains.{Gains, Overflows};
 
-use crate::mixed::MixedLabel;
 use crate::parts::multiplicity_factorials;
-use crate::table::{Mixed, add};
+use crate::products::Mixed;
 use calc_base::SumFault;
 use coeff_rings::{Frac, Int, Ring};
-use indexmap::IndexMap;
 use linear_combinations::Lin as Table;
 use partitions::Partition;
-use sparse_polys::Lin;
+use sparse_polys::{Lin, Pair};
 use std::alloc::Global;
 use whole_lists::Whole;
 
@@ -89,7 +88,7 @@ pub fn whole_terms(alloc: Global, list: &Lin<Partition, Frac>, den: u128) -> Res
         let Some(number) = scaled_number(*c, den) else {
             return Err(SumFault::Large);
         };
-        terms.add_term(label.copy()?, number)?;
+        terms.add_at_label(label, number)?;
     }
     Ok(terms)
 }
@@ -122,21 +121,20 @@ fn add_cleared(
     requires den { den < 2 ^ 127 }
     requires factor { factor < 2 ^ 127 }
     requires multiplicities { multiplicity_factorials label.now ≤ factor }
-    ensures ok { OnOk result (Added
-        ((mixed [] label.now, cleared_number den factor label.now c) ∷ []) sum.old.entries
-        sum.new.entries) }
-    ensures large { IsErrOf result SumFault.Large
-        → Overflows ((mixed [] label.now, cleared_number den factor label.now c) ∷ [])
-        sum.old.entries }
+    ensures gains { OnOk result (Gains sum.old
+        ((([], label.now), cleared_number den factor label.now c) ∷ []) sum.new) }
+    ensures table { OnOk result (IsMixedTable sum.new) }
+    ensures large { IsErrOf result SumFault.Large → Overflows equal sum.old
+        ((([], label.now), cleared_number den factor label.now c) ∷ []) }
 {
     let Some(number) = cleared_number(c, den, factor, label) else {
         return Err(SumFault::Large);
     };
-    let label = MixedLabel {
-        converted: Partition::from_valid_parts(alloc, &[])?,
-        augmented: label.copy()?,
+    let label = Pair {
+        first: Partition::from_valid_parts(alloc, &[])?,
+        second: label.copy()?,
     };
-    add(sum, label, number)
+    sum.add_owned(label, number)
 }
 
 /// The list times `den` and `factor`, in augmented monomials.
@@ -149,11 +147,12 @@ pub(crate) fn in_augmented(
     requires den { den < 2 ^ 127 }
     requires factor { factor < 2 ^ 127 }
     requires multiplicities { HasFactors factor list.now }
-    ensures ok { IfOk result (λ sum. Added (cleared_terms den factor list.now) [] sum.entries) }
+    ensures gains { IfOk result (Gains [] (cleared_terms den factor list.now)) }
+    ensures table { IfOk result IsMixedTable }
     ensures large { IsErrOf result SumFault.Large
-        → Overflows (cleared_terms den factor list.now) [] }
+        → Overflows equal [] (cleared_terms den factor list.now) }
 {
-    let mut sum = IndexMap::new(alloc);
+    let mut sum = Table::new(alloc);
     for (label, c) in list.iter() {
         add_cleared(alloc, &mut sum, label, *c, den, factor)?;
     }

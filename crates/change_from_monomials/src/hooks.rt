@@ -1,19 +1,14 @@
-//! Special rim hooks added to the terms of a list.
-ghost use Rattle.std.specs.Prelude.{◌≡◌, ℕ, ◌+◌, ◌-◌, ◌*◌, ◌<◌, ◌≤◌, ◌^◌, ◌*ℤ◌, nat_abs, take};
-ghost use Rattle.std.specs.Prelude.{drop, ◌∷◌, ◌++◌, length, IfOk, OnOk, IsErrOf, MatchOption};
-ghost use Rattle.sym_model.specs.Partition.{IsPartition, rows, size};
+//! Special rim hooks added below shapes.
+ghost use Rattle.std.specs.Prelude.{◌≡◌, ◌<◌, ◌≤◌, ◌^◌, ◌*ℤ◌, nat_abs, nat_eq, OnOk, IsErrOf};
+ghost use Rattle.std.specs.Prelude.{MatchOption};
 ghost use Rattle.sym_model.specs.PlaceOrders.{minus_one_to};
-ghost use Rattle.arrangement_laws.specs.SpecialRimHooks.{straight_value, hooked, hooks_value};
-ghost use Rattle.linear_combinations.specs.Gains.{over, mass};
-ghost use Rattle.whole_lists.specs.LabelSizes.{AreWithin};
-ghost use Rattle.change_from_monomials.specs.Sums.{Grows};
+ghost use Rattle.linear_combinations.specs.Gains.{Gains, Overflows, scaled};
+ghost use Rattle.change_from_monomials.specs.RimHooks.{hook};
 
-use crate::sorting::{greater, has};
+use crate::beta_set::{BetaSet, Shapes};
 use calc_base::SumFault;
 use coeff_rings::{Int, Ring};
-use partitions::Partition;
-use std::alloc::{AllocError, Global};
-use whole_lists::Whole;
+use linear_combinations::Rule;
 
 /// The number with its sign turned so often; none where it is too large.
 fn turned(c: Int, times: u32) -> Option<Int>
@@ -22,95 +17,48 @@ fn turned(c: Int, times: u32) -> Option<Int>
     if times % 2 == 0 { Some(c) } else { c.neg() }
 }
 
-/// The entries with one more at a place.
-fn with_entry(alloc: Global, entries: &[u16], at: usize, entry: u16) -> Result<Vec<u16>, AllocError>
-    requires few { length entries.now ≤ 512 }
-    requires place { at ≤ length entries.now }
-    ensures { IfOk result (λ all. all.items
-        ≡ take at entries.now ++ (entry ∷ drop at entries.now)) }
+/// Adds c times the outcome of a rim hook of a cells that begins in the row below those of the beta
+/// set, of which the last ones may be empty: its number is put among theirs.
+fn add_hook(sum: &mut Shapes, beta: BetaSet, a: u16, c: Int) -> Result<(), SumFault>
+    requires few { a ≤ 20 }
+    requires low { beta < 2 ^ 63 }
+    ensures gains { OnOk result (Gains sum.old (scaled c (hook a beta)) sum.new) }
+    ensures large { IsErrOf result SumFault.Large
+        → Overflows nat_eq sum.old (scaled c (hook a beta)) }
 {
-    let mut all = Vec::with_capacity(alloc, entries.len() + 1)?;
-    all.extend_from_slice(&entries[..at])?;
-    all.push(entry)?;
-    all.extend_from_slice(&entries[at..])?;
-    Ok(all)
-}
-
-/// Adds c times what comes of a rim hook of a cells that begins in the row below so many rows of
-/// the shape, of which the last ones may be empty:
-/// its entry of the beta list is put among the others.
-fn add_hook(
-    alloc: Global,
-    sum: &mut Whole,
-    shape: &Partition,
-    above: u16,
-    a: u16,
-    c: Int,
-) -> Result<(), SumFault>
-    requires shape { IsPartition shape.now }
-    requires rows { rows shape.now ≤ above }
-    requires few { above < 512 }
-    requires low { size shape.now + a ≤ 512 }
-    ensures gains { OnOk result (Grows sum.old sum.new
-        (λ φ. c *ℤ straight_value φ (hooked shape.now (above + 1) a)) (nat_abs c)) }
-    ensures within { OnOk result ((d : ℕ) → size shape.now + a ≤ d → AreWithin d sum.old
-        → AreWithin d sum.new) }
-    ensures large { IsErrOf result SumFault.Large → 2 ^ 127 ≤ mass sum.old + nat_abs c }
-{
-    let beta = shape.beta(above + 1)?;
-    let others = &beta.as_slice()[..usize::from(above)];
-    if has(others, a) {
+    let others = beta.raised();
+    if others.has(a) {
         return Ok(());
     }
-    let at = greater(others, a);
-    let Some(number) = turned(c, u32::from(above) - at) else {
+    let passed = others.len() - others.greater(a);
+    let Some(number) = turned(c, passed) else {
         return Err(SumFault::Large);
     };
-    let entries = with_entry(alloc, others, at as usize, a)?;
-    let label = Partition::from_beta(alloc, &entries)?;
-    sum.add_term(label, number)
+    sum.add_owned(others.with(a), number)
 }
 
-/// Adds c times what comes of the rim hooks of a cells that begin below the shape, in the next row
-/// or after up to a - 1 empty rows.
-fn add_hooks(
-    alloc: Global,
-    sum: &mut Whole,
-    shape: &Partition,
-    a: u16,
-    c: Int,
-) -> Result<(), SumFault>
-    requires low { size shape.now + a ≤ 20 }
-    ensures gains { OnOk result (Grows sum.old sum.new (λ φ. c *ℤ hooks_value φ a shape.now)
-        (nat_abs c * a)) }
-    ensures within { OnOk result ((d : ℕ) → size shape.now + a ≤ d → AreWithin d sum.old
-        → AreWithin d sum.new) }
-    ensures large { IsErrOf result SumFault.Large → 2 ^ 127 ≤ mass sum.old + nat_abs c * a }
-{
-    let rows = shape.rows();
-    for empty in 0..a {
-        add_hook(alloc, sum, shape, rows + empty, a, c)?;
-    }
-    Ok(())
+/// The outcome of the rim hooks of that number of cells that begin below a shape, in the next row
+/// or after empty rows, fewer than the cells.
+#[derive(Drop)]
+pub(crate) struct HooksBelow {
+    pub cells: u16,
 }
 
-/// Adds what comes of the rim hooks of a cells that begin below the shapes of a list.
-pub(crate) fn add_hooks_below(
-    alloc: Global,
-    sum: &mut Whole,
-    list: &Whole,
-    a: u16,
-) -> Result<(), SumFault>
-    requires few { a ≤ 20 }
-    requires low { AreWithin (20 - a) list.now }
-    ensures gains { OnOk result (Grows sum.old sum.new (λ φ. over (hooks_value φ a) list.now)
-        (mass list.now * a)) }
-    ensures within { OnOk result ((d : ℕ) → AreWithin d list.now → AreWithin (d + a) sum.old
-        → AreWithin (d + a) sum.new) }
-    ensures large { IsErrOf result SumFault.Large → 2 ^ 127 ≤ mass sum.old + mass list.now * a }
-{
-    for (shape, c) in list.iter() {
-        add_hooks(alloc, sum, shape, a, *c)?;
+impl Rule<BetaSet, BetaSet> for HooksBelow {
+    ghost use Rattle.std.specs.Prelude.{◌-◌, ◌≤◌};
+    ghost use Rattle.change_from_monomials.specs.BetaSets.{IsShape};
+    ghost use Rattle.change_from_monomials.specs.RimHooks.{hooks_below};
+
+    ghost takes = { λ rule set. (rule.cells ≤ 20) × IsShape (20 - rule.cells) set };
+
+    ghost image = { λ rule set. hooks_below rule.cells set };
+
+    fn add_image(&self, label: &BetaSet, c: Int, sum: &mut Shapes) -> Result<(), SumFault> {
+        let mut beta = *label;
+        for _ in 0..self.cells {
+            add_hook(sum, beta, self.cells, c)?;
+            beta = beta.lengthened();
+        }
+        Ok(())
     }
-    Ok(())
 }

@@ -2,9 +2,10 @@
 ghost use Rattle.std.specs.Prelude.{◌≤◌, [], IfOk, OnOk, IsErrOf};
 ghost use Rattle.sym_model.specs.Partition.{IsPartition, size};
 ghost use Rattle.family_lists.specs.KeptLists.{StandsAt};
-ghost use Rattle.change_from_monomials.specs.KeptLists.{IsKept, AreKept};
+ghost use Rattle.change_from_monomials.specs.KeptLists.{IsKept, IsStraightened, AreKept};
 
-use crate::hooks::add_hooks_below;
+use crate::beta_set::{BetaSet, Shapes, partitions_of};
+use crate::hooks::HooksBelow;
 use crate::parts::without_part;
 use crate::sorting::has;
 use calc_base::SumFault;
@@ -16,19 +17,18 @@ use std::alloc::Global;
 use whole_lists::Whole;
 
 /// The list for no parts: the empty partition.
-fn of_nothing(alloc: Global) -> Result<Whole, SumFault>
+fn of_nothing(alloc: Global) -> Result<Shapes, SumFault>
     ensures kept { IfOk result (IsKept []) }
     ensures small { ¬ IsErrOf result SumFault.Large }
 {
     let mut list = Lin::new(alloc);
-    let label = Partition::from_valid_parts(alloc, &[])?;
-    list.add_term(label, Int::one())?;
+    list.add_owned(BetaSet::empty(), Int::one())?;
     Ok(list)
 }
 
 /// The place of the list for these parts, which is made of those with one part less where it is not
 /// kept yet.
-pub(crate) fn kept_list(alloc: Global, lists: &mut Lists, parts: &[u16]) -> Result<usize, SumFault>
+fn kept_list(alloc: Global, lists: &mut Lists<Shapes>, parts: &[u16]) -> Result<usize, SumFault>
     requires partition { IsPartition parts.now }
     requires low { size parts.now ≤ 20 }
     requires kept { AreKept lists.old.entries }
@@ -52,7 +52,25 @@ pub(crate) fn kept_list(alloc: Global, lists: &mut Lists, parts: &[u16]) -> Resu
         let rest = without_part(alloc, parts, part)?;
         let place = kept_list(alloc, lists, &rest)?;
         let (_, list) = list_at(lists, place);
-        add_hooks_below(alloc, &mut sum, list, part)?;
+        sum.add_by(&HooksBelow { cells: part }, list)?;
     }
     Ok(keep(lists, label, sum)?)
+}
+
+/// What the arrangements of the parts straighten to, with the list kept.
+pub(crate) fn straightened_parts(
+    alloc: Global,
+    lists: &mut Lists<Shapes>,
+    parts: &[u16],
+) -> Result<Whole, SumFault>
+    requires partition { IsPartition parts.now }
+    requires low { size parts.now ≤ 20 }
+    requires kept { AreKept lists.old.entries }
+    ensures kept { OnOk result (AreKept lists.new.entries) }
+    ensures list { IfOk result (IsStraightened parts.now) }
+    ensures small { ¬ IsErrOf result SumFault.Large }
+{
+    let at = kept_list(alloc, lists, parts)?;
+    let (_, list) = list_at(lists, at);
+    partitions_of(alloc, list)
 }

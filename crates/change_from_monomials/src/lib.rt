@@ -3,7 +3,7 @@
 //! What is proved:
 //!
 //! `to_basis`: a list in m as a list in p, h, e or s (or m), of the same polynomial in every number
-//! of variables: into p, h and e through augmented monomials and Newton's identities, into s by
+//! of variables: into p, h and e through augmented monomials and power sums, into s by
 //! what the arrangements of each label straighten to, made with special rim hooks; `Large` only
 //! where the product of its bound and of the growth into the target is 2^127 or more. Into p, h and
 //! e, with d the greatest size of a label, the denominator of the bound times d! clears all
@@ -11,18 +11,16 @@
 //! of the bound times the growth at d, and no label has more than d cells.
 #![tactic(auto)]
 
+mod beta_set;
 mod change;
 mod clearing;
-mod division;
 mod hooks;
 mod kept;
-mod mixed;
 mod parts;
 mod products;
 mod rewriting;
 mod sorting;
 mod straightening;
-mod table;
 
 pub use change::to_basis;
 pub use clearing::{

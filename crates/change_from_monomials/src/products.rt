@@ -1,54 +1,28 @@
-//! Products of terms put into a table.
-ghost use Rattle.std.specs.Prelude.{◌≡◌, ◌≢◌, ◌+◌, ◌-◌, ◌*◌, ◌<◌, ◌≤◌, ◌∷◌, [], pos, neg_ℤ, length};
-ghost use Rattle.std.specs.Prelude.{OnOk, IsErrOf};
+//! Sums of products of a polynomial of the target and an augmented monomial symmetric polynomial,
+//! to which such products are added.
+ghost use Rattle.std.specs.Prelude.{◌+◌, ◌-◌, ◌<◌, ◌≤◌, ◌*ℤ◌, ◌∷◌, [], neg_ℤ, OnOk, IsErrOf};
 ghost use Rattle.sym_model.specs.Partition.{IsPartition, size};
 ghost use Rattle.sym_model.specs.RaisedPart.{raise};
 ghost use Rattle.partitions.specs.Limits.{IsWithinLimits};
 ghost use Rattle.basis_change_laws.specs.JoinedLists.{merged};
-ghost use Rattle.change_from_monomials.specs.Mixed.{mixed, mixed_list, Added, Overflows, AreLow};
-ghost use Rattle.change_from_monomials.specs.Mixed.{products, raised};
+ghost use Rattle.linear_combinations.specs.Gains.{Gains, Overflows, HaveLabels, each_with, scaled};
+ghost use Rattle.change_from_monomials.specs.AugmentedProducts.{equal, products, raised};
 
-use crate::mixed::MixedLabel;
 use crate::parts::put_raised;
-use crate::table::{Mixed, add};
 use calc_base::SumFault;
-use coeff_rings::{Int, Ring, Scalar};
-use family_lists::put_merged;
+use coeff_rings::{Int, Ring};
+use family_lists::{product_of, put_merged};
+use linear_combinations::Lin;
 use partitions::Partition;
+use sparse_polys::Pair;
 use std::alloc::Global;
 use whole_lists::Whole;
 
-/// Adds a term whose converted partition has the parts of both lists,
-/// which are put together in `room`.
-fn add_merged(
-    alloc: Global,
-    sum: &mut Mixed,
-    room: &mut Vec<u16>,
-    more: &[u16],
-    converted: &[u16],
-    augmented: &[u16],
-    c: Int,
-) -> Result<(), SumFault>
-    requires more { IsPartition more.now }
-    requires converted { IsPartition converted.now }
-    requires sizes { size more.now + size converted.now ≤ 512 }
-    requires augmented { IsWithinLimits augmented.now }
-    ensures ok { OnOk result (Added
-        ((mixed (merged more.now converted.now) augmented.now, c) ∷ []) sum.old.entries
-        sum.new.entries) }
-    ensures large { IsErrOf result SumFault.Large
-        → Overflows ((mixed (merged more.now converted.now) augmented.now, c) ∷ [])
-        sum.old.entries }
-{
-    put_merged(room, more, converted)?;
-    let label = MixedLabel {
-        converted: Partition::from_valid_parts(alloc, room.as_slice())?,
-        augmented: Partition::from_valid_parts(alloc, augmented)?,
-    };
-    add(sum, label, c)
-}
+/// Such a sum: the first partition of a label is that of the target's polynomial, the second that
+/// of the augmented monomial.
+pub(crate) type Mixed = Lin<Pair, Int>;
 
-/// Adds a term of a list times c, times the target's polynomial of a partition, times an augmented
+/// Adds c times a term of a list, times the target's polynomial of a partition, times an augmented
 /// monomial. The parts of the two partitions are put together in `room`.
 fn add_product(
     alloc: Global,
@@ -60,31 +34,23 @@ fn add_product(
     augmented: &[u16],
     c: Int,
 ) -> Result<(), SumFault>
-    requires low { have ≢ pos 0 → size label.now + size converted.now ≤ 512 }
     requires converted { IsPartition converted.now }
+    requires sizes { size converted.now + size label.now ≤ 512 }
     requires augmented { IsWithinLimits augmented.now }
-    ensures ok { OnOk result (Added
-        (products c ((mixed label.now [], have) ∷ []) converted.now augmented.now)
-        sum.old.entries sum.new.entries) }
-    ensures large { IsErrOf result SumFault.Large
-        → Overflows (products c ((mixed label.now [], have) ∷ []) converted.now augmented.now)
-        sum.old.entries }
+    ensures gains { OnOk result (Gains sum.old
+        (((merged converted.now label.now, augmented.now), c *ℤ have) ∷ []) sum.new) }
+    ensures large { IsErrOf result SumFault.Large → Overflows equal sum.old
+        (((merged converted.now label.now, augmented.now), c *ℤ have) ∷ []) }
 {
-    if have.is_zero() {
-        return Ok(());
-    }
-    let Some(product) = have.mul(c) else {
+    let Some(product) = product_of(c, have) else {
         return Err(SumFault::Large);
     };
-    add_merged(
-        alloc,
-        sum,
-        room,
-        label.parts(),
-        converted,
-        augmented,
-        product,
-    )
+    put_merged(room, converted, label.parts())?;
+    let label = Pair {
+        first: Partition::from_valid_parts(alloc, room.as_slice())?,
+        second: Partition::from_valid_parts(alloc, augmented)?,
+    };
+    sum.add_owned(label, product)
 }
 
 /// Adds c times each term of a list, times the target's polynomial of a partition,
@@ -97,15 +63,13 @@ pub(crate) fn add_products(
     augmented: &[u16],
     c: Int,
 ) -> Result<(), SumFault>
-    requires low { AreLow (512 - size converted.now) (mixed_list factor.now) }
-    requires small { size converted.now ≤ 512 }
     requires converted { IsPartition converted.now }
+    requires sizes { HaveLabels (λ label. size converted.now + size label ≤ 512) factor.now }
     requires augmented { IsWithinLimits augmented.now }
-    ensures ok { OnOk result (Added (products c (mixed_list factor.now) converted.now augmented.now)
-        sum.old.entries sum.new.entries) }
-    ensures large { IsErrOf result SumFault.Large
-        → Overflows (products c (mixed_list factor.now) converted.now augmented.now)
-        sum.old.entries }
+    ensures gains { OnOk result (Gains sum.old
+        (scaled c (products factor.now converted.now augmented.now)) sum.new) }
+    ensures large { IsErrOf result SumFault.Large → Overflows equal sum.old
+        (scaled c (products factor.now converted.now augmented.now)) }
 {
     let mut room = Vec::new(alloc);
     for (label, have) in factor.iter() {
@@ -129,20 +93,18 @@ fn take_one(
     requires by { 0 < by }
     requires small { by + part ≤ 4096 }
     requires limits { IsWithinLimits (raise by part augmented.now) }
-    ensures ok { OnOk result (Added
-        (raised c converted.now by augmented.now (part ∷ [])) sum.old.entries sum.new.entries) }
-    ensures large { IsErrOf result SumFault.Large
-        → Overflows (raised c converted.now by augmented.now (part ∷ [])) sum.old.entries }
+    ensures gains { OnOk result (Gains sum.old
+        (((converted.now, raise by part augmented.now), neg_ℤ c) ∷ []) sum.new) }
+    ensures large { IsErrOf result SumFault.Large → Overflows equal sum.old
+        (((converted.now, raise by part augmented.now), neg_ℤ c) ∷ []) }
 {
-    let Some(minus) = c.neg() else {
-        return Err(SumFault::Large);
-    };
+    let minus = c.neg().ok_or(SumFault::Large)?;
     put_raised(room, augmented, part, by)?;
-    let label = MixedLabel {
-        converted: converted.copy()?,
-        augmented: Partition::from_valid_parts(alloc, room.as_slice())?,
+    let label = Pair {
+        first: converted.copy()?,
+        second: Partition::from_valid_parts(alloc, room.as_slice())?,
     };
-    add(sum, label, minus)
+    sum.add_owned(label, minus)
 }
 
 /// Takes c times each augmented monomial away in which a part is raised.
@@ -157,10 +119,10 @@ pub(crate) fn take_raised(
     requires by { 0 < by }
     requires partition { IsPartition augmented.now }
     requires small { by + size augmented.now ≤ 512 }
-    ensures ok { OnOk result (Added
-        (raised c converted.now by augmented.now augmented.now) sum.old.entries sum.new.entries) }
-    ensures large { IsErrOf result SumFault.Large
-        → Overflows (raised c converted.now by augmented.now augmented.now) sum.old.entries }
+    ensures gains { OnOk result (Gains sum.old (each_with (neg_ℤ c)
+        (raised converted.now by augmented.now augmented.now)) sum.new) }
+    ensures large { IsErrOf result SumFault.Large → Overflows equal sum.old (each_with (neg_ℤ c)
+        (raised converted.now by augmented.now augmented.now)) }
 {
     let mut room = Vec::new(alloc);
     for part in augmented {

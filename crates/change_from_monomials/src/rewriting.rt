@@ -1,104 +1,133 @@
 //! The parts of augmented monomials converted one after another, the smallest first.
-ghost use Rattle.std.specs.Prelude.{◌≡◌, ℕ, ◌+◌, ◌*◌, ◌^◌, ◌<◌, ◌≤◌, ℤ, List, ◌∷◌, [], map, length};
-ghost use Rattle.std.specs.Prelude.{IfOk, OnOk, IsErrOf};
-ghost use Rattle.change_from_monomials.specs.Mixed.{mixed_list, weighed, weight, Added, Overflows};
-ghost use Rattle.change_from_monomials.specs.Mixed.{AreReady, conversion_at, conversions};
-ghost use Rattle.change_from_monomials.specs.Factors.{ArePowerSums, product_value};
+ghost use Rattle.std.specs.Prelude.{◌≡◌, ℕ, ◌^◌, ◌≤◌, ℤ, List, [], length, IfOk, IsErrOf};
+ghost use Rattle.linear_combinations.specs.Gains.{Gains, Overflows, HaveLabels, mass, over};
+ghost use Rattle.linear_combinations.specs.Gains.{replaced};
+ghost use Rattle.whole_lists.specs.LabelSizes.{AreWithin};
+ghost use Rattle.whole_lists.specs.declared.family.Family.{Family};
+ghost use Rattle.whole_lists.specs.Tables.{equal as same_partition, IsWholeTable};
+ghost use Rattle.change_from_monomials.specs.AugmentedProducts.{equal, weight, IsReady, conversion};
+ghost use Rattle.change_from_monomials.specs.AugmentedProducts.{IsConvertible, IsMixedTable};
+ghost use Rattle.change_from_monomials.specs.AugmentedProducts.{AreSmall, in_target};
+ghost use Rattle.change_from_monomials.specs.Factors.{ArePowerSums, product_value, target_value};
 ghost use Rattle.change_from_monomials.specs.Costs.{cost};
 
-use crate::mixed::MixedLabel;
-use crate::products::{add_products, take_raised};
-use crate::table::{Mixed, add, entry_at};
+use crate::products::{Mixed, add_products, take_raised};
 use calc_base::SumFault;
-use coeff_rings::{Int, Scalar};
-use indexmap::IndexMap;
+use coeff_rings::Int;
+use family_lists::add_row;
+use linear_combinations::{Lin, Rule};
+use partitions::Partition;
+use sparse_polys::Pair;
 use std::alloc::Global;
-use whole_lists::{Family, Whole};
+use whole_lists::Whole;
 
-/// Adds what comes of a term where augmented monomials of so many parts are converted. The smallest
-/// part is the one converted:
-/// its power sum has the fewest terms.
-fn add_conversion(
+/// The last part of an augmented monomial of that number of parts is converted, with the lists of
+/// p_1, p_2 and so on in the target. It is a smallest part: its power sum has the fewest terms.
+#[derive(Drop)]
+struct LastPart<'a> {
     alloc: Global,
-    family: Family,
-    next: &mut Mixed,
-    factors: &[Whole],
-    label: &MixedLabel,
-    c: Int,
+    factors: &'a [Whole],
     rows: u16,
-) -> Result<(), SumFault>
-    requires factors { ArePowerSums family (length factors.now) (map mixed_list factors.now) }
-    requires few { length factors.now ≤ 15 }
-    requires ready { AreReady (length factors.now) rows ((label.now, c) ∷ []) }
-    ensures ok { OnOk result (Added
-        (conversion_at (map mixed_list factors.now) rows (label.now, c)) next.old.entries
-        next.new.entries) }
-    ensures large { IsErrOf result SumFault.Large
-        → Overflows (conversion_at (map mixed_list factors.now) rows (label.now, c))
-        next.old.entries }
-{
-    if c.is_zero() {
-        return Ok(());
+}
+
+impl Rule<Pair, Pair> for LastPart<'_> {
+    ghost use Rattle.change_from_monomials.specs.AugmentedProducts.{IsConvertible, conversion};
+
+    ghost takes = { λ rule label. IsConvertible rule.factors.now rule.rows label };
+
+    ghost image = { λ rule label. conversion rule.factors.now rule.rows label };
+
+    fn add_image(&self, label: &Pair, c: Int, sum: &mut Mixed) -> Result<(), SumFault> {
+        if label.second.rows() != self.rows {
+            return sum.add_at_label(label, c);
+        }
+        let Some((last, rest)) = label.second.parts().split_last() else {
+            return sum.add_at_label(label, c);
+        };
+        let factor = &self.factors[usize::from(*last) - 1];
+        add_products(self.alloc, sum, factor, label.first.parts(), rest, c)?;
+        take_raised(self.alloc, sum, &label.first, rest, *last, c)
     }
-    if label.augmented.rows() != rows {
-        return add(next, label.copy()?, c);
-    }
-    let Some((last, rest)) = label.augmented.parts().split_last() else {
-        return add(next, label.copy()?, c);
-    };
-    let factor = &factors[usize::from(*last) - 1];
-    add_products(alloc, next, factor, label.converted.parts(), rest, c)?;
-    take_raised(alloc, next, &label.converted, rest, *last, c)
 }
 
 /// The terms whose augmented monomials have `rows` parts with the last one converted,
 /// and the other terms.
-fn step(
-    alloc: Global,
-    family: Family,
-    table: &Mixed,
-    factors: &[Whole],
-    rows: u16,
-) -> Result<Mixed, SumFault>
-    requires factors { ArePowerSums family (length factors.now) (map mixed_list factors.now) }
-    requires few { length factors.now ≤ 15 }
-    requires ready { AreReady (length factors.now) rows table.now.entries }
-    ensures ok { IfOk result (λ next.
-        Added (conversions (map mixed_list factors.now) rows table.now.entries) [] next.entries) }
+fn step(alloc: Global, table: &Mixed, factors: &[Whole], rows: u16) -> Result<Mixed, SumFault>
+    requires { HaveLabels (IsConvertible factors.now rows) table.now }
+    ensures gains { IfOk result (Gains [] (replaced (conversion factors.now rows) table.now)) }
+    ensures table { IfOk result IsMixedTable }
     ensures large { IsErrOf result SumFault.Large
-        → Overflows (conversions (map mixed_list factors.now) rows table.now.entries) [] }
+        → Overflows equal [] (replaced (conversion factors.now rows) table.now) }
 {
-    let mut next = IndexMap::new(alloc);
-    for at in 0..table.len() {
-        let (label, c) = entry_at(table, at);
-        add_conversion(alloc, family, &mut next, factors, label, c, rows)?;
-    }
+    let mut next = Lin::new(alloc);
+    let rule = LastPart {
+        alloc,
+        factors,
+        rows,
+    };
+    next.add_by(&rule, table)?;
     Ok(next)
+}
+
+/// What is left of augmented monomials of at most one part is converted: each term is one of the
+/// target then.
+#[derive(Drop)]
+struct OnePart<'a> {
+    alloc: Global,
+    factors: &'a [Whole],
+}
+
+impl Rule<Pair, Partition> for OnePart<'_> {
+    ghost use Rattle.change_from_monomials.specs.AugmentedProducts.{IsConvertible, in_target};
+
+    ghost takes = { λ rule label. IsConvertible rule.factors.now 1 label };
+
+    ghost image = { λ rule label. in_target rule.factors.now label };
+
+    fn add_image(&self, label: &Pair, c: Int, sum: &mut Whole) -> Result<(), SumFault> {
+        let Some(part) = label.second.parts().first() else {
+            return sum.add_at_label(&label.first, c);
+        };
+        let factor = &self.factors[usize::from(*part) - 1];
+        add_row(self.alloc, sum, &label.first, c, factor)
+    }
+}
+
+/// The terms as terms of the target, where augmented monomials have at most one part.
+fn targets(alloc: Global, table: &Mixed, factors: &[Whole]) -> Result<Whole, SumFault>
+    requires { HaveLabels (IsConvertible factors.now 1) table.now }
+    ensures gains { IfOk result (Gains [] (replaced (in_target factors.now) table.now)) }
+    ensures table { IfOk result IsWholeTable }
+    ensures large { IsErrOf result SumFault.Large
+        → Overflows same_partition [] (replaced (in_target factors.now) table.now) }
+{
+    let mut list = Lin::new(alloc);
+    list.add_by(&OnePart { alloc, factors }, table)?;
+    Ok(list)
 }
 
 /// All augmented monomials of at most `most` parts converted.
 pub(crate) fn converted(
     alloc: Global,
-    family: Family,
-    table: Mixed,
+    start: Mixed,
     factors: &[Whole],
     most: u16,
-) -> Result<Mixed, SumFault>
-    requires factors { ArePowerSums family (length factors.now) (map mixed_list factors.now) }
+) -> Result<Whole, SumFault>
+    requires factors { AreSmall factors.now }
     requires few { length factors.now ≤ 15 }
-    requires ready { AreReady (length factors.now) most table.entries }
-    ensures value { IfOk result (λ end. (n : ℕ) (φ : List ℕ → ℤ)
-        → weighed (product_value family n φ) end.entries
-        ≡ weighed (product_value family n φ) table.entries) }
-    ensures cost { IfOk result (λ end. weight cost end.entries ≤ weight cost table.entries) }
-    ensures ready { IfOk result (λ end. AreReady (length factors.now) 0 end.entries) }
-    ensures large { IsErrOf result SumFault.Large → 2 ^ 127 ≤ weight cost table.entries }
+    requires ready { HaveLabels (IsReady (length factors.now) most) start }
+    ensures value { IfOk result (λ end. (family : Family) → ArePowerSums family factors.now
+        → (n : ℕ) (φ : List ℕ → ℤ)
+        → over (target_value family n φ) end ≡ over (product_value family n φ) start) }
+    ensures mass { IfOk result (λ end. mass end ≤ weight cost start) }
+    ensures within { IfOk result (AreWithin (length factors.now)) }
+    ensures large { IsErrOf result SumFault.Large → 2 ^ 127 ≤ weight cost start }
 {
-    let mut table = table;
+    let mut table = start;
     let mut rows = most;
-    while rows > 0 {
-        table = step(alloc, family, &table, factors, rows)?;
+    while rows > 1 {
+        table = step(alloc, &table, factors, rows)?;
         rows -= 1;
     }
-    Ok(table)
+    targets(alloc, &table, factors)
 }

@@ -1,75 +1,47 @@
 //! The change into Schur polynomials, by straightening the arrangements of each label.
-ghost use Rattle.std.specs.Prelude.{◌≡◌, ℕ, ◌*◌, ◌^◌, ◌<◌, ◌≤◌, [], IfOk, OnOk, IsErrOf};
+ghost use Rattle.std.specs.Prelude.{ℕ, ◌*◌, ◌^◌, ◌<◌, ◌≤◌, [], IfOk, IsErrOf};
 ghost use Rattle.sym_model.specs.Expansion.{monomials, schurs, IsExpansionOf};
 ghost use Rattle.sym_model.specs.ListWeight.{IsBounded};
-ghost use Rattle.sym_model.specs.Partition.{size};
 ghost use Rattle.sym_model.specs.Polynomial.{Poly};
 ghost use Rattle.sym_model.specs.Weight.{growth};
 ghost use Rattle.whole_lists.specs.LabelSizes.{AreWithin};
-ghost use Rattle.whole_lists.specs.Tables.{IsTable, IsWholeTable};
-ghost use Rattle.change_from_monomials.specs.Mixed.{Added};
-ghost use Rattle.coeff_rings.specs.Fractions.{scaled};
-ghost use Rattle.change_from_monomials.specs.Arranging.{straight_terms, OverflowsSomewhere};
-ghost use Rattle.change_from_monomials.specs.KeptLists.{multiple};
+ghost use Rattle.linear_combinations.specs.Gains.{Gains};
+ghost use Rattle.whole_lists.specs.Tables.{IsTable};
 ghost use Rattle.change_from_monomials.specs.Straightening.{straightened_list, IsPast};
 
 use crate::clearing::{LIMIT, greatest_size, scaled_number};
-use crate::division::divided;
-use crate::kept::kept_list;
-use crate::mixed::MixedLabel;
-use crate::table::{Mixed, add};
+use crate::kept::straightened_parts;
 use calc_base::{SumFault, Weight};
-use coeff_rings::{Frac, Int, Ring};
-use family_lists::list_at;
+use coeff_rings::Frac;
 use indexmap::IndexMap;
+use linear_combinations::Lin as Table;
 use partitions::Partition;
 use sparse_polys::Lin;
 use std::alloc::Global;
-use whole_lists::Whole;
-
-/// Adds c times each term of a list.
-fn add_multiple(alloc: Global, sum: &mut Mixed, list: &Whole, c: Int) -> Result<(), SumFault>
-    ensures ok { OnOk result (Added (multiple c list.now) sum.old.entries sum.new.entries) }
-    ensures large { IsErrOf result SumFault.Large
-        → OverflowsSomewhere (multiple c list.now) sum.old.entries }
-    ensures table { IsWholeTable list.now }
-{
-    for (shape, k) in list.iter() {
-        let Some(number) = k.mul(c) else {
-            return Err(SumFault::Large);
-        };
-        let label = MixedLabel {
-            converted: shape.copy()?,
-            augmented: Partition::from_valid_parts(alloc, &[])?,
-        };
-        add(sum, label, number)?;
-    }
-    Ok(())
-}
+use whole_lists::{Whole, divided};
 
 /// The list times `den` in Schur polynomials,
-/// by what the arrangements of each label in so many places straighten to.
+/// by what the arrangements of each label in that number of places straighten to.
 fn straightened(
     alloc: Global,
     list: &Lin<Partition, Frac>,
     den: u128,
     places: u16,
-) -> Result<Mixed, SumFault>
+) -> Result<Whole, SumFault>
     requires den { den < 2 ^ 127 }
     requires low { places ≤ 20 }
     requires sizes { AreWithin places list.now }
-    ensures ok { IfOk result (λ sum. Added (straightened_list den places list.now) [] sum.entries) }
+    ensures gains { IfOk result (Gains [] (straightened_list den places list.now)) }
     ensures large { IsErrOf result SumFault.Large → IsPast den places list.now }
 {
-    let mut sum = IndexMap::new(alloc);
+    let mut sum = Table::new(alloc);
     let mut lists = IndexMap::new(alloc);
     for (label, c) in list.iter() {
         let Some(number) = scaled_number(*c, den) else {
             return Err(SumFault::Large);
         };
-        let at = kept_list(alloc, &mut lists, label.parts())?;
-        let (_, kept) = list_at(&lists, at);
-        add_multiple(alloc, &mut sum, kept, number)?;
+        let straight = straightened_parts(alloc, &mut lists, label.parts())?;
+        sum.add_multiple(&straight, number)?;
     }
     Ok(sum)
 }

@@ -14,7 +14,7 @@ use Rattle.linear_combinations.specs.Gains.{WholeTermsOf}
 abbrev pub ShiftedSum : Type 0
 ShiftedSum = WholeTermsOf (List ℕ × List ℕ)
 
--- a permutation of at most so many letters beside a monomial of at most such a degree
+-- a permutation of at most that number of letters beside a monomial of at most such a degree
 pub record IsWithin (letters degree : ℕ) (label : List ℕ × List ℕ) : Type 0 where
   pub short : length label.0 ≤ letters
   pub small : size label.1 ≤ degree

@@ -3,7 +3,6 @@ pub mod ClearedLists
 pub mod Nodes
 pub mod NodeSums
 pub mod Endings
-pub mod SmallNumbers
 pub mod MonomialAtoms
 pub mod Weights
 pub mod HookProducts

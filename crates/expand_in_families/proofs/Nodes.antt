@@ -20,9 +20,8 @@ use Rattle.basis_change_laws.specs.JoinedLists.{joined, Stands}
 use Rattle.expand_in_families.specs.Nodes.{ClearsTo}
 use Rattle.basis_change_laws.proofs.JoinedLists.{absolute-scale, stands-product, stands-scale, stands-same}
 use Rattle.basis_change_laws.proofs.GrowthBounds.{grown, grown-product, grown-positive, factorial-within}
-use Rattle.family_lists.proofs.NewtonSteps.{stands-greatest}
 use Rattle.family_lists.proofs.Totals.{coefficient-few}
-use Rattle.family_lists.proofs.TableLists.{table-stands}
+use Rattle.family_lists.proofs.TableLists.{stands-greatest, table-stands}
 use native.Mathlib.Nat.{mul-le-mul_left, mul-le-mul_right, mul-pos}
 
 -- ---- weights

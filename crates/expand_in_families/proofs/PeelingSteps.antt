@@ -11,35 +11,31 @@ use Rattle.sym_model.proofs.Conjugates.{size-conjugate}
 use Rattle.special_hook_laws.proofs.ConjugateStrips.{conjugate_twice}
 use Rattle.std.proofs.lemmas.Int.{unsigned_abs-mul}
 use Rattle.std.proofs.lemmas.Nat.{mul-le}
-use Rattle.sym_model.specs.Partition.{IsPartition, ArePositive, size, in_front, without_last_zeros}
+use Rattle.sym_model.specs.Partition.{Falls, IsPartition, ArePositive, columns, size, in_front, without_last_zeros}
 use Rattle.sym_model.specs.PlaceOrders.{minus_one_to}
-use Rattle.sym_model.specs.Polynomial.{Poly, Same, one, scale, times}
-use Rattle.sym_model.specs.Bases.{elementary_of, complete_of}
+use Rattle.sym_model.specs.Polynomial.{Poly, Same, one, scale}
 use Rattle.sym_model.specs.Weight.{factorial}
 use Rattle.sym_model.specs.WholeTerms.{WholeTerms, absolute_total}
-use Rattle.sym_model.proofs.Parts.{in_front-positive}
+use Rattle.sym_model.proofs.Parts.{in_front-positive, get_or-without_last_zeros}
 use Rattle.sym_model.proofs.Contents.{map-zeros}
-use Rattle.sym_model.proofs.Numbers.{times-more}
-use Rattle.sym_model.proofs.PolynomialLaws.{times-one}
 use Rattle.sym_model.proofs.Polynomials.{Same_refl}
 use Rattle.sym_model.proofs.SortedParts.{rows_within_size}
 use Rattle.partitions.specs.Limits.{IsWithinLimits}
 use Rattle.whole_lists.specs.Tables.{IsWholeTable}
 use Rattle.basis_change_laws.specs.JoinedLists.{joined, Stands}
 use Rattle.basis_change_laws.proofs.GrowthBounds.{grown, grown-positive}
-use Rattle.basis_change_laws.proofs.JoinedLists.{stands-same, stands-weaken}
+use Rattle.basis_change_laws.proofs.JoinedLists.{stands-same}
 use Rattle.special_hook_laws.specs.SpecialHooks.{SpecialHook, shortened, special_hooks}
 use Rattle.special_hook_laws.proofs.HookShapes.{IsRest}
 use Rattle.whole_lists.specs.declared.family.Family.{Family}
 use Rattle.whole_lists.specs.declared.family.Family.TheVariants.{Elementary, Complete, PowerSum}
 use Rattle.whole_lists.specs.Families.{polynomial_of}
-use Rattle.sym_model.proofs.Numbers.{power-positive}
 use Rattle.whole_lists.proofs.Families.{In-family}
 use Rattle.family_lists.specs.FactorLists.{list_at, AreFactors}
 use Rattle.expand_in_families.specs.SchurLists.{schur_in, IsSchurList}
 use Rattle.expand_in_families.proofs.HookProducts.{hook_of, hook-at, hook-rest, hook_term, peeled, peeled-all, peeled-part, hook-product, hooks-next}
-use Rattle.family_lists.proofs.PartLists.{parts-none, stands-itself}
-use Rattle.family_lists.proofs.PlacedLists.{list_at-index, placed-push}
+use Rattle.family_lists.proofs.PartLists.{parts-none}
+use Rattle.family_lists.proofs.PlacedLists.{list_at-index}
 use Rattle.family_lists.proofs.TableLists.{table-stands}
 use Rattle.sym_model.proofs.Integers.{sign_size}
 use native.Mathlib.Nat.{mul-le-mul_left, mul-le-mul_right}
@@ -74,6 +70,53 @@ left-limits parts i numbers p h low e =
     let k = rows_within_size (without_last_zeros numbers) q.positive in
     let s = r.sized in
     record { partition = r.partition; few = omega arith; small = omega arith }
+
+-- ---- how long the hooks are
+
+below-first : (parts : List ℕ) (i : ℕ) → Falls parts → get_or parts i 0 ≤ columns parts
+below-first [] i f = omega arith
+below-first (a ∷ parts) zero f = omega arith
+below-first (a ∷ []) (suc i) f = omega arith
+below-first (a ∷ b ∷ parts) (suc i) f = let h = below-first (b ∷ parts) i f.1 in let g = f.0 in omega arith
+
+-- no hook has more cells than that of the first cell
+pub cells-within : (parts : List ℕ) (i m : ℕ) → IsPartition parts → i < length parts → columns parts + length parts ≤ m
+    → get_or parts i 0 + (length parts - 1 - i) < m
+cells-within parts i m p h e = let b = below-first parts i p.falls in omega arith
+
+first : (parts : List ℕ) → columns parts ≡ get_or parts 0 0
+first [] = refl
+first (a ∷ parts) = refl
+
+shorter-columns : (parts : List ℕ) → columns (shortened parts) ≤ columns parts
+shorter-columns parts =
+    let e = first (shortened parts) ∙ get_or-without_last_zeros (map (λ a. a - 1) parts) 0 in
+    let l = lowered parts in
+    omega arith
+  where
+    lowered : (parts : List ℕ) → get_or (map (λ a. a - 1) parts) 0 0 ≤ columns parts
+    lowered [] = omega arith
+    lowered (a ∷ parts) = omega arith
+
+left-columns : (parts : List ℕ) (i : ℕ) → Falls parts → i < length parts
+    → columns (take i parts ++ shortened (drop (i + 1) parts)) ≤ columns parts
+left-columns [] i f h = absurd (omega arith)
+left-columns (a ∷ parts) zero f h =
+    let s = shorter-columns parts in
+    let b = below-first (a ∷ parts) 1 f in
+    let e = first parts in
+    omega arith
+left-columns (a ∷ parts) (suc i) f h = omega arith
+
+-- what it leaves has no longer ones
+pub left-within : (parts : List ℕ) (i m : ℕ) (rest : List ℕ) → IsPartition parts → i < length parts
+    → rest ≡ take i parts ++ shortened (drop (i + 1) parts) → columns parts + length parts ≤ m
+    → columns rest + length rest ≤ m
+left-within parts i m rest p h e w =
+    let r = (left-rest parts i rest p h e).fewer in
+    let c = left-columns parts i p.falls h in
+    let s = ap columns e in
+    omega arith
 
 -- ---- the list of the hook's cells
 
@@ -154,23 +197,6 @@ pub nothing-list : (P : ℕ → ℕ → Poly) (family : Family) (parts : List �
 nothing-list P family [] terms e is h =
     stands-same P 1 1 0 (λ n. one n) (schur_in family []) terms (λ n. subst (Same (one n)) (sym (nothing-schur family n)) (Same_refl (one n))) (parts-none P P terms is h)
 nothing-list P family (a ∷ parts) terms e is h = absurd (omega arith)
-
--- ---- a family's own polynomials in it
-
-pub own-stands : (target : Family) (k : ℕ) (terms : WholeTerms) → 0 < k → IsWholeTable terms → Same terms ((k ∷ [], pos (factorial k)) ∷ [])
-    → Stands (polynomial_of target) (factorial k) (factorial k * 2 ^ k) k (λ n. polynomial_of target k n) terms
-own-stands target k terms h is s =
-    stands-same (polynomial_of target) (factorial k) (factorial k * 2 ^ k) k (λ n. times (polynomial_of target k n) (one n)) (λ n. polynomial_of target k n) terms (λ n. times-one n (polynomial_of target k n) (In-family target n k))
-    (stands-weaken (polynomial_of target) (factorial k) (factorial k) (factorial k * 2 ^ k) (k + 0) k (λ n. times (polynomial_of target k n) (one n)) terms
-    (stands-itself (polynomial_of target) (k ∷ []) (factorial k) (factorial k) terms (record { falls = tt; positive = (h, tt) }) (omega arith) is s) (times-more (factorial k) (2 ^ k) (power-positive 2 k (omega arith))) (omega arith))
-
--- one more at its place
-pub own-push : (target : Family) → target ≢ PowerSum → (lists : List WholeTerms) (next : WholeTerms) (d : ℕ) → length lists ≡ d → AreFactors (polynomial_of target) target d lists
-    → (0 < d → Stands (polynomial_of target) (factorial d) (factorial d * 2 ^ d) d (λ n. polynomial_of target d n) next)
-    → AreFactors (polynomial_of target) target (d + 1) (lists ++ next ∷ [])
-own-push Elementary f lists next d e are is = λ k some h. placed-push (λ k m. 0 < k → Stands elementary_of (factorial k) (factorial k * 2 ^ k) k (λ n. elementary_of k n) m) lists next d e (λ j l o. are j o l) is k h some
-own-push Complete f lists next d e are is = λ k some h. placed-push (λ k m. 0 < k → Stands complete_of (factorial k) (factorial k * 2 ^ k) k (λ n. complete_of k n) m) lists next d e (λ j l o. are j o l) is k h some
-own-push PowerSum f lists next d e are is = absurd (f refl)
 
 -- ---- the conjugate shape
 

@@ -1,4 +1,4 @@
--- Lists in the target of the Schur polynomials of shapes (this project's own).
+-- Lists in the target of the Schur polynomials of shapes.
 use Rattle.std.specs.Prelude.{ℕ, List}
 use Rattle.sym_model.specs.Polynomial.{Poly}
 use Rattle.sym_model.specs.Conjugate.{conjugate}

@@ -1,16 +1,16 @@
 //! Partitions in the five bases, as lists of terms in the target.
-ghost use Rattle.std.specs.Prelude.{◌≡◌, ◌+◌, ◌*◌, ◌<◌, ◌≤◌, ◌^◌, length, IfOk, IsErrOf};
+ghost use Rattle.std.specs.Prelude.{◌≡◌, ◌+◌, ◌*◌, ◌<◌, ◌≤◌, ◌^◌, IfOk, IsErrOf};
 ghost use Rattle.sym_model.specs.Bases.{product_over};
 ghost use Rattle.sym_model.specs.Expansion.{completes, schurs};
 ghost use Rattle.sym_model.specs.Expression.{atom};
-ghost use Rattle.sym_model.specs.Partition.{IsPartition, columns, size};
+ghost use Rattle.sym_model.specs.Partition.{IsPartition, size};
 ghost use Rattle.sym_model.specs.Schur.{schur};
 ghost use Rattle.sym_model.specs.Weight.{factorial, growth};
 ghost use Rattle.basis_change_laws.specs.JoinedLists.{Stands};
 ghost use Rattle.whole_lists.specs.Families.{basis_in, polynomial_of};
 ghost use Rattle.whole_lists.specs.Tables.{IsWholeTable};
 ghost use Rattle.expression_reading.specs.Trees.{basis_of};
-ghost use Rattle.family_lists.specs.FactorLists.{over_number, AreFactors};
+ghost use Rattle.family_lists.specs.FactorLists.{over_number};
 ghost use Rattle.expand_in_families.specs.Nodes.{IsConverted};
 
 use crate::factorials::{binomial, rise};
@@ -19,7 +19,7 @@ use crate::schur_lists::schur_list;
 use calc_base::{Basis, SumFault, Weight};
 use change_from_monomials::{to_basis, whole_of, whole_terms};
 use expand_in_monomials::atom_to_monomial;
-use family_lists::{add_products, factor_lists};
+use family_lists::{add_products, factor_list};
 use linear_combinations::Lin;
 use partitions::Partition;
 use std::alloc::Global;
@@ -40,19 +40,15 @@ fn ways(family: Family, k: u16, size: u16) -> u128
     }
 }
 
-/// The product over the parts, times the factorial of their sum, and their sum. The lists are those
-/// of the family's polynomials.
+/// The product over the parts, times the factorial of their sum, and their sum.
 fn over_parts(
     alloc: Global,
     target: Family,
     family: Family,
-    lists: &[Whole],
     parts: &[u16],
 ) -> Result<(Whole, u16), SumFault>
-    requires lists { AreFactors (polynomial_of target) family (length lists.now) lists.now }
     requires partition { IsPartition parts.now }
     requires low { size parts.now ≤ 20 }
-    requires enough { columns parts.now < length lists.now }
     ensures value { IfOk result (λ r.
         Stands (polynomial_of target) (factorial (size parts.now))
         (growth completes (size parts.now))
@@ -65,10 +61,11 @@ fn over_parts(
         let one = single(alloc, &[], 1)?;
         return Ok((one, 0));
     };
-    let (others, size) = over_parts(alloc, target, family, lists, rest)?;
+    let (others, size) = over_parts(alloc, target, family, rest)?;
+    let list = factor_list(alloc, target, family, *k)?;
     let ways = whole_of(ways(family, *k, size));
     let mut product = Lin::new(alloc);
-    add_products(alloc, &mut product, &lists[usize::from(*k)], ways, &others)?;
+    add_products(alloc, &mut product, &list, ways, &others)?;
     Ok((product, *k + size))
 }
 
@@ -82,8 +79,7 @@ fn by_parts(
     requires { size label.now ≤ 20 }
     ensures { IsConverted (polynomial_of target) (atom (basis_in family) label.now) result }
 {
-    let lists = factor_lists(alloc, target, family, label.part(1))?;
-    let (terms, degree) = over_parts(alloc, target, family, lists.as_slice(), label.parts())?;
+    let (terms, degree) = over_parts(alloc, target, family, label.parts())?;
     Ok(Node {
         terms,
         den: 1,
@@ -133,8 +129,18 @@ fn letter_of(family: Family) -> Basis
     }
 }
 
-/// A partition in s, by special rim hooks: read as h_k, those of its shape, and into e as e_k,
-/// those of the conjugate shape.
+/// Whether the special rim hooks are read as e_k, those of the conjugate shape: into e, and into p
+/// where the shape has fewer columns than rows.
+fn is_by_columns(target: Family, label: &Partition) -> bool {
+    match target {
+        Family::Elementary => true,
+        Family::Complete => false,
+        Family::PowerSum => label.part(1) < label.rows(),
+    }
+}
+
+/// A partition in s, by special rim hooks: read as h_k, those of its shape, or as e_k, those of the
+/// conjugate shape.
 fn by_hooks(alloc: Global, target: Family, label: &Partition) -> Result<Node, SumFault>
     requires { size label.now ≤ 15 }
     ensures { IsConverted (polynomial_of target) (atom schurs label.now) result }
@@ -159,7 +165,7 @@ fn schur_terms(alloc: Global, target: Family, label: &Partition) -> Result<Whole
     ensures table { IfOk result IsWholeTable }
     ensures large { IsErrOf result SumFault.Large → 2 ^ 127 ≤ growth completes (size label.now) }
 {
-    if target == Family::Elementary {
+    if is_by_columns(target, label) {
         let shape = label.conjugate()?;
         return schur_list(alloc, target, Family::Elementary, &shape);
     }

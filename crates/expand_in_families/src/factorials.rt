@@ -4,7 +4,7 @@ ghost use Rattle.sym_model.specs.Weight.{factorial};
 
 use whole_numbers::factorial;
 
-/// How many ways there are to choose so many of a + b.
+/// The number of ways to choose a of a + b things.
 pub(crate) fn binomial(a: u16, b: u16) -> u128
     requires { a + b ≤ 20 }
     ensures value { result * (factorial a * factorial b) ≡ factorial (a + b) }

@@ -3,7 +3,7 @@
 ghost use Rattle.std.specs.Prelude.{◌≡◌, ◌≢◌, ℕ, ◌+◌, ◌-◌, ◌*◌, ◌<◌, ◌≤◌, ◌^◌, ◌*ℤ◌, ◌++◌, pos};
 ghost use Rattle.std.specs.Prelude.{length, take, drop, vec_len, IfOk, OnOk, IsErrOf};
 ghost use Rattle.sym_model.specs.Expansion.{completes};
-ghost use Rattle.sym_model.specs.Partition.{IsPartition, size};
+ghost use Rattle.sym_model.specs.Partition.{IsPartition, columns, size};
 ghost use Rattle.sym_model.specs.PlaceOrders.{minus_one_to};
 ghost use Rattle.sym_model.specs.Weight.{factorial, growth};
 ghost use Rattle.basis_change_laws.specs.JoinedLists.{Stands};
@@ -16,27 +16,12 @@ ghost use Rattle.expand_in_families.specs.SchurLists.{AreSchurLists, IsSchurList
 
 use crate::factorials::binomial;
 use calc_base::{NoMemory, SumFault};
-use change_from_monomials::whole_of;
-use coeff_rings::Int;
-use family_lists::{Lists, add_products, factor_lists, is_negative, keep, list_at, place_of};
+use family_lists::{Lists, add_products, factor_lists, keep, list_at, place_of, signed};
 use indexmap::IndexMap;
 use linear_combinations::Lin;
 use partitions::Partition;
 use std::alloc::Global;
 use whole_lists::{Family, Whole, single};
-use whole_numbers::factorial;
-
-/// The number with the sign of a special rim hook that has so many rows below its first one.
-fn signed(below: u16, number: u128) -> Int
-    requires { number < 2 ^ 127 }
-    ensures { result ≡ pos number *ℤ minus_one_to below }
-{
-    if is_negative(Family::Elementary, below) {
-        Int::new(-(number as i128))
-    } else {
-        whole_of(number)
-    }
-}
 
 /// What the special rim hook that goes from a row, counted from 0, down to the last one leaves: the
 /// rows above, and each row below a cell shorter.
@@ -47,7 +32,8 @@ fn left_by_hook(alloc: Global, shape: &[u16], row: usize) -> Result<Partition, N
     ensures { IfOk result (λ rest. rest
         ≡ take row shape.now ++ shortened (drop (row + 1) shape.now)) }
 {
-    let mut parts = Vec::from_slice(alloc, &shape[..row])?;
+    let mut parts = Vec::with_capacity(alloc, shape.len())?;
+    parts.extend_from_slice(&shape[..row])?;
     for part in &shape[row + 1..] {
         parts.push(part.saturating_sub(1))?;
     }
@@ -63,7 +49,7 @@ fn list_of(
     target: Family,
     family: Family,
     lists: &[Whole],
-    store: &mut Lists,
+    store: &mut Lists<Whole>,
     shape: &[u16],
 ) -> Result<Whole, SumFault>
     requires hooks { family ≢ Family.PowerSum }
@@ -71,7 +57,7 @@ fn list_of(
     requires store { AreSchurLists (polynomial_of target) family store.old.entries }
     requires partition { IsPartition shape.now }
     requires low { size shape.now ≤ 20 }
-    requires enough { size shape.now < length lists.now }
+    requires enough { columns shape.now + length shape.now ≤ length lists.now }
     ensures value { IfOk result (IsSchurList (polynomial_of target) family shape.now) }
     ensures table { IfOk result IsWholeTable }
     ensures store { OnOk result (AreSchurLists (polynomial_of target) family store.new.entries) }
@@ -101,14 +87,14 @@ fn index_of(
     target: Family,
     family: Family,
     lists: &[Whole],
-    store: &mut Lists,
+    store: &mut Lists<Whole>,
     shape: Partition,
 ) -> Result<usize, SumFault>
     requires hooks { family ≢ Family.PowerSum }
     requires lists { AreFactors (polynomial_of target) family (length lists.now) lists.now }
     requires store { AreSchurLists (polynomial_of target) family store.old.entries }
     requires low { size shape ≤ 20 }
-    requires enough { size shape < length lists.now }
+    requires enough { columns shape + length shape ≤ length lists.now }
     ensures index { IfOk result (StandsAt store.new.entries shape) }
     ensures store { OnOk result (AreSchurLists (polynomial_of target) family store.new.entries) }
     ensures large { IsErrOf result SumFault.Large → 2 ^ 127 ≤ growth completes (size shape) }
@@ -118,51 +104,6 @@ fn index_of(
     }
     let list = list_of(alloc, target, family, lists, store, shape.parts())?;
     Ok(keep(store, shape, list)?)
-}
-
-/// k!·e_k in e, k!·h_k in h or k!·p_k in p; nothing for k = 0.
-fn own_list(alloc: Global, k: u16) -> Result<Whole, SumFault>
-    requires { k ≤ 20 }
-    ensures value { IfOk result (λ list. (target : Family) → 0 < k
-        → Stands (polynomial_of target) (factorial k) (factorial k * 2 ^ k) k
-        (λ n. polynomial_of target k n) list) }
-    ensures small { ¬ IsErrOf result SumFault.Large }
-{
-    if k == 0 {
-        return Ok(Lin::new(alloc));
-    }
-    single(alloc, &[k], whole_of(factorial(k)).get())
-}
-
-/// 1!·e_1, .., d!·e_d in e, or those of h in h, each at its place.
-fn own_lists(alloc: Global, d: u16) -> Result<Vec<Whole>, SumFault>
-    requires { d ≤ 20 }
-    ensures length { IfOk result (λ lists. vec_len lists ≡ d + 1) }
-    ensures ok { IfOk result (λ lists. (target : Family) → target ≢ Family.PowerSum
-        → AreFactors (polynomial_of target) target (d + 1) lists.items) }
-    ensures small { ¬ IsErrOf result SumFault.Large }
-{
-    let mut lists = Vec::new(alloc);
-    for k in 0..d + 1 {
-        let next = own_list(alloc, k)?;
-        lists.push(next)?;
-    }
-    Ok(lists)
-}
-
-/// e_k or h_k times k!, up to d, each at its place as a list in the target.
-fn hook_lists(alloc: Global, target: Family, family: Family, d: u16) -> Result<Vec<Whole>, SumFault>
-    requires hooks { family ≢ Family.PowerSum }
-    requires low { d ≤ 20 }
-    ensures length { IfOk result (λ lists. vec_len lists ≡ d + 1) }
-    ensures ok { IfOk result (λ lists.
-        AreFactors (polynomial_of target) family (d + 1) lists.items) }
-    ensures small { ¬ IsErrOf result SumFault.Large }
-{
-    if family == target {
-        return own_lists(alloc, d);
-    }
-    factor_lists(alloc, target, family, d)
 }
 
 /// The list in the target of the Schur polynomial of a shape, where its special rim hooks are read
@@ -180,7 +121,8 @@ pub(crate) fn schur_list(
     ensures table { IfOk result IsWholeTable }
     ensures large { IsErrOf result SumFault.Large → 2 ^ 127 ≤ growth completes (size shape.now) }
 {
-    let lists = hook_lists(alloc, target, family, shape.size())?;
+    let longest = (shape.part(1) + shape.rows()).saturating_sub(1);
+    let lists = factor_lists(alloc, target, family, longest)?;
     let mut store = IndexMap::new(alloc);
     list_of(
         alloc,

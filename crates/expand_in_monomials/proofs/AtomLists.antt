@@ -1,22 +1,38 @@
 -- Products over the parts of a partition, factor by factor.
 --     IsBounded-one, -product        bounds of one factor and of the product
---     list-rest, large-rest          one factor more
-use Rattle.std.proofs.Common.{◌≡◌, true, ℕ, ◌+◌, ◌^◌, ◌<◌, ◌≤◌, List, [], ◌∷◌, length, sym, subst, refl, inl, inr, arith, pos, append-nil}
+--     list-more, large-later         one factor more
+--     list-more_right                one factor more, on the right
+--     have_room, few_cells           room for the cells of a factor
+use Rattle.std.proofs.Common.{◌≡◌, true, ℕ, ◌+◌, ◌^◌, ◌<◌, ◌≤◌, List, [], ◌∷◌, map, length, sym, ap, subst, refl, inl, inr, arith, pos, append-nil}
+use Rattle.std.specs.Prelude.{◌≤ℤ◌, Result, IfOk}
 use Rattle.std.proofs.lemmas.Int.{ints}
+use Rattle.calc_base.specs.declared.faults.SumFault.{SumFault}
 use Rattle.sym_model.specs.Sum.{Among, Once}
 use Rattle.sym_model.specs.Partition.{IsPartition, size}
-use Rattle.sym_model.specs.Polynomial.{Poly, Same, coefficient}
+use Rattle.sym_model.specs.PartitionList.{partitions_of}
+use Rattle.sym_model.specs.Polynomial.{Poly, Same, coefficient, times}
 use Rattle.sym_model.specs.Bases.{at_most_one, has, product_over}
 use Rattle.sym_model.specs.Expansion.{Basis}
 use Rattle.sym_model.specs.Weight.{growth}
 use Rattle.sym_model.specs.WholeTerms.{WholeTerms, labels}
-use Rattle.sym_model.proofs.Polynomials.{Same_sym}
-use Rattle.monomial_laws.specs.ExpressionTerms.{in_monomials, IsList}
+use Rattle.sym_model.proofs.PartitionLists.{FallsLexicographically-partitions_within, Once-FallsLexicographically}
+use Rattle.sym_model.proofs.PolynomialLaws.{times_comm}
+use Rattle.sym_model.proofs.Polynomials.{Same_sym, Same_trans}
+use Rattle.sym_model.proofs.SortedParts.{rows_within_size}
+use Rattle.monomial_laws.specs.ExpressionTerms.{in_monomials, absolute, elementary_terms, complete_terms, IsList}
 use Rattle.monomial_laws.specs.MonomialProduct.{product_coefficient}
 use Rattle.monomial_laws.specs.Majorant.{IsBounded, IsMajorant, power}
-use Rattle.monomial_laws.proofs.ExpressionTerms.{list_respects, list-no_factor, list-factor}
+use Rattle.monomial_laws.proofs.ExpressionTerms.{list_respects, list-no_factor, list-factor, list-product}
 use Rattle.monomial_laws.proofs.Majorants.{majorant-monomials, bounded-atom, bounded_respects}
 use Rattle.monomial_laws.proofs.WeightBounds.{product_within_growth, growth-mono}
+use Rattle.linear_combinations.specs.Gains.{HaveLabels}
+use Rattle.linear_combinations.proofs.Steps.{if_answered}
+use Rattle.sparse_polys.specs.MonomialProducts.{greatest_size}
+use Rattle.sparse_polys.proofs.Rows.{greatest_size-among}
+use Rattle.pieri_product.specs.Columns.{HasRoom}
+use Rattle.whole_lists.proofs.Bounds.{AreWithin-list, greatest-within}
+use Rattle.whole_lists.proofs.WholeLists.{label-partition}
+use Rattle.whole_lists.specs.Tables.{IsWholeTable}
 use Rattle.whole_lists.specs.Large.{ProductIsLarge}
 use Rattle.whole_lists.specs.Families.{polynomial_of}
 use Rattle.whole_lists.specs.declared.family.Family.{Family}
@@ -54,6 +70,18 @@ large-factor family k parts A B o p h i (ν, is, l) =
     (λ n. bounded_respects 1 (size parts) n (product_over (polynomial_of family) parts n) (in_monomials B n) (Same_sym (in_monomials B n) (product_over (polynomial_of family) parts n) (i n)) (IsBounded-product family parts n)) ν in
     omega (arith, ints)
 
+-- the same with the factor on the right
+pub large-factor_right : (family : Family) (k : ℕ) (parts : List ℕ) (A B : WholeTerms) → Once (labels A) → Once (labels B)
+    → IsList A (polynomial_of family k) → IsList B (product_over (polynomial_of family) parts) → ProductIsLarge B A → 2 ^ 127 ≤ growth Basis.monomials (k + size parts)
+large-factor_right family k parts A B o p h i (ν, is, l) =
+    let within =
+    product_within_growth 1 1 (size parts) k B A p o
+    (λ n. bounded_respects 1 (size parts) n (product_over (polynomial_of family) parts n) (in_monomials B n) (Same_sym (in_monomials B n) (product_over (polynomial_of family) parts n) (i n)) (IsBounded-product family parts n))
+    (λ n. bounded_respects 1 k n (polynomial_of family k n) (in_monomials A n) (Same_sym (in_monomials A n) (polynomial_of family k n) (h n)) (IsBounded-one family k n)) ν in
+    let turned : size parts + k ≡ k + size parts = omega arith in
+    let grown = ap (growth Basis.monomials) turned in
+    omega (arith, ints)
+
 pub large-later : (k s : ℕ) → 2 ^ 127 ≤ growth Basis.monomials s → 2 ^ 127 ≤ growth Basis.monomials (k + s)
 large-later k s h = let g = growth-mono s (k + s) (omega arith) in three (2 ^ 127) (growth Basis.monomials s) (growth Basis.monomials (k + s)) h g
   where
@@ -71,11 +99,62 @@ list-none family parts W h e =
     (list_respects (([], pos 1) ∷ []) W (product_over (polynomial_of family) []) (Same_sym W (([], pos 1) ∷ []) e) (list-no_factor (polynomial_of family)))
 
 -- one factor more
-pub list-more : (family : Family) (k : ℕ) (rest parts : List ℕ) (A B C : WholeTerms) → k ∷ rest ≡ parts → IsList A (polynomial_of family k) → IsList B (product_over (polynomial_of family) rest)
-    → ((ν : List ℕ) → IsPartition ν → coefficient C ν ≡ product_coefficient A B ν) → IsList C (product_over (polynomial_of family) parts)
-list-more family k rest parts A B C split h i e =
-    subst (λ p. IsList C (product_over (polynomial_of family) p)) split (list-factor (polynomial_of family) k rest A B C h i e)
+pub list-more : (family : Family) (k : ℕ) (A B : WholeTerms) (r : Result WholeTerms SumFault) → IsList A (polynomial_of family k)
+    → IfOk r (λ C. (ν : List ℕ) → IsPartition ν → coefficient C ν ≡ product_coefficient A B ν)
+    → (parts : List ℕ) → IsList B (product_over (polynomial_of family) parts)
+    → IfOk r (λ C. IsList C (product_over (polynomial_of family) (k ∷ parts)))
+list-more family k A B r h e parts i = if_answered r e (λ C f. list-factor (polynomial_of family) k parts A B C h i f)
+
+-- one factor more, on the right
+pub list-more_right : (family : Family) (k : ℕ) (A B : WholeTerms) (r : Result WholeTerms SumFault) → IsList A (polynomial_of family k)
+    → IfOk r (λ C. (ν : List ℕ) → IsPartition ν → coefficient C ν ≡ product_coefficient B A ν)
+    → (parts : List ℕ) → IsList B (product_over (polynomial_of family) parts)
+    → IfOk r (λ C. IsList C (product_over (polynomial_of family) (k ∷ parts)))
+list-more_right family k A B r h e parts i = if_answered r e (λ C f n.
+    let first = polynomial_of family k n in
+    let others = product_over (polynomial_of family) parts n in
+    Same_trans (in_monomials C n) (times others first) (times first others)
+    (list-product B A C (product_over (polynomial_of family) parts) (polynomial_of family k) i h f n)
+    (times_comm others first))
+
+-- each label leaves room for k more cells in as many more rows
+pub have_room : (k : ℕ) (terms : WholeTerms) → IsWholeTable terms → k + greatest_size terms ≤ 512 → HaveLabels (HasRoom k) terms
+have_room k terms is h t m =
+    let p = label-partition terms is t m in
+    let s = greatest_size-among terms t m in
+    record {
+      partition = p;
+      cells = omega (arith, h, s);
+      rows_within = omega (arith, h, s, rows_within_size t.0 p.positive);
+    }
+
+-- each label leaves room for k more cells
+pub few_cells : (k : ℕ) (terms : WholeTerms) → k + greatest_size terms ≤ 512 → HaveLabels (λ μ. size μ + k ≤ 512) terms
+few_cells k terms h t m = let s = greatest_size-among terms t m in omega (arith, h)
+
+-- the one term of e_k
+pub once-elementary : (k : ℕ) → Once (labels (elementary_terms k))
+once-elementary k = (λ m. m, tt)
+
+-- the terms of h_k
+pub once-complete : (k : ℕ) → Once (labels (complete_terms k))
+once-complete k = subst Once (labels_ones (partitions_of k)) (Once-FallsLexicographically (partitions_of k) (FallsLexicographically-partitions_within k k k))
+  where
+    labels_ones : (shapes : List (List ℕ)) → shapes ≡ labels (map (λ (parts : List ℕ). (parts, pos 1)) shapes)
+    labels_ones [] = refl
+    labels_ones (ν ∷ shapes) = ap (λ l. ν ∷ l) (labels_ones shapes)
+
+pub large-complete : (k : ℕ) (B : WholeTerms) → (ν : List ℕ) × IsPartition ν × (pos (2 ^ 127) ≤ℤ product_coefficient (absolute B) (complete_terms k) ν) → ProductIsLarge B (complete_terms k)
+large-complete k B (ν, is, l) = (ν, is, subst (λ A. pos (2 ^ 127) ≤ℤ product_coefficient (absolute B) A ν) (absolute_ones (partitions_of k)) l)
+  where
+    absolute_ones : (shapes : List (List ℕ)) → map (λ (parts : List ℕ). (parts, pos 1)) shapes ≡ absolute (map (λ (parts : List ℕ). (parts, pos 1)) shapes)
+    absolute_ones [] = refl
+    absolute_ones (ν ∷ shapes) = ap (λ l. (ν, pos 1) ∷ l) (absolute_ones shapes)
 
 -- each family's lists
 pub list-family : (family : Family) (k : ℕ) (W V : WholeTerms) → Same W V → IsList V (polynomial_of family k) → IsList W (polynomial_of family k)
 list-family family k W V e h = list_respects V W (polynomial_of family k) (Same_sym W V e) h
+
+-- no label of a factor has more cells
+pub factor-sizes : (family : Family) (k : ℕ) (A : WholeTerms) → IsWholeTable A → IsList A (polynomial_of family k) → greatest_size A ≤ k
+factor-sizes family k A is h = greatest-within k A (AreWithin-list 1 k A (polynomial_of family k) is h (IsBounded-one family k))

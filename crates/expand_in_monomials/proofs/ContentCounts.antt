@@ -70,7 +70,7 @@ pub limits-longer : (chosen longer : List ℕ) (part largest left : ℕ) → lon
 limits-longer chosen longer part largest left e p h l limits rest c =
     subst IsWithinLimits (sym (append_assoc chosen (part ∷ []) rest) ∙ ap (λ xs. xs ++ rest) (sym e)) (limits (part ∷ rest) ((p, h, l), c))
 
--- lists that go on behind the same chosen parts
+-- lists that go on after the same chosen parts
 same_behind : (chosen : List ℕ) (a b : ℕ) (xs ys : List ℕ) → chosen ++ (a ∷ xs) ≡ chosen ++ (b ∷ ys) → a ≡ b
 same_behind [] a b xs ys e = ap (λ (l : List ℕ). first l) e
   where
@@ -82,7 +82,7 @@ same_behind (x ∷ chosen) a b xs ys e = same_behind chosen a b xs ys (ap (drop 
 not_nothing : (chosen : List ℕ) (b : ℕ) (ys : List ℕ) → chosen ++ [] ≡ chosen ++ (b ∷ ys) → ⊥
 not_nothing chosen b ys e = let h = ap length e in omega (arith, length-append chosen [], length-append chosen (b ∷ ys))
 
--- what is counted with smaller parts is none of what begins with this part
+-- what is counted with smaller parts is not one of what begins with this part
 apart : (chosen rest behind : List ℕ) (part left : ℕ) → 1 ≤ part → IsContent (part - 1) left rest → chosen ++ (part ∷ behind) ≡ chosen ++ rest → ⊥
 apart chosen [] behind part left p c e = not_nothing chosen part behind (sym e)
 apart chosen (a ∷ rest) behind part left p c e = let h = same_behind chosen part a behind rest e in let l = c.0.1 in omega arith

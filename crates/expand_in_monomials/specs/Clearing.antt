@@ -1,4 +1,4 @@
--- When a list and a number stand for an expression with its fractions cleared (this project's own).
+-- When a list and a number stand for an expression with its fractions cleared.
 use Rattle.std.specs.Prelude.{◌≡◌, ◌^◌, ◌≤◌, Result}
 use Rattle.calc_base.specs.declared.faults.SumFault.{SumFault}
 use Rattle.sym_model.specs.Expansion.{monomials}

@@ -1,5 +1,5 @@
 -- The contents with which shapes are taken off by horizontal strips,
--- part by part (this project's own).
+-- part by part.
 use Rattle.std.specs.Prelude.{◌≡◌, ◌<◌, ◌≤◌, ◌≤ℤ◌, ◌-◌, ◌^◌, ℕ, pos, List, [], ◌∷◌, ◌++◌}
 use Rattle.sym_model.specs.Polynomial.{coefficient, pair}
 use Rattle.sym_model.specs.WholeTerms.{WholeTerms}

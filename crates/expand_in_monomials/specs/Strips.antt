@@ -1,4 +1,4 @@
--- Horizontal strips taken off the shapes of a list of terms (this project's own).
+-- Horizontal strips taken off the shapes of a list of terms.
 use Rattle.std.specs.Prelude.{ℕ, pos, ◌≤◌, List, length}
 use Rattle.sym_model.specs.Partition.{Falls, size}
 use Rattle.sym_model.specs.WholeTerms.{WholeTerms}

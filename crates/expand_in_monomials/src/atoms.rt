@@ -1,5 +1,5 @@
 //! Partitions in the five bases, as lists of terms in m.
-ghost use Rattle.std.specs.Prelude.{◌≡◌, ◌<◌, ◌≤◌, ◌^◌, IfOk, IsErrOf};
+ghost use Rattle.std.specs.Prelude.{◌≡◌, ℕ, ◌+◌, ◌<◌, ◌≤◌, ◌^◌, List, ◌∷◌, IfOk, IsErrOf};
 ghost use Rattle.sym_model.specs.Bases.{product_over};
 ghost use Rattle.sym_model.specs.Expansion.{basis_polynomial, monomials};
 ghost use Rattle.sym_model.specs.Expression.{atom};
@@ -7,35 +7,41 @@ ghost use Rattle.sym_model.specs.Partition.{ArePositive, size};
 ghost use Rattle.sym_model.specs.Weight.{growth};
 ghost use Rattle.monomial_laws.specs.ExpressionTerms.{IsList};
 ghost use Rattle.expression_reading.specs.Trees.{basis_of};
+ghost use Rattle.sparse_polys.specs.MonomialProducts.{greatest_size};
 ghost use Rattle.expand_in_monomials.specs.Clearing.{IsConverted};
 ghost use Rattle.whole_lists.specs.Families.{polynomial_of};
 ghost use Rattle.whole_lists.specs.Tables.{IsWholeTable};
 
 use crate::cleared::Cleared;
-use crate::factors::{complete, elementary, power_sum};
+use crate::factors::power_sum;
 use crate::schur::schur;
 use calc_base::{Basis, SumFault};
 use partitions::Partition;
+use pieri_product::{times_complete, times_elementary};
 use sparse_polys::times_whole_in_m;
 use std::alloc::Global;
 use whole_lists::{Family, Whole, single};
 
-/// The polynomial of one part.
-fn factor(alloc: Global, family: Family, k: u16) -> Result<Whole, SumFault>
+/// The product of the polynomial of a part and a list, which is the product over other parts.
+fn times_factor(alloc: Global, family: Family, k: u16, others: &Whole) -> Result<Whole, SumFault>
     requires positive { 0 < k }
-    requires low { k ≤ 512 }
-    ensures value { IfOk result (λ list. IsList list (polynomial_of family k)) }
+    requires low { k + greatest_size others.now ≤ 512 }
+    requires table { IsWholeTable others.now }
+    ensures value { (parts : List ℕ) → IsList others.now (product_over (polynomial_of family) parts)
+        → IfOk result (λ list. IsList list (product_over (polynomial_of family) (k ∷ parts))) }
     ensures table { IfOk result IsWholeTable }
-    ensures small { ¬ IsErrOf result SumFault.Large }
+    ensures large { IsErrOf result SumFault.Large → (parts : List ℕ)
+        → IsList others.now (product_over (polynomial_of family) parts)
+        → 2 ^ 127 ≤ growth monomials (k + size parts) }
 {
     match family {
-        Family::Elementary => elementary(alloc, k),
-        Family::Complete => complete(alloc, k),
-        Family::PowerSum => power_sum(alloc, k),
+        Family::Elementary => times_elementary(alloc, others, k),
+        Family::Complete => times_complete(alloc, others, k),
+        Family::PowerSum => times_whole_in_m(alloc, &power_sum(alloc, k)?, others),
     }
 }
 
-/// The product over the parts.
+/// The product over the parts, the smallest first.
 fn over_parts(alloc: Global, family: Family, parts: &[u16]) -> Result<Whole, SumFault>
     requires positive { ArePositive parts.now }
     requires low { size parts.now ≤ 512 }
@@ -48,8 +54,7 @@ fn over_parts(alloc: Global, family: Family, parts: &[u16]) -> Result<Whole, Sum
         return single(alloc, &[], 1);
     };
     let others = over_parts(alloc, family, rest)?;
-    let first = factor(alloc, family, *k)?;
-    times_whole_in_m(alloc, &first, &others)
+    times_factor(alloc, family, *k, &others)
 }
 
 /// The terms of a partition in a basis.

@@ -1,5 +1,5 @@
 //! Schur polynomials as lists of terms in m: the coefficient of a partition is the number of ways
-//! in which the shape is taken off by horizontal strips with so many cells as the parts. All
+//! in which the shape is taken off by horizontal strips with as many cells as the parts. All
 //! partitions are made in one walk, part by part, and for all shapes of a list together.
 ghost use Rattle.std.specs.Prelude.{◌≡◌, ℕ, ◌≤◌, ◌^◌, [], ◌∷◌, ◌++◌, List, IfOk, OnOk, IsErrOf};
 ghost use Rattle.sym_model.specs.Expansion.{monomials};
@@ -123,8 +123,8 @@ pub(crate) fn schur(alloc: Global, label: &Partition) -> Result<Whole, SumFault>
 }
 
 /// A list of terms in Schur polynomials, of which none has more cells than `cells`, as a list in m:
-/// of each partition of at most so many cells, the sum over the terms of the coefficient times the
-/// Kostka number (Macdonald, I.6).
+/// of each partition of at most that number of cells, the sum over the terms of the coefficient
+/// times the Kostka number (Macdonald, I.6).
 ///
 /// It is refused as `Large` only where, with the absolute values of the coefficients,
 /// such a sum is 2^127 or more.

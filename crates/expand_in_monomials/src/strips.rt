@@ -20,7 +20,7 @@ fn first_row(rows: &[u16]) -> u16
 }
 
 /// Adds to the list what is left of the rows when a horizontal strip of k cells is taken off, each
-/// below the rows of `above`, which stay as they are. The first row has so many cells.
+/// below the rows of `above`, which stay as they are. The first row has at least k cells.
 fn add_strips(
     alloc: Global,
     k: u16,
@@ -64,7 +64,7 @@ fn strips_off(alloc: Global, k: u16, rows: &[u16]) -> Result<Vec<Partition>, NoM
     Ok(shapes)
 }
 
-/// A horizontal strip of so many cells taken off a shape, in all ways.
+/// A horizontal strip of that number of cells taken off a shape, in all ways.
 #[derive(Drop)]
 pub(crate) struct HorizontalStrip {
     pub(crate) alloc: Global,

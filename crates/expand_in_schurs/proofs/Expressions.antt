@@ -1,4 +1,4 @@
--- Lists that are the parts of an expression, and what comes of them.
+-- Lists that are the parts of an expression, and the outcome of them.
 use Rattle.std.proofs.Common.{◌≡◌, ℕ, ◌*◌, ◌/◌, List, [], ◌∷◌, length, sym, ◌∙◌, ap, ap₂, subst, arith, ℤ, pos, ◌+ℤ◌, ◌*ℤ◌, neg_ℤ}
 use Rattle.std.specs.Prelude.{nat_eq, negsuc}
 use Rattle.std.specs.Int.{◌∣◌}

@@ -107,14 +107,15 @@ product-list left right both sums n f g p q h k =
     let a = common_of_expansion left n f p h in
     let b = common_of_expansion right n g q k in
     let adds = sums (denominators left) (denominators right) a b in
-    let it = adds.table (IsCombination-empty (pointwise nat_eq) is_label) in
+    let it = adds.gains.table (IsCombination-empty (pointwise nat_eq) is_label) in
     let V = value schurs left n in
     let W = value schurs right n in
     expansion-from both n (times f g) (p * q) (denominators left * denominators right) it
-    (common_of (denominators left * denominators right) both (mul-pos a.positive b.positive) it adds.cleared)
+    (common_of (denominators left * denominators right) both (mul-pos a.positive b.positive) it adds.gains.cleared)
     (λ φ.
     ap (λ z. pos (p * q) *ℤ z)
-    (adds.sums n φ ∙ +ℤ_idl (products_at (denominators left) left (denominators right) right n φ) ∙ sym (pair_products (denominators left) (denominators right) left right n φ))
+    (adds.gains.gains.sums (λ label. pair (schur label n) φ) ∙ +ℤ_idl (pair adds.gained (λ label. pair (schur label n) φ)) ∙ adds.value n φ
+    ∙ sym (pair_products (denominators left) (denominators right) left right n φ))
     ∙ product_assoc (pos p) (pos q) (pair (times V W) φ)
     ∙ sym (both_scaled (pos p) (pos q) V W φ)
     ∙ pair_determined (times (scale (pos p) V) (scale (pos q) W)) (times (scale (pos D) f) (scale (pos E) g)) φ
@@ -132,18 +133,6 @@ counted q c p v lc e some cd =
       subst (λ (r : Fraction). r.1 ∣ q) (sym e) (subst (λ m. (fraction_product c (whole v)).1 ∣ m) k u.0),
       ap (scaled q) e ∙ ap (λ m. scaled m (fraction_product c (whole v))) (sym k) ∙ u.1 ∙ ap (λ z. scaled q c *ℤ z) (product-one v),
     )
-
-pub listed_next : (done : WholeTerms) (k : List ℕ) (v z s : ℤ) → s ≡ z *ℤ v → (n : ℕ) (φ : List ℕ → ℤ)
-    → z *ℤ pair done (λ label. pair (schur label n) φ) +ℤ s *ℤ pair (schur k n) φ ≡ z *ℤ pair (done ++ (k, v) ∷ []) (λ label. pair (schur label n) φ)
-listed_next done k v z s e n φ =
-    ap (λ x. z *ℤ pair done (λ label. pair (schur label n) φ) +ℤ x *ℤ pair (schur k n) φ) e
-    ∙ distribute z (pair done (λ label. pair (schur label n) φ)) v (pair (schur k n) φ)
-    ∙ ap (λ x. z *ℤ x)
-    (sym (pair_plus done ((k, v) ∷ []) (λ label. pair (schur label n) φ)
-    ∙ ap (λ x. pair done (λ label. pair (schur label n) φ) +ℤ x) (+ℤ_idr (v *ℤ pair (schur k n) φ))))
-  where
-    distribute : (z x s w : ℤ) → z *ℤ x +ℤ (z *ℤ s) *ℤ w ≡ z *ℤ (x +ℤ s *ℤ w)
-    distribute z x s w = simp ring
 
 -- ---- the Schur polynomial of the empty partition is 1
 

@@ -1,5 +1,5 @@
 -- Lists of one term.
-use Rattle.std.proofs.Common.{◌≡◌, ℕ, zero, suc, ◌+◌, ◌*◌, ◌/◌, ◌<◌, List, [], ◌∷◌, map, replicate, sym, ◌∙◌, ap, subst, refl, arith, ℤ, pos, ◌*ℤ◌}
+use Rattle.std.proofs.Common.{◌≡◌, ◌+ℤ◌, ℕ, zero, suc, ◌+◌, ◌*◌, ◌/◌, ◌<◌, List, [], ◌∷◌, map, replicate, sym, ◌∙◌, ap, subst, refl, arith, ℤ, pos, ◌*ℤ◌}
 use Rattle.std.specs.Prelude.{nat_eq, nat_abs, ◌≤ℤ◌}
 use Rattle.std.specs.Int.{◌∣◌}
 use Rattle.std.proofs.lemmas.Int.{ints}
@@ -26,21 +26,21 @@ use Rattle.whole_lists.proofs.DividedLists.{expansion-quotients, bounded-quotien
 use Rattle.expand_in_schurs.specs.SchurLists.{IsOneTerm, StandsFor}
 use Rattle.expand_in_schurs.specs.TargetLaws.{expansion_respects}
 use Rattle.expand_in_schurs.proofs.Expansions.{expansion-from, expansion_rescaled}
-use Rattle.expand_in_schurs.proofs.Tables.{Adds-term, common_of}
-use Rattle.sparse_polys.proofs.ClearedSums.{AreCleared-nothing}
+use Rattle.expand_in_schurs.proofs.Tables.{common_of}
+use Rattle.sparse_polys.proofs.ClearedSums.{AreCleared-nothing, Gains-term}
 use native.Mathlib.Nat.{dvd-mul_left}
-use lib.IntN.{+ℤ_idl}
+use lib.IntN.{+ℤ_idl, +ℤ_idr}
 
 -- a coefficient is its numerator over its denominator
 pub expansion_one_term : (label : List ℕ) (c : Fraction) (list : Terms (List ℕ)) → InLowestTerms c → IsOneTerm label c list
     → (n : ℕ) → IsExpansionOf schurs list n (scale c.0 (schur label n)) c.1
 expansion_one_term label c list lc is n =
     let den : c.1 ∣ c.1 = subst (λ m. c.1 ∣ m) (let e : 1 * c.1 ≡ c.1 = omega arith in e) (dvd-mul_left c.1 1) in
-    let adds = Adds-term c.1 [] list label c (IsCombination-empty (pointwise nat_eq) is_label) is.0 lc lc.positive den (AreCleared-nothing c.1) is.1 in
-    expansion-from list n (scale c.0 (schur label n)) c.1 c.1 is.0 (common_of c.1 list lc.positive is.0 adds.cleared)
+    let more = Gains-term c.1 [] list label c (IsCombination-empty (pointwise nat_eq) is_label) is.0 lc lc.positive den (AreCleared-nothing c.1) is.1 c.0 (alone c lc.positive) in
+    expansion-from list n (scale c.0 (schur label n)) c.1 c.1 is.0 (common_of c.1 list lc.positive is.0 more.cleared)
     (λ φ.
     ap (λ z. pos c.1 *ℤ z)
-    (adds.sums n φ ∙ +ℤ_idl (scaled c.1 c *ℤ pair (schur label n) φ) ∙ ap (λ z. z *ℤ pair (schur label n) φ) (alone c lc.positive)
+    (more.gains.sums (λ label. pair (schur label n) φ) ∙ +ℤ_idl (c.0 *ℤ pair (schur label n) φ +ℤ pos 0) ∙ +ℤ_idr (c.0 *ℤ pair (schur label n) φ)
     ∙ sym (pair_scale c.0 (schur label n) φ)))
   where
     alone : (c : Fraction) → 0 < c.1 → scaled c.1 c ≡ c.0

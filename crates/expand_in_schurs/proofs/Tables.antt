@@ -1,33 +1,32 @@
 -- Tables in Schur polynomials by what their look-ups find.
 --     cleared_at            a common denominator clears each look-up
 --     sum_at-found          the sum over the terms is told by the look-ups
---     Adds-term             one term more
+--     Adds-multiple         a number times one Schur polynomial
 --     Adds-then, -none      one after another
 --     sum_at-sum, -multiple the sum of two tables, and a multiple of one
-use Rattle.std.proofs.Common.{◌≡◌, ◌⊎◌, ℕ, ◌*◌, ◌<◌, Bool, true, false, cond, List, [], ◌∷◌, ◌++◌, sym, ◌∙◌, ap, ap₂, subst, refl, inl, inr, arith, ℤ, pos, ◌+ℤ◌, ◌*ℤ◌}
+use Rattle.std.proofs.Common.{◌≡◌, ℕ, ◌*◌, ◌<◌, Bool, true, false, cond, List, [], ◌∷◌, ◌++◌, sym, ◌∙◌, ap, ap₂, subst, refl, inl, inr, arith, ℤ, pos, ◌+ℤ◌, ◌*ℤ◌}
 use Rattle.std.specs.Prelude.{nat_eq, Some}
 use Rattle.std.specs.Int.{◌∣◌}
 use Rattle.std.specs.Map.{lookup}
 use Rattle.std.specs.Option.{unwrap_or}
 use Rattle.std.specs.Cmp.Lexicographic.{pointwise}
-use Rattle.std.proofs.lemmas.Int.{ints}
-use Rattle.coeff_rings.specs.Fractions.{InLowestTerms, scaled, fraction_sum}
+use Rattle.coeff_rings.specs.Fractions.{InLowestTerms, scaled}
 use Rattle.coeff_rings.specs.Proved.Cleared.{sum-cleared, product-cleared}
 use Rattle.sym_model.specs.Sum.{Among}
 use Rattle.sym_model.specs.Polynomial.{coefficient, pair, plus, scale}
 use Rattle.sym_model.specs.Schur.{schur}
 use Rattle.sym_model.specs.Expansion.{Fraction, Terms}
+use Rattle.sym_model.specs.LabelLimits.{is_label}
 use Rattle.sym_model.specs.WholeTerms.{WholeTerms}
-use Rattle.sym_model.proofs.Exponents.{same_from, same_apart, same_or_not}
 use Rattle.sym_model.proofs.Polynomials.{coefficient_plus, coefficient_scale, pair_determined, pair_plus, pair_scale}
-use Rattle.sparse_polys.specs.Combination.{HasMoreAt, IsMultipleOf, IsSumOf}
+use Rattle.sparse_polys.specs.Combination.{IsMultipleOf, IsSumOf}
 use Rattle.monomial_laws.specs.ExpressionTerms.{over}
 use Rattle.sparse_polys.proofs.Accumulating.{lowest_at}
+use Rattle.sparse_polys.proofs.ClearedSums.{Gains-none, Gains-both}
 use Rattle.sparse_polys.proofs.Expansions.{coefficient-over, divides_terms}
-use Rattle.whole_lists.proofs.WholeLists.{equal_from, equal_apart}
 use Rattle.whole_lists.specs.Tables.{IsTable}
 use Rattle.expand_in_schurs.specs.SchurLists.{Adds, sum_at}
-use Rattle.sparse_polys.specs.Products.{IsCommonDenominator, coefficient_at, AreCleared}
+use Rattle.sparse_polys.specs.Products.{IsCommonDenominator, coefficient_at, AreCleared, GainsCleared}
 use native.Mathlib.Nat.{mul-pos, dvd-mul_left}
 use lib.IntN.{+ℤ_idr, *ℤ_comm}
 
@@ -47,68 +46,27 @@ pub sum_at-found : (q : ℕ) (terms : Terms (List ℕ)) (W : WholeTerms) → IsT
     → (n : ℕ) (φ : List ℕ → ℤ) → sum_at q terms n φ ≡ pair W (λ label. pair (schur label n) φ)
 sum_at-found q terms W is h n φ = pair_determined (over q terms) W (λ label. pair (schur label n) φ) (λ ν. coefficient-over q terms is ν ∙ h ν)
 
--- ---- one term more
-
-more_at : (q : ℕ) (old new : Terms (List ℕ)) (label : List ℕ) (c : Fraction) → IsTable old → InLowestTerms c → 0 < q → c.1 ∣ q → AreCleared q old
-    → HasMoreAt (pointwise nat_eq) old label c new
-    → (ν : List ℕ) → ((coefficient_at new ν).1 ∣ q) × (scaled q (coefficient_at new ν) ≡ coefficient (over q old ++ (label, scaled q c) ∷ []) ν)
-more_at q old new label c is lc some cd cleared more ν = by (same_or_not label ν)
-  where
-    before : coefficient (over q old) ν ≡ scaled q (coefficient_at old ν)
-    before = coefficient-over q old is ν
-
-    by : (label ≡ ν) ⊎ (label ≡ ν → ⊥) → ((coefficient_at new ν).1 ∣ q) × (scaled q (coefficient_at new ν) ≡ coefficient (over q old ++ (label, scaled q c) ∷ []) ν)
-    by (inl e) =
-        let found : coefficient_at new ν ≡ fraction_sum (coefficient_at old ν) c =
-        more ν ∙ ap (λ b. cond b (fraction_sum (coefficient_at old label) c) (coefficient_at old ν)) (equal_from label ν e) ∙ ap (λ l. fraction_sum (coefficient_at old l) c) e in
-        let u = sum-cleared q (coefficient_at old ν) c (lowest_at old is ν) lc some (cleared ν) cd in (
-          subst (λ (r : Fraction). r.1 ∣ q) (sym found) u.0,
-          ap (scaled q) found ∙ u.1
-              ∙ sym (coefficient_plus (over q old) ((label, scaled q c) ∷ []) ν
-              ∙ ap₂ ◌+ℤ◌ before (ap (λ b. cond b (scaled q c) (pos 0) +ℤ pos 0) (same_from label ν e) ∙ +ℤ_idr (scaled q c))),
-        )
-    by (inr d) =
-        let found : coefficient_at new ν ≡ coefficient_at old ν =
-        more ν ∙ ap (λ b. cond b (fraction_sum (coefficient_at old label) c) (coefficient_at old ν)) (equal_apart label ν d) in (
-          subst (λ (r : Fraction). r.1 ∣ q) (sym found) (cleared ν),
-          ap (scaled q) found
-              ∙ sym (coefficient_plus (over q old) ((label, scaled q c) ∷ []) ν
-              ∙ ap₂ ◌+ℤ◌ before (ap (λ b. cond b (scaled q c) (pos 0) +ℤ pos 0) (same_apart label ν d))
-              ∙ +ℤ_idr (scaled q (coefficient_at old ν))),
-        )
-
-pub Adds-term : (q : ℕ) (old new : Terms (List ℕ)) (label : List ℕ) (c : Fraction) → IsTable old → IsTable new → InLowestTerms c → 0 < q → c.1 ∣ q → AreCleared q old
-    → HasMoreAt (pointwise nat_eq) old label c new → Adds q old (λ n φ. scaled q c *ℤ pair (schur label n) φ) new
-Adds-term q old new label c is also lc some cd cleared more = record {
-  table = λ was. also;
-  cleared = λ ν. (more_at q old new label c is lc some cd cleared more ν).0;
-  sums =
-      λ n φ.
-      sum_at-found q new (over q old ++ (label, scaled q c) ∷ []) also (λ ν. (more_at q old new label c is lc some cd cleared more ν).1) n φ
-      ∙ pair_plus (over q old) ((label, scaled q c) ∷ []) (λ label. pair (schur label n) φ)
-      ∙ ap (λ z. sum_at q old n φ +ℤ z) (+ℤ_idr (scaled q c *ℤ pair (schur label n) φ));
-}
-
 -- ---- one after another
+
+-- a number times one Schur polynomial
+pub Adds-multiple : (q : ℕ) (old new : Terms (List ℕ)) (label : List ℕ) (z : ℤ) (a : ℕ → (List ℕ → ℤ) → ℤ) → ((n : ℕ) (φ : List ℕ → ℤ) → pair (schur label n) φ ≡ a n φ)
+    → GainsCleared is_label q old ((label, z) ∷ []) new → Adds q old (λ n φ. z *ℤ a n φ) new
+Adds-multiple q old new label z a e gains = record {
+  gained = (label, z) ∷ [];
+  gains = gains;
+  value = λ n φ. +ℤ_idr (z *ℤ pair (schur label n) φ) ∙ ap (λ y. z *ℤ y) (e n φ);
+}
 
 pub Adds-then : (q : ℕ) (first second third : Terms (List ℕ)) (a b s : ℕ → (List ℕ → ℤ) → ℤ) → ((n : ℕ) (φ : List ℕ → ℤ) → a n φ +ℤ b n φ ≡ s n φ)
     → Adds q first a second → Adds q second b third → Adds q first s third
 Adds-then q first second third a b s e x y = record {
-  table = λ is. y.table (x.table is);
-  cleared = y.cleared;
-  sums =
-      λ n φ.
-      let i = x.sums n φ in
-      let j = y.sums n φ in
-      let k = e n φ in
-      omega (arith, ints);
+  gained = x.gained ++ y.gained;
+  gains = Gains-both q first x.gained second y.gained third x.gains y.gains;
+  value = λ n φ. pair_plus x.gained y.gained (λ label. pair (schur label n) φ) ∙ ap₂ ◌+ℤ◌ (x.value n φ) (y.value n φ) ∙ e n φ;
 }
 
 pub Adds-none : (q : ℕ) (old : Terms (List ℕ)) (a : ℕ → (List ℕ → ℤ) → ℤ) → ((n : ℕ) (φ : List ℕ → ℤ) → a n φ ≡ pos 0) → AreCleared q old → Adds q old a old
-Adds-none q old a e cleared = record { table = λ is. is; cleared = cleared; sums = λ n φ. let i = e n φ in omega (arith, ints) }
-
-pub Adds-same : (q : ℕ) (old new : Terms (List ℕ)) (a b : ℕ → (List ℕ → ℤ) → ℤ) → ((n : ℕ) (φ : List ℕ → ℤ) → a n φ ≡ b n φ) → Adds q old a new → Adds q old b new
-Adds-same q old new a b e x = record { table = x.table; cleared = x.cleared; sums = λ n φ. x.sums n φ ∙ ap (λ z. sum_at q old n φ +ℤ z) (e n φ) }
+Adds-none q old a e cleared = record { gained = []; gains = Gains-none q old cleared; value = λ n φ. sym (e n φ) }
 
 -- ---- sums and multiples
 

@@ -1,4 +1,4 @@
--- When the value of a part is that of an expression (this project's own).
+-- When the value of a part is that of an expression.
 use Rattle.std.specs.Prelude.{◌≡◌}
 use Rattle.sym_model.specs.Expression.{Tree, atom}
 use Rattle.expression_reading.specs.Trees.{basis_of}

@@ -1,15 +1,17 @@
 -- Lists of terms in Schur polynomials: which expression they are, and what they come to as products
--- are added (this project's own).
-use Rattle.std.specs.Prelude.{◌≡◌, ℕ, nat_eq, ℤ, ◌+ℤ◌, List, []}
+-- are added.
+use Rattle.std.specs.Prelude.{◌≡◌, ℕ, nat_eq, ℤ, List, []}
 use Rattle.std.specs.Cmp.Lexicographic.{pointwise}
 use Rattle.sym_model.specs.Polynomial.{pair, times}
 use Rattle.sym_model.specs.Schur.{schur}
 use Rattle.sym_model.specs.Expansion.{schurs, Fraction, Terms, IsExpansionOf}
+use Rattle.sym_model.specs.Canonical.{is_label}
 use Rattle.sym_model.specs.Expression.{Tree, cleared_value, denominator}
+use Rattle.sym_model.specs.WholeTerms.{WholeTerms}
 use Rattle.sparse_polys.specs.Combination.{HasMoreAt}
 use Rattle.monomial_laws.specs.ExpressionTerms.{over}
 use Rattle.whole_lists.specs.Tables.{IsTable}
-use Rattle.sparse_polys.specs.Products.{AreCleared}
+use Rattle.sparse_polys.specs.Products.{GainsCleared}
 
 -- the list is the expression, in every number of variables
 abbrev pub StandsFor : Tree → Terms (List ℕ) → Type 0
@@ -36,10 +38,10 @@ row_at left e right n φ = pair (over e right) (λ label. product_at left label 
 abbrev pub products_at : ℕ → Terms (List ℕ) → ℕ → Terms (List ℕ) → ℕ → (List ℕ → ℤ) → ℤ
 products_at d left e right n φ = pair (over d left) (λ label. row_at label e right n φ)
 
--- the new list is a table where the old one is, q is a multiple of all its denominators, and times
--- q it is the old one times q and what is added
+-- the new list, cleared by q, has gained terms that come to what is added
 pub record Adds (q : ℕ) (old : Terms (List ℕ)) (added : ℕ → (List ℕ → ℤ) → ℤ)
     (new : Terms (List ℕ)) : Type 0 where
-  pub table : IsTable old → IsTable new
-  pub cleared : AreCleared q new
-  pub sums : (n : ℕ) (φ : List ℕ → ℤ) → sum_at q new n φ ≡ sum_at q old n φ +ℤ added n φ
+  pub gained : WholeTerms
+  pub gains : GainsCleared is_label q old gained new
+  pub value : (n : ℕ) (φ : List ℕ → ℤ)
+      → pair gained (λ label. pair (schur label n) φ) ≡ added n φ

@@ -40,7 +40,6 @@ fn through_monomials(alloc: Global, formula: &Formula) -> Result<Lin<Partition, 
     ensures large { IsErrOf result SumFault.Large
         → 2 ^ 127 ≤ weight schurs (tree_of formula.now.tree) }
 {
-    formula.tree();
     let list = to_monomial(alloc, formula)?;
     let Some(bound) = formula.weight() else {
         return Err(SumFault::Large);

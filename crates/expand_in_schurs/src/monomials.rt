@@ -70,19 +70,24 @@ fn by_schurs(alloc: Global, formula: &Formula) -> Result<Lin<Partition, Frac>, S
     in_monomials(alloc, &list)
 }
 
-/// Whether each atom is in e, h or s, and not all in e. Then the way by Schur polynomials is the
-/// faster one; either way gives the same expansion.
+/// Whether the way by Schur polynomials is the faster one; either way gives the same expansion. It
+/// is if each atom is in e, h or s, and one is in s, or one in h beside a product: a partition in e
+/// or h is expanded in m part by part, and products of such lists are found faster in s.
 fn goes_by_schurs(alloc: Global, tree: &Expr) -> Result<bool, NoMemory> {
-    let mut found = false;
+    let mut schur = false;
+    let mut complete = false;
+    let mut product = false;
     for node in postorder(alloc, tree)? {
         if let Expr::Atom { basis, .. } = node {
             if *basis == Basis::M || *basis == Basis::P {
                 return Ok(false);
             }
-            found = found || *basis != Basis::E;
+            schur = schur || *basis == Basis::S;
+            complete = complete || *basis == Basis::H;
         }
+        product = product || matches!(node, Expr::Product { .. });
     }
-    Ok(found)
+    Ok(schur || complete && product)
 }
 
 /// The expansion of a formula in m, in every number of variables: by way of Schur polynomials where

@@ -1,16 +1,17 @@
 //! Products of two lists of terms in Schur polynomials, pair by pair.
-ghost use Rattle.std.specs.Prelude.{◌≡◌, ◌↔◌, ◌<◌, ◌+◌, ◌*◌, ◌≤◌, ◌*ℤ◌, ℕ, IsTrue, IfOk, OnOk};
+ghost use Rattle.std.specs.Prelude.{◌≡◌, ◌↔◌, ◌<◌, ◌+◌, ◌*◌, ◌≤◌, ◌*ℤ◌, ℕ, [], ◌∷◌, IsTrue, IfOk};
+ghost use Rattle.std.specs.Prelude.{OnOk};
 ghost use Rattle.std.specs.Int.{◌∣◌};
 ghost use Rattle.sym_model.specs.Expansion.{schurs, IsExpansionOf};
 ghost use Rattle.sym_model.specs.Partition.{rows, size};
-ghost use Rattle.sym_model.specs.Polynomial.{Poly, pair, times};
-ghost use Rattle.sym_model.specs.Schur.{schur};
-ghost use Rattle.coeff_rings.specs.Fractions.{scaled};
+ghost use Rattle.sym_model.specs.LabelLimits.{is_label};
+ghost use Rattle.sym_model.specs.Polynomial.{Poly, times};
+ghost use Rattle.coeff_rings.specs.Fractions.{scaled, InLowestTerms};
 ghost use Rattle.expand_in_schurs.specs.SchurLists.{Adds, product_at, row_at};
-ghost use Rattle.sparse_polys.specs.Products.{IsCommonDenominator, AreCleared};
+ghost use Rattle.sparse_polys.specs.Products.{IsCommonDenominator, AreCleared, GainsCleared};
 
 use calc_base::SumFault;
-use coeff_rings::{Frac, Ring, Scalar};
+use coeff_rings::{Frac, Ring};
 use lr_product::mult;
 use partitions::Partition;
 use sparse_polys::Lin;
@@ -32,10 +33,10 @@ fn can_multiply(left: &Partition, right: &Partition) -> bool
 
 /// Adds a number times a Schur polynomial.
 fn add_multiple(label: &Partition, c: Frac, sum: &mut Lin<Partition, Frac>) -> Result<(), SumFault>
+    requires { InLowestTerms c }
     ensures { OnOk result ((q : ℕ) → 0 < q → c.1 ∣ q → AreCleared q sum.old
-        → Adds q sum.old (λ n φ. scaled q c *ℤ pair (schur label.now n) φ) sum.new) }
+        → GainsCleared is_label q sum.old ((label.now, scaled q c) ∷ []) sum.new) }
 {
-    c.is_zero();
     sum.add_term(label.copy()?, c)
 }
 
@@ -48,6 +49,7 @@ fn add_pair(
     c: Frac,
     sum: &mut Lin<Partition, Frac>,
 ) -> Result<(), SumFault>
+    requires { InLowestTerms c }
     ensures { OnOk result ((q : ℕ) → 0 < q → c.1 ∣ q → AreCleared q sum.old
         → Adds q sum.old (λ n φ. scaled q c *ℤ product_at left.now right.now n φ) sum.new) }
 {

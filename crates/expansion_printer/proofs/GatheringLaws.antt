@@ -1,5 +1,5 @@
--- How gathered texts join: `Gathers-then` for two, `Gathers-as` for an equal text, `Gathers-nothing` where nothing was put, `Gathers-prints`
--- at a printer's end, and `Prints-as` for an equal text there.
+-- How gathered texts join: `Gathers-then` for two, `Gathers-as` for an equal text, `Gathers-nothing`
+-- where nothing was put, and `Gathers-prints` at a printer's end.
 use Rattle.std.proofs.Common.{◌≡◌, ℕ, List, [], ◌++◌, Bool, true, false, refl, sym, ◌∙◌, ap, subst, append_assoc, append-nil}
 use Rattle.std.specs.Prelude.{Result, is_ok}
 use Rattle.calc_base.specs.Puts.{Puts, Prints}
@@ -130,9 +130,3 @@ pub Gathers-prints : {E : Type 0} {old now : Waiting}
 Gathers-prints {start = start} result begins goes ends =
     let P : Waiting → Type 0 = λ w. HasPut start [] w start in
     Puts-prints result (HasPut-ends (goes.behind start [] (subst P (sym begins) (HasPut-nothing start))) ends) refl
-
--- the same text, written otherwise
-pub Prints-as : {E : Type 0} {old new : SinkSeen} {a b : List ℕ}
-    {result : Result (Unit {0}) E} → a ≡ b → Prints old new a result → Prints old new b result
-Prints-as {old = old} {new = new} {result = result} same prints =
-    let P : List ℕ → Type 0 = λ t. Prints old new t result in subst P same prints

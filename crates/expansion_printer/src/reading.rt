@@ -1,7 +1,7 @@
 //! Fillings that are told by their column readings.
 ghost use Rattle.std.specs.Prelude.{◌≡◌, ◌≤◌, ◌<◌, ℕ, List, slice_index, IfOk};
 ghost use Rattle.sym_model.specs.Partition.{IsCell};
-ghost use Rattle.sym_model.specs.TableauList.{letter_of_cell, reading_cells};
+ghost use Rattle.sym_model.specs.TableauList.{filling_of, letter_of_cell, reading_cells};
 
 use crate::rows::Entries;
 use calc_base::NoMemory;
@@ -86,6 +86,8 @@ impl Entries for Reading<'_> {
 
     ghost entry = { λ r row column. letter_of_cell row column
         (reading_cells r.order.now.0 r.order.now.1) r.letters.now };
+
+    ghost rows = { λ r. filling_of r.order.now.0 r.order.now.1 r.letters.now };
 
     fn outer(&self) -> &Partition {
         self.order.outer()

@@ -19,8 +19,12 @@ pub(crate) trait Entries {
     // The number in a row and a column.
     ghost entry: { Self → ℕ → ℕ → ℕ };
 
+    // The rows of numbers.
+    ghost rows: { Self → List (List ℕ) };
+
     fn outer(&self) -> &Partition
-        ensures { result.now ≡ outer self.now };
+        ensures value { result.now ≡ outer self.now }
+        ensures rows { rows_by (entry self.now) (outer self.now) (inner self.now) ≡ rows self.now };
 
     fn inner(&self) -> &Partition
         ensures { result.now ≡ inner self.now };
@@ -33,7 +37,7 @@ pub(crate) trait Entries {
 /// Puts the rows from top to bottom, or a point where there is none.
 pub(crate) fn put_rows<E: Entries, K: Sink>(filling: &E, text: &mut TextBuffer, sink: &mut K)
     ensures { Gathers text.old (K.seen sink.old) text.new (K.seen sink.new)
-        (tableau_text (rows_by (E.entry filling.now) (E.outer filling.now) (E.inner filling.now))) }
+        (tableau_text (E.rows filling.now)) }
 {
     let rows = filling.outer().rows();
     if rows == 0 {

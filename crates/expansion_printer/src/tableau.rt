@@ -4,14 +4,13 @@ ghost use Rattle.calc_base.specs.Puts.{Prints};
 ghost use Rattle.sym_model.specs.TableauList.{filling_of};
 ghost use Rattle.sym_model.specs.TableauText.{tableau_line};
 ghost use Rattle.skew_shapes.specs.CellFillings.{place_in_row, row_of};
-ghost use Rattle.skew_shapes.specs.Rows.{rows_by};
 
 use crate::reading::{Reading, ReadingOrder};
 use crate::rows::{Entries, put_rows};
 use crate::text_buffer::TextBuffer;
 use calc_base::{Sink, SinkFault};
 use partitions::Partition;
-use skew_shapes::{Filled, Tableau};
+use skew_shapes::Tableau;
 
 impl Entries for Tableau {
     ghost outer = { λ t. t.outer };
@@ -19,6 +18,8 @@ impl Entries for Tableau {
     ghost inner = { λ t. t.inner };
 
     ghost entry = { λ t row column. slice_index (row_of t.rows row) (place_in_row t.inner row column) };
+
+    ghost rows = { λ t. t.rows };
 
     fn outer(&self) -> &Partition {
         self.shape().outer()
@@ -33,26 +34,6 @@ impl Entries for Tableau {
     }
 }
 
-impl Entries for Filled {
-    ghost outer = { λ f. f.outer };
-
-    ghost inner = { λ f. f.inner };
-
-    ghost entry = { λ f row column. slice_index (row_of f.rows row) (place_in_row f.inner row column) };
-
-    fn outer(&self) -> &Partition {
-        self.shape().outer()
-    }
-
-    fn inner(&self) -> &Partition {
-        self.shape().inner()
-    }
-
-    fn entry(&self, row: u16, column: u16) -> u16 {
-        Filled::entry(self, row, column).unwrap_or(0)
-    }
-}
-
 /// Prints the line of a tableau: its rows from top to bottom.
 ///
 /// `SinkFault` exactly where a put failed. It is the last one,
@@ -60,19 +41,7 @@ impl Entries for Filled {
 pub fn print_tableau<K: Sink>(t: &Tableau, sink: &mut K) -> Result<(), SinkFault>
     ensures { Prints (K.seen sink.old) (K.seen sink.new) (tableau_line t.now.rows) result }
 {
-    t.shape();
     print_filling(t, sink)
-}
-
-/// Prints the line of a filling: its rows from top to bottom.
-///
-/// `SinkFault` exactly where a put failed. It is the last one,
-/// and what was put is then a prefix of the line.
-pub fn print_filled<K: Sink>(f: &Filled, sink: &mut K) -> Result<(), SinkFault>
-    ensures { Prints (K.seen sink.old) (K.seen sink.new) (tableau_line f.now.rows) result }
-{
-    f.shape();
-    print_filling(f, sink)
 }
 
 /// Prints the line of the filling of a shape with this column reading: the columns from the
@@ -99,8 +68,7 @@ pub fn print_reading<K: Sink>(
 /// Prints the line of a filling.
 fn print_filling<E: Entries, K: Sink>(filling: &E, sink: &mut K) -> Result<(), SinkFault>
     ensures { Prints (K.seen sink.old) (K.seen sink.new)
-        (tableau_line (rows_by (E.entry filling.now) (E.outer filling.now) (E.inner filling.now)))
-        result }
+        (tableau_line (E.rows filling.now)) result }
 {
     let mut text = TextBuffer::new();
     put_rows(filling, &mut text, sink);

@@ -9,7 +9,6 @@ use Rattle.std.specs.Cmp.Lexicographic.{pointwise}
 use Rattle.std.specs.Map.{keys_of}
 use Rattle.std.proofs.lemmas.List.Quantifiers.{position-Some}
 use Rattle.sym_model.specs.Sum.{Among}
-use Rattle.sym_model.specs.WholeTerms.{WholeTerms}
 use Rattle.sym_model.proofs.Sums.{Among_from_append}
 use Rattle.linear_combinations.specs.Labels.{same_partition}
 use Rattle.family_lists.specs.KeptLists.{AreListsOf, StandsAt, HasKept}
@@ -44,27 +43,27 @@ same_some : {A : Type 0} (x y : A) → Some x ≡ Some y → x ≡ y
 same_some {A} x y e = cc
 
 -- where a look-up finds a partition, it stands
-pub place-found : (lists : List (List ℕ × WholeTerms)) (label : List ℕ) (found : Option ℕ) → found ≡ position (pointwise nat_eq label) (keys_of lists)
+pub place-found : {X : Type 0} (lists : List (List ℕ × X)) (label : List ℕ) (found : Option ℕ) → found ≡ position (pointwise nat_eq label) (keys_of lists)
     → IfSome found (λ i. i < length lists) → IfSome found (StandsAt lists label)
-place-found lists label None e within = tt
-place-found lists label (Some i) e within =
+place-found {X} lists label None e within = tt
+place-found {X} lists label (Some i) e within =
     let f = entry_found lists (pointwise nat_eq label) i within (sym e) in
     (f.0.1, f.1 ∙ ap (λ (x : List ℕ). Some (x, f.0.1)) (sym (same_partition label f.0.0 f.2)))
 
 -- a list of its partition is kept besides
-pub lists-kept : (IsListOf : List ℕ → WholeTerms → Type 0) (old new : List (List ℕ × WholeTerms)) (label : List ℕ) (list : WholeTerms)
+pub lists-kept : {X : Type 0} (IsListOf : List ℕ → X → Type 0) (old new : List (List ℕ × X)) (label : List ℕ) (list : X)
     → AreListsOf IsListOf old → IsListOf label list → HasKept label list old new → AreListsOf IsListOf new
-lists-kept IsListOf old new label list are is (inl e) l m = are l (subst (Among l) e m)
-lists-kept IsListOf old new label list are is (inr e) l m = by (Among_from_append l old ((label, list) ∷ []) (subst (Among l) e m))
+lists-kept {X} IsListOf old new label list are is (inl e) l m = are l (subst (Among l) e m)
+lists-kept {X} IsListOf old new label list are is (inr e) l m = by (Among_from_append l old ((label, list) ∷ []) (subst (Among l) e m))
   where
     by : Among l old ⊎ Among l ((label, list) ∷ []) → IsListOf l.0 l.1
     by (inl i) = are l i
-    by (inr (inl s)) = subst (λ (x : List ℕ × WholeTerms). IsListOf x.0 x.1) (sym s) is
+    by (inr (inl s)) = subst (λ (x : List ℕ × X). IsListOf x.0 x.1) (sym s) is
     by (inr (inr n)) = absurd n
 
 -- the list that is read where a partition stands
-pub list-found : (IsListOf : List ℕ → WholeTerms → Type 0) (lists : List (List ℕ × WholeTerms)) (key parts label : List ℕ) (list : WholeTerms) (at : ℕ) → key ≡ parts
+pub list-found : {X : Type 0} (IsListOf : List ℕ → X → Type 0) (lists : List (List ℕ × X)) (key parts label : List ℕ) (list : X) (at : ℕ) → key ≡ parts
     → AreListsOf IsListOf lists → StandsAt lists key at → slice_get lists at ≡ Some (label, list) → IsListOf parts list
-list-found IsListOf lists key parts label list at same are stands e =
-    subst (λ (x : List ℕ). IsListOf x list) (ap (λ (x : List ℕ × WholeTerms). x.0) (same_some (label, list) (key, stands.0) (sym e ∙ stands.1)) ∙ same)
+list-found {X} IsListOf lists key parts label list at same are stands e =
+    subst (λ (x : List ℕ). IsListOf x list) (ap (λ (x : List ℕ × X). x.0) (same_some (label, list) (key, stands.0) (sym e ∙ stands.1)) ∙ same)
     (are (label, list) (among-slice lists at (label, list) e))

@@ -4,10 +4,9 @@ pub mod TableLists
 pub mod RowSteps
 pub mod PlacedLists
 pub mod PartLists
-pub mod NewtonSteps
-pub mod PowerSteps
 pub mod MergedLists
 pub mod KeptLists
 pub mod MultiplicityPlaces
-pub mod ExchangedLists
-pub mod ClosedPowers
+pub mod CountedPlaces
+pub mod ClosedLists
+pub mod FactorSteps

@@ -11,7 +11,7 @@ use Rattle.sym_model.proofs.SortedParts.{insert_part_above, insert_part_below, F
 use Rattle.basis_change_laws.specs.JoinedLists.{merged}
 use Rattle.family_lists.proofs.PartLists.{columns-tail}
 
--- a part goes behind one that is no smaller
+-- a part goes after one that is no smaller
 insert-behind : (c b : ℕ) (parts : List ℕ) → 0 < c → c ≤ b → get_or parts 0 0 ≤ b → insert_part c (b ∷ parts) ≡ b ∷ insert_part c parts
 insert-behind zero b parts p h f = absurd (omega arith)
 insert-behind (suc a) b parts p h f = by (cases_lt (suc a) b)
@@ -58,12 +58,12 @@ merged-nothing (c ∷ more) p f =
 
 -- ---- by places
 
-positive-drop : (i : ℕ) (xs : List ℕ) → ArePositive xs → ArePositive (drop i xs)
+pub positive-drop : (i : ℕ) (xs : List ℕ) → ArePositive xs → ArePositive (drop i xs)
 positive-drop zero xs p = p
 positive-drop (suc i) [] p = tt
 positive-drop (suc i) (x ∷ xs) p = positive-drop i xs p.1
 
-falls-drop : (i : ℕ) (xs : List ℕ) → Falls xs → Falls (drop i xs)
+pub falls-drop : (i : ℕ) (xs : List ℕ) → Falls xs → Falls (drop i xs)
 falls-drop zero xs f = f
 falls-drop (suc i) [] f = tt
 falls-drop (suc i) (x ∷ xs) f = falls-drop i xs (Falls_tail x xs f)

@@ -66,7 +66,12 @@ stands-itself P parts q A terms p few is h =
     })
 
 -- the polynomial of one number
-pub stands-number : (P : ℕ → ℕ → Poly) → ((n k : ℕ) → In n (P k n)) → (k : ℕ) (terms : WholeTerms) → 0 < k → IsWholeTable terms → Same terms ((k ∷ [], pos 1) ∷ []) → Stands P 1 1 k (λ n. P k n) terms
-stands-number P places k terms h is s =
-    stands-same P 1 1 k (λ n. times (P k n) (one n)) (λ n. P k n) terms (λ n. times-one n (P k n) (places n k))
-    (stands-weaken P 1 1 1 (k + 0) k (λ n. times (P k n) (one n)) terms (stands-itself P (k ∷ []) 1 1 terms (record { falls = tt; positive = (h, tt) }) (omega arith) is s) (omega arith) (omega arith))
+pub stands-number : (P : ℕ → ℕ → Poly) → ((n k : ℕ) → In n (P k n)) → (k q A : ℕ) (terms : WholeTerms)
+    → 0 < k → q ≤ A → IsWholeTable terms → Same terms ((k ∷ [], pos q) ∷ [])
+    → Stands P q A k (λ n. P k n) terms
+stands-number P places k q A terms h few is s =
+    stands-same P q A k (λ n. times (P k n) (one n)) (λ n. P k n) terms
+    (λ n. times-one n (P k n) (places n k))
+    (stands-weaken P q A A (k + 0) k (λ n. times (P k n) (one n)) terms
+    (stands-itself P (k ∷ []) q A terms (record { falls = tt; positive = (h, tt) }) few is s)
+    (omega arith) (omega arith))

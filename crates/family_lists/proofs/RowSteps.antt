@@ -20,7 +20,6 @@ use Rattle.whole_lists.proofs.WholeLists.{equal_from, not_zero}
 use Rattle.basis_change_laws.specs.JoinedLists.{merged, row, joined}
 use Rattle.basis_change_laws.proofs.MergedParts.{IsPartition-merged, size-merged}
 use Rattle.basis_change_laws.proofs.JoinedLists.{absolute-scale, absolute-joined}
-use Rattle.family_lists.proofs.TableLists.{mass-absolute}
 use lib.IntN.{*ℤ_comm}
 
 pub checked-tells : (z : ℤ) → MatchOption (checked_i128 z) (2 ^ 127 ≤ nat_abs z) (λ w. w ≡ z)
@@ -80,9 +79,8 @@ pub large-products : (old : WholeTerms) (c : ℤ) (W V : WholeTerms) (m : ℕ) �
     → 2 ^ 127 ≤ absolute_total old + nat_abs c * absolute_total W * m
 large-products old c W V m large few =
     let a = overflow_mass equal old (replaced (λ k. row k c V) W) large in
-    let b = ap mass (products-gained c W V) ∙ mass-absolute (joined (scale c W) V) ∙ absolute-joined (scale c W) V in
+    let b = ap mass (products-gained c W V) ∙ absolute-joined (scale c W) V in
     let d = absolute-scale c W in
-    let e = mass-absolute old in
     let f : absolute_total (scale c W) * absolute_total V ≤ nat_abs c * absolute_total W * m =
     mul-le (absolute_total (scale c W)) (absolute_total V) (nat_abs c * absolute_total W) m (omega arith) few in
     omega arith

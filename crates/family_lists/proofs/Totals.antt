@@ -1,15 +1,8 @@
 -- The absolute values of the coefficients of a list, added up.
 --     labels_few           those at different labels are no more than all terms
 --     coefficient-few      nor is a single one
---     refused-sum          a sum that is refused
-use Rattle.std.proofs.Common.{◌≡◌, ◌⊎◌, ℕ, ◌+◌, ◌/◌, ◌^◌, ◌≤◌, Bool, true, false, cond, List, [], ◌∷◌, map, ap, ap₂, subst, refl, inl, inr, arith, ℤ, pos, ◌+ℤ◌}
-use Rattle.std.specs.Prelude.{nat_abs, FitsSigned}
-use Rattle.std.specs.Int.{w128}
-use Rattle.coeff_rings.specs.Checked.{checked_i128}
-use Rattle.coeff_rings.proofs.Sizes.{refused_size}
-use Rattle.linear_combinations.specs.Entries.{coefficient as look_up, IsRefused}
-use Rattle.whole_lists.specs.Tables.{equal}
-use Rattle.whole_lists.proofs.WholeLists.{Finds}
+use Rattle.std.proofs.Common.{◌≡◌, ◌⊎◌, ℕ, ◌+◌, ◌/◌, ◌≤◌, Bool, true, false, cond, List, [], ◌∷◌, map, ap, ap₂, subst, refl, inl, inr, arith, ℤ, pos, ◌+ℤ◌}
+use Rattle.std.specs.Prelude.{nat_abs}
 use Rattle.std.proofs.lemmas.Int.{ints, unsigned_abs-mul}
 use Rattle.sym_model.specs.Sum.{Among, Once}
 use Rattle.sym_model.specs.Partition.{size}
@@ -76,8 +69,3 @@ coefficient-few (t ∷ W) ν = let r = coefficient-few W ν in let s = one (same
     one : (b : Bool) (c : ℤ) → nat_abs (cond b t.1 (pos 0) +ℤ c) ≤ nat_abs t.1 + nat_abs c
     one true c = omega (arith, ints)
     one false c = omega (arith, ints)
-
--- a sum that is refused
-pub refused-sum : (old W : WholeTerms) (ν : List ℕ) (c : ℤ) → Finds old W → IsRefused (FitsSigned w128) (λ (x y : ℤ). checked_i128 (x +ℤ y)) (look_up equal (pos 0) old ν) c
-    → 2 ^ 127 ≤ nat_abs (coefficient W ν +ℤ c)
-refused-sum old W ν c h r = subst (λ z. 2 ^ 127 ≤ nat_abs (z +ℤ c)) (h ν) (refused_size (look_up equal (pos 0) old ν +ℤ c) r.refused)

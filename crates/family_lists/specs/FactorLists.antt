@@ -1,4 +1,4 @@
--- Lists in the target of the polynomials of one part, each at its place (this project's own).
+-- Lists in the target of the polynomials of one part, each at its place.
 use Rattle.std.specs.Prelude.{ℕ, zero, suc, ◌-◌, ◌*◌, ◌^◌, ◌<◌, List, [], ◌∷◌}
 use Rattle.sym_model.specs.Polynomial.{Poly}
 use Rattle.sym_model.specs.Bases.{power_sum_of}
@@ -20,16 +20,22 @@ abbrev pub ArePowers : (ℕ → ℕ → Poly) → ℕ → List WholeTerms → Ty
 ArePowers P d lists =
     (k : ℕ) → 0 < k → k < d → Stands P 1 (2 ^ k - 1) k (λ n. power_sum_of k n) (list_at lists k)
 
--- the list at each place k is k!·G_k
-abbrev pub AreNewton : (ℕ → ℕ → Poly) → (ℕ → ℕ → Poly) → ℕ → List WholeTerms → Type 0
-AreNewton P G d lists =
-    (k : ℕ) → k < d → Stands P (factorial k) (factorial k * 2 ^ k) k (λ n. G k n) (list_at lists k)
-
 -- what the list of the polynomial of a number is over: p_k is whole in each target
 abbrev pub over_number : Family → ℕ → ℕ
 over_number Elementary k = factorial k
 over_number Complete k = factorial k
 over_number PowerSum k = 1
+
+-- the most that its absolute values add up to
+abbrev pub most_in : Family → ℕ → ℕ
+most_in Elementary k = factorial k * 2 ^ k
+most_in Complete k = factorial k * 2 ^ k
+most_in PowerSum k = 2 ^ k - 1
+
+-- the list is the polynomial of k, times that number
+abbrev pub IsFactor : (ℕ → ℕ → Poly) → Family → ℕ → WholeTerms → Type 0
+IsFactor P family k list =
+    Stands P (over_number family k) (most_in family k) k (λ n. polynomial_of family k n) list
 
 -- the list at each place k ≥ 1 is the polynomial of k, times that number
 abbrev pub AreFactors : (ℕ → ℕ → Poly) → Family → ℕ → List WholeTerms → Type 0

@@ -1,4 +1,3 @@
 pub mod FactorLists
-pub mod Signs
 pub mod KeptLists
-pub mod PowerSigns
+pub mod ClosedCoefficients

@@ -8,28 +8,27 @@ ghost use Rattle.family_lists.specs.KeptLists.{HasKept, StandsAt};
 use indexmap::IndexMap;
 use partitions::Partition;
 use std::alloc::AllocError;
-use whole_lists::Whole;
 
 /// Partitions, each with a list.
-pub type Lists = IndexMap<Partition, Whole>;
+pub type Lists<V> = IndexMap<Partition, V>;
 
 /// The place of a partition's list.
-pub fn place_of(lists: &Lists, label: &Partition) -> Option<usize>
+pub fn place_of<V>(lists: &Lists<V>, label: &Partition) -> Option<usize>
     ensures { IfSome result (StandsAt lists.now.entries label.now) }
 {
     lists.get_index_of(label)
 }
 
 /// The partition at a place, and its list.
-pub fn list_at(lists: &Lists, at: usize) -> (&Partition, &Whole)
+pub fn list_at<V>(lists: &Lists<V>, at: usize) -> (&Partition, &V)
     requires { at < length lists.now.entries }
     ensures { slice_get lists.now.entries at ≡ Some (result.0.now, result.1.now) }
 {
     lists.get_index(at).unwrap()
 }
 
-/// Puts a list behind the others.
-fn put(lists: &mut Lists, label: Partition, list: Whole) -> Result<(), AllocError>
+/// Puts a list after the others.
+fn put<V: Drop>(lists: &mut Lists<V>, label: Partition, list: V) -> Result<(), AllocError>
     requires { get (pointwise nat_eq) lists.old label ≡ None }
     ensures { OnOk result (lists.new.entries ≡ lists.old.entries ++ (label, list) ∷ []) }
 {
@@ -38,7 +37,7 @@ fn put(lists: &mut Lists, label: Partition, list: Whole) -> Result<(), AllocErro
 }
 
 /// Keeps a list under a partition that has none yet, and gives its place; one that is there stays.
-pub fn keep(lists: &mut Lists, label: Partition, list: Whole) -> Result<usize, AllocError>
+pub fn keep<V: Drop>(lists: &mut Lists<V>, label: Partition, list: V) -> Result<usize, AllocError>
     ensures kept { OnOk result (HasKept label list lists.old.entries lists.new.entries) }
     ensures place { IfOk result (StandsAt lists.new.entries label) }
 {

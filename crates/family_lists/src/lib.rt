@@ -2,22 +2,20 @@
 //!
 //! What is proved:
 //!
-//! `power_sums` and `factor_lists`: p_k, and e_k and h_k times k!, in e, h or p, by closed
-//! coefficients or by Newton's identities. `add_products`: c times the product of two lists is
-//! added; `Large` only where the absolute values come to 2^127 or more. `keep` and `list_at`: lists
-//! that are made once, each kept under a partition. `multiplicity_factorials`.
+//! `factor_list`: p_k, and e_k and h_k times k!, in e, h or p, by closed coefficients; `power_sums`
+//! and `factor_lists`: those up to a number. `add_products`: c times the product of two lists is
+//! added; `Large` only where the absolute values come to 2^127 or more. `add_row`: so for a label
+//! and a list; `Large` only where they do at one label. `keep` and `list_at`: lists that are made
+//! once, each kept under a partition.
 #![tactic(auto)]
 
-mod exchanged;
+mod coefficients;
+mod factors;
 mod kept;
 mod multiplicities;
-mod newton;
-mod powers;
 mod products;
-mod signs;
 
+pub use coefficients::signed;
+pub use factors::{factor_list, factor_lists, power_sums};
 pub use kept::{Lists, keep, list_at, place_of};
-pub use multiplicities::multiplicity_factorials;
-pub use newton::{factor_lists, power_sums};
-pub use products::{add_products, product_of, put_merged};
-pub use signs::is_negative;
+pub use products::{add_products, add_row, product_of, put_merged};

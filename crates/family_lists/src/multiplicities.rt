@@ -1,31 +1,55 @@
 //! The multiplicities of the parts of a partition.
-ghost use Rattle.std.specs.Prelude.{◌≡◌, ◌<◌, ◌^◌, length};
-ghost use Rattle.sym_model.specs.Schur.{times_in};
+ghost use Rattle.std.specs.Prelude.{◌≡◌, ◌≢◌, ◌+◌, ◌<◌, ◌≤◌, ◌^◌};
+ghost use Rattle.sym_model.specs.Partition.{IsPartition, size};
 ghost use Rattle.basis_change_laws.specs.AugmentedMonomial.{multiplicity_factorials};
+ghost use Rattle.family_list_laws.specs.OnePartLists.{centralizer, product_of_parts};
 
-/// How often the number is a part.
-fn times_in(parts: &[u16], part: u16) -> u16
-    requires { length parts.now < 2 ^ 16 }
-    ensures { result ≡ times_in part parts.now }
+/// How often a part is there from its place on, where the part at the next place is there `times`
+/// times.
+fn times_from(part: u16, next: u16, times: u128) -> u128
+    requires { times < 2 ^ 64 }
+    ensures same { part ≡ next → result ≡ times + 1 }
+    ensures other { part ≢ next → result ≡ 1 }
 {
-    let mut times = 0;
-    for p in parts {
-        if *p == part {
-            times += 1;
-        }
-    }
-    times
+    if part == next { times + 1 } else { 1 }
 }
 
-/// The product of the factorials of the multiplicities of the parts.
-pub fn multiplicity_factorials(parts: &[u16]) -> u128
-    requires length { length parts.now < 2 ^ 16 }
-    requires fits { multiplicity_factorials parts.now < 2 ^ 127 }
+/// The product of the factorials of the multiplicities of the parts: the product over the places of
+/// how often the part is there from the place on.
+pub(crate) fn multiplicity_factorials(parts: &[u16]) -> u128
+    requires partition { IsPartition parts.now }
+    requires low { size parts.now ≤ 20 }
     ensures { result ≡ multiplicity_factorials parts.now }
 {
     let mut product = 1;
-    for at in 0..parts.len() {
-        product *= u128::from(times_in(&parts[at..], parts[at]));
+    let mut next = 0;
+    let mut times = 0;
+    for at in (0..parts.len()).rev() {
+        times = times_from(parts[at], next, times);
+        next = parts[at];
+        product *= times;
     }
     product
+}
+
+/// The product of the parts.
+fn product_of_parts(parts: &[u16]) -> u128
+    requires partition { IsPartition parts.now }
+    requires low { size parts.now ≤ 20 }
+    ensures { result ≡ product_of_parts parts.now }
+{
+    let mut product = 1;
+    for part in parts {
+        product *= u128::from(*part);
+    }
+    product
+}
+
+/// The product of the parts and of the factorials of their multiplicities.
+pub(crate) fn centralizer(parts: &[u16]) -> u128
+    requires partition { IsPartition parts.now }
+    requires low { size parts.now ≤ 20 }
+    ensures { result ≡ centralizer parts.now }
+{
+    product_of_parts(parts) * multiplicity_factorials(parts)
 }

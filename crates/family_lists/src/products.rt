@@ -1,6 +1,6 @@
 //! Products of lists whose labels are multiplied by joining their parts.
-ghost use Rattle.std.specs.Prelude.{◌≡◌, ℕ, ◌+◌, ◌*◌, ◌≤◌, ◌^◌, ◌*ℤ◌, ◌++◌, ◌∷◌, [], nat_abs, MatchOption};
-ghost use Rattle.std.specs.Prelude.{IfOk, OnOk, IsErrOf};
+ghost use Rattle.std.specs.Prelude.{◌≡◌, ℕ, ◌+◌, ◌*◌, ◌≤◌, ◌^◌, ◌*ℤ◌, ◌++◌, ◌∷◌, [], nat_abs};
+ghost use Rattle.std.specs.Prelude.{MatchOption, IfOk, OnOk, IsErrOf};
 ghost use Rattle.sym_model.specs.Partition.{IsPartition, size};
 ghost use Rattle.sym_model.specs.Polynomial.{Same, scale};
 ghost use Rattle.sym_model.specs.WholeTerms.{absolute_total};
@@ -23,6 +23,18 @@ pub fn product_of(x: Int, y: Int) -> Option<Int>
     x.mul(y)
 }
 
+/// Puts the numbers after those in the buffer, with no call where there are none.
+#[inline(always)]
+fn put_rest(buffer: &mut Vec<u16>, rest: &[u16]) -> Result<(), NoMemory>
+    ensures { OnOk result (buffer.new.items ≡ buffer.old.items ++ rest.now) }
+{
+    if rest.is_empty() {
+        return Ok(());
+    }
+    buffer.extend_from_slice(rest)?;
+    Ok(())
+}
+
 /// Puts the parts of both partitions into the buffer in falling order, in place of what it holds.
 #[inline(always)]
 pub fn put_merged(buffer: &mut Vec<u16>, more: &[u16], parts: &[u16]) -> Result<(), NoMemory>
@@ -42,14 +54,15 @@ pub fn put_merged(buffer: &mut Vec<u16>, more: &[u16], parts: &[u16]) -> Result<
         buffer.push(more[i])?;
         i += 1;
     }
-    buffer.extend_from_slice(&more[i..])?;
-    buffer.extend_from_slice(&parts[j..])?;
+    put_rest(buffer, &more[i..])?;
+    put_rest(buffer, &parts[j..])?;
     Ok(())
 }
 
 /// Adds z times the product of a label with a list. The parts of both labels are joined in one
-/// vector, which is used again.
-fn add_row(
+/// vector, which is used again; there is room in it for a short label from the start. It is refused
+/// as `Large` only where that overflows.
+pub fn add_row(
     alloc: Global,
     sum: &mut Whole,
     left: &Partition,
@@ -58,9 +71,10 @@ fn add_row(
 ) -> Result<(), SumFault>
     requires { size left.now + greatest_size right.now ≤ 512 }
     ensures gains { OnOk result (Gains sum.old (row left.now z right.now) sum.new) }
-    ensures large { IsErrOf result SumFault.Large → Overflows equal sum.old (row left.now z right.now) }
+    ensures large { IsErrOf result SumFault.Large
+        → Overflows equal sum.old (row left.now z right.now) }
 {
-    let mut parts = Vec::new(alloc);
+    let mut parts = Vec::with_capacity(alloc, 16)?;
     for (label, c) in right.iter() {
         add_joined(alloc, sum, &mut parts, left, label, z, *c)?;
     }

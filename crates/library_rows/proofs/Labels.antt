@@ -18,6 +18,7 @@ use Rattle.sparse_polys.proofs.Totals.{carried}
 use Rattle.sparse_polys.specs.Limits.{IsWithinLimits}
 use Rattle.sparse_polys.specs.MonomialProducts.{greatest_size}
 use Rattle.sparse_polys.specs.Raised.{raised}
+use Rattle.change_from_monomials.proofs.ShapeSums.{one_label}
 
 -- where one term was added, each label is that of the term or an old one
 pub new_or_old : (is_label : List ℕ → Bool) (old new : Terms (List ℕ)) (k : List ℕ) (c : Fraction) → IsCombination (pointwise nat_eq) is_label old → IsCombination (pointwise nat_eq) is_label new
@@ -51,15 +52,10 @@ pub sizes_bounded : (bound : ℕ) (terms : Terms (List ℕ)) → ((t : List ℕ 
 sizes_bounded bound [] each = omega arith
 sizes_bounded bound (t ∷ terms) each = let a = each t (inl refl) in let b = sizes_bounded bound terms (λ u m. each u (inr m)) in omega arith
 
--- the label of a list of one term
-one_term : {L : Type 0} (P : L → Type 0) (k : L) (c : ℤ) → P k → HaveLabels P ((k, c) ∷ [])
-one_term {L} P k c here t (inl e) = subst P (sym (ap (λ (u : L × ℤ). u.0) e)) here
-one_term {L} P k c here t (inr m) = absurd m
-
 -- the only label of a table of whole numbers that was empty has the property
 pub only_has : {L : Type 0} {eq : L → L → Bool} (laws : IsEquivalence eq) (same : (x y : L) → eq x y ≡ true → x ≡ y) {is_label : L → Bool} (old new : WholeTermsOf L) (k : L) (c : ℤ) → old ≡ []
     → entries.IsCombination eq is_label whole old → entries.IsCombination eq is_label whole new → entries.HasMoreAt eq (pos 0) (λ x y. x +ℤ y) old k c new
     → (P : L → Type 0) → P k → HaveLabels P new
 only_has laws same old new k c none was also more P here =
     labels_gained laws same old ((k, c) ∷ []) new also (gains_term laws same old new was also k c more) P
-    (subst (λ ts. HaveLabels P ts) (sym none) (λ t m. absurd m)) (one_term P k c here)
+    (subst (λ ts. HaveLabels P ts) (sym none) (λ t m. absurd m)) (one_label P k c here)

@@ -46,7 +46,7 @@ fn tree(rt: &impl Print, what: &str, tree: Expr) -> Result<()> {
     }
 }
 
-/// Prints what a product of so many numbers 2 is read as, in a word.
+/// Prints what a product of n numbers 2 is read as, in a word.
 fn twos(rt: &(impl Print + Alloc<A = Global>), what: &str, count: u8) -> Result<()> {
     let mut word = String::from_str(rt.alloc(), "2")?;
     for _ in 1..count {

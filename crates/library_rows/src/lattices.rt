@@ -34,7 +34,7 @@ fn all(rt: &(impl Print + Alloc<A = Global>), shape: &Skew, start: &Partition) -
     listed(rt, "good of (3,2,1)/(2,1)", &mut list)
 }
 
-/// Prints the good tableaux after one, or that it is none of them.
+/// Prints the good tableaux after one, or that it is not one of them.
 fn after(
     rt: &(impl Print + Alloc<A = Global>),
     what: &str,

@@ -1,4 +1,4 @@
--- A canonical list is one each term of which may stand behind the one before it.
+-- A canonical list is one each term of which may stand after the one before it.
 use Rattle.std.proofs.Common.{◌≡◌, ◌≤◌, ◌<◌, ℕ, ◌+◌, arith, suc, Bool, true, false, ◌&&◌, List, [], ◌∷◌, refl, sym, ap, ◌∙◌, subst, drop, length, get_or, Some, None, Option, pos}
 use Rattle.std.specs.Prelude.{not, IsTrue, ◌↔◌}
 use Rattle.std.specs.Ordering.{is_lt}
@@ -30,7 +30,7 @@ regroup true false within true rest = refl
 regroup true false within false rest = refl
 regroup false reduced within ordered rest = refl
 
--- behind a label
+-- after a label
 follows-label : {L R : Type 0} (order : L → L → Ordering) (is_label : L → Bool) (value : R → Fraction) (previous : L) (c : R) (terms : List (L × R))
     → each_follows order is_label value (Some previous) terms ≡ (is_ordered order ((previous, c) ∷ terms) && are_terms value is_label terms)
 follows-label order is_label value previous c [] = refl

@@ -1,5 +1,5 @@
 -- What a table of whole numbers has at a label, and the lists that have its sums.
-use Rattle.std.proofs.Common.{◌≡◌, ◌⊎◌, inl, inr, ℕ, ◌+◌, ◌*◌, ◌≤◌, Bool, true, false, cond, List, [], ◌∷◌, ◌++◌, refl, sym, ap, ◌∙◌, subst, arith, ℤ, pos, negsuc, ◌+ℤ◌, ◌*ℤ◌}
+use Rattle.std.proofs.Common.{◌≡◌, ◌⊎◌, inl, inr, ℕ, ◌+◌, ◌*◌, Bool, true, false, cond, List, [], ◌∷◌, ◌++◌, refl, sym, ap, ◌∙◌, arith, ℤ, pos, negsuc, ◌+ℤ◌, ◌*ℤ◌}
 use Rattle.std.specs.Prelude.{Option, nat_abs, nat_eq, ◌≤ℤ◌}
 use Rattle.std.specs.Cmp.Lexicographic.{pointwise, nat_list_eq_equiv}
 use Rattle.std.specs.Option.{unwrap_or}
@@ -7,18 +7,17 @@ use Rattle.std.specs.List.{IsDistinct}
 use Rattle.std.specs.Map.{keys_of}
 use Rattle.std.proofs.lemmas.Int.{ints}
 use Rattle.std.proofs.lemmas.Bool.{both_ways}
-use Rattle.sym_model.specs.Sum.{Among, Once}
+use Rattle.sym_model.specs.Sum.{Among}
 use Rattle.sym_model.specs.WholeTerms.{as_fractions, numerators, AreWhole}
 use Rattle.sym_model.specs.Polynomial.{Same, same, coefficient as coefficient_of}
-use Rattle.sym_model.proofs.Sums.{total_ext, total_same_members}
+use Rattle.sym_model.proofs.Sums.{total_ext}
 use Rattle.sym_model.proofs.Ring.{product-one}
 use Rattle.sym_model.proofs.Exponents.{same_from, same_apart, same_or_not}
 use Rattle.sym_model.proofs.Polynomials.{at_only, coefficient_pair, same_from_pair, pair_determined}
 use Rattle.linear_combinations.specs.Entries.{coefficient}
-use Rattle.linear_combinations.specs.Gains.{WholeTermsOf, over, only, mass_at, scaled, each_with, Gains, Overflows}
+use Rattle.linear_combinations.specs.Gains.{WholeTermsOf, over, only, mass_at, Gains}
 use Rattle.linear_combinations.specs.Labels.{same_partition}
-use Rattle.linear_combinations.proofs.Gains.{over_at, over_append, gains_as, overflows_as, each_over}
-use Rattle.linear_combinations.proofs.Masses.{mass_at_scaled, scaled_each}
+use Rattle.linear_combinations.proofs.Gains.{over_at, over_append}
 use Rattle.linear_combinations.proofs.Totals.{found-among}
 use lib.IntN.{*ℤ-zero}
 
@@ -31,39 +30,6 @@ counts_at {L} eq x (t ∷ g) h = by (eq x t.0) t.1 (h t (inl refl)) (counts_at e
     by true (pos n) l r = let e = product-one (pos n) in omega (arith, ints)
     by true (negsuc n) l r = absurd (omega (arith, ints))
     by false c l r = let e = *ℤ-zero c in omega (arith, ints)
-
--- ---- labels in another order
-
-pub each_unit : {L : Type 0} (c : ℤ) (xs : List L) → each_with c xs ≡ scaled c (each_with (pos 1) xs)
-each_unit c xs = ap (λ z. each_with z xs) (sym (product-one c)) ∙ sym (scaled_each c (pos 1) xs)
-
-units : {L : Type 0} (xs : List L) (t : L × ℤ) → Among t (each_with (pos 1) xs) → pos 0 ≤ℤ t.1
-units [] t m = absurd m
-units {L} (x ∷ xs) t (inl e) = subst (λ (u : L × ℤ). pos 0 ≤ℤ u.1) (sym e) (omega (arith, ints))
-units (x ∷ xs) t (inr m) = units xs t m
-
-module _ {L : Type 0} (xs ys : List L) (once : Once xs) (also : Once ys) (there : (x : L) → Among x xs → Among x ys) (back : (x : L) → Among x ys → Among x xs) where
-  each_same : (c : ℤ) (φ : L → ℤ) → over φ (each_with c xs) ≡ over φ (each_with c ys)
-  each_same c φ = each_over c φ xs ∙ ap (λ z. c *ℤ z) (total_same_members φ xs ys once also there back) ∙ sym (each_over c φ ys)
-
-  mass_same : (c : ℤ) (eq : L → L → Bool) (x : L) → mass_at eq x (each_with c xs) ≡ mass_at eq x (each_with c ys)
-  mass_same c eq x =
-      ap (mass_at eq x) (each_unit c xs) ∙ mass_at_scaled eq x c (each_with (pos 1) xs) ∙ ap (λ n. nat_abs c * n) one
-      ∙ sym (mass_at_scaled eq x c (each_with (pos 1) ys)) ∙ ap (mass_at eq x) (sym (each_unit c ys))
-    where
-      one : mass_at eq x (each_with (pos 1) xs) ≡ mass_at eq x (each_with (pos 1) ys)
-      one =
-          let e = sym (counts_at eq x (each_with (pos 1) xs) (units xs)) ∙ each_same (pos 1) (only eq x) ∙ counts_at eq x (each_with (pos 1) ys) (units ys) in
-          omega (arith, ints)
-
-  -- each of some labels is gained, in whatever order they come
-  pub gains_each : (c : ℤ) (old new : WholeTermsOf L) → Gains old (each_with c xs) new → Gains old (scaled c (each_with (pos 1) ys)) new
-  gains_each c old new a = subst (λ l. Gains old l new) (each_unit c ys) (gains_as old (each_with c xs) (each_with c ys) new (each_same c) a)
-
-  pub overflows_each : (c : ℤ) (eq : L → L → Bool) (old : WholeTermsOf L) → Overflows eq old (each_with c xs) → Overflows eq old (scaled c (each_with (pos 1) ys))
-  overflows_each c eq old o =
-      subst (Overflows eq old) (each_unit c ys)
-      (overflows_as eq old (each_with c xs) (each_with c ys) (λ x. let e = mass_same c eq x in omega arith) o)
 
 -- ---- whole coefficients as fractions
 

@@ -10,3 +10,4 @@ pub mod Totals
 pub mod Gains
 pub mod Masses
 pub mod Found
+pub mod Inserted

@@ -1,12 +1,11 @@
 -- Tables of entries: the changes of a table, and the tests of its terms.
-use Rattle.std.proofs.Common.{◌≡◌, ℕ, zero as none_at, suc, Bool, true, false, ◌&&◌, cond, List, [], ◌∷◌, get_or, refl, sym, ap, ◌∙◌, subst, if◌then◌else◌}
-use Rattle.std.specs.Prelude.{Option, Some, None, is_some, position, slice_get}
+use Rattle.std.proofs.Common.{◌≡◌, Bool, true, false, ◌&&◌, cond, List, [], ◌∷◌, refl, sym, ap, ◌∙◌, subst, if◌then◌else◌}
+use Rattle.std.specs.Prelude.{Option, Some, None}
 use Rattle.std.specs.Cmp.{IsEquivalence}
 use Rattle.std.specs.List.{IsDistinct}
 use Rattle.std.specs.Option.{unwrap_or}
 use Rattle.std.specs.Map.{lookup, keys_of}
 use Rattle.std.proofs.lemmas.Bool.{and_parts, and_from}
-use Rattle.std.proofs.lemmas.List.Quantifiers.{position-Some}
 use Rattle.std.proofs.lemmas.Map.{lookup-none}
 use Rattle.std.proofs.lemmas.Map.Keys.{IsDistinct-tail}
 use Rattle.std.proofs.lemmas.Map.Entries.{none_past_head}
@@ -15,14 +14,6 @@ use Rattle.sym_model.specs.Expansion.{Fraction}
 use Rattle.sym_model.specs.Canonical.{is_reduced}
 use Rattle.linear_combinations.proofs.LowestTerms.{lowest-is_reduced}
 use Rattle.linear_combinations.specs.Entries.{coefficient, are_terms, AreHeld, IsCombination, HasMoreAt}
-
--- where a look-up of an index finds nothing, a look-up of the coefficient does neither
-pub absent_now : {L R : Type 0} (test : L → Bool) (es now : List (L × R)) (place : Option ℕ) → es ≡ now → is_some place ≡ is_some (lookup test es) → place ≡ None → lookup test now ≡ None
-absent_now {L} {R} test es now place view found none = sym (ap (lookup test) view) ∙ nothing (lookup test es) (sym (ap is_some none) ∙ found)
-  where
-    nothing : (o : Option R) → false ≡ is_some o → o ≡ None
-    nothing None h = refl
-    nothing (Some c) h = cc
 
 module _ {L R : Type 0} {eq : L → L → Bool} (laws : IsEquivalence eq) (same : (x y : L) → eq x y ≡ true → x ≡ y) (is_label : L → Bool) (value : R → Fraction) where
   -- what a look-up finds passes the test of a term
@@ -100,14 +91,6 @@ module _ {L R : Type 0} (eq : L → L → Bool) (zero : R) (sum : R → R → R)
       by true = total
       by false = refl
 
-  -- where the sum at a label is what it was, a list stays
-  pub HasMoreAt-zero : (same : (x y : L) → eq x y ≡ true → x ≡ y) (es : List (L × R)) (k : L) (c : R) → sum (coefficient eq zero es k) c ≡ coefficient eq zero es k → HasMoreAt eq zero sum es k c es
-  HasMoreAt-zero same es k c stays q = by (eq k q) refl
-    where
-      by : (b : Bool) → eq k q ≡ b → coefficient eq zero es q ≡ (if b then sum (coefficient eq zero es k) c else coefficient eq zero es q)
-      by true p = ap (coefficient eq zero es) (sym (same k q p)) ∙ sym stays
-      by false p = refl
-
 -- ---- coefficients that are held
 
 module _ {L R : Type 0} (eq : L → L → Bool) (zero : R) (is_held : R → Type 0) where
@@ -126,32 +109,3 @@ module _ {L R : Type 0} (eq : L → L → Bool) (zero : R) (is_held : R → Type
   -- equal coefficients are held
   pub held_same : (old new : List (L × R)) → ((q : L) → coefficient eq zero new q ≡ coefficient eq zero old q) → AreHeld eq zero is_held old → AreHeld eq zero is_held new
   held_same old new equal was = record { at_label = λ q. subst is_held (sym (equal q)) (was.at_label q) }
-
--- ---- the pair at the place of a label
-
-module _ {L X : Type 0} where
-  key_at : (es : List (L × X)) (i : ℕ) (p : L × X) (d : L) → slice_get es i ≡ Some p → get_or (keys_of es) i d ≡ p.0
-  key_at [] i p d h = cc
-  key_at (e ∷ es) none_at p d h = let here : e ≡ p = cc in ap (λ (x : L × X). x.0) here
-  key_at (e ∷ es) (suc i) p d h = key_at es i p d h
-
-module _ {L R : Type 0} {eq : L → L → Bool} (same : (x y : L) → eq x y ≡ true → x ≡ y) (zero : R) (es : List (L × R)) (at : ℕ) (p : L × R) (here : slice_get es at ≡ Some p) where
-  -- the pair at the place of a label has that label
-  pub label_at : (k : L) → position (eq k) (keys_of es) ≡ Some at → k ≡ p.0
-  label_at k is = same k p.0 (subst (λ x. eq k x ≡ true) (key_at es at p p.0 here) (position-Some (eq k) (keys_of es) at p.0 is).1)
-
-  -- and its scalar is the label's coefficient
-  pub coefficient_at : (now : List (L × R)) → es ≡ now → lookup (eq p.0) es ≡ Some p.1 → (k : L) → position (eq k) (keys_of now) ≡ Some at → coefficient eq zero now k ≡ p.1
-  coefficient_at now view finds k =
-      subst (λ (t : List (L × R)). position (eq k) (keys_of t) ≡ Some at → coefficient eq zero t k ≡ p.1) view
-      (λ is. ap (λ x. unwrap_or (lookup (eq x) es) zero) (label_at k is) ∙ ap (λ o. unwrap_or o zero) finds)
-
-  -- where look-ups change at the pair's label alone, to the sum, the list has so much more at the place's label
-  pub more_at : (sum : R → R → R) (now : List (L × R)) → es ≡ now → lookup (eq p.0) es ≡ Some p.1 → (new : List (L × R)) (o : Option R) (x : R) → unwrap_or o zero ≡ sum p.1 x → ((q : L) → lookup (eq q) new ≡ cond (eq p.0 q) o (lookup (eq q) es))
-      → (k : L) → position (eq k) (keys_of now) ≡ Some at → HasMoreAt eq zero sum now k x new
-  more_at sum now view finds new o x is_sum changes k is =
-      let had : coefficient eq zero es p.0 ≡ p.1 = ap (λ o. unwrap_or o zero) finds in
-      let all : unwrap_or o zero ≡ sum (coefficient eq zero es p.0) x = is_sum ∙ ap (λ r. sum r x) (sym had) in
-      let more : HasMoreAt eq zero sum es p.0 x new = HasMoreAt-found eq zero sum es new p.0 o x all changes in
-      let label : k ≡ p.0 = label_at k (subst (λ (t : List (L × R)). position (eq k) (keys_of t) ≡ Some at) (sym view) is) in
-      subst (λ (t : List (L × R)). HasMoreAt eq zero sum t k x new) view (subst (λ l. HasMoreAt eq zero sum es l x new) (sym label) more)

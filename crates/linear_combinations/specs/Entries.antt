@@ -111,13 +111,13 @@ abbrev pub is_later : {L : Type 0} → (L → L → Ordering) → Option L → L
 is_later order None label = true
 is_later order (Some previous) label = is_lt (order previous label)
 
--- whether a term may stand behind the previous label
+-- whether a term may stand after the previous label
 abbrev pub is_next : {L R : Type 0} → (L → L → Ordering) → (L → Bool) → (R → Fraction) → Option L
     → L × R → Bool
 is_next order is_label value previous t = is_later order previous t.0 && is_term value is_label t
 
--- whether each of these terms may stand behind the one before it,
--- and the first behind the previous label
+-- whether each of these terms may stand after the one before it,
+-- and the first after the previous label
 abbrev pub each_follows : {L R : Type 0} → (L → L → Ordering) → (L → Bool) → (R → Fraction)
     → Option L → List (L × R) → Bool
 each_follows order is_label value previous [] = true

@@ -1,16 +1,16 @@
 //! Finite linear combinations of labels.
-ghost use Rattle.std.specs.Prelude.{◌≡◌, ◌<◌, ◌↔◌, [], Some, None, length, position, slice_get};
-ghost use Rattle.std.specs.Prelude.{IsTrue, IfOk, OnOk, OnErr, IsErrOf};
+ghost use Rattle.std.specs.Prelude.{◌≡◌, ◌≢◌, ◌<◌, ◌↔◌, ◌⊎◌, [], Some, None, length, slice_get};
+ghost use Rattle.std.specs.Prelude.{IsTrue, IfOk, OnOk, OnErr, IsErrOf, pos};
+ghost use Rattle.coeff_rings.specs.Fractions.{whole};
 ghost use Rattle.std.specs.Prelude.{IsSorted};
 ghost use Rattle.indexmap.specs.IndexMap.{index_map_len, get, IsUnique, Updates};
 ghost use Rattle.indexmap.specs.Layout.{set_value_at};
 ghost use Rattle.std.specs.List.Sorted.{IsPermutation};
-ghost use Rattle.std.specs.Map.{keys_of, lookup};
 ghost use Rattle.std.specs.Map.Iter.{ShowsInOrder, deref_pair};
 ghost use Rattle.linear_combinations.specs.Entries.{coefficient, AreHeld, HasMoreAt};
 ghost use Rattle.linear_combinations.specs.Entries.{HasSameCoefficients, IsCanonicalList};
 ghost use Rattle.linear_combinations.specs.Entries.{IsCombination, IsMultipleOf, IsSumOf};
-ghost use Rattle.linear_combinations.specs.Entries.{IsRefused, RefusesSomeProduct, RefusesSomeSum};
+ghost use Rattle.linear_combinations.specs.Entries.{IsRefused, IsTable, RefusesSomeProduct, RefusesSomeSum};
 
 use crate::label::{Label, lies_in_limits};
 use crate::terms::Terms;
@@ -90,67 +90,7 @@ impl<L: Label, R: Scalar> Lin<L, R> {
         ensures combination { IsCombination L.eq L.is_label R.value self.new }
         ensures held { AreHeld L.eq R.zero R.is_held self.new }
     {
-        match self.table.get_index_of(&label) {
-            Some(at) => self.add_at(at, c),
-            None => self.add_new(label, c),
-        }
-    }
-
-    /// Does what `add_term` does, with a label that is copied only where it is new.
-    pub(crate) fn add_borrowed(&mut self, label: &L, c: R) -> Result<(), SumFault>
-        ensures ok { OnOk result (HasMoreAt L.eq R.zero R.sum self.old label.now c self.new) }
-        ensures large { IsErrOf result SumFault.Large
-            ↔ IsRefused R.is_held R.checked_sum (coefficient L.eq R.zero self.old label.now) c }
-        ensures was { IsCombination L.eq L.is_label R.value self.old }
-        ensures combination { IsCombination L.eq L.is_label R.value self.new }
-        ensures held { AreHeld L.eq R.zero R.is_held self.new }
-    {
-        match self.table.get_index_of(label) {
-            Some(at) => self.add_at(at, c),
-            None => self.add_new(label.copy()?, c),
-        }
-    }
-
-    /// Does what `add_term` does, with a label that is not there.
-    fn add_new(&mut self, label: L, c: R) -> Result<(), SumFault>
-        requires { lookup (L.eq label) self.old ≡ None }
-        ensures ok { OnOk result (HasMoreAt L.eq R.zero R.sum self.old label c self.new) }
-        ensures large { IsErrOf result SumFault.Large
-            ↔ IsRefused R.is_held R.checked_sum (coefficient L.eq R.zero self.old label) c }
-        ensures err { OnErr result (self.new ≡ self.old) }
-        ensures combination { IsCombination L.eq L.is_label R.value self.new }
-        ensures held { AreHeld L.eq R.zero R.is_held self.new }
-    {
-        self.is_combination();
-        lies_in_limits(&label);
-        if c.is_zero() {
-            return Ok(());
-        }
-        self.table.insert(label, c)?;
-        Ok(())
-    }
-
-    /// Adds `c` to the coefficient of the label at an index,
-    /// and takes the label out where the sum is 0.
-    fn add_at(&mut self, at: usize, c: R) -> Result<(), SumFault>
-        requires { at < length self.old }
-        ensures ok { (label : L) → position (L.eq label) (keys_of self.old) ≡ Some at
-            → OnOk result (HasMoreAt L.eq R.zero R.sum self.old label c self.new) }
-        ensures large { (label : L) → position (L.eq label) (keys_of self.old) ≡ Some at
-            → IsErrOf result SumFault.Large
-            ↔ IsRefused R.is_held R.checked_sum (coefficient L.eq R.zero self.old label) c }
-        ensures err { OnErr result (self.new ≡ self.old) }
-        ensures combination { IsCombination L.eq L.is_label R.value self.new }
-        ensures held { AreHeld L.eq R.zero R.is_held self.new }
-    {
-        let (_, a) = pair_at(&self.table, at);
-        let sum = a.add(c).ok_or(SumFault::Large)?;
-        if sum.is_zero() {
-            take_at(&mut self.table, at);
-        } else {
-            put_at(&mut self.table, at, sum);
-        }
-        Ok(())
+        add_to(&mut self.table, label, c)
     }
 
     /// An equal map.
@@ -179,7 +119,7 @@ impl<L: Label, R: Scalar> Lin<L, R> {
     {
         self.is_combination();
         for (label, c) in &other.table {
-            self.add_borrowed(label, *c)?;
+            self.add_term(label.copy()?, *c)?;
         }
         Ok(self)
     }
@@ -239,6 +179,49 @@ impl<L: Label, R: Scalar> Lin<L, R> {
         ensures held { AreHeld L.eq R.zero R.is_held self.now }
     {
         let _ = self.table.len();
+    }
+}
+
+/// Adds `c` to the label's scalar, and takes the label out where the sum is 0. The label is looked
+/// up once.
+fn add_to<L: Label, R: Scalar>(table: &mut IndexMap<L, R>, label: L, c: R) -> Result<(), SumFault>
+    requires { IsTable L.eq L.is_label R.zero R.value R.is_held table.old.entries }
+    ensures ok { OnOk result (HasMoreAt L.eq R.zero R.sum table.old.entries label c
+        table.new.entries) }
+    ensures large { IsErrOf result SumFault.Large
+        ↔ IsRefused R.is_held R.checked_sum (coefficient L.eq R.zero table.old.entries label) c }
+    ensures err { OnErr result (table.new.entries ≡ table.old.entries) }
+    ensures table { IsTable L.eq L.is_label R.zero R.value R.is_held table.new.entries }
+{
+    let (at, before) = table.insert_full(label, c)?;
+    let Some(had) = before else {
+        let (label, _) = pair_at(table, at);
+        lies_in_limits(label);
+        set_at(table, at, c);
+        return Ok(());
+    };
+    let Some(sum) = had.add(c) else {
+        put_at(table, at, had);
+        return Err(SumFault::Large);
+    };
+    set_at(table, at, sum);
+    Ok(())
+}
+
+/// Puts a scalar in the place of the one at an index of a table, and takes the pair out where it is
+/// 0.
+fn set_at<L: Label, R: Scalar>(table: &mut IndexMap<L, R>, at: usize, c: R)
+    requires { at < index_map_len table.old }
+    ensures updates { (p : L × R) → slice_get table.old.entries at ≡ Some p
+        → ((R.value c ≡ whole (pos 0)) × Updates L.eq table.old table.new p.0 None)
+        ⊎ ((R.value c ≢ whole (pos 0)) × Updates L.eq table.old table.new p.0 (Some c)) }
+    ensures unique { IsUnique L.eq table.new }
+    ensures held { R.is_held c }
+{
+    if c.is_zero() {
+        take_at(table, at);
+    } else {
+        put_at(table, at, c);
     }
 }
 

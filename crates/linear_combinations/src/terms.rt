@@ -111,7 +111,7 @@ fn are_canonical<L: Label, R: Scalar>(pairs: &[(L, R)]) -> bool
     true
 }
 
-/// Whether a term may stand behind the previous label: its coefficient is not 0, and it stands
+/// Whether a term may stand after the previous label: its coefficient is not 0, and it stands
 /// strictly later in print.
 fn may_follow<L: Label, R: Scalar>(previous: Option<&L>, label: &L, c: R) -> bool
     ensures { result ≡ is_next L.order L.is_label R.value (option_copied previous.entry)

@@ -25,7 +25,7 @@ impl<L: Label> Lin<L, Int> {
         self.add_term(label, c)
     }
 
-    /// Adds a number at a label, which is copied only if it is new.
+    /// Adds a number at a copy of a label.
     pub fn add_at_label(&mut self, label: &L, c: Int) -> Result<(), SumFault>
         ensures gains { OnOk result (Gains self.old ((label.now, c) ∷ []) self.new) }
         ensures large { IsErrOf result SumFault.Large
@@ -33,7 +33,7 @@ impl<L: Label> Lin<L, Int> {
         ensures table { OnOk result (IsCombination L.eq L.is_label whole self.new) }
         ensures held { OnOk result (AreHeld L.eq (pos 0) (FitsSigned w128) self.new) }
     {
-        self.add_borrowed(label, c)
+        self.add_owned(label.copy()?, c)
     }
 
     /// Adds a number at each of some labels.

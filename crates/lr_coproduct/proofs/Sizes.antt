@@ -38,7 +38,7 @@ later_size xs i j x y h at_x at_y l =
     let b = ap size (at_x.is ∙ get_or_default xs i x y at_x.within) in
     omega arith
 
--- ---- those of more than so many cells
+-- ---- those of more than that number of cells
 
 pub parted : (xs : List (List ℕ)) (cells : ℕ) → IsInPrintedOrder xs → IsPartitionedBy (λ (x : List ℕ). nat_lt cells (size x)) xs
 parted xs cells h i j d l k e =
@@ -56,12 +56,12 @@ counted_above xs cells count bound p = record {
 
 -- ---- sizes that do not add up
 
--- behind a partition of less than half the size of the shape
+-- after a partition of less than half the size of the shape
 pub behind_small : (cells : ℕ) (xs : List (List ℕ)) (m : ℕ) (inner : List ℕ) → IsInPrintedOrder xs → IsAt xs m inner → 2 * size inner < cells
     → (i : ℕ) (x : List ℕ) → IsAt xs i x → m ≤ i → size inner + size x ≡ cells → ⊥
 behind_small cells xs m inner h at small i x here l e = let s = later_size xs m i inner x h at here l in omega arith
 
--- behind those that are great enough
+-- after those that are great enough
 pub behind_range : (cells : ℕ) (xs : List (List ℕ)) (m : ℕ) (inner : List ℕ) (less count at : ℕ) → IsInPrintedOrder xs → IsAt xs m inner → 2 * size inner < cells
     → IsCountAbove xs less count → size inner + less < cells → min count m ≤ at
     → (i : ℕ) (x : List ℕ) → IsAt xs i x → at ≤ i → size inner + size x ≡ cells → ⊥

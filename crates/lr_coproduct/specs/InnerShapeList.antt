@@ -25,7 +25,7 @@ pub record IsAt {A : Type 0} (xs : List A) (i : ℕ) (x : A) : Type 0 where
   pub within : i < length xs
   pub is : x ≡ get_or xs i x
 
--- the first partitions of a list, as many as count, are those of more than so many cells
+-- the first partitions of a list, as many as count, are those of more than that number of cells
 pub record IsCountAbove (inners : List (List ℕ)) (cells count : ℕ) : Type 0 where
   pub bound : count ≤ length inners
   pub before : (i : ℕ) (inner : List ℕ) → IsAt inners i inner → i < count → cells < size inner

@@ -31,7 +31,7 @@ fn sort_shapes(shapes: &mut Vec<Partition>)
     shapes.sort_unstable_by(|a, b| a.cmp_printed(b));
 }
 
-/// How many partitions have more than so many cells. They stand first in the printed order.
+/// How many partitions have more than that number of cells. They stand first in the printed order.
 pub(crate) fn count_above(inners: &[Partition], cells: u16) -> usize
     requires { IsInPrintedOrder inners.now }
     ensures { IsCountAbove inners.now cells result }

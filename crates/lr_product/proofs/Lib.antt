@@ -1,5 +1,6 @@
 mod Agreeing
 mod Tables
+mod CountedStates
 mod Raising
 mod LetterSums
 pub mod Results
@@ -18,3 +19,4 @@ mod PastCoefficients
 mod ManyStarts
 mod Partial
 mod NothingLeft
+mod ExchangedFactors

@@ -1,7 +1,12 @@
 -- A number of a list raised by one, and the sum of the first numbers.
-use Rattle.std.proofs.Common.{◌≡◌, ℕ, zero, suc, ◌+◌, ◌-◌, ◌<◌, ◌≤◌, List, [], ◌∷◌, ◌++◌, length, take, get_or, set, length-append, refl, ap, ◌∙◌, arith}
+use Rattle.std.proofs.Common.{◌≡◌, ℕ, zero, suc, ◌+◌, ◌-◌, ◌<◌, ◌≤◌, Bool, true, false, cond, List, [], ◌∷◌, ◌++◌, length, take, get_or, set, length-append, refl, ap, ◌∙◌, arith}
+use Rattle.std.proofs.lemmas.Option.{slice_get_read, get_or_from_slice_get}
 use Rattle.sym_model.specs.Partition.{size}
-use Rattle.lr_product.specs.Extension.{raised}
+use Rattle.lr_product.specs.Extension.{raised, mark}
+
+-- a number that was read at an index
+pub read_number : (s : List ℕ) (i x : ℕ) → i < length s → x ≡ get_or s i x → get_or s i 0 ≡ x
+read_number s i x h e = get_or_from_slice_get s i x 0 (slice_get_read s (length s) i x refl h e)
 
 pub raised-set : (b : ℕ) (s : List ℕ) → set s b (get_or s b 0 + 1) ≡ raised (suc b) s
 raised-set zero [] = refl
@@ -68,3 +73,8 @@ raised-none (suc b) s h = absurd (omega arith)
 
 pub length-placed : (b : ℕ) (s w : List ℕ) → length (raised b s ++ w) ≡ length s + length w
 length-placed b s w = length-append (raised b s) w ∙ ap (λ k. k + length w) (length-raised b s)
+
+-- a letter takes one of the places for the letters of the column, where the column is kept
+pub width_placed : (kept : Bool) (b : ℕ) (s : List ℕ) (rest line width : ℕ) → line ≡ rest + 1 → length s + cond kept line 0 ≡ width → length (raised b s ++ mark kept b) + cond kept rest 0 ≡ width
+width_placed true b s rest line width e h = let l = length-placed b s (b ∷ []) in omega arith
+width_placed false b s rest line width e h = let l = length-placed b s [] in omega arith

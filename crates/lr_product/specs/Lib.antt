@@ -1,4 +1,5 @@
 pub mod WeighedSum
+pub mod StateCounts
 pub mod Capped
 pub mod Extension
 pub mod ColumnLine

@@ -14,12 +14,10 @@ ghost use Rattle.lr_product.specs.WeighedSum.{weighed, comes_to};
 ghost use Rattle.lr_product.specs.Capped.{Agree};
 
 use crate::columns::ways_by_columns;
-use crate::state::State;
-use crate::step::entry_at;
-use crate::table::{CAP, capped};
+use crate::states::{CAP, States};
+use crate::table::capped;
 use calc_base::SumFault;
 use coeff_rings::Int;
-use indexmap::IndexMap;
 use partitions::Partition;
 use std::alloc::Global;
 
@@ -104,7 +102,7 @@ fn count_inside(
 }
 
 /// The number of ways to come to a sum, or the cap where there are more.
-fn count_of(table: &IndexMap<State, u128>, parts: &[u16]) -> u128
+fn count_of(table: &States, parts: &[u16]) -> u128
     requires { ArePositive parts.now }
     ensures agrees { Agree result
         (weighed (length parts.now) (comes_to parts.now) table.now.entries) }
@@ -112,8 +110,8 @@ fn count_of(table: &IndexMap<State, u128>, parts: &[u16]) -> u128
 {
     let mut count: u128 = 0;
     for at in 0..table.len() {
-        let (state, ways) = entry_at(table, at);
-        if !begins_with(state.numbers(), parts) {
+        let (state, ways) = table.entry(at);
+        if !begins_with(state, parts) {
             continue;
         }
         count = capped(count.saturating_add(ways));

@@ -9,11 +9,10 @@ ghost use Rattle.lr_product.specs.WeighedSum.{weighed, over_states, unreached, V
 ghost use Rattle.lr_product.specs.Capped.{Agree};
 ghost use Rattle.lr_product.specs.ColumnLine.{column_line};
 
-use crate::state::State;
+use crate::states::States;
 use crate::step::with_column;
-use crate::table::add;
+use crate::table::Table;
 use calc_base::NoMemory;
-use indexmap::IndexMap;
 use partitions::Partition;
 use std::alloc::Global;
 
@@ -27,7 +26,7 @@ pub(crate) fn ways_by_columns(
     inner: &[u16],
     letters: u16,
     bound: &[u16],
-) -> Result<IndexMap<State, u128>, NoMemory>
+) -> Result<States, NoMemory>
     requires letters { letters ≤ 512 }
     requires start { IsPartition start.now }
     requires rows { rows start.now ≤ letters }
@@ -50,12 +49,12 @@ pub(crate) fn ways_by_columns(
 /// The table after all columns of a skew shape in `letters` letters, within a bound.
 pub(crate) fn with_columns(
     alloc: Global,
-    starts: IndexMap<State, u128>,
+    starts: States,
     outer: &Partition,
     inner: &[u16],
     letters: u16,
     bound: &[u16],
-) -> Result<IndexMap<State, u128>, NoMemory>
+) -> Result<States, NoMemory>
     requires letters { letters ≤ 512 }
     requires inside { contains outer.now inner.now ≡ true }
     requires size { size outer.now ≤ 4096 }
@@ -96,44 +95,44 @@ fn line_of(alloc: Global, outer: &[u16], inner: &[u16], column: u16) -> Result<V
 }
 
 /// The table with the start alone, padded with zeros, once and with no column.
-fn first_table(
-    alloc: Global,
-    start: &[u16],
-    letters: u16,
-) -> Result<IndexMap<State, u128>, NoMemory>
+fn first_table(alloc: Global, start: &[u16], letters: u16) -> Result<States, NoMemory>
     requires { rows start.now ≤ letters }
     ensures { IfOk result (λ table. (f : List ℕ → List ℕ → ℕ)
         → Agree (weighed letters f table.entries) (f (resize letters start.now) [])) }
 {
-    let mut table = IndexMap::new(alloc);
+    let mut table = Table::with_room(alloc, usize::from(letters), 1)?;
     add_start(alloc, &mut table, start, letters, 1)?;
-    Ok(table)
+    Ok(table.into_states())
 }
 
 /// Adds a count to that of a start, padded with zeros and with no column.
 pub(crate) fn add_start(
     alloc: Global,
-    table: &mut IndexMap<State, u128>,
+    table: &mut Table,
     start: &[u16],
     letters: u16,
     count: u128,
 ) -> Result<(), NoMemory>
     requires rows { rows start.now ≤ letters }
     requires count { count ≤ 2 ^ 127 }
-    ensures { OnOk result ((f : List ℕ → List ℕ → ℕ) → Agree (weighed letters f table.new.entries)
+    requires width { table.old.width ≡ letters }
+    ensures width { OnOk result (table.new.width ≡ table.old.width) }
+    ensures adds { OnOk result ((f : List ℕ → List ℕ → ℕ)
+        → Agree (weighed letters f table.new.entries)
         (weighed letters f table.old.entries + count * f (resize letters start.now) [])) }
 {
     let state = padded(alloc, start, letters)?;
-    add(table, &state, count)
+    table.add(&state, count)
 }
 
 /// The numbers with zeros after them, `len` in all.
-fn padded(alloc: Global, numbers: &[u16], len: u16) -> Result<State, NoMemory>
+fn padded(alloc: Global, numbers: &[u16], len: u16) -> Result<Vec<u16>, NoMemory>
     requires { length numbers.now ≤ len }
-    ensures { IfOk result (λ state. state ≡ resize len numbers.now) }
+    ensures { IfOk result (λ state. state.items ≡ resize len numbers.now) }
 {
-    let mut state = State::new(alloc, numbers)?;
-    while state.numbers().len() < usize::from(len) {
+    let mut state: Vec<u16> = Vec::new(alloc);
+    state.extend_from_slice(numbers)?;
+    while state.len() < usize::from(len) {
         state.push(0)?;
     }
     Ok(state)

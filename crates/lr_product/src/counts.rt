@@ -10,12 +10,9 @@ ghost use Rattle.lr_product.specs.WeighedSum.{weighed, unreached, comes_to};
 ghost use Rattle.lr_product.specs.Counts.{good_count, HasCounts, IsPastSomewhere};
 
 use crate::columns::ways_by_columns;
-use crate::state::State;
-use crate::step::entry_at;
-use crate::table::CAP;
+use crate::states::{CAP, States};
 use calc_base::SumFault;
 use coeff_rings::Int;
-use indexmap::IndexMap;
 use linear_combinations::{Lin, Terms};
 use partitions::Partition;
 use std::alloc::Global;
@@ -44,7 +41,7 @@ pub(crate) fn good_counts(
         → IsPastSomewhere letters (good_count letters start.now outer.now inner.now) }
 {
     let table = ways_by_columns(alloc, start, outer, inner, letters, &[])?;
-    terms_of_table(alloc, &table, letters)
+    terms_of_table(alloc, table, letters)
 }
 
 /// The list with no terms.
@@ -59,27 +56,28 @@ pub(crate) fn no_terms(alloc: Global) -> Result<Terms<Partition, Int>, SumFault>
 /// The numbers of ways to come to each sum, by the partition that the sum is.
 pub(crate) fn terms_of_table(
     alloc: Global,
-    table: &IndexMap<State, u128>,
+    table: States,
     letters: u16,
 ) -> Result<Terms<Partition, Int>, SumFault>
     requires letters { letters ≤ 512 }
-    requires reached { weighed letters (unreached letters 4096) table.now.entries ≡ 0 }
+    requires reached { weighed letters (unreached letters 4096) table.entries ≡ 0 }
     ensures counts { IfOk result (HasCounts letters
-        (λ parts. weighed letters (comes_to parts) table.now.entries)) }
+        (λ parts. weighed letters (comes_to parts) table.entries)) }
     ensures fits { OnOk result ((parts : List ℕ)
-        → weighed letters (comes_to parts) table.now.entries < 2 ^ 127) }
+        → weighed letters (comes_to parts) table.entries < 2 ^ 127) }
     ensures large { IsErrOf result SumFault.Large
-        → IsPastSomewhere letters (λ parts. weighed letters (comes_to parts) table.now.entries) }
+        → IsPastSomewhere letters (λ parts. weighed letters (comes_to parts) table.entries) }
 {
     let mut terms: Lin<Partition, Int> = Lin::new(alloc);
     for at in 0..table.len() {
-        let (state, ways) = entry_at(table, at);
+        let (state, ways) = table.entry(at);
         if ways == 0 {
             continue;
         }
-        let sum = &state.numbers()[..usize::from(letters)];
+        let sum = &state[..usize::from(letters)];
         add_sum(alloc, &mut terms, sum, ways)?;
     }
+    drop(table);
     Ok(terms.sorted_terms()?)
 }
 

@@ -1,5 +1,6 @@
 //! Columns added letter by letter.
-ghost use Rattle.std.specs.Prelude.{◌≡◌, ℕ, ◌+◌, ◌*◌, ◌^◌, ◌≤◌, List, length, take, true, OnOk};
+ghost use Rattle.std.specs.Prelude.{◌≡◌, ℕ, ◌+◌, ◌*◌, ◌^◌, ◌≤◌, List, length, take, cond, true};
+ghost use Rattle.std.specs.Prelude.{OnOk};
 ghost use Rattle.sym_model.specs.GoodTableau.{is_falling};
 ghost use Rattle.sym_model.specs.Partition.{size};
 ghost use Rattle.lr_product.specs.WeighedSum.{weighed, unreached, VanishesOutside};
@@ -7,10 +8,8 @@ ghost use Rattle.lr_product.specs.Capped.{Agree};
 ghost use Rattle.lr_product.specs.Extension.{extended};
 
 use crate::letters::{end_of_letters, has_room, least_letter, place, rest_of, take_back};
-use crate::state::State;
-use crate::table::add;
+use crate::table::Table;
 use calc_base::NoMemory;
-use indexmap::IndexMap;
 
 /// What stays the same while a column is added.
 #[derive(Clone, Copy)]
@@ -30,8 +29,8 @@ pub(crate) struct Column {
 /// The bound is the greatest that each place of the sum may be, as far as it goes. A letter with
 /// which the sum would not fall, or would leave the bound, is skipped, as no later letter mends it.
 pub(crate) fn extend(
-    table: &mut IndexMap<State, u128>,
-    state: &mut State,
+    table: &mut Table,
+    state: &mut Vec<u16>,
     line: &[bool],
     right: &[u16],
     above: u16,
@@ -42,27 +41,30 @@ pub(crate) fn extend(
     requires letters { column.letters ≤ 512 }
     requires bound { length bound.now ≤ column.letters }
     requires above { above ≤ column.letters }
-    requires long { column.letters ≤ length state.old }
-    requires falls { is_falling (take column.letters state.old) ≡ true }
-    requires size { size (take column.letters state.old) + length line.now ≤ 4096 }
-    ensures same { OnOk result (state.new ≡ state.old) }
+    requires long { column.letters ≤ length state.old.items }
+    requires width { length state.old.items + cond column.is_kept (length line.now) 0
+        ≡ table.old.width }
+    requires falls { is_falling (take column.letters state.old.items) ≡ true }
+    requires size { size (take column.letters state.old.items) + length line.now ≤ 4096 }
+    ensures same { OnOk result (state.new.items ≡ state.old.items) }
+    ensures width { OnOk result (table.new.width ≡ table.old.width) }
     ensures adds { OnOk result ((f : List ℕ → List ℕ → ℕ) → VanishesOutside bound.now f
         → Agree (weighed column.letters f table.new.entries)
         (weighed column.letters f table.old.entries
         + column.ways * extended column.is_kept column.letters line.now right.now above f
-        state.old)) }
+        state.old.items)) }
     ensures reached { OnOk result
-        ((m : ℕ) → size (take column.letters state.old) + length line.now ≤ m
+        ((m : ℕ) → size (take column.letters state.old.items) + length line.now ≤ m
         → weighed column.letters (unreached column.letters m) table.old.entries ≡ 0
         → weighed column.letters (unreached column.letters m) table.new.entries ≡ 0) }
 {
     let Some((cell, rest)) = line.split_first() else {
-        return add(table, state, column.ways);
+        return table.add(state, column.ways);
     };
     let low = least_letter(*cell, above);
     let end = end_of_letters(column.letters, *cell, rest.len(), right, above);
     for letter in low..end {
-        if !has_room(state.numbers(), letter, bound) {
+        if !has_room(state, letter, bound) {
             continue;
         }
         let len = place(state, letter, column.is_kept)?;

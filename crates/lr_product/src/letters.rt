@@ -4,7 +4,6 @@ ghost use Rattle.std.specs.Prelude.{length, drop, slice_index, OnOk, IfOk};
 ghost use Rattle.lr_product.specs.Extension.{raised, mark, can_rise as can_rise_at};
 ghost use Rattle.lr_product.specs.Extension.{least_letter as least_letter_of, letters_end};
 
-use crate::state::State;
 use calc_base::NoMemory;
 
 /// Whether a letter may be placed: the sum still falls with it, and stays within the bound.
@@ -66,13 +65,14 @@ pub(crate) fn rest_of(right: &[u16]) -> &[u16]
 
 /// Raises the sum at a letter's place, and where the column is kept puts the letter, or a 0 outside
 /// the shape, at its end. It gives the length before.
-pub(crate) fn place(state: &mut State, letter: u16, is_kept: bool) -> Result<usize, NoMemory>
-    requires within { letter ≤ length state.old }
-    requires room { 0 < letter → slice_index state.old (letter - 1) < 2 ^ 16 - 1 }
-    ensures state { OnOk result (state.new ≡ raised letter state.old ++ mark is_kept letter) }
-    ensures length { IfOk result (λ len. len ≡ length state.old) }
+pub(crate) fn place(state: &mut Vec<u16>, letter: u16, is_kept: bool) -> Result<usize, NoMemory>
+    requires within { letter ≤ length state.old.items }
+    requires room { 0 < letter → slice_index state.old.items (letter - 1) < 2 ^ 16 - 1 }
+    ensures state { OnOk result (state.new.items
+        ≡ raised letter state.old.items ++ mark is_kept letter) }
+    ensures length { IfOk result (λ len. len ≡ length state.old.items) }
 {
-    let len = state.numbers().len();
+    let len = state.len();
     raise(state, letter);
     if is_kept {
         state.push(letter)?;
@@ -81,29 +81,29 @@ pub(crate) fn place(state: &mut State, letter: u16, is_kept: bool) -> Result<usi
 }
 
 /// Raises the sum at a letter's place.
-fn raise(state: &mut State, letter: u16)
-    requires within { letter ≤ length state.old }
-    requires room { 0 < letter → slice_index state.old (letter - 1) < 2 ^ 16 - 1 }
-    ensures { state.new ≡ raised letter state.old }
+fn raise(state: &mut Vec<u16>, letter: u16)
+    requires within { letter ≤ length state.old.items }
+    requires room { 0 < letter → slice_index state.old.items (letter - 1) < 2 ^ 16 - 1 }
+    ensures { state.new.items ≡ raised letter state.old.items }
 {
     if letter > 0 {
         let at = usize::from(letter) - 1;
-        let number = state.numbers()[at];
-        state.set(at, number + 1);
+        let number = state[at];
+        state[at] = number + 1;
     }
 }
 
 /// Takes a letter back that was placed when the state had this length.
-pub(crate) fn take_back(state: &mut State, len: usize, letter: u16)
-    requires within { letter ≤ length state.old }
-    ensures { (before after : List ℕ) → state.old ≡ raised letter before ++ after
+pub(crate) fn take_back(state: &mut Vec<u16>, len: usize, letter: u16)
+    requires within { letter ≤ length state.old.items }
+    ensures { (before after : List ℕ) → state.old.items ≡ raised letter before ++ after
         → length before ≡ len → letter ≤ len
-        → state.new ≡ before }
+        → state.new.items ≡ before }
 {
     if letter > 0 {
         let at = usize::from(letter) - 1;
-        let number = state.numbers()[at];
-        state.set(at, number.saturating_sub(1));
+        let number = state[at];
+        state[at] = number.saturating_sub(1);
     }
     state.truncate(len);
 }

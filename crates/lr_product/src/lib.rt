@@ -23,7 +23,7 @@ mod letters;
 mod next_factor;
 mod product;
 mod skew_expansion;
-mod state;
+mod states;
 mod step;
 mod table;
 

@@ -16,10 +16,10 @@ ghost use Rattle.lr_product.specs.WeighedSum.{started, weighed};
 
 use crate::columns::{add_start, with_columns};
 use crate::counts::terms_of_table;
-use crate::state::State;
+use crate::states::States;
+use crate::table::Table;
 use calc_base::{NoMemory, SumFault};
 use coeff_rings::Int;
-use indexmap::IndexMap;
 use linear_combinations::Terms;
 use partitions::Partition;
 use std::alloc::Global;
@@ -42,13 +42,13 @@ fn starts_of(
     alloc: Global,
     product: &Terms<Partition, Int>,
     letters: u16,
-) -> Result<IndexMap<State, u128>, NoMemory>
+) -> Result<States, NoMemory>
     requires rows { (t : List ℕ × ℤ) → Among t product.now → rows t.0 ≤ letters }
     requires counts { (t : List ℕ × ℤ) → Among t product.now → pos 1 ≤ℤ t.1 }
     ensures { IfOk result (λ table. (f : List ℕ → List ℕ → ℕ)
         → Agree (weighed letters f table.entries) (started letters f product.now)) }
 {
-    let mut table = IndexMap::new(alloc);
+    let mut table = Table::with_room(alloc, usize::from(letters), product.len())?;
     for (label, c) in product.iter() {
         add_start(
             alloc,
@@ -58,11 +58,11 @@ fn starts_of(
             c.get().unsigned_abs(),
         )?;
     }
-    Ok(table)
+    Ok(table.into_states())
 }
 
-/// The list of the products of all labels and a factor in so many variables, each times the count
-/// of its label. More letters than a label and the factor have rows together count no more
+/// The list of the products of all labels and a factor in that number of variables, each times the
+/// count of its label. More letters than a label and the factor have rows together count no more
 /// tableaux.
 ///
 /// It is refused as `Large` exactly where a coefficient is past 2^127 - 1.
@@ -85,5 +85,5 @@ pub(crate) fn times_factor(
     let letters = variables.min(most_rows(product) + next.rows());
     let starts = starts_of(alloc, product, letters)?;
     let table = with_columns(alloc, starts, next, &[], letters, &[])?;
-    terms_of_table(alloc, &table, letters)
+    terms_of_table(alloc, table, letters)
 }

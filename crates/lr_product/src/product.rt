@@ -63,9 +63,34 @@ pub fn mult(
 }
 
 /// The counts of good tableaux of the shape `right` for the start `left`, for the partitions with
-/// no more rows than there are variables. With more letters than both factors have rows there are
-/// no more tableaux.
+/// no more rows than there are variables. The factor with fewer cells is the shape, as the two may
+/// be exchanged.
 pub(crate) fn counts_in(
+    alloc: Global,
+    left: &Partition,
+    right: &Partition,
+    variables: u16,
+) -> Result<Terms<Partition, Int>, SumFault>
+    requires sizes { size left.now + size right.now ≤ 4096 }
+    requires variables { variables ≤ 512 }
+    ensures counts { IfOk result (HasCounts variables
+        (product_count variables left.now right.now)) }
+    ensures fits { OnOk result ((parts : List ℕ) → IsPartition parts
+        → number_of_rows parts ≤ variables
+        → product_count variables left.now right.now parts < 2 ^ 127) }
+    ensures large { IsErrOf result SumFault.Large
+        → IsPastSomewhere variables (product_count variables left.now right.now) }
+    ensures factors { IsPartition left.now × IsPartition right.now }
+{
+    if left.size() < right.size() {
+        return counts_from(alloc, right, left, variables);
+    }
+    counts_from(alloc, left, right, variables)
+}
+
+/// The same counts, with these two in their places. With more letters than both factors have rows
+/// there are no more tableaux.
+fn counts_from(
     alloc: Global,
     left: &Partition,
     right: &Partition,

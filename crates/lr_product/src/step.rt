@@ -1,6 +1,6 @@
 //! One more column added to each state of a table.
 ghost use Rattle.std.specs.Prelude.{◌≡◌, ℕ, ◌+◌, ◌-◌, ◌*◌, ◌^◌, ◌<◌, ◌≤◌, List, length, take};
-ghost use Rattle.std.specs.Prelude.{slice_get, true, OnOk, IfOk, Some};
+ghost use Rattle.std.specs.Prelude.{cond, true, OnOk, IfOk};
 ghost use Rattle.sym_model.specs.GoodTableau.{is_falling};
 ghost use Rattle.sym_model.specs.Partition.{size};
 ghost use Rattle.lr_product.specs.WeighedSum.{at_state, weighed, next_states, seen, unreached};
@@ -8,21 +8,20 @@ ghost use Rattle.lr_product.specs.WeighedSum.{VanishesOutside};
 ghost use Rattle.lr_product.specs.Capped.{Agree};
 
 use crate::extension::{Column, extend};
-use crate::state::State;
-use crate::table::capped;
+use crate::states::States;
+use crate::table::{Table, capped};
 use calc_base::NoMemory;
-use indexmap::IndexMap;
 use std::alloc::Global;
 
 /// The table after one more column of this line in `letters` letters, within a bound.
 pub(crate) fn with_column(
     alloc: Global,
-    table: &IndexMap<State, u128>,
+    table: &States,
     letters: u16,
     line: &[bool],
     bound: &[u16],
     is_kept: bool,
-) -> Result<IndexMap<State, u128>, NoMemory>
+) -> Result<States, NoMemory>
     requires letters { letters ≤ 512 }
     requires bound { length bound.now ≤ letters }
     requires reached { weighed letters
@@ -35,33 +34,39 @@ pub(crate) fn with_column(
         (λ next. (m : ℕ) → weighed letters (unreached letters m) table.now.entries ≡ 0
         → weighed letters (unreached letters (m + length line.now)) next.entries ≡ 0) }
 {
-    let mut next = IndexMap::new(alloc);
+    let width = width_of(letters, line, is_kept);
+    // Where the room is a power of two, a table mostly takes the memory of the last but one.
+    let room = table.len().next_power_of_two();
+    let mut next = Table::with_room(alloc, width, room)?;
+    let mut reached: Vec<u16> = Vec::new(alloc);
     for at in 0..table.len() {
-        let (state, ways) = entry_at(table, at);
+        let (state, ways) = table.entry(at);
         let column = Column {
             letters,
             is_kept,
             ways: capped(ways),
         };
-        add_columns(alloc, &mut next, state, line, bound, column)?;
+        add_columns(&mut reached, &mut next, state, line, bound, column)?;
     }
-    Ok(next)
+    Ok(next.into_states())
 }
 
-/// The state and the count at an index.
-pub(crate) fn entry_at(table: &IndexMap<State, u128>, at: usize) -> (&State, u128)
-    requires { at < length table.now.entries }
-    ensures { slice_get table.now.entries at ≡ Some (result.0.now, result.1) }
+/// How many numbers a state has after a column of this line.
+fn width_of(letters: u16, line: &[bool], is_kept: bool) -> usize
+    requires { length line.now ≤ 4096 }
+    ensures { result ≡ letters + cond is_kept (length line.now) 0 }
 {
-    let (state, ways) = table.get_index(at).unwrap();
-    (state, *ways)
+    if is_kept {
+        return usize::from(letters) + line.len();
+    }
+    usize::from(letters)
 }
 
-/// Adds the ways to put a column next to a state.
+/// Adds the ways to put a column next to a state. The states are reached in the buffer `reached`.
 fn add_columns(
-    alloc: Global,
-    next: &mut IndexMap<State, u128>,
-    state: &State,
+    reached: &mut Vec<u16>,
+    next: &mut Table,
+    state: &[u16],
     line: &[bool],
     bound: &[u16],
     column: Column,
@@ -69,10 +74,12 @@ fn add_columns(
     requires letters { column.letters ≤ 512 }
     requires bound { length bound.now ≤ column.letters }
     requires ways { column.ways ≤ 2 ^ 127 }
+    requires width { column.letters + cond column.is_kept (length line.now) 0 ≡ next.old.width }
     requires long { 0 < column.ways → column.letters ≤ length state.now }
     requires falls { 0 < column.ways → is_falling (take column.letters state.now) ≡ true }
     requires size { 0 < column.ways
         → size (take column.letters state.now) + length line.now ≤ 4096 }
+    ensures width { OnOk result (next.new.width ≡ next.old.width) }
     ensures adds { OnOk result ((f : List ℕ → List ℕ → ℕ) → VanishesOutside bound.now f
         → Agree (weighed column.letters f next.new.entries)
         (weighed column.letters f next.old.entries
@@ -86,7 +93,8 @@ fn add_columns(
     if column.ways == 0 {
         return Ok(());
     }
-    let (sum, right) = state.numbers().split_at(usize::from(column.letters));
-    let mut reached = State::new(alloc, sum)?;
-    extend(next, &mut reached, line, right, 0, bound, column)
+    let (sum, right) = state.split_at(usize::from(column.letters));
+    reached.clear();
+    reached.extend_from_slice(sum)?;
+    extend(next, reached, line, right, 0, bound, column)
 }

@@ -1,44 +1,144 @@
 //! A table from states to counts.
-ghost use Rattle.std.specs.Prelude.{◌≡◌, ℕ, ◌+◌, ◌*◌, ◌^◌, ◌<◌, ◌≤◌, List, ◌∷◌, [], ◌++◌, min};
-ghost use Rattle.std.specs.Prelude.{length, slice_get, OnOk};
+ghost use Rattle.std.specs.Prelude.{◌≡◌, ℕ, ◌+◌, ◌*◌, ◌^◌, ◌<◌, ◌≤◌, List, ◌∷◌, [], ◌++◌};
+ghost use Rattle.std.specs.Prelude.{length, slice_get, OnOk, IfOk, Some};
+ghost use Rattle.std.specs.Map.{keys_of};
 ghost use Rattle.lr_product.specs.WeighedSum.{at_state, weighed};
 ghost use Rattle.lr_product.specs.Capped.{Agree};
 
-use crate::state::State;
-use calc_base::NoMemory;
-use indexmap::IndexMap;
+use crate::states::{CAP, States};
+use calc_base::{NoMemory, mixed};
+use std::alloc::Global;
+use std::marker::Model;
 
-/// Counts from here on are kept as this number.
-pub(crate) const CAP: u128 = 1 << 127;
+/// The odd number next to 2^64 divided by the golden ratio, which spreads hashes.
+const SPREAD: u64 = 0x9E37_79B9_7F4A_7C15;
 
-/// Adds a count to that of a state, which is looked up once.
-pub(crate) fn add(
-    table: &mut IndexMap<State, u128>,
-    state: &State,
-    count: u128,
-) -> Result<(), NoMemory>
-    requires { count ≤ 2 ^ 127 }
-    ensures { OnOk result ((n : ℕ) (f : List ℕ → List ℕ → ℕ)
-        → Agree (weighed n f table.new.entries)
-        (weighed n f table.old.entries + count * at_state n f state.now)) }
-{
-    let (at, before) = table.insert_full(state.copy()?, count)?;
-    if let Some(had) = before {
-        add_at(table, at, had);
-    }
-    Ok(())
+/// States with their counts, and slots by which a state is found.
+#[derive(Drop)]
+pub(crate) struct Table {
+    states: States,
+    /// In the slot of a state stands its index and one more, in a free one 0. A state is in the
+    /// first slot from that of its hash on that was free. At most half of the slots are taken.
+    slots: Vec<u32>,
 }
 
-/// Adds a count to the one at an index.
-fn add_at(table: &mut IndexMap<State, u128>, at: usize, count: u128)
-    requires { at < length table.old.entries }
-    ensures { (key : List ℕ) (had : ℕ) → slice_get table.old.entries at ≡ Some (key, had)
-        → (n : ℕ) (f : List ℕ → List ℕ → ℕ)
-        → Agree (weighed n f table.new.entries)
-        (weighed n f table.old.entries + count * at_state n f key) }
+impl Model for Table {
+    ghost use Rattle.lr_product.specs.StateCounts.{StateCounts};
+
+    ghost Value = { StateCounts };
+
+    ghost view = { λ t. t.states };
+}
+
+impl Table {
+    /// The table of no states of this length, with room for so many.
+    pub(crate) fn with_room(alloc: Global, width: usize, room: usize) -> Result<Table, NoMemory>
+        ensures width { IfOk result (λ t. t.width ≡ width) }
+        ensures none { IfOk result (λ t. t.entries ≡ []) }
+    {
+        Ok(Table {
+            states: States::with_room(alloc, width, room)?,
+            slots: vec![in alloc; 0; room.saturating_mul(2).max(16)]?,
+        })
+    }
+
+    /// Adds a count to that of a state.
+    pub(crate) fn add(&mut self, state: &[u16], count: u128) -> Result<(), NoMemory>
+        requires width { length state.now ≡ self.old.width }
+        requires count { count ≤ 2 ^ 127 }
+        ensures width { OnOk result (self.new.width ≡ self.old.width) }
+        ensures adds { OnOk result ((n : ℕ) (f : List ℕ → List ℕ → ℕ)
+            → Agree (weighed n f self.new.entries)
+            (weighed n f self.old.entries + count * at_state n f state.now)) }
+    {
+        match find(&self.slots, &self.states, state) {
+            Ok(at) => {
+                self.states.add_at(at, count);
+                Ok(())
+            }
+            Err(slot) => self.put(slot, state, count),
+        }
+    }
+
+    /// Puts a new state with its count into a free slot, and makes more slots where half of them
+    /// are taken then.
+    fn put(&mut self, slot: usize, state: &[u16], count: u128) -> Result<(), NoMemory>
+        requires { length state.now ≡ self.old.width }
+        ensures width { OnOk result (self.new.width ≡ self.old.width) }
+        ensures entries { OnOk result
+            (self.new.entries ≡ self.old.entries ++ (state.now, count) ∷ []) }
+    {
+        note(&mut self.slots, slot, self.states.len());
+        self.states.push(state, count)?;
+        if self.slots.len() / 2 <= self.states.len() {
+            let len = self.slots.len().saturating_mul(2);
+            self.slots = slots_of(*self.slots.allocator(), &self.states, len)?;
+        }
+        Ok(())
+    }
+
+    /// The states with their counts.
+    pub(crate) fn into_states(self) -> States
+        ensures { result ≡ self }
+    {
+        let Table {
+            states,
+            slots: _slots,
+        } = self;
+        states
+    }
+}
+
+/// The index of a state, or else the slot for it.
+fn find(slots: &[u32], states: &States, state: &[u16]) -> Result<usize, usize>
+    ensures within { IfOk result (λ at. at < length states.now.entries) }
+    ensures state { IfOk result (λ at. slice_get (keys_of states.now.entries) at
+        ≡ Some state.now) }
 {
-    let had = table[at];
-    table[at] = had.saturating_add(count).min(CAP);
+    let mut slot = first_slot(state, slots.len());
+    for _ in 0..slots.len() {
+        let Some(taken) = slots.get(slot) else {
+            slot = 0;
+            continue;
+        };
+        if *taken == 0 {
+            break;
+        }
+        let at = *taken as usize - 1;
+        if states.is_at(at, state) {
+            return Ok(at);
+        }
+        slot += 1;
+    }
+    Err(slot)
+}
+
+/// The slot of that number of in which the search for a state begins.
+fn first_slot(state: &[u16], len: usize) -> usize {
+    let hash = mixed(state).wrapping_mul(SPREAD) >> 32;
+    (hash.wrapping_mul(len as u64) >> 32) as usize
+}
+
+/// Notes in a slot the index of a state. States past the first 2^32 have no slots.
+fn note(slots: &mut [u32], slot: usize, at: usize) {
+    let Ok(number) = u32::try_from(at.saturating_add(1)) else {
+        return;
+    };
+    if let Some(place) = slots.get_mut(slot) {
+        *place = number;
+    }
+}
+
+/// So many slots, with these states in them.
+fn slots_of(alloc: Global, states: &States, len: usize) -> Result<Vec<u32>, NoMemory> {
+    let mut slots: Vec<u32> = vec![in alloc; 0; len]?;
+    for at in 0..states.len() {
+        let (state, _) = states.entry(at);
+        if let Err(slot) = find(&slots, states, state) {
+            note(&mut slots, slot, at);
+        }
+    }
+    Ok(slots)
 }
 
 /// The count, or the cap where it is past that.

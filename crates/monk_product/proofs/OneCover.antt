@@ -1,7 +1,6 @@
 -- A permutation is a cover of another at a place at most once: its letter at the place tells which other place it was
 -- exchanged with.
 --     one_cover      it stands at most once in both lists of covers
---     total_count    how often it stands there, as a sum
 use Rattle.std.proofs.Common.{◌≡◌, ℕ, zero, suc, ◌+◌, ◌-◌, ◌<◌, ◌≤◌, ◌==◌, max, Bool, true, false, cond, List, [], ◌∷◌, map, length, get_or, refl, sym, ap, ◌∙◌, subst, inl, inr, arith, length-append, eqb-true, filter}
 use Rattle.std.proofs.lemmas.Bool.{cases_lt, eq-eqb}
 use Rattle.sym_model.specs.Sum.{Among, Once}

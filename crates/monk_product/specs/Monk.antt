@@ -15,7 +15,7 @@ use Rattle.sym_model.specs.WholeTerms.{WholeTerms}
 abbrev pub IsTable : WholeTerms → Type 0
 IsTable terms = IsCombination (pointwise nat_eq) is_permutation_label whole terms
 
--- each label has at most so many letters
+-- each label has at most that number of letters
 abbrev pub AreShort : ℕ → WholeTerms → Type 0
 AreShort most terms = (t : List ℕ × ℤ) → Among t terms → length t.0 ≤ most
 

@@ -1,6 +1,5 @@
 -- Lists of terms in m that are the cleared value of an expression (specs/ExpressionTerms).
 --     cleared-number .. cleared-product      what a list is for each kind of expression, from lists for its parts
---     list-elementary, -complete, -power_sum the lists of e_k, h_k and p_k
 use Rattle.std.proofs.Common.{◌≡◌, ℕ, ◌/◌, List, [], ◌∷◌, sym, ◌∙◌, ap, ap₂, ℤ, pos, ◌+ℤ◌, ◌*ℤ◌, neg_ℤ}
 use Rattle.sym_model.specs.Polynomial.{Poly, coefficient, Same, one, pair, plus, scale, negate, times}
 use Rattle.sym_model.specs.Partition.{IsPartition}

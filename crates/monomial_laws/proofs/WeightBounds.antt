@@ -2,7 +2,6 @@
 --     coefficient_within_factorial   a coefficient is at most N times the factorial of the degree
 --     coefficient_within_growth      a coefficient is at most N times the growth at the degree
 --     product_within_growth          so is a coefficient of the product of two lists with absolute values
---     weight-sum_left .. -product_right      no part of an expression has a greater weight than the whole
 use Rattle.std.proofs.Common.{◌≡◌, ◌⊎◌, ℕ, zero, suc, ◌+◌, ◌-◌, ◌*◌, ◌/◌, ◌^◌, ◌<◌, ◌≤◌, cond, List, [], ◌∷◌, length, sym, ◌∙◌, ap, ap₂, subst, refl, inl, inr, arith, ℤ, pos, ◌+ℤ◌, ◌*ℤ◌}
 use Rattle.std.specs.Prelude.{nat_abs, ◌≤ℤ◌}
 use Rattle.std.proofs.lemmas.Int.{ints}

@@ -48,7 +48,7 @@ abbrev pub repeats : List ℕ → ℕ
 repeats [] = 1
 repeats (v ∷ μ) = suc (times_in v μ) * repeats μ
 
-repeats-positive : (μ : List ℕ) → 0 < repeats μ
+pub repeats-positive : (μ : List ℕ) → 0 < repeats μ
 repeats-positive [] = omega arith
 repeats-positive (v ∷ μ) = mul-pos (let p : 0 < suc (times_in v μ) = omega arith in p)
     (repeats-positive μ)
@@ -90,7 +90,7 @@ placings-none (c ∷ ν) =
 pub placings-first : (ν : List ℕ) → placings [] ν ≡ 1
 placings-first ν = let e = placings-total [] ν ∙ placings-none ν in omega (arith, ints)
 
-below_first : (v : ℕ) (μ : List ℕ) → Falls (v ∷ μ) → (w : ℕ) → Among w μ → w ≤ v
+pub below_first : (v : ℕ) (μ : List ℕ) → Falls (v ∷ μ) → (w : ℕ) → Among w μ → w ≤ v
 below_first v [] f w m = absurd m
 below_first v (a ∷ μ) f w (inl e) = omega (arith, f.0)
 below_first v (a ∷ μ) f w (inr m) = omega (arith, f.0, below_first a μ f.1 w m)

@@ -1,5 +1,4 @@
 -- What both parts of a split have together, and the first part beside the whole.
---     sizes-splits      the sizes add up
 --     counts-splits     the first part has at most as many numbers from k on
 --     counts-near       and, with a second part of zeros and ones, as many from k on as the whole from k + 1 on
 --     some_split        a count that is not 0 is of some split

@@ -27,7 +27,7 @@ pub record AreFactors (shapes : List (List ℕ)) : Type 0 where
 abbrev pub AreTooBig : List (List ℕ) → Type 0
 AreTooBig shapes = (4096 < cells_of shapes) ⊎ (512 < rows_of shapes)
 
--- the shapes are factors, with so many cells and rows
+-- the shapes are factors, with that number of cells and rows
 pub record HasSums (shapes : List (List ℕ)) (cells rows : ℕ) : Type 0 where
   pub factors : AreFactors shapes
   pub cells_are : cells ≡ cells_of shapes

@@ -8,7 +8,7 @@ pub record IsWithinLimits (parts : List ℕ) : Type 0 where
   pub few : rows parts ≤ 512
   pub small : size parts ≤ 4096
 
--- the same, and its cells are so many
+-- the same, and the number of its cells
 pub record HasCells (parts : List ℕ) (cells : ℕ) : Type 0 where
   pub limits : IsWithinLimits parts
   pub cells_are : cells ≡ size parts

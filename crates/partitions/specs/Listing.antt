@@ -5,7 +5,7 @@ use Rattle.std.specs.Prelude.{length, take}
 use Rattle.sym_model.specs.Partition.{ArePositive, size}
 use Rattle.sym_model.specs.PartitionList.{partitions_within}
 
--- the first partition of a size with no part above `most` and at most so many rows:
+-- the first partition of a size with no part above `most` and at most that number of rows:
 -- each part as great as it can be
 unfoldable pub greatest_within : ℕ → ℕ → ℕ → List ℕ
 greatest_within zero most rows = []

@@ -2,7 +2,6 @@
 use Rattle.std.proofs.Common.{◌≡◌, ℕ, zero, suc, ◌+◌, ◌-◌, ◌≤◌, List, [], ◌∷◌, length, refl, ap, arith}
 use Rattle.sym_model.specs.PlaceOrders.{inversions}
 use Rattle.schubert_laws.proofs.FixedTails.{pairs}
-pub use Rattle.schubert_laws.proofs.FixedTails.{pairs as pairs_upto}
 use Rattle.sym_model.proofs.Lists.{smaller-within}
 
 inversions_within : (w : List ℕ) → inversions w ≤ pairs (length w)

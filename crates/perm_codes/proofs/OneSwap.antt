@@ -1,7 +1,9 @@
 -- How many inversions a list has after two of its letters changed places: where the first is the smaller, one more and
--- two for each letter between them in place and in size; otherwise fewer.
-use Rattle.std.proofs.Common.{◌≡◌, ℕ, zero, suc, ◌+◌, ◌-◌, ◌*◌, ◌<◌, ◌≤◌, ◌&&◌, ◌||◌, ◌==◌, nat_lt, Bool, true, false, not, List, [], ◌∷◌, length, take, drop, get_or, set, refl, sym, ap, ap₂, ◌∙◌, subst, arith, cond, inl, inr, eq-eqb, add-one}
+-- two for each letter between them in place and in size; otherwise as many fewer.
+use Rattle.std.proofs.Common.{◌≡◌, ℕ, zero, suc, ◌+◌, ◌-◌, ◌*◌, ◌<◌, ◌≤◌, ◌&&◌, ◌||◌, ◌==◌, nat_lt, Bool, true, false, not, List, [], ◌∷◌, length, take, drop, get_or, set, refl, sym, ap, ap₂, ◌∙◌, subst, arith, cond, inl, inr, eq-eqb, add-one, count_by}
 use Rattle.std.specs.List.{swap, list_any}
+use Rattle.std.proofs.lemmas.List.{take-set-le}
+use Rattle.std.proofs.lemmas.List.Sums.{sum_by-cons}
 use Rattle.std.proofs.lemmas.Bool.{cases_lt, lt-ltb, ne_eqb}
 use Rattle.sym_model.specs.Sum.{Among, Once}
 use Rattle.sym_model.specs.PlaceOrders.{smaller, inversions}
@@ -17,9 +19,7 @@ lies_between low high a = nat_lt low a && nat_lt a high
 
 -- how many of the first n letters do
 abbrev between : ℕ → ℕ → ℕ → List ℕ → ℕ
-between low high zero w = 0
-between low high (suc n) [] = 0
-between low high (suc n) (a ∷ w) = cond (lies_between low high a) 1 0 + between low high n w
+between low high n w = count_by (lies_between low high) (take n w)
 
 within_both : (low high a : ℕ) → low < a → a < high → cond {A = ℕ} (lies_between low high a) 1 0 ≡ 1
 within_both low high a h l = ap₂ (λ s t. cond {A = ℕ} (s && t) 1 0) (lt-ltb low a h) (lt-ltb a high l)
@@ -73,6 +73,7 @@ first_swapped x (suc b) (z ∷ w) l o h =
     let r = first_swapped x b w (omega arith) (λ m. o.0 (inr m), o.1.1) h in
     let s = smaller_swap z zero (suc b) (x ∷ w) in
     let n = one_letter x (get_or w b x) z h (λ e. o.0 (inl e)) (λ e. o.1.0 (subst (λ v. Among v w) (sym e) (among_get b x w (omega arith)))) in
+    let k = sum_by-cons (λ a. cond (lies_between x (get_or w b x) a) 1 0) z (take b w) in
     omega arith
 
 -- two letters of a list, with n letters between them, the first the smaller
@@ -92,17 +93,44 @@ swapped_rising (suc a) (suc b) n d (x ∷ w) e l o h =
     let s = smaller_swap x a b w in
     omega arith
 
+-- the letters between them stay
+same_between : (a b n : ℕ) (w : List ℕ) → b ≡ suc a + n → take n (drop (suc a) (swap_at a b w)) ≡ take n (drop (suc a) w)
+same_between a b n [] e = refl
+same_between a zero n (x ∷ w) e = absurd (omega arith)
+same_between zero (suc b) n (x ∷ w) e = take-set-le n w b x (omega arith)
+same_between (suc a) (suc b) n (x ∷ w) e = same_between a b n w (omega arith)
+
 -- the first the greater
-swapped_falling : (a b d : ℕ) (w : List ℕ) → a < b → b < length w → Once w → get_or w b d < get_or w a d
-    → inversions (swap_at a b w) < inversions w
-swapped_falling a b d w h l o f =
+swapped_falling : (a b n d : ℕ) (w : List ℕ) → b ≡ suc a + n → b < length w → Once w → get_or w b d < get_or w a d
+    → inversions w ≡ inversions (swap_at a b w) + 1 + 2 * between (get_or w b d) (get_or w a d) n (drop (suc a) w)
+swapped_falling a b n d w e l o f =
+    let h : a < b = omega arith in
     let inside : a < length w = omega arith in
-    let s = length-swap_at a b w in
     let x = get_swap_left a b d w inside l in
     let y = get_swap_right a b d w inside l in
-    let r = swapped_rising a b (b - suc a) d (swap_at a b w) (omega arith) (omega arith) (once_swap a b w inside l o) (omega arith) in
-    let t = ap inversions (swap_twice a b w inside l) in
-    omega arith
+    sym (ap inversions (swap_twice a b w inside l))
+    ∙ swapped_rising a b n d (swap_at a b w) e (omega (arith, length-swap_at a b w)) (once_swap a b w inside l o) (omega arith)
+    ∙ ap₂ (λ low high. inversions (swap_at a b w) + 1 + 2 * between low high n (drop (suc a) (swap_at a b w))) x y
+    ∙ ap (λ v. inversions (swap_at a b w) + 1 + 2 * count_by (lies_between (get_or w b d) (get_or w a d)) v) (same_between a b n w e)
+
+-- ---- as counts
+
+-- the number of inversions where the first is the smaller, and where it is the greater
+pub rising_count : (a b : ℕ) (w : List ℕ) → a < b → b < length w → Once w → get_or w a 0 < get_or w b 0
+    → inversions (swap w a b)
+    ≡ inversions w + 1 + 2 * count_by (lies_between (get_or w a 0) (get_or w b 0)) (take (b - (a + 1)) (drop (a + 1) w))
+rising_count a b w h l o f =
+    ap inversions (swap_is w a b (omega arith) l) ∙ swapped_rising a b (b - suc a) 0 w (omega arith) l o f
+    ∙ ap (λ k. inversions w + 1 + 2 * count_by (lies_between (get_or w a 0) (get_or w b 0)) (take (b - k) (drop k w))) (sym (add-one a))
+
+pub falling_count : (a b : ℕ) (w : List ℕ) → a < b → b < length w → Once w → get_or w b 0 ≤ get_or w a 0
+    → inversions w
+    ≡ inversions (swap w a b) + 1 + 2 * count_by (lies_between (get_or w b 0) (get_or w a 0)) (take (b - (a + 1)) (drop (a + 1) w))
+falling_count a b w h l o f =
+    let d : get_or w a 0 ≡ get_or w b 0 → ⊥ = λ e. let q = once_get w a b o (omega arith) l e in omega arith in
+    swapped_falling a b (b - suc a) 0 w (omega arith) l o (omega (arith, d))
+    ∙ ap (λ k. inversions (swap_at a b w) + 1 + 2 * count_by (lies_between (get_or w b 0) (get_or w a 0)) (take (b - k) (drop k w))) (sym (add-one a))
+    ∙ ap (λ v. inversions v + 1 + 2 * count_by (lies_between (get_or w b 0) (get_or w a 0)) (take (b - (a + 1)) (drop (a + 1) w))) (sym (swap_is w a b (omega arith) l))
 
 -- ---- as tests
 
@@ -110,48 +138,40 @@ none_step : (t s : Bool) (k : ℕ) → (t || s) ≡ false → (s ≡ false → k
 none_step true s k h r = cc
 none_step false s k h r = omega (arith, r h)
 
-none_between : (low high n : ℕ) (w : List ℕ) → list_any (lies_between low high) (take n w) ≡ false → between low high n w ≡ 0
-none_between low high zero w h = refl
-none_between low high (suc n) [] h = refl
-none_between low high (suc n) (a ∷ w) h =
-    none_step (lies_between low high a) (list_any (lies_between low high) (take n w)) (between low high n w) h (none_between low high n w)
+none_counted : (p : ℕ → Bool) (w : List ℕ) → list_any p w ≡ false → count_by p w ≡ 0
+none_counted p [] h = refl
+none_counted p (a ∷ w) h = sum_by-cons (λ b. cond (p b) 1 0) a w ∙ none_step (p a) (list_any p w) (count_by p w) h (none_counted p w)
 
 some_step : (t s : Bool) (k : ℕ) → (t || s) ≡ true → (s ≡ true → 0 < k) → 0 < cond t 1 0 + k
 some_step true s k h r = omega arith
 some_step false s k h r = omega (arith, r h)
 
-some_between : (low high n : ℕ) (w : List ℕ) → list_any (lies_between low high) (take n w) ≡ true → 0 < between low high n w
-some_between low high zero w h = cc
-some_between low high (suc n) [] h = cc
-some_between low high (suc n) (a ∷ w) h =
-    some_step (lies_between low high a) (list_any (lies_between low high) (take n w)) (between low high n w) h (some_between low high n w)
+some_counted : (p : ℕ → Bool) (w : List ℕ) → list_any p w ≡ true → 0 < count_by p w
+some_counted p [] h = cc
+some_counted p (a ∷ w) h =
+    let s = some_step (p a) (list_any p w) (count_by p w) h (some_counted p w) in
+    let k = sum_by-cons (λ b. cond (p b) 1 0) a w in
+    omega arith
 
 -- the test on the letters between says whether there is one more inversion
 pub rising_test : (a b : ℕ) (w : List ℕ) → a < b → b < length w → Once w → get_or w a 0 < get_or w b 0
     → not (list_any (lies_between (get_or w a 0) (get_or w b 0)) (take (b - (a + 1)) (drop (a + 1) w)))
     ≡ (inversions (swap w a b) == inversions w + 1)
-rising_test a b w h l o f =
-    ap (λ k. not (list_any (lies_between (get_or w a 0) (get_or w b 0)) (take (b - k) (drop k w)))) (add-one a)
-    ∙ by (list_any (lies_between (get_or w a 0) (get_or w b 0)) (take (b - suc a) (drop (suc a) w))) refl
+rising_test a b w h l o f = by (list_any (lies_between (get_or w a 0) (get_or w b 0)) (take (b - (a + 1)) (drop (a + 1) w))) refl
   where
-    count : inversions (swap w a b) ≡ inversions w + 1 + 2 * between (get_or w a 0) (get_or w b 0) (b - suc a) (drop (suc a) w)
-    count = ap inversions (swap_is w a b (omega arith) l) ∙ swapped_rising a b (b - suc a) 0 w (omega arith) l o f
-
-    by : (t : Bool) → list_any (lies_between (get_or w a 0) (get_or w b 0)) (take (b - suc a) (drop (suc a) w)) ≡ t
+    by : (t : Bool) → list_any (lies_between (get_or w a 0) (get_or w b 0)) (take (b - (a + 1)) (drop (a + 1) w)) ≡ t
         → not t ≡ (inversions (swap w a b) == inversions w + 1)
     by true e =
-        let s = some_between (get_or w a 0) (get_or w b 0) (b - suc a) (drop (suc a) w) e in
-        let c = count in
+        let s = some_counted (lies_between (get_or w a 0) (get_or w b 0)) (take (b - (a + 1)) (drop (a + 1) w)) e in
+        let c = rising_count a b w h l o f in
         sym (ne_eqb (inversions (swap w a b)) (inversions w + 1) (λ q. omega arith))
     by false e =
-        let s = none_between (get_or w a 0) (get_or w b 0) (b - suc a) (drop (suc a) w) e in
-        let c = count in
+        let s = none_counted (lies_between (get_or w a 0) (get_or w b 0)) (take (b - (a + 1)) (drop (a + 1) w)) e in
+        let c = rising_count a b w h l o f in
         sym (eq-eqb (inversions (swap w a b)) (inversions w + 1) (omega arith))
 
 pub falling_test : (a b : ℕ) (w : List ℕ) → a < b → b < length w → Once w → get_or w b 0 ≤ get_or w a 0
     → nat_lt (get_or w a 0) (get_or w b 0) ≡ (inversions (swap w a b) == inversions w + 1)
 falling_test a b w h l o f =
-    let d : get_or w a 0 ≡ get_or w b 0 → ⊥ = λ e. let q = once_get w a b o (omega arith) l e in omega arith in
-    let s = ap inversions (swap_is w a b (omega arith) l) in
-    let c = swapped_falling a b 0 w h l o (omega (arith, d)) in
+    let c = falling_count a b w h l o f in
     nat_lt-false (get_or w a 0) (get_or w b 0) f ∙ sym (ne_eqb (inversions (swap w a b)) (inversions w + 1) (λ q. omega arith))

@@ -1,4 +1,4 @@
--- Lists of letters read from the left: what is counted behind a place, and which fixed letters are dropped.
+-- Lists of letters read from the left: what is counted after a place, and which fixed letters are dropped.
 use Rattle.std.proofs.Common.{◌≡◌, ℕ, ◌+◌, ◌-◌, ◌<◌, ◌≤◌, nat_lt, List, [], ◌∷◌, ◌++◌, length, take, get_or, refl, sym, ap, ◌∙◌, arith, cond, true, false, inl, inr, Bool, length-take, count_by}
 use Rattle.std.proofs.lemmas.List.{take_more}
 use Rattle.std.proofs.lemmas.List.Recursion.{is_count_by}

@@ -15,7 +15,7 @@ pub record IsWithinLimits (w : List ℕ) : Type 0 where
   pub kept : IsKept w
   pub few : length w ≤ 255
 
--- the same, and it has so many inversions
+-- the same, and the number of its inversions
 pub record HasInversions (w : List ℕ) (count : ℕ) : Type 0 where
   pub limits : IsWithinLimits w
   pub count_is : count ≡ inversions w

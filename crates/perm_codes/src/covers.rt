@@ -85,7 +85,8 @@ fn covers_above(
     let mut covers = Vec::new(alloc);
     for other in place + 1..letters.len() {
         if makes_one_inversion(letters, place, other) {
-            covers.push(Perm::cover(SmallVec::from_slice(alloc, letters)?, place, other, count))?;
+            let copy = SmallVec::from_slice(alloc, letters)?;
+            covers.push(Perm::exchanged(copy, place, other, count))?;
         }
     }
     Ok(covers)
@@ -107,7 +108,8 @@ pub(crate) fn covers_below(
     let mut covers = Vec::new(alloc);
     for other in 0..place {
         if makes_one_inversion(letters, other, place) {
-            covers.push(Perm::cover(SmallVec::from_slice(alloc, letters)?, other, place, count))?;
+            let copy = SmallVec::from_slice(alloc, letters)?;
+            covers.push(Perm::exchanged(copy, other, place, count))?;
         }
     }
     Ok(covers)

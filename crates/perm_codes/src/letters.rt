@@ -1,7 +1,7 @@
 //! Lists of letters: what is read off them, and how they are made.
 ghost use Rattle.std.specs.Prelude.{◌≡◌, ℕ, ◌+◌, ◌<◌, ◌≤◌, ◌==◌, ◌&&◌, nat_lt, length, take, swap};
 ghost use Rattle.std.specs.Prelude.{IsOk, IfOk, MatchOption};
-ghost use Rattle.std.specs.List.{list_any};
+ghost use Rattle.std.specs.List.{count_by, list_any};
 ghost use Rattle.sym_model.specs.Sum.{Once};
 ghost use Rattle.sym_model.specs.PlaceOrders.{smaller, inversions, places};
 ghost use Rattle.sym_model.specs.Permutation.{IsOneLine, IsCode, kept, last_descent};
@@ -100,6 +100,37 @@ pub(crate) fn makes_one_inversion(letters: &[u8], first: usize, second: usize) -
     let low = letters[first];
     let high = letters[second];
     low < high && !has_between(&letters[first + 1..second], low, high)
+}
+
+/// The number of inversions once the letters at two places, counted from 0, are in each other's
+/// place, of letters with `count` inversions: where the first is the smaller, one more and two for
+/// each letter between them in place and in size, otherwise as many fewer.
+pub(crate) fn inversions_exchanged(letters: &[u8], first: usize, second: usize, count: u16) -> u16
+    requires permutation { IsShortPermutation letters.now }
+    requires order { first < second }
+    requires inside { second < length letters.now }
+    requires count { count ≡ inversions letters.now }
+    ensures { result ≡ inversions (swap letters.now first second) }
+{
+    let between = &letters[first + 1..second];
+    let left = letters[first];
+    let right = letters[second];
+    if left < right {
+        count + 1 + 2 * count_between(between, left, right)
+    } else {
+        count - 1 - 2 * count_between(between, right, left)
+    }
+}
+
+/// How many letters are greater than the one number and smaller than the other.
+fn count_between(letters: &[u8], low: u8, high: u8) -> u16
+    requires { length letters.now ≤ 255 }
+    ensures { result ≡ count_by (λ letter. nat_lt low letter && nat_lt letter high) letters.now }
+{
+    letters
+        .iter()
+        .filter(|letter| low < **letter && **letter < high)
+        .count() as u16
 }
 
 /// Whether some letter is greater than the one number and smaller than the other.

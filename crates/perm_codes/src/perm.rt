@@ -16,7 +16,7 @@ ghost use Rattle.perm_codes.specs.Limits.{IsWithinLimits, OffendsFirstAt};
 use crate::covers::{Covers, covers_below};
 use crate::letters::{
     Letters, add_fixed, choose, count_inversions, count_kept, count_smaller, exchange,
-    find_last_descent, first_excess, first_offence, narrow,
+    find_last_descent, first_excess, first_offence, inversions_exchanged, narrow,
 };
 use crate::{PermFault, Word};
 use calc_base::NoMemory;
@@ -199,7 +199,10 @@ impl Perm {
         ensures { IfOk result (λ w. w ≡ times_swap i j self.now) }
     {
         let letters = add_fixed(*self.letters.allocator(), self.letters(), usize::from(j))?;
-        Ok(Perm::exchanged(letters, usize::from(i) - 1, usize::from(j) - 1))
+        let first = usize::from(i) - 1;
+        let second = usize::from(j) - 1;
+        let count = inversions_exchanged(letters.as_slice(), first, second, self.inversions);
+        Ok(Perm::exchanged(letters, first, second, count))
     }
 
     /// The permutations with exactly one more inversion that come of this one where the letter at
@@ -262,22 +265,9 @@ impl Perm {
         }
     }
 
-    /// The permutation with these letters, those at two places, counted from 0,
-    /// in each other's place.
-    fn exchanged(letters: Letters, first: usize, second: usize) -> Perm
-        requires permutation { IsShortPermutation letters.items }
-        requires first { first < length letters.items }
-        requires second { second < length letters.items }
-        ensures { result ≡ kept (swap letters.items first second) }
-    {
-        let mut letters = letters;
-        exchange(&mut letters, first, second);
-        Perm::trimmed(letters)
-    }
-
     /// The permutation with these letters, those at two places, counted from 0, in each other's
     /// place, where the inversions that it then has are known.
-    pub(crate) fn cover(letters: Letters, first: usize, second: usize, count: u16) -> Perm
+    pub(crate) fn exchanged(letters: Letters, first: usize, second: usize, count: u16) -> Perm
         requires permutation { IsShortPermutation letters.items }
         requires first { first < length letters.items }
         requires second { second < length letters.items }

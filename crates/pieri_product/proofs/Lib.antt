@@ -1,1 +1,6 @@
-mod Strips
+mod ColumnRows
+mod ColumnSums
+mod Fractions
+mod AddedCells
+mod PlacingSteps
+mod RowTables

@@ -1,1 +1,2 @@
-pub mod Pieri
+pub mod Columns
+pub mod Rows

@@ -13,7 +13,7 @@ use crate::numbers::number_at;
 use crate::printed_order::plain_size;
 use std::alloc::{AllocError, Global};
 
-/// The distinct arrangements of the parts and of zeros in so many places, in falling lexicographic
+/// The distinct arrangements of the parts and of zeros in n places, in falling lexicographic
 /// order; none where there are more parts than places. The sum of the parts is below 2^64. Want of
 /// memory is its only error.
 pub fn plain_arrangements(

@@ -119,7 +119,7 @@ pub fn plain_is_good(
     Ok(true)
 }
 
-/// Whether start plus the content of the word falls weakly.
+/// Whether start plus the content of the word is weakly decreasing.
 fn falls_with(alloc: Global, k: u64, start: &[u64], word: &[u64]) -> Result<bool, AllocError>
     ensures { IfOk result (λ falls. falls ≡ is_falling (join start.now (content k word.now))) }
 {

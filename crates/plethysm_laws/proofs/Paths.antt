@@ -78,7 +78,7 @@ joined q R u s f M some a b =
     three : (R M f : ℤ) → R *ℤ (M *ℤ f) ≡ (R *ℤ f) *ℤ M
     three R M f = simp ring (omega (arith, ints))
 
--- the list in p is f divided by q in as many variables as g has monomials; `sum` is m times the list in m that comes of it by
+-- the list in p is f divided by q in as many variables as g has monomials; `sum` is m times the list in m that results from it by
 -- multiplying out: q times `sum` is m times f with the monomials of g substituted
 pub path-whole : (m : ℕ) (terms : Terms (List ℕ)) (sum : WholeTerms) (n : ℕ) (γs : List (List ℕ)) (g f : Poly) (q : ℕ) → Once (labels_of terms)
     → EachLabel ArePositive (over m terms) → ((t : List ℕ × Fraction) → Among t terms → m % t.1.1 ≡ 0)

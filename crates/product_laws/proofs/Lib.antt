@@ -20,4 +20,3 @@ pub mod Pieri
 pub mod RaisedEntries
 pub mod RimHookSums
 pub mod StripCounts
-pub mod ListProducts

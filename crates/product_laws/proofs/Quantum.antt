@@ -157,7 +157,7 @@ repeated_end k n parts h p e =
 
 -- ---- the value at a label
 
--- the sign of sorting u, where it sorts to the beta list of the label and a list of the sum s is higher by so many n; else 0
+-- the sign of sorting u, where it sorts to the beta list of the label and a list of the sum s is higher by that multiple of n; else 0
 abbrev sorted_value : ℕ → ℕ → ℕ → List ℕ → List ℕ → ℕ → ℤ
 sorted_value k n power label u s =
     value (has_equal_entries u) (s == size u + power * n) (same (from_beta (sorted_falling u)) label) (minus_one_to (power * (k + 1)) *ℤ sorting_sign u)

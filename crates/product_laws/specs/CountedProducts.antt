@@ -16,8 +16,8 @@ pub record Reaches (k c : ℕ) (terms : WholeTerms) : Type 0 where
   pub within : rows parts ≤ k
   pub reaches : pos c ≤ℤ coefficient terms parts
 
--- k variables show a product whose labels have at most so many rows: they are the variables given,
--- or not fewer than the rows
+-- k variables show a product whose labels have at most that number of rows: they are the variables
+-- given, or not fewer than the rows
 abbrev pub IsShownIn : Option ℕ → ℕ → ℕ → Type 0
 IsShownIn None row_count k = row_count ≤ k
 IsShownIn (Some given) row_count k = given ≡ k

@@ -1,4 +1,3 @@
 pub mod FactorSteps
 pub mod CountedProducts
 pub mod StripLists
-pub mod StripTerms

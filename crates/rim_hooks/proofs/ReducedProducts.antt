@@ -17,7 +17,6 @@ use Rattle.sym_model.specs.Partition.{IsPartition, size, rows}
 use Rattle.sym_model.specs.Polynomial.{Same}
 use Rattle.sym_model.specs.Expansion.{Fraction}
 use Rattle.sym_model.specs.WholeTerms.{WholeTerms, as_fractions}
-use Rattle.sym_model.proofs.Ring.{product_assoc}
 use Rattle.sym_model.proofs.Sums.{Among-map}
 use Rattle.sym_model.specs.Target.{classical_product}
 use Rattle.sym_model.specs.ReductionSteps.{classical_weight, step_weight}
@@ -138,11 +137,6 @@ pub overflow_one : {L : Type 0} (eq : L → L → Bool) (old : WholeTermsOf L) (
 overflow_one eq old l c e large = let h = ap (λ b. cond b (nat_abs c) 0) e in (l, omega arith)
 
 -- ---- loops
-
--- a multiple of a multiple
-pub scaled_twice : {L : Type 0} (c d : ℤ) (xs : WholeTermsOf L) → scaled (c *ℤ d) xs ≡ scaled c (scaled d xs ++ [])
-scaled_twice c d [] = refl
-scaled_twice {L} c d (t ∷ xs) = ap (λ z. (t.0, z) ∷ scaled (c *ℤ d) xs) (product_assoc c d t.1) ∙ ap (λ (l : WholeTermsOf L). (t.0, c *ℤ (d *ℤ t.1)) ∷ l) (scaled_twice c d xs)
 
 pub reductions_append : {K L : Type 0} (c : ℤ) (image : K → WholeTermsOf L) (xs ys : WholeTermsOf K) → scaled c (replaced image (xs ++ ys)) ≡ scaled c (replaced image xs) ++ scaled c (replaced image ys)
 reductions_append c image xs ys = ap (scaled c) (replaced_append image xs ys) ∙ scaled_append c (replaced image xs) (replaced image ys)

@@ -17,7 +17,7 @@ abbrev pub multiplied : {L : Type 0} → ℕ → (L → List ℕ) → (L → Lis
     → WholeTermsOf L → WholeTermsOf L
 multiplied k shape reduced factor terms = replaced (products k shape reduced factor) terms
 
--- each shape has at most k rows, and with so many cells more a label has at most 4096
+-- each shape has at most k rows, and with that number of cells more a label has at most 4096
 abbrev pub HaveRoom : {L : Type 0} → ℕ → (L → List ℕ) → (L → ℕ) → ℕ → WholeTermsOf L → Type 0
 HaveRoom k shape cells more terms =
     HaveLabels (λ l. (rows (shape l) ≤ k) × (cells l + more ≤ 4096)) terms

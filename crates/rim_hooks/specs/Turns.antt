@@ -6,7 +6,7 @@ use Rattle.beta_list_laws.specs.AlcoveEnd.{remainders}
 use Rattle.rim_hooks.specs.Counts.{Counts}
 use Rattle.rim_hooks.specs.declared.reflections.Turns.{Turns}
 
--- the remainders differ and are counted, and with so many times n they make the sum of the list
+-- the remainders differ and are counted, and with that multiple of n they make the sum of the list
 pub record AreTurned (n : ℕ) (counts list : List ℕ) (turns : ℕ) : Type 0 where
   pub differ : has_equal_entries (remainders n list) ≡ false
   pub counted : Counts n counts list

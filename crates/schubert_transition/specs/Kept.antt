@@ -1,4 +1,4 @@
--- Kept Schubert polynomials (this project's own).
+-- Kept Schubert polynomials.
 use Rattle.std.specs.Prelude.{◌≡◌, ℕ, ◌-◌, ◌<◌, ◌≤◌, List, ◌∷◌, length, take, nat_eq, Contains}
 use Rattle.std.specs.Prelude.{Option, None, IsSome}
 use Rattle.std.specs.Cmp.Lexicographic.{pointwise}

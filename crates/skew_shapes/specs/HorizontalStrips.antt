@@ -13,7 +13,7 @@ pub record AreHorizontalStrips (inner : List ℕ) (k : ℕ) (list : List (List �
   pub members : (ν : List ℕ) → Among ν list
       ↔ (IsPartition ν × (size ν ≡ size inner + k) × IsHorizontalStrip ν inner)
 
--- so many numbers, from `high` down
+-- `count` numbers, from `high` down
 abbrev pub counting_down : ℕ → ℕ → List ℕ
 counting_down high zero = []
 counting_down high (suc n) = high ∷ counting_down (high - 1) n
@@ -29,7 +29,7 @@ strips_on most left (a ∷ inner) =
     flat_map (λ row. map (λ rest. row ∷ rest) (strips_on a (left + a - row) inner))
     (counting_down longest (longest + 1 - max left a))
 
--- the shape that came last where so many have come
+-- the shape that came last where that number of shapes have come
 abbrev pub last_of : ℕ → List (List ℕ) → Option (List ℕ)
 last_of zero shapes = None
 last_of (suc i) shapes = slice_get shapes i

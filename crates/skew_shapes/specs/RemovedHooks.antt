@@ -32,7 +32,7 @@ hooks_beginning k outer first =
     flat_map (λ last. cond (can_remove k outer first last)
     (without_hook k outer first last ∷ []) []) (after (first - 1) (rows outer + 1 - first))
 
--- those that are left by rim hooks with a first row among the upper rows, so many
+-- those that are left by rim hooks with a first row among that number of upper rows
 abbrev pub hooks_beginning_within : ℕ → List ℕ → ℕ → List (List ℕ)
 hooks_beginning_within k outer zero = []
 hooks_beginning_within k outer (suc above) =

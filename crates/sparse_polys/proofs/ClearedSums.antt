@@ -1,140 +1,178 @@
--- Polynomials to which terms are added one after another, with their fractions cleared (specs/Products).
---     Adds-term       a term that is added
---     refused-term    where it is refused, the absolute values are large
---     Adds-then       one addition after another
-use Rattle.std.proofs.Common.{◌≡◌, ◌⊎◌, ℕ, ◌+◌, ◌*◌, ◌/◌, ◌^◌, ◌<◌, ◌≤◌, Bool, true, false, cond, List, [], ◌∷◌, refl, sym, ap, ap₂, ◌∙◌, subst, inl, inr, arith, ℤ, pos, ◌+ℤ◌, ◌*ℤ◌, unsigned_abs}
+-- Lists to which terms are added one after another, with their fractions cleared (specs/Products).
+--     found_over, mass_over, table_over   a cleared list is a table of whole numbers
+--     Gains-term, Overflows-term          one term, in a table over any ring
+--     Gains-next, Overflows-next          the terms of a list, one after another
+use Rattle.std.proofs.Common.{◌≡◌, ◌⊎◌, ℕ, ◌+◌, ◌*◌, ◌/◌, ◌^◌, ◌<◌, ◌≤◌, Bool, true, false, cond, ◌&&◌, List, [], ◌∷◌, ◌++◌, refl, sym, ap, ap₂, ◌∙◌, subst, inl, inr, arith, ℤ, pos, ◌+ℤ◌, ◌*ℤ◌, unsigned_abs}
 use Rattle.std.specs.Prelude.{nat_eq, nat_abs, Option, Some, None, IsSome}
 use Rattle.std.specs.Int.{◌∣◌}
-use Rattle.std.specs.Map.{lookup}
+use Rattle.std.specs.List.{IsDistinct}
+use Rattle.std.specs.Map.{lookup, keys_of}
 use Rattle.std.specs.Option.{unwrap_or}
 use Rattle.std.specs.Cmp.Lexicographic.{pointwise, nat_list_eq_equiv}
-use Rattle.std.proofs.lemmas.Bool.{cases_lt}
+use Rattle.std.proofs.lemmas.Bool.{cases_lt, and_parts, and_from}
 use Rattle.std.proofs.lemmas.Int.{ints, unsigned_abs-mul}
-use Rattle.std.proofs.Math.Nat.{zero-mul}
-use Rattle.sym_model.specs.Sum.{total}
+use Rattle.sym_model.specs.Sum.{total, Among}
+use Rattle.sym_model.specs.Polynomial.{pair}
+use Rattle.sym_model.specs.Canonical.{is_reduced, each_term}
 use Rattle.sym_model.specs.Expansion.{Fraction, Terms}
-use Rattle.sym_model.specs.LabelLimits.{is_monomial_label}
 use Rattle.sym_model.specs.ListWeight.{absolute_sum}
-use Rattle.sym_model.proofs.Ring.{distributes_right}
-use Rattle.coeff_rings.specs.Fractions.{scaled, InLowestTerms, fraction_sum, fraction_product}
+use Rattle.sym_model.specs.WholeTerms.{WholeTerms, WholeTermsOf}
+use Rattle.sym_model.proofs.Integers.{nat_abs-product}
+use Rattle.sym_model.proofs.Orders.{is_reduced-tells}
+use Rattle.sym_model.proofs.Ring.{distributes_right, product_assoc}
+use Rattle.sym_model.proofs.Sums.{total_map}
+use Rattle.monomial_laws.specs.ExpressionTerms.{over}
+use Rattle.coeff_rings.specs.Fractions.{scaled, whole, InLowestTerms, fraction_sum, fraction_product}
 use Rattle.coeff_rings.specs.Room.{magnitude, HasRoomForSum}
 use Rattle.coeff_rings.specs.Answers.{AnswersSum}
 use Rattle.coeff_rings.specs.Proved.Cleared.{unsigned_abs-scaled, sum-cleared, product-cleared}
+use Rattle.coeff_rings.specs.Proved.Divisors.{quotient_positive}
+use Rattle.coeff_rings.specs.Proved.Fractions.{InLowestTerms-whole}
+use Rattle.linear_combinations.specs.Entries
+use Rattle.linear_combinations.specs.Gains.{over as sum_over, only, mass, scaled as multiple}
+use Rattle.linear_combinations.proofs.Gains.{gains_none, gains_as, gains_both, over_at, pairs_overflow}
+use Rattle.linear_combinations.proofs.LowestTerms.{is_reduced-lowest}
 use Rattle.sparse_polys.specs.Combination.{HasMoreAt, IsCombination}
 use Rattle.sparse_polys.specs.Labels.{same_partition}
 use Rattle.sparse_polys.specs.Refusal.{IsRefused}
 use Rattle.sparse_polys.proofs.Tables.{lowest-coefficient}
 use Rattle.sparse_polys.proofs.Totals.{total-more}
-use Rattle.sparse_polys.specs.Products.{coefficient_at, cleared_sum, AreCleared, AreDenominators, Adds}
-use Rattle.sparse_polys.proofs.Accumulating.{triangle, scaled-nothing}
+use Rattle.sparse_polys.specs.Products.{coefficient_at, AreCleared, AreDenominators, GainsCleared, OverflowsCleared}
 use Rattle.sparse_polys.proofs.Coefficients.{nat_abs-is}
 use native.Mathlib.Nat.{mul-pos, dvd-mul_left}
 use lib.IntN.{+ℤ_idr, zero-*ℤ}
 pub use Rattle.linear_combinations.proofs.Steps.{on_ok}
 
-abbrev pub IsTable : Terms (List ℕ) → Type 0
-IsTable terms = IsCombination (pointwise nat_eq) is_monomial_label terms
+pub lowest_at : {is_label : List ℕ → Bool} (terms : Terms (List ℕ)) → IsCombination (pointwise nat_eq) is_label terms → (e : List ℕ) → InLowestTerms (coefficient_at terms e)
+lowest_at {is_label} terms is e = lowest-coefficient is_label nat_list_eq_equiv same_partition terms is.proper e
 
-pub lowest_at : (terms : Terms (List ℕ)) → IsTable terms → (e : List ℕ) → InLowestTerms (coefficient_at terms e)
-lowest_at terms is e = lowest-coefficient is_monomial_label nat_list_eq_equiv same_partition terms is.proper e
+pub scaled-nothing : (q : ℕ) → scaled q (whole (pos 0)) ≡ pos 0
+scaled-nothing q = zero-*ℤ (pos (q / 1))
 
--- ---- absolute values
+-- ---- a list with its fractions cleared
 
-pub size-here : (q : ℕ) (c : Fraction) → nat_abs c.0 * (q / c.1) ≡ magnitude q c
-size-here q c = ap (λ n. n * (q / c.1)) (nat_abs-is c.0)
+module _ (q : ℕ) where
+  pub size_scaled : (c : Fraction) → nat_abs (scaled q c) ≡ magnitude q c
+  size_scaled c = nat_abs-is (scaled q c) ∙ unsigned_abs-scaled q c
 
-pub total_absolute : (q : ℕ) (terms : Terms (List ℕ)) → total (λ (t : List ℕ × Fraction). pos (magnitude q t.1)) terms ≡ pos (absolute_sum q terms)
-total_absolute q [] = refl
-total_absolute q (t ∷ terms) = ap₂ (λ (m : ℕ) (z : ℤ). pos m +ℤ z) (sym (size-here q t.1)) (total_absolute q terms)
+  pub mass_over : (terms : Terms (List ℕ)) → mass (over q terms) ≡ absolute_sum q terms
+  mass_over [] = refl
+  mass_over (t ∷ terms) = ap₂ (λ a b. a + b) (nat_abs-product t.1.0 (pos (q / t.1.1))) (mass_over terms)
 
--- the absolute value of a coefficient is one of those that are added up
-found_within : (q : ℕ) (terms : Terms (List ℕ)) (e : List ℕ) → magnitude q (coefficient_at terms e) ≤ absolute_sum q terms
-found_within q [] e = omega arith
-found_within q (t ∷ terms) e = by (pointwise nat_eq e t.0) (found_within q terms e)
-  where
-    by : (b : Bool) → magnitude q (coefficient_at terms e) ≤ absolute_sum q terms
-        → magnitude q (unwrap_or (cond b (Some t.1) (lookup (pointwise nat_eq e) terms)) (pos 0, 1)) ≤ absolute_sum q (t ∷ terms)
-    by true rest = let s = size-here q t.1 in omega arith
-    by false rest = omega arith
+  -- its sums
+  pub over_sum : (φ : List ℕ → ℤ) (terms : Terms (List ℕ)) → pair (over q terms) φ ≡ total (λ (t : List ℕ × Fraction). scaled q t.1 *ℤ φ t.0) terms
+  over_sum φ terms = total_map (λ (t : List ℕ × ℤ). t.1 *ℤ φ t.0) (λ (t : List ℕ × Fraction). (t.0, scaled q t.1)) terms
 
--- ---- one term more
+  coefficient_over : (terms : Terms (List ℕ)) (e : List ℕ) → Entries.coefficient (pointwise nat_eq) (pos 0) (over q terms) e ≡ scaled q (coefficient_at terms e)
+  coefficient_over [] e = sym (scaled-nothing q)
+  coefficient_over (t ∷ terms) e = by (pointwise nat_eq e t.0) (coefficient_over terms e)
+    where
+      by : (b : Bool) → Entries.coefficient (pointwise nat_eq) (pos 0) (over q terms) e ≡ scaled q (coefficient_at terms e)
+          → unwrap_or (cond b (Some (scaled q t.1)) (lookup (pointwise nat_eq e) (over q terms))) (pos 0)
+          ≡ scaled q (unwrap_or (cond b (Some t.1) (lookup (pointwise nat_eq e) terms)) (pos 0, 1))
+      by true h = refl
+      by false h = h
 
-more_at : (old new : Terms (List ℕ)) (k : List ℕ) (c : Fraction) → HasMoreAt (pointwise nat_eq) old k c new
-    → (e : List ℕ) → (coefficient_at new e ≡ fraction_sum (coefficient_at old e) c) ⊎ (coefficient_at new e ≡ coefficient_at old e)
-more_at old new k c h e = by (pointwise nat_eq k e) refl (h e)
-  where
-    by : (b : Bool) → pointwise nat_eq k e ≡ b → coefficient_at new e ≡ cond b (fraction_sum (coefficient_at old k) c) (coefficient_at old e)
-        → (coefficient_at new e ≡ fraction_sum (coefficient_at old e) c) ⊎ (coefficient_at new e ≡ coefficient_at old e)
-    by true same f = inl (f ∙ ap (λ l. fraction_sum (coefficient_at old l) c) (same_partition k e same))
-    by false same f = inr f
+  keys_over : (terms : Terms (List ℕ)) → keys_of (over q terms) ≡ keys_of terms
+  keys_over [] = refl
+  keys_over (t ∷ terms) = ap (λ ks. t.0 ∷ ks) (keys_over terms)
 
-at_label : (old new : Terms (List ℕ)) (k : List ℕ) (c : Fraction) → HasMoreAt (pointwise nat_eq) old k c new → coefficient_at new k ≡ fraction_sum (coefficient_at old k) c
-at_label old new k c more = more k ∙ ap (λ b. cond b (fraction_sum (coefficient_at old k) c) (coefficient_at old k)) (nat_list_eq_equiv.refl k)
+  module _ {is_label : List ℕ → Bool} (terms : Terms (List ℕ)) (is : IsCombination (pointwise nat_eq) is_label terms) where
+    distinct_over : IsDistinct (pointwise nat_eq) (keys_of (over q terms))
+    distinct_over = subst (IsDistinct (pointwise nat_eq)) (sym (keys_over terms)) is.distinct
 
-module _ (q : ℕ) (old new : Terms (List ℕ)) (k : List ℕ) (c : Fraction) (is : IsTable old) (also : IsTable new) (low : InLowestTerms c)
+    -- what it has at a label
+    pub found_over : (e : List ℕ) → sum_over (only (pointwise nat_eq) e) (over q terms) ≡ scaled q (coefficient_at terms e)
+    found_over e = over_at nat_list_eq_equiv same_partition (over q terms) distinct_over e ∙ coefficient_over terms e
+
+    pub table_over : 0 < q → ((t : List ℕ × Fraction) → Among t terms → t.1.1 ∣ q) → Entries.IsCombination (pointwise nat_eq) is_label whole (over q terms)
+    table_over some divides = record { distinct = distinct_over; proper = proper terms is.proper divides }
+      where
+        proper : (terms : Terms (List ℕ)) → each_term (λ (t : List ℕ × Fraction). is_reduced t.1 && is_label t.0) terms ≡ true
+            → ((t : List ℕ × Fraction) → Among t terms → t.1.1 ∣ q) → Entries.are_terms whole is_label (over q terms) ≡ true
+        proper [] h divides = refl
+        proper (t ∷ terms) h divides =
+            let p = and_parts _ _ h in
+            let r = and_parts (is_reduced t.1) (is_label t.0) p.0 in
+            let positive : 0 < nat_abs (scaled q t.1) =
+            let n = nat_abs-product t.1.0 (pos (q / t.1.1)) in
+            let m = mul-pos (is_reduced-tells t.1 r.0).nonzero (quotient_positive q t.1.1 some (divides t (inl refl))) in
+            omega arith in
+            and_from _ _
+            (and_from _ _
+            (is_reduced-lowest (whole (scaled q t.1)) (InLowestTerms-whole (scaled q t.1))
+            (λ e. let z = ap (λ (c : Fraction). nat_abs c.0) e in omega arith))
+            r.1)
+            (proper terms p.1 (λ u m. divides u (inr m)))
+
+-- ---- one term, in a table over any ring
+
+module _ {is_label : List ℕ → Bool} (q : ℕ) (old new : Terms (List ℕ)) (k : List ℕ) (c : Fraction)
+    (is : IsCombination (pointwise nat_eq) is_label old) (also : IsCombination (pointwise nat_eq) is_label new) (low : InLowestTerms c)
     (some : 0 < q) (divides : c.1 ∣ q) (cleared : AreCleared q old) (more : HasMoreAt (pointwise nat_eq) old k c new) where
+  both : ((fraction_sum (coefficient_at old k) c).1 ∣ q) × (scaled q (fraction_sum (coefficient_at old k) c) ≡ scaled q (coefficient_at old k) +ℤ scaled q c)
+  both = sum-cleared q (coefficient_at old k) c (lowest_at old is k) low some (cleared k) divides
+
   sum_here : scaled q (coefficient_at new k) ≡ scaled q (coefficient_at old k) +ℤ scaled q c
-  sum_here = ap (scaled q) (at_label old new k c more) ∙ (sum-cleared q (coefficient_at old k) c (lowest_at old is k) low some (cleared k) divides).1
+  sum_here =
+      ap (scaled q) (more k ∙ ap (λ b. cond b (fraction_sum (coefficient_at old k) c) (coefficient_at old k)) (nat_list_eq_equiv.refl k)) ∙ both.1
 
   cleared_more : AreCleared q new
-  cleared_more e = elim (more_at old new k c more e) [
-    | inl f ↦
-        subst (λ (r : Fraction). r.1 ∣ q) (sym f) (sum-cleared q (coefficient_at old e) c (lowest_at old is e) low some (cleared e) divides).0
-    | inr f ↦ subst (λ (r : Fraction). r.1 ∣ q) (sym f) (cleared e)
-  ]
+  cleared_more e = by (pointwise nat_eq k e) (more e)
+    where
+      by : (b : Bool) → coefficient_at new e ≡ cond b (fraction_sum (coefficient_at old k) c) (coefficient_at old e) → (coefficient_at new e).1 ∣ q
+      by true f = subst (λ (r : Fraction). r.1 ∣ q) (sym f) both.0
+      by false f = subst (λ (r : Fraction). r.1 ∣ q) (sym f) (cleared e)
 
-  sums_more : (φ : List ℕ → ℤ) → cleared_sum q φ new ≡ cleared_sum q φ old +ℤ scaled q c *ℤ φ k
+  sums_more : (φ : List ℕ → ℤ) → pair (over q new) φ ≡ pair (over q old) φ +ℤ pair ((k, scaled q c) ∷ []) φ
   sums_more φ =
       let t = total-more nat_list_eq_equiv same_partition (λ (l : List ℕ) (r : Fraction). scaled q r *ℤ φ l) (λ l. ap (λ z. z *ℤ φ l) (scaled-nothing q) ∙ zero-*ℤ (φ l)) k old new is also c more in
       let e = ap (λ z. z *ℤ φ k) sum_here in
       let d = distributes_right (scaled q (coefficient_at old k)) (scaled q c) (φ k) in
+      let x = over_sum q φ old in
+      let y = over_sum q φ new in
+      let n = +ℤ_idr (scaled q c *ℤ φ k) in
       omega (arith, ints)
 
-  grows_more : absolute_sum q new ≤ absolute_sum q old + magnitude q c
-  grows_more =
-      let t = total-more nat_list_eq_equiv same_partition (λ (l : List ℕ) (r : Fraction). pos (magnitude q r)) (λ l. ap pos (zero-mul (q / 1))) k old new is also c more in
-      let s = ap unsigned_abs sum_here in
-      let r = triangle (scaled q (coefficient_at old k)) (scaled q c) in
-      let u = unsigned_abs-scaled q (coefficient_at new k) in
-      let v = unsigned_abs-scaled q (coefficient_at old k) in
-      let w = unsigned_abs-scaled q c in
-      let a = total_absolute q old in
-      let b = total_absolute q new in
-      omega (arith, ints)
-
-  pub Adds-term : (x : ℤ) (m : ℕ) → scaled q c ≡ x → magnitude q c ≡ m → Adds q old (λ φ. x *ℤ φ k) m new
-  Adds-term x m e f = record {
+  pub Gains-term : (z : ℤ) → scaled q c ≡ z → GainsCleared is_label q old ((k, z) ∷ []) new
+  Gains-term z e = record {
+    table = λ was. also;
     cleared = cleared_more;
-    sums = λ φ. sums_more φ ∙ ap (λ z. cleared_sum q φ old +ℤ z *ℤ φ k) e;
-    grows = let g = grows_more in omega arith;
+    gains = record { sums = λ φ. sums_more φ ∙ ap (λ y. pair (over q old) φ +ℤ pair ((k, y) ∷ []) φ) e };
   }
 
 -- a sum is refused for its size alone
-pub refused-term : {R : Type 0} (is_held : R → Type 0) (value : R → Fraction) (checked : R → R → Option R)
-    → ((a b : R) → is_held a → is_held b → AnswersSum value a b (checked a b))
-    → (q m : ℕ) (old : Terms (List ℕ)) (k : List ℕ) (c : Fraction) → IsRefused is_held value checked (coefficient_at old k) c
-    → 0 < q → q < 2 ^ 127 → c.1 ∣ q → magnitude q c ≡ m → AreCleared q old → 2 ^ 127 ≤ absolute_sum q old + m
-refused-term is_held value checked answers q m old k c refused some small divides e cleared =
-    let room : HasRoomForSum q (value refused.left) (value refused.right) → ⊥ =
-    λ r. no_some (checked refused.left refused.right) refused.refused ((answers refused.left refused.right refused.left_held refused.right_held).room q r) in
-    let large : 2 ^ 127 ≤ magnitude q (coefficient_at old k) + magnitude q c = by room (cases_lt (magnitude q (coefficient_at old k) + magnitude q c) (2 ^ 127)) in
-    let f = found_within q old k in
-    omega arith
-  where
-    no_some : {R : Type 0} (o : Option R) → o ≡ None → IsSome o → ⊥
-    no_some None e s = cc
-    no_some (Some x) e s = cc
+module _ {R : Type 0} (is_held : R → Type 0) (value : R → Fraction) (checked : R → R → Option R) (answers : (a b : R) → is_held a → is_held b → AnswersSum value a b (checked a b))
+    (q : ℕ) (old : Terms (List ℕ)) (k : List ℕ) (c : Fraction) (refused : IsRefused is_held value checked (coefficient_at old k) c)
+    (some : 0 < q) (small : q < 2 ^ 127) (divides : c.1 ∣ q) (cleared : AreCleared q old) where
+  pub sum_large : 2 ^ 127 ≤ magnitude q (coefficient_at old k) + magnitude q c
+  sum_large =
+      by
+      (λ r. no_some (checked refused.left refused.right) refused.refused ((answers refused.left refused.right refused.left_held refused.right_held).room q r))
+      (cases_lt (magnitude q (coefficient_at old k) + magnitude q c) (2 ^ 127))
+    where
+      no_some : (o : Option R) → o ≡ None → IsSome o → ⊥
+      no_some None e s = cc
+      no_some (Some x) e s = cc
 
-    by : (HasRoomForSum q (value refused.left) (value refused.right) → ⊥)
-        → (magnitude q (coefficient_at old k) + magnitude q c < 2 ^ 127) ⊎ (2 ^ 127 ≤ magnitude q (coefficient_at old k) + magnitude q c)
-        → 2 ^ 127 ≤ magnitude q (coefficient_at old k) + magnitude q c
-    by none (inl l) =
-        absurd
-        (none
-        (subst (λ r. HasRoomForSum q r (value refused.right)) (sym refused.left_value)
-        (subst (λ r. HasRoomForSum q (coefficient_at old k) r) (sym refused.right_value)
-        (record { positive = some; small = small; left = cleared k; right = divides; room = l }))))
-    by none (inr l) = l
+      by : (HasRoomForSum q (value refused.left) (value refused.right) → ⊥)
+          → (magnitude q (coefficient_at old k) + magnitude q c < 2 ^ 127) ⊎ (2 ^ 127 ≤ magnitude q (coefficient_at old k) + magnitude q c)
+          → 2 ^ 127 ≤ magnitude q (coefficient_at old k) + magnitude q c
+      by none (inl l) =
+          absurd
+          (none
+          (subst (λ r. HasRoomForSum q r (value refused.right)) (sym refused.left_value)
+          (subst (λ r. HasRoomForSum q (coefficient_at old k) r) (sym refused.right_value)
+          (record { positive = some; small = small; left = cleared k; right = divides; room = l }))))
+      by none (inr l) = l
+
+  pub Overflows-term : {is_label : List ℕ → Bool} → IsCombination (pointwise nat_eq) is_label old → (z : ℤ) → scaled q c ≡ z → OverflowsCleared q old ((k, z) ∷ [])
+  Overflows-term is z e =
+      let l = sum_large in
+      let a = ap nat_abs (found_over q old is k) ∙ size_scaled q (coefficient_at old k) in
+      let b = ap nat_abs (sym e) ∙ size_scaled q c in
+      let h = ap (λ b. cond b (nat_abs z) 0) (nat_list_eq_equiv.refl k) in
+      (k, omega arith)
 
 -- ---- one product
 
@@ -158,25 +196,35 @@ cleared-product d e a b c la lb f h =
 
 -- ---- one after another
 
-pub Adds-none : (q : ℕ) (old : Terms (List ℕ)) (added : (List ℕ → ℤ) → ℤ) (m : ℕ) → ((φ : List ℕ → ℤ) → added φ ≡ pos 0) → AreCleared q old → Adds q old added m old
-Adds-none q old added m e cleared = record {
-  cleared = cleared;
-  sums = λ φ. sym (+ℤ_idr (cleared_sum q φ old)) ∙ ap (λ z. cleared_sum q φ old +ℤ z) (sym (e φ));
-  grows = omega arith;
-}
-
-pub Adds-then : (q : ℕ) (first second third : Terms (List ℕ)) (f g h : (List ℕ → ℤ) → ℤ) (l m n : ℕ) → ((φ : List ℕ → ℤ) → f φ +ℤ g φ ≡ h φ) → l + m ≤ n
-    → Adds q first f l second → Adds q second g m third → Adds q first h n third
-Adds-then q first second third f g h l m n e s a b = record {
-  cleared = b.cleared;
-  sums =
-      λ φ.
-      let x = a.sums φ in
-      let y = b.sums φ in
-      let z = e φ in
-      omega (arith, ints);
-  grows = let x = a.grows in let y = b.grows in omega arith;
-}
-
 pub AreCleared-nothing : (q : ℕ) → AreCleared q []
 AreCleared-nothing q e = subst (λ n. 1 ∣ n) (let m : q * 1 ≡ q = omega arith in m) (dvd-mul_left 1 q)
+
+pub Gains-none : {is_label : List ℕ → Bool} (q : ℕ) (old : Terms (List ℕ)) → AreCleared q old → GainsCleared is_label q old [] old
+Gains-none q old cleared = record { table = λ is. is; cleared = cleared; gains = gains_none (over q old) }
+
+pub Gains-as : {is_label : List ℕ → Bool} (q : ℕ) (old : Terms (List ℕ)) (g h : WholeTerms) (new : Terms (List ℕ)) → ((φ : List ℕ → ℤ) → sum_over φ g ≡ sum_over φ h)
+    → GainsCleared is_label q old g new → GainsCleared is_label q old h new
+Gains-as q old g h new e a = record { table = a.table; cleared = a.cleared; gains = gains_as (over q old) g h (over q new) e a.gains }
+
+-- a multiple of a multiple
+pub scaled_twice : {L : Type 0} (c d : ℤ) (xs : WholeTermsOf L) → multiple (c *ℤ d) xs ≡ multiple c (multiple d xs ++ [])
+scaled_twice c d [] = refl
+scaled_twice {L} c d (t ∷ xs) = ap (λ z. (t.0, z) ∷ multiple (c *ℤ d) xs) (product_assoc c d t.1) ∙ ap (λ (l : WholeTermsOf L). (t.0, c *ℤ (d *ℤ t.1)) ∷ l) (scaled_twice c d xs)
+
+pub Gains-both : {is_label : List ℕ → Bool} (q : ℕ) (old : Terms (List ℕ)) (g : WholeTerms) (mid : Terms (List ℕ)) (h : WholeTerms) (new : Terms (List ℕ))
+    → GainsCleared is_label q old g mid → GainsCleared is_label q mid h new → GainsCleared is_label q old (g ++ h) new
+Gains-both q old g mid h new a b = record {
+  table = λ is. b.table (a.table is);
+  cleared = b.cleared;
+  gains = gains_both (over q old) g (over q mid) h (over q new) a.gains b.gains;
+}
+
+-- what is added for a list is what is added for its pieces
+module _ {A : Type 0} (gained : List A → WholeTerms) (pieces : (xs ys : List A) → gained (xs ++ ys) ≡ gained xs ++ gained ys)
+    {is_label : List ℕ → Bool} (q : ℕ) (done : List A) (p : A) (old cur : Terms (List ℕ)) (so_far : GainsCleared is_label q old (gained done) cur) where
+  pub Gains-next : (next : List A) (new : Terms (List ℕ)) → done ++ p ∷ [] ≡ next → GainsCleared is_label q cur (gained (p ∷ [])) new → GainsCleared is_label q old (gained next) new
+  Gains-next next new pushed more =
+      subst (λ l. GainsCleared is_label q old l new) (sym (pieces done (p ∷ [])) ∙ ap gained pushed) (Gains-both q old (gained done) cur (gained (p ∷ [])) new so_far more)
+
+  pub Overflows-next : (rest : List A) → OverflowsCleared q cur (gained (p ∷ [])) → OverflowsCleared q old (gained (done ++ p ∷ rest))
+  Overflows-next rest large = pairs_overflow gained pieces done p (over q old) (over q cur) so_far.gains (pointwise nat_eq) rest (done ++ p ∷ rest) refl large

@@ -1,5 +1,5 @@
 -- The printed order of monomials is the order of their degrees and lists of exponents turned round: where one list is
--- the front of the other, the longer one has an exponent that is not 0 behind it.
+-- the front of the other, the longer one has an exponent that is not 0 after it.
 use Rattle.std.proofs.Common.{◌≡◌, ℕ, zero, suc, List, [], ◌∷◌, refl, sym, ap, ◌∙◌, inl, inr, ◌⊎◌, arith}
 use Rattle.std.specs.Cmp.{nat_cmp_is}
 use Rattle.std.specs.Cmp.Lexicographic.{slice_cmp}

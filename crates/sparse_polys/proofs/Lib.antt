@@ -17,6 +17,7 @@ pub mod StateWays
 pub mod StatesLeft
 pub mod StepWays
 pub mod SearchWays
+pub mod ProductLists
 pub mod Accumulating
 pub mod Rows
 pub mod ExactCounts

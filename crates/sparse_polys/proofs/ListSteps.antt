@@ -1,57 +1,54 @@
 -- The terms of a list, one after another.
-use Rattle.std.proofs.Common.{◌≡◌, ℕ, ◌+◌, ◌*◌, ◌^◌, ◌≤◌, List, [], ◌∷◌, ◌++◌, sym, ap, ◌∙◌, subst, arith, ℤ, ◌+ℤ◌, ◌*ℤ◌}
-use Rattle.std.proofs.lemmas.Int.{ints}
-use Rattle.sym_model.specs.Sum.{Among}
-use Rattle.sym_model.specs.Expansion.{Fraction, Terms}
-use Rattle.sym_model.specs.ListWeight.{absolute_sum}
+use Rattle.std.proofs.Common.{◌≡◌, ℕ, List, [], ◌∷◌, ◌++◌, map, refl, ap, ◌∙◌, ℤ, ◌*ℤ◌}
+use Rattle.std.proofs.lemmas.List.{map-append}
+use Rattle.sym_model.specs.Expansion.{Fraction}
+use Rattle.sym_model.specs.Polynomial.{Poly, Term, join, times}
+use Rattle.sym_model.specs.WholeTerms.{WholeTerms}
+use Rattle.sym_model.proofs.Lists.{each-append}
+use Rattle.linear_combinations.specs.Gains.{replaced, scaled as multiple}
+use Rattle.linear_combinations.proofs.Gains.{replaced_append, scaled_append}
+use Rattle.monomial_laws.specs.ExpressionTerms.{over}
 use Rattle.coeff_rings.specs.Fractions.{scaled}
-use Rattle.coeff_rings.specs.Room.{magnitude}
 use Rattle.sparse_polys.specs.Combination.{terms_of}
 pub use Rattle.linear_combinations.proofs.Gains.{so_far_next}
-use Rattle.sparse_polys.proofs.Steps.{among-next}
-use Rattle.sparse_polys.specs.Products.{cleared_sum}
-use Rattle.sparse_polys.proofs.ClearedSums.{size-here}
+pub use Rattle.sparse_polys.proofs.Rows.{list_whole, list_among}
+use Rattle.sparse_polys.specs.Products.{times_variable}
+use Rattle.sparse_polys.specs.Raised.{raised}
+use Rattle.sparse_polys.specs.MonomialProducts.{product_terms, products}
 
 module _ {R : Type 0} (value : R → Fraction) where
-  pub sum_next : (q : ℕ) (ψ : List ℕ → ℤ) (done : List (List ℕ × R)) (k : List ℕ) (v : R)
-      → cleared_sum q ψ (terms_of value (done ++ (k, v) ∷ [])) ≡ cleared_sum q ψ (terms_of value done) +ℤ scaled q (value v) *ℤ ψ k
-  sum_next q ψ [] k v = omega (arith, ints)
-  sum_next q ψ (t ∷ done) k v = let h = sum_next q ψ done k v in omega (arith, ints)
+  pub over_pieces : (q : ℕ) (xs ys : List (List ℕ × R)) → over q (terms_of value (xs ++ ys)) ≡ over q (terms_of value xs) ++ over q (terms_of value ys)
+  over_pieces q [] ys = refl
+  over_pieces q (x ∷ xs) ys = ap (λ l. (x.0, scaled q (value x.1)) ∷ l) (over_pieces q xs ys)
 
-  pub absolute_next : (q : ℕ) (done : List (List ℕ × R)) (k : List ℕ) (v : R) (rest : List (List ℕ × R))
-      → absolute_sum q (terms_of value (done ++ (k, v) ∷ rest)) ≡ absolute_sum q (terms_of value done) + magnitude q (value v) + absolute_sum q (terms_of value rest)
-  absolute_next q [] k v rest = let s = size-here q (value v) in omega arith
-  absolute_next q (t ∷ done) k v rest = let h = absolute_next q done k v rest in omega arith
+  -- what is gained for pairs is gained for their pieces: a term times the list, the list times another, and x_r times the list
+  pub row_pieces : (s : Term) (e : ℕ) (xs ys : List (List ℕ × R))
+      → times (s ∷ []) (over e (terms_of value (xs ++ ys))) ≡ times (s ∷ []) (over e (terms_of value xs)) ++ times (s ∷ []) (over e (terms_of value ys))
+  row_pieces s e [] ys = refl
+  row_pieces s e (x ∷ xs) ys = ap (λ l. (join s.0 x.0, s.1 *ℤ scaled e (value x.1)) ∷ l) (row_pieces s e xs ys)
 
-  -- the pairs so far, this one and the rest are the list
-  pub list_whole : (done rest left begun items : List (List ℕ × R)) (k : List ℕ) (v : R) (terms : Terms (List ℕ))
-      → left ≡ (k, v) ∷ rest → done ++ left ≡ begun → begun ≡ items → terms_of value items ≡ terms → terms_of value (done ++ (k, v) ∷ rest) ≡ terms
-  list_whole done rest left begun items k v terms steps so_far given shown =
-      ap (terms_of value) (ap (λ es. done ++ es) (sym steps) ∙ so_far ∙ given) ∙ shown
+  pub product_pieces : (d : ℕ) (g : Poly) (xs ys : List (List ℕ × R))
+      → times (over d (terms_of value (xs ++ ys))) g ≡ times (over d (terms_of value xs)) g ++ times (over d (terms_of value ys)) g
+  product_pieces d g xs ys =
+      ap (λ l. times l g) (over_pieces d xs ys)
+      ∙ each-append (λ (s : Term). map (λ (t : Term). (join s.0 t.0, s.1 *ℤ t.1)) g) (over d (terms_of value xs)) (over d (terms_of value ys))
 
-  -- this one is a term of the list
-  pub list_among : (done rest : List (List ℕ × R)) (k : List ℕ) (v : R) (terms : Terms (List ℕ)) → terms_of value (done ++ (k, v) ∷ rest) ≡ terms → Among (k, value v) terms
-  list_among done rest k v terms e = subst (λ (l : Terms (List ℕ)). Among (k, value v) l) e (among-next value done k v rest)
+  pub raised_pieces : (r q : ℕ) (xs ys : List (List ℕ × R))
+      → times_variable r (over q (terms_of value (xs ++ ys))) ≡ times_variable r (over q (terms_of value xs)) ++ times_variable r (over q (terms_of value ys))
+  raised_pieces r q xs ys =
+      ap (times_variable r) (over_pieces q xs ys)
+      ∙ map-append (λ (t : Term). (raised r t.0, t.1)) (over q (terms_of value xs)) (over q (terms_of value ys))
 
--- ---- sums and sizes with a factor
+  pub terms_pieces : (z : ℤ) (left : List ℕ) (e : ℕ) (xs ys : List (List ℕ × R))
+      → multiple z (replaced (product_terms left) (over e (terms_of value (xs ++ ys))))
+      ≡ multiple z (replaced (product_terms left) (over e (terms_of value xs))) ++ multiple z (replaced (product_terms left) (over e (terms_of value ys)))
+  terms_pieces z left e xs ys =
+      ap (λ l. multiple z (replaced (product_terms left) l)) (over_pieces e xs ys)
+      ∙ ap (multiple z) (replaced_append (product_terms left) (over e (terms_of value xs)) (over e (terms_of value ys)))
+      ∙ scaled_append z (replaced (product_terms left) (over e (terms_of value xs))) (replaced (product_terms left) (over e (terms_of value ys)))
 
-pub product_sizes : (A done here rest all : ℕ) → all ≡ done + here + rest → A * done + A * here ≤ A * all
-product_sizes A done here rest all e =
-    let p = ap (λ n. A * n) e in
-    let q : A * (done + here + rest) ≡ A * done + A * here + A * rest = omega arith in
-    omega arith
-
-pub product_large : (A done here rest all cur old : ℕ) (list : ℕ) → cur ≤ old + A * done → 2 ^ 127 ≤ cur + A * here → all ≡ done + here + rest → all ≡ list → 2 ^ 127 ≤ old + A * list
-product_large A done here rest all cur old list g h e f =
-    let p = product_sizes A done here rest all e in
-    let q = ap (λ n. A * n) f in
-    omega arith
-
-pub rows_sizes : (B done here rest all : ℕ) → all ≡ done + here + rest → done * B + here * B ≤ all * B
-rows_sizes B done here rest all e = let p = product_sizes B done here rest all e in omega arith
-
-pub rows_large : (B done here rest all cur list : ℕ) → cur ≤ 0 + done * B → 2 ^ 127 ≤ cur + here * B → all ≡ done + here + rest → all ≡ list → 2 ^ 127 ≤ list * B
-rows_large B done here rest all cur list g h e f =
-    let p = rows_sizes B done here rest all e in
-    let q = ap (λ n. n * B) f in
-    omega arith
+  pub products_pieces : (d : ℕ) (g : WholeTerms) (xs ys : List (List ℕ × R))
+      → products (over d (terms_of value (xs ++ ys))) g ≡ products (over d (terms_of value xs)) g ++ products (over d (terms_of value ys)) g
+  products_pieces d g xs ys =
+      ap (λ l. products l g) (over_pieces d xs ys)
+      ∙ replaced_append (λ l. replaced (product_terms l) g) (over d (terms_of value xs)) (over d (terms_of value ys))

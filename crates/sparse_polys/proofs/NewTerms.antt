@@ -15,14 +15,14 @@ use Rattle.sym_model.specs.LabelLimits.{is_monomial_label}
 use Rattle.sym_model.proofs.CanonicalLists.{each_term-among}
 use Rattle.sym_model.proofs.Exponents.{same_true}
 use Rattle.sym_model.proofs.Sums.{Among-append_left, Among-append_right}
-use Rattle.coeff_rings.specs.Fractions.{whole, fraction_sum}
-use Rattle.sparse_polys.specs.Combination.{terms_of, HasMoreAt}
+use Rattle.coeff_rings.specs.Fractions.{whole, fraction_sum, InLowestTerms}
+use Rattle.sparse_polys.proofs.Coefficients.{lowest-is_reduced}
+use Rattle.sparse_polys.specs.Combination.{terms_of, HasMoreAt, IsPolynomialTable}
 use Rattle.sparse_polys.specs.Labels.{same_partition}
 use Rattle.sparse_polys.proofs.Steps.{absent_before}
 use Rattle.sparse_polys.proofs.Totals.{carried}
 use Rattle.sparse_polys.specs.Products.{coefficient_at, AreRaised}
 use Rattle.sparse_polys.specs.Raised.{raised}
-use Rattle.sparse_polys.proofs.ClearedSums.{IsTable}
 use Rattle.sparse_polys.proofs.Raising.{raised-same}
 
 -- a monomial that no term has has the coefficient 0
@@ -45,13 +45,17 @@ missed (u ∷ terms) k none t m e = by (pointwise nat_eq k u.0) refl none (misse
     by false p here rest (inl i) = let s : pointwise nat_eq k u.0 ≡ true = (bytes_eq-Decides k u.0).1 (sym e ∙ ap (λ (v : List ℕ × Fraction). v.0) i) in cc
     by false p here rest (inr n) = rest here t n e
 
-trimmed_at : (terms : Terms (List ℕ)) → IsTable terms → (t : List ℕ × Fraction) → Among t terms → without_last_zeros t.0 ≡ t.0
+-- the coefficient of a term is in lowest terms
+pub lowest_among : (terms : Terms (List ℕ)) → IsPolynomialTable terms → (t : List ℕ × Fraction) → Among t terms → InLowestTerms t.1
+lowest_among terms is t m = lowest-is_reduced t.1 (and_parts _ (is_monomial_label t.0) (each_term-among _ terms is.proper t m)).0
+
+trimmed_at : (terms : Terms (List ℕ)) → IsPolynomialTable terms → (t : List ℕ × Fraction) → Among t terms → without_last_zeros t.0 ≡ t.0
 trimmed_at terms is t m =
     let label = (and_parts _ (is_monomial_label t.0) (each_term-among _ terms is.proper t m)).1 in
     same_true (without_last_zeros t.0) t.0 (and_parts _ _ (and_parts _ _ label).0).0
 
 module _ {R : Type 0} (value : R → Fraction) (r : ℕ) (done rest : List (List ℕ × R)) (k : List ℕ) (v : R) (terms cur : Terms (List ℕ))
-    (is : IsTable terms) (all : terms_of value (done ++ (k, v) ∷ rest) ≡ terms) (labels : AreRaised r (terms_of value done) cur) where
+    (is : IsPolynomialTable terms) (all : terms_of value (done ++ (k, v) ∷ rest) ≡ terms) (labels : AreRaised r (terms_of value done) cur) where
   split : terms_of value done ++ (k, value v) ∷ terms_of value rest ≡ terms
   split = sym (map-append (λ (p : List ℕ × R). (p.0, value p.1)) done ((k, v) ∷ rest)) ∙ all
 
@@ -69,7 +73,7 @@ module _ {R : Type 0} (value : R → Fraction) (r : ℕ) (done rest : List (List
       missed (terms_of value done) k none u.0 u.1 same)
 
   -- and put in it is one of the products
-  pub labels_next : (new : Terms (List ℕ)) → IsTable cur → IsTable new → HasMoreAt (pointwise nat_eq) cur (raised r k) (value v) new
+  pub labels_next : (new : Terms (List ℕ)) → IsPolynomialTable cur → IsPolynomialTable new → HasMoreAt (pointwise nat_eq) cur (raised r k) (value v) new
       → AreRaised r (terms_of value (done ++ (k, v) ∷ [])) new
   labels_next new was also more t m = by (pointwise nat_eq (raised r k) t.0) refl
     where

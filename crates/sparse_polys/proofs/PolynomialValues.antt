@@ -1,9 +1,10 @@
 -- The polynomial that a list of monomials stands for, through sums over its terms with the fractions cleared.
---     represents       a list with the sums of a polynomial stands for it
---     product_value    the sums of a product of two polynomials
---     variable_value   the sums of a product with a variable
-use Rattle.std.proofs.Common.{◌≡◌, ℕ, ◌-◌, ◌*◌, ◌/◌, ◌^◌, ◌<◌, ◌≤◌, max, Bool, true, false, cond, ◌&&◌, List, [], ◌∷◌, ◌++◌, refl, sym, ap, ap₂, ◌∙◌, subst, inl, inr, arith, ℤ, pos, ◌+ℤ◌, ◌*ℤ◌}
-use Rattle.std.specs.Prelude.{nat_eq, Option, Some, replicate}
+--     represents          a list with the sums of a polynomial stands for it
+--     product_value       the sums of a product of two polynomials
+--     variable_value      the sums of a product with a variable
+--     product_overflows   a product that overflows is of lists with large absolute values
+use Rattle.std.proofs.Common.{◌≡◌, ℕ, ◌-◌, ◌+◌, ◌*◌, ◌/◌, ◌^◌, ◌<◌, ◌≤◌, max, map, length, Bool, true, false, cond, ◌&&◌, List, [], ◌∷◌, ◌++◌, refl, sym, ap, ap₂, ◌∙◌, subst, inl, inr, arith, ℤ, pos, ◌+ℤ◌, ◌*ℤ◌}
+use Rattle.std.specs.Prelude.{nat_eq, nat_abs, Option, Some, replicate}
 use Rattle.std.specs.Int.{◌∣◌}
 use Rattle.std.specs.List.{IsDistinct}
 use Rattle.std.specs.Map.{lookup, keys_of}
@@ -16,21 +17,27 @@ use Rattle.std.proofs.lemmas.Map.Entries.{none_past_head}
 use Rattle.std.proofs.lemmas.Slice.Eq.{bytes_eq-Decides}
 use Rattle.std.proofs.Math.Nat.{div-mul_cancel}
 use Rattle.sym_model.specs.Sum.{Among}
-use Rattle.sym_model.specs.Polynomial.{Poly, join, pair, times, scale, resize, fits_in}
+use Rattle.sym_model.specs.Polynomial.{Poly, Term, coefficient, join, pair, times, scale, resize, fits_in}
 use Rattle.sym_model.specs.DividedDifference.{x_to, x_to_in, variable_in}
 use Rattle.sym_model.specs.Expansion.{Fraction, Terms, Represents, denominators, cleared}
 use Rattle.sym_model.specs.ListWeight.{common_denominator, absolute_sum, list_weight}
 use Rattle.sym_model.proofs.CanonicalLists.{each_term-among}
 use Rattle.sym_model.proofs.Exponents.{join_comm, resize-join, fits_in-join}
 use Rattle.sym_model.proofs.Orders.{is_reduced-tells}
-use Rattle.sym_model.proofs.Polynomials.{pair_plus, pair_scale, pair_times, pair_restrict, same_from_pair}
+use Rattle.sym_model.proofs.Polynomials.{pair_ext, pair_plus, pair_scale, pair_times, pair_restrict, same_from_pair}
 use Rattle.sym_model.proofs.Ring.{one-product, product_assoc}
-use Rattle.sym_model.proofs.Sums.{total_ext, total_among, total_scale, total_zero}
+use Rattle.sym_model.proofs.Sums.{total_ext, total_among, total_map, total_scale, total_zero}
+use Rattle.sym_model.specs.WholeTerms.{WholeTerms}
+use Rattle.sym_model.proofs.Integers.{nat_abs-product}
 use Rattle.coeff_rings.specs.Fractions.{scaled}
-use Rattle.sparse_polys.specs.Products.{value_in, coefficient_at, cleared_sum, AreCleared, IsCommonDenominator}
+use Rattle.linear_combinations.specs.Gains.{mass}
+use Rattle.linear_combinations.proofs.Masses.{mass_append, overflow_mass}
+use Rattle.monomial_laws.specs.ExpressionTerms.{over}
+use Rattle.sparse_polys.specs.Combination.{IsPolynomialTable}
+use Rattle.sparse_polys.specs.Products.{value_in, coefficient_at, times_variable, AreCleared, IsCommonDenominator, OverflowsCleared}
 use Rattle.sparse_polys.specs.Raised.{raised}
-use Rattle.sparse_polys.proofs.ClearedSums.{IsTable}
-use Rattle.sparse_polys.proofs.Expansions.{denominators-positive, least-positive, least-multiple}
+use Rattle.sparse_polys.proofs.ClearedSums.{over_sum, mass_over}
+use Rattle.sparse_polys.proofs.Expansions.{denominators-positive, least-positive, least-multiple, times_nothing}
 use native.Mathlib.Nat.{mul-pos, mul-le-mul_left}
 use lib.IntN.{+ℤ_idr, *ℤ-zero, *ℤ_comm}
 use Rattle.monomial_laws.proofs.DividedTerms.{divides-denominators}
@@ -39,7 +46,7 @@ use Rattle.sym_model.proofs.PolynomialLaws.{restricted_test}
 pub pair_x_to_in : (n : ℕ) (e : List ℕ) (φ : List ℕ → ℤ) → pair (x_to_in e n) φ ≡ restricted_test n φ e
 pair_x_to_in n e φ = pair_restrict n (x_to e) φ ∙ +ℤ_idr (pos 1 *ℤ restricted_test n φ e) ∙ one-product (restricted_test n φ e)
 
-pair_cleared : (n q : ℕ) (terms : Terms (List ℕ)) (φ : List ℕ → ℤ) → pair (cleared (λ e. x_to_in e n) q terms) φ ≡ cleared_sum q (restricted_test n φ) terms
+pair_cleared : (n q : ℕ) (terms : Terms (List ℕ)) (φ : List ℕ → ℤ) → pair (cleared (λ e. x_to_in e n) q terms) φ ≡ pair (over q terms) (restricted_test n φ)
 pair_cleared n q [] φ = refl
 pair_cleared n q (t ∷ terms) φ =
     pair_plus (scale (scaled q t.1) (x_to_in t.0 n)) (cleared (λ e. x_to_in e n) q terms) φ
@@ -47,7 +54,7 @@ pair_cleared n q (t ∷ terms) φ =
 
 -- ---- the terms of a list
 
-found_at : (terms : Terms (List ℕ)) → IsTable terms → (t : List ℕ × Fraction) → Among t terms → coefficient_at terms t.0 ≡ t.1
+found_at : (terms : Terms (List ℕ)) → IsPolynomialTable terms → (t : List ℕ × Fraction) → Among t terms → coefficient_at terms t.0 ≡ t.1
 found_at terms is t m = ap (λ (o : Option Fraction). unwrap_or o (pos 0, 1)) (by terms is.distinct m)
   where
     by : (terms : Terms (List ℕ)) → IsDistinct (pointwise nat_eq) (keys_of terms) → Among t terms → lookup (pointwise nat_eq t.0) terms ≡ Some t.1
@@ -62,10 +69,10 @@ found_at terms is t m = ap (λ (o : Option Fraction). unwrap_or o (pos 0, 1)) (b
           | false ↦ λ p. by terms (IsDistinct-tail (pointwise nat_eq) u.0 (keys_of terms) d) m
         ] refl
 
-positive_at : (terms : Terms (List ℕ)) → IsTable terms → (t : List ℕ × Fraction) → Among t terms → 0 < t.1.1
+positive_at : (terms : Terms (List ℕ)) → IsPolynomialTable terms → (t : List ℕ × Fraction) → Among t terms → 0 < t.1.1
 positive_at terms is t m = (is_reduced-tells t.1 (and_parts _ _ (each_term-among _ terms is.proper t m)).0).denominator
 
-pub common-denominators : (terms : Terms (List ℕ)) → IsTable terms → IsCommonDenominator (denominators terms) terms
+pub common-denominators : (terms : Terms (List ℕ)) → IsPolynomialTable terms → IsCommonDenominator (denominators terms) terms
 common-denominators terms is = record {
   positive = denominators-positive terms (positive_at terms is);
   multiple = divides-denominators terms;
@@ -73,14 +80,14 @@ common-denominators terms is = record {
 
 -- ---- least common denominators
 
-pub least-denominators : (terms : Terms (List ℕ)) → IsTable terms → IsCommonDenominator (common_denominator terms) terms
+pub least-denominators : (terms : Terms (List ℕ)) → IsPolynomialTable terms → IsCommonDenominator (common_denominator terms) terms
 least-denominators terms is = record {
   positive = least-positive terms (positive_at terms is);
   multiple = least-multiple terms (positive_at terms is);
 }
 
 -- where the product of two sums of absolute values is large, the product of the weights is
-pub weights-large : (left right : Terms (List ℕ)) → IsTable left → IsTable right
+pub weights-large : (left right : Terms (List ℕ)) → IsPolynomialTable left → IsPolynomialTable right
     → (common_denominator left * common_denominator right < 2 ^ 127 → 2 ^ 127 ≤ absolute_sum (common_denominator left) left * absolute_sum (common_denominator right) right)
     → 2 ^ 127 ≤ list_weight left * list_weight right
 weights-large left right is also h =
@@ -123,17 +130,19 @@ exchanged x d a q b e = swap (pos d) x (pos a) ∙ ap (λ n. x *ℤ pos n) e ∙
     swap y x z = sym (product_assoc y x z) ∙ ap (λ w. w *ℤ z) (*ℤ_comm y x) ∙ product_assoc x y z
 
 pub two_denominators : (d q : ℕ) (ψ : List ℕ → ℤ) (terms : Terms (List ℕ)) → ((t : List ℕ × Fraction) → Among t terms → t.1.1 ∣ d) → ((t : List ℕ × Fraction) → Among t terms → t.1.1 ∣ q)
-    → pos d *ℤ cleared_sum q ψ terms ≡ pos q *ℤ cleared_sum d ψ terms
+    → pos d *ℤ pair (over q terms) ψ ≡ pos q *ℤ pair (over d terms) ψ
 two_denominators d q ψ terms h k =
-    sym (total_scale (pos d) (λ (t : List ℕ × Fraction). scaled q t.1 *ℤ ψ t.0) terms)
+    ap (λ z. pos d *ℤ z) (over_sum q ψ terms)
+    ∙ sym (total_scale (pos d) (λ (t : List ℕ × Fraction). scaled q t.1 *ℤ ψ t.0) terms)
     ∙ total_among (λ (t : List ℕ × Fraction). pos d *ℤ (scaled q t.1 *ℤ ψ t.0)) (λ (t : List ℕ × Fraction). pos q *ℤ (scaled d t.1 *ℤ ψ t.0)) terms
     (λ t m.
     sym (product_assoc (pos d) (scaled q t.1) (ψ t.0))
     ∙ ap (λ z. z *ℤ ψ t.0) (exchanged t.1.0 d (q / t.1.1) q (d / t.1.1) (cross d q t.1.1 (h t m) (k t m)))
     ∙ product_assoc (pos q) (scaled d t.1) (ψ t.0))
     ∙ total_scale (pos q) (λ (t : List ℕ × Fraction). scaled d t.1 *ℤ ψ t.0) terms
+    ∙ ap (λ z. pos q *ℤ z) (sym (over_sum d ψ terms))
 
-pub represents : (terms : Terms (List ℕ)) (d n : ℕ) (f : Poly) → IsTable terms → AreCleared d terms → ((φ : List ℕ → ℤ) → cleared_sum d (restricted_test n φ) terms ≡ pair f φ)
+pub represents : (terms : Terms (List ℕ)) (d n : ℕ) (f : Poly) → IsPolynomialTable terms → AreCleared d terms → ((φ : List ℕ → ℤ) → pair (over d terms) (restricted_test n φ) ≡ pair f φ)
     → Represents (λ e. x_to_in e n) terms f d
 represents terms d n f is clear sums =
     let q = denominators terms in
@@ -153,45 +162,80 @@ represents terms d n f is clear sums =
 
 -- one monomial times a polynomial
 row_value : (n : ℕ) (terms : Terms (List ℕ)) (φ : List ℕ → ℤ) (e : List ℕ)
-    → restricted_test n (λ α. pair (value_in terms n) (λ β. φ (join α β))) e ≡ cleared_sum (denominators terms) (λ β. restricted_test n φ (join e β)) terms
+    → restricted_test n (λ α. pair (value_in terms n) (λ β. φ (join α β))) e ≡ pair (over (denominators terms) terms) (λ β. restricted_test n φ (join e β))
 row_value n terms φ e = by (fits_in n e) refl
   where
-    q : ℕ
-    q = denominators terms
+    list : WholeTerms
+    list = over (denominators terms) terms
 
     at : (b c : Bool) (u : List ℕ) → (b && c) ≡ c → cond c (φ (join (resize n e) (resize n u))) (pos 0) ≡ cond (b && c) (φ (resize n (join e u))) (pos 0)
     at b c u h = ap (λ x. cond c (φ x) (pos 0)) (sym (resize-join n e u)) ∙ ap (λ x. cond x (φ (resize n (join e u))) (pos 0)) (sym h)
 
-    by : (b : Bool) → fits_in n e ≡ b → cond b (pair (value_in terms n) (λ β. φ (join (resize n e) β))) (pos 0) ≡ cleared_sum (denominators terms) (λ β. restricted_test n φ (join e β)) terms
+    by : (b : Bool) → fits_in n e ≡ b → cond b (pair (value_in terms n) (λ β. φ (join (resize n e) β))) (pos 0) ≡ pair list (λ β. restricted_test n φ (join e β))
     by true f =
         pair_cleared n (denominators terms) terms (λ β. φ (join (resize n e) β))
-        ∙ total_ext (λ (t : List ℕ × Fraction). scaled (denominators terms) t.1 *ℤ restricted_test n (λ β. φ (join (resize n e) β)) t.0) (λ (t : List ℕ × Fraction). scaled (denominators terms) t.1 *ℤ restricted_test n φ (join e t.0))
-        (λ t. ap (λ z. scaled (denominators terms) t.1 *ℤ z)
-        (at (fits_in n e) (fits_in n t.0) t.0 (ap (λ b. b && fits_in n t.0) f) ∙ ap (λ b. cond b (φ (resize n (join e t.0))) (pos 0)) (sym (fits_in-join n e t.0))))
-        terms
+        ∙ pair_ext list (restricted_test n (λ β. φ (join (resize n e) β))) (λ β. restricted_test n φ (join e β))
+        (λ u. at (fits_in n e) (fits_in n u) u (ap (λ b. b && fits_in n u) f) ∙ ap (λ b. cond b (φ (resize n (join e u))) (pos 0)) (sym (fits_in-join n e u)))
     by false f =
-        sym (total_zero terms)
-        ∙ total_ext (λ (t : List ℕ × Fraction). pos 0) (λ (t : List ℕ × Fraction). scaled (denominators terms) t.1 *ℤ restricted_test n φ (join e t.0))
-        (λ t. sym (*ℤ-zero (scaled (denominators terms) t.1))
-        ∙ ap (λ b. scaled (denominators terms) t.1 *ℤ cond b (φ (resize n (join e t.0))) (pos 0)) (sym (fits_in-join n e t.0 ∙ ap (λ b. b && fits_in n t.0) f)))
-        terms
+        sym (total_zero list)
+        ∙ total_ext (λ (t : List ℕ × ℤ). pos 0) (λ (t : List ℕ × ℤ). t.1 *ℤ restricted_test n φ (join e t.0))
+        (λ t. sym (*ℤ-zero t.1) ∙ ap (λ b. t.1 *ℤ cond b (φ (resize n (join e t.0))) (pos 0)) (sym (fits_in-join n e t.0 ∙ ap (λ b. b && fits_in n t.0) f)))
+        list
 
 pub product_value : (n : ℕ) (left right : Terms (List ℕ)) (φ : List ℕ → ℤ)
-    → cleared_sum (denominators left) (λ α. cleared_sum (denominators right) (λ β. restricted_test n φ (join α β)) right) left ≡ pair (times (value_in left n) (value_in right n)) φ
+    → pair (times (over (denominators left) left) (over (denominators right) right)) (restricted_test n φ) ≡ pair (times (value_in left n) (value_in right n)) φ
 product_value n left right φ =
-    sym
-    (pair_times (value_in left n) (value_in right n) φ
-    ∙ pair_cleared n (denominators left) left (λ α. pair (value_in right n) (λ β. φ (join α β)))
-    ∙ total_ext (λ (t : List ℕ × Fraction). scaled (denominators left) t.1 *ℤ restricted_test n (λ α. pair (value_in right n) (λ β. φ (join α β))) t.0)
-    (λ (t : List ℕ × Fraction). scaled (denominators left) t.1 *ℤ cleared_sum (denominators right) (λ β. restricted_test n φ (join t.0 β)) right)
-    (λ t. ap (λ z. scaled (denominators left) t.1 *ℤ z) (row_value n right φ t.0)) left)
+    let f = over (denominators left) left in
+    let g = over (denominators right) right in
+    let ψ : List ℕ → ℤ = λ α. pair (value_in right n) (λ β. φ (join α β)) in
+    pair_times f g (restricted_test n φ)
+    ∙ sym
+    (pair_times (value_in left n) (value_in right n) φ ∙ pair_cleared n (denominators left) left ψ
+    ∙ pair_ext f (restricted_test n ψ) (λ α. pair g (λ β. restricted_test n φ (join α β))) (row_value n right φ))
 
 pub variable_value : (n r : ℕ) (terms : Terms (List ℕ)) (φ : List ℕ → ℤ)
-    → cleared_sum (denominators terms) (λ e. restricted_test n φ (raised r e)) terms ≡ pair (times (variable_in r n) (value_in terms n)) φ
+    → pair (times_variable r (over (denominators terms) terms)) (restricted_test n φ) ≡ pair (times (variable_in r n) (value_in terms n)) φ
 variable_value n r terms φ =
-    sym
+    let f = over (denominators terms) terms in
+    let x = replicate (r - 1) 0 ++ (1 ∷ []) in
+    total_map (λ (t : List ℕ × ℤ). t.1 *ℤ restricted_test n φ t.0) (λ (t : List ℕ × ℤ). (raised r t.0, t.1)) f
+    ∙ sym
     (pair_times (variable_in r n) (value_in terms n) φ
-    ∙ pair_x_to_in n (replicate (r - 1) 0 ++ (1 ∷ [])) (λ α. pair (value_in terms n) (λ β. φ (join α β)))
-    ∙ row_value n terms φ (replicate (r - 1) 0 ++ (1 ∷ []))
-    ∙ total_ext (λ (t : List ℕ × Fraction). scaled (denominators terms) t.1 *ℤ restricted_test n φ (join (replicate (r - 1) 0 ++ (1 ∷ [])) t.0)) (λ (t : List ℕ × Fraction). scaled (denominators terms) t.1 *ℤ restricted_test n φ (raised r t.0))
-    (λ t. ap (λ e. scaled (denominators terms) t.1 *ℤ restricted_test n φ e) (join_comm (replicate (r - 1) 0 ++ (1 ∷ [])) t.0)) terms)
+    ∙ pair_x_to_in n x (λ α. pair (value_in terms n) (λ β. φ (join α β)))
+    ∙ row_value n terms φ x
+    ∙ pair_ext f (λ β. restricted_test n φ (join x β)) (λ e. restricted_test n φ (raised r e)) (λ e. ap (restricted_test n φ) (join_comm x e)))
+
+-- the product with the empty list
+pub represents_nothing : (n d : ℕ) (left right product : Terms (List ℕ)) → product ≡ [] → length right ≡ 0
+    → Represents (λ e. x_to_in e n) product (times (value_in left n) (value_in right n)) d
+represents_nothing n d left (t ∷ right) product e h = absurd (omega arith)
+represents_nothing n d left [] product e h =
+    let f = value_in left n in
+    subst (λ (l : Terms (List ℕ)). Represents (λ e. x_to_in e n) l (times f []) d) (sym e)
+    (record { positive = omega arith; equal = λ α. sym (ap (λ g. coefficient (scale (pos 1) g) α) (times_nothing f)) })
+
+-- ---- large products
+
+mass_row : (s : Term) (g : WholeTerms) → mass (map (λ (t : Term). (join s.0 t.0, s.1 *ℤ t.1)) g) ≡ nat_abs s.1 * mass g
+mass_row s [] = omega arith
+mass_row s (t ∷ g) =
+    let h = mass_row s g in
+    let p = nat_abs-product s.1 t.1 in
+    let d : nat_abs s.1 * (nat_abs t.1 + mass g) ≡ nat_abs s.1 * nat_abs t.1 + nat_abs s.1 * mass g = omega arith in
+    omega arith
+
+mass_times : (f g : Poly) → mass (times f g) ≡ mass f * mass g
+mass_times [] g = omega arith
+mass_times (s ∷ f) g =
+    let a = mass_append (map (λ (t : Term). (join s.0 t.0, s.1 *ℤ t.1)) g) (times f g) in
+    let b = mass_row s g in
+    let c = mass_times f g in
+    let d : (nat_abs s.1 + mass f) * mass g ≡ nat_abs s.1 * mass g + mass f * mass g = omega arith in
+    omega arith
+
+pub product_overflows : (d e : ℕ) (left right : Terms (List ℕ)) → OverflowsCleared (d * e) [] (times (over d left) (over e right)) → 2 ^ 127 ≤ absolute_sum d left * absolute_sum e right
+product_overflows d e left right o =
+    let l = overflow_mass (pointwise nat_eq) [] (times (over d left) (over e right)) o in
+    let p = mass_times (over d left) (over e right) in
+    let q = ap₂ (λ a b. a * b) (mass_over d left) (mass_over e right) in
+    omega arith

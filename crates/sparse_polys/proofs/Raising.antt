@@ -1,5 +1,5 @@
 -- A monomial times a variable: its exponents with one of them raised by 1.
---     set-raised          the exponents with zeros behind them and 1 more at a place
+--     set-raised          the exponents with zeros after them and 1 more at a place
 --     HasDegree-raised    they lie within the limits
 use Rattle.std.proofs.Common.{◌≡◌, ◌⊎◌, ℕ, zero, suc, ◌+◌, ◌-◌, ◌<◌, ◌≤◌, max, List, [], ◌∷◌, ◌++◌, length, get_or, set, take, drop, refl, sym, ap, ap₂, ◌∙◌, subst, inl, inr, arith, add-one, add-zero, append-nil, length-append, take_all}
 use Rattle.std.specs.List.{refill}

@@ -98,7 +98,7 @@ next_way w2 w1 k t o rest goal h e g =
     ∙ ap (λ n. capped n) (let p = ap (λ n. k * n) e in let q : w1 + k * t + k * rest ≡ w1 + k * o = omega arith in q)
     ∙ g
 
--- a part that is chosen, and one that is passed over
+-- a part that is chosen, and one that is skipped
 pub taken_over-choice : (x : ℕ) (l r ν parts : List ℕ) (i : ℕ) → i < length parts → is_choice_at parts i x ≡ true
     → taken_over x l r ν (distinct (drop i parts)) ≡ taken l r (get_or parts i 0) (x - get_or parts i 0) ν + taken_over x l r ν (distinct (drop (i + 1) parts))
 taken_over-choice x l r ν parts i h e =

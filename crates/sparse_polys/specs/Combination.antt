@@ -1,13 +1,15 @@
 -- Finite linear combinations of labels, as lists of terms: which coefficient a label has, and when
 -- a list is one of them.
-use Rattle.std.specs.Prelude.{◌≡◌, pos, Bool, ◌&&◌, List, map, if◌then◌else◌, IsTrue}
+use Rattle.std.specs.Prelude.{◌≡◌, ℕ, nat_eq, pos, Bool, ◌&&◌, List, map, if◌then◌else◌, IsTrue}
+use Rattle.std.specs.Cmp.Lexicographic.{pointwise}
 use Rattle.std.specs.List.{IsDistinct}
 use Rattle.std.specs.Map.{lookup, keys_of}
 use Rattle.std.specs.Option.{unwrap_or}
 use Rattle.std.specs.declared.cmp.Ordering.{Ordering}
 use Rattle.coeff_rings.specs.Fractions.{fraction_sum, fraction_product}
 use Rattle.sym_model.specs.Expansion.{Fraction, Terms}
-use Rattle.sym_model.specs.Canonical.{is_ordered, is_reduced, each_term}
+use Rattle.sym_model.specs.Canonical.{is_label, is_ordered, is_reduced, each_term}
+use Rattle.sym_model.specs.LabelLimits.{is_monomial_label}
 
 -- the list of terms that pairs of labels and scalars stand for
 abbrev pub terms_of : {L R : Type 0} → (R → Fraction) → List (L × R) → Terms L
@@ -27,6 +29,14 @@ pub record IsCombination {L : Type 0} (eq : L → L → Bool) (is_label : L → 
     (terms : Terms L) : Type 0 where
   pub distinct : IsDistinct eq (keys_of terms)
   pub proper : IsTrue (are_terms is_label terms)
+
+-- a combination of partitions
+abbrev pub IsPartitionTable : Terms (List ℕ) → Type 0
+IsPartitionTable terms = IsCombination (pointwise nat_eq) is_label terms
+
+-- a combination of monomials
+abbrev pub IsPolynomialTable : Terms (List ℕ) → Type 0
+IsPolynomialTable terms = IsCombination (pointwise nat_eq) is_monomial_label terms
 
 -- whether a list of terms is canonical: each label once, in the printed order, with a coefficient
 -- that is not 0 and in lowest terms

@@ -1,4 +1,4 @@
--- What the type `Monomial` holds (this project's own).
+-- What the type `Monomial` holds.
 use Rattle.std.specs.Prelude.{◌≡◌, ℕ, ◌≤◌, List, length}
 use Rattle.sym_model.specs.Partition.{size, without_last_zeros}
 

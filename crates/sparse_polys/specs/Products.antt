@@ -1,15 +1,16 @@
--- Products of polynomials that are given as lists of terms,
--- with their fractions cleared (this project's own).
-use Rattle.std.specs.Prelude.{◌≡◌, ℕ, ◌+◌, ◌<◌, ◌≤◌, nat_eq, ℤ, ◌+ℤ◌, ◌*ℤ◌, List}
+-- Lists of terms with their fractions cleared: what they gain, and products of polynomials that are
+-- given as such lists.
+use Rattle.std.specs.Prelude.{◌≡◌, ℕ, ◌<◌, nat_eq, Bool, List, map}
 use Rattle.std.specs.Int.{◌∣◌}
 use Rattle.std.specs.Cmp.Lexicographic.{pointwise}
-use Rattle.sym_model.specs.Sum.{total, Among}
-use Rattle.sym_model.specs.Polynomial.{Poly, join}
+use Rattle.sym_model.specs.Sum.{Among}
+use Rattle.sym_model.specs.Polynomial.{Poly, Term, join}
 use Rattle.sym_model.specs.DividedDifference.{x_to_in}
 use Rattle.sym_model.specs.Expansion.{Fraction, Terms, value_by}
-use Rattle.sym_model.specs.ListWeight.{absolute_sum}
-use Rattle.coeff_rings.specs.Fractions.{scaled}
-use Rattle.sparse_polys.specs.Combination.{coefficient}
+use Rattle.sym_model.specs.WholeTerms.{WholeTerms}
+use Rattle.monomial_laws.specs.ExpressionTerms.{over}
+use Rattle.linear_combinations.specs.Gains.{Gains, Overflows}
+use Rattle.sparse_polys.specs.Combination.{coefficient, IsCombination}
 use Rattle.sparse_polys.specs.Limits.{IsWithinLimits}
 use Rattle.sparse_polys.specs.Raised.{raised}
 
@@ -47,18 +48,21 @@ pub record AreDenominators (d e : ℕ) (a b : Fraction) : Type 0 where
   pub left : a.1 ∣ d
   pub right : b.1 ∣ e
 
--- the sum over the terms of the coefficient times q times the value of a test function at the
--- monomial
-abbrev pub cleared_sum : ℕ → (List ℕ → ℤ) → Terms (List ℕ) → ℤ
-cleared_sum q φ terms = total (λ (t : List ℕ × Fraction). scaled q t.1 *ℤ φ t.0) terms
-
--- the new list has, times q, the sums of the old one and those that are added,
--- and absolute values of at most so much more
-pub record Adds (q : ℕ) (old : Terms (List ℕ)) (added : (List ℕ → ℤ) → ℤ) (most : ℕ)
-    (new : Terms (List ℕ)) : Type 0 where
+-- the new list, cleared by q, has gained these, and is a table where the old one is
+pub record GainsCleared (is_label : List ℕ → Bool) (q : ℕ) (old : Terms (List ℕ))
+    (gained : WholeTerms) (new : Terms (List ℕ)) : Type 0 where
+  pub table : IsCombination (pointwise nat_eq) is_label old
+      → IsCombination (pointwise nat_eq) is_label new
   pub cleared : AreCleared q new
-  pub sums : (φ : List ℕ → ℤ) → cleared_sum q φ new ≡ cleared_sum q φ old +ℤ added φ
-  pub grows : absolute_sum q new ≤ absolute_sum q old + most
+  pub gains : Gains (over q old) gained (over q new)
+
+-- the list, cleared by q, overflows where it gains these
+abbrev pub OverflowsCleared : ℕ → Terms (List ℕ) → WholeTerms → Type 0
+OverflowsCleared q old gained = Overflows (pointwise nat_eq) (over q old) gained
+
+-- the polynomial times x_r
+abbrev pub times_variable : ℕ → Poly → Poly
+times_variable r f = map (λ (t : Term). (raised r t.0, t.1)) f
 
 -- each monomial of the list is x_r times one of the other list
 abbrev pub AreRaised : ℕ → Terms (List ℕ) → Terms (List ℕ) → Type 0

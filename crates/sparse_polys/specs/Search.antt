@@ -1,4 +1,4 @@
--- The search for the partitions of a product, from the greatest part down (this project's own).
+-- The search for the partitions of a product, from the greatest part down.
 use Rattle.std.specs.Prelude.{◌≡◌, ℕ, ◌+◌, ◌==◌, nat_le, nat_lt, Bool, true, ◌&&◌, cond, Option}
 use Rattle.std.specs.Prelude.{Some, None, List, [], ◌∷◌, ◌++◌, All}
 use Rattle.sym_model.specs.Polynomial.{same}
@@ -22,7 +22,7 @@ abbrev pub falls_from : ℕ → List ℕ → Bool
 falls_from m [] = true
 falls_from m (x ∷ rest) = nat_lt 0 x && nat_le x m && falls_from x rest
 
--- what stands behind the parts that are chosen already
+-- what stands after the parts that are chosen already
 abbrev pub after_prefix : List ℕ → List ℕ → Option (List ℕ)
 after_prefix [] ν = Some ν
 after_prefix (a ∷ prefix) [] = None

@@ -1,5 +1,5 @@
 -- What is left of two labels while a partition is put together part by part, with the number of
--- ways that led there (this project's own).
+-- ways that led there.
 use Rattle.std.specs.Prelude.{◌≡◌, ℕ, Bool, ◌&&◌, not, nat_le, slice_index, drop, ◌+◌, ◌-◌, ◌*◌}
 use Rattle.std.specs.Prelude.{◌^◌, ◌<◌, true, cond, min, List, [], ◌∷◌, map, All}
 use Rattle.sym_model.specs.Partition.{IsPartition, size}
@@ -46,7 +46,7 @@ taken one other a b ν =
 abbrev pub HasPartAbove : ℕ → List ℕ → Type 0
 HasPartAbove part parts = (k : ℕ) × (has k parts ≡ true) × (part < k)
 
--- whether the part at place i is at most the given one and does not stand behind it again
+-- whether the part at place i is at most the given one and does not stand after it again
 abbrev pub is_choice_at : List ℕ → ℕ → ℕ → Bool
 is_choice_at parts i part =
     nat_le (slice_index parts i) part && not (has (slice_index parts i) (drop (i + 1) parts))

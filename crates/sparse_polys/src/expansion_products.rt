@@ -1,6 +1,6 @@
 //! Products of lists of terms in m.
 ghost use Rattle.std.specs.Prelude.{◌≡◌, ℕ, ◌+◌, ◌*◌, ◌^◌, ◌<◌, ◌≤◌, ◌≤ℤ◌, ◌*ℤ◌, ℤ, pos, None};
-ghost use Rattle.std.specs.Prelude.{List, [], IfOk, IfSome, OnOk, IsErrOf};
+ghost use Rattle.std.specs.Prelude.{List, [], ◌∷◌, IfOk, IfSome, OnOk, IsErrOf};
 ghost use Rattle.std.specs.Int.{◌∣◌};
 ghost use Rattle.std.specs.Prelude.{nat_eq};
 ghost use Rattle.std.specs.Cmp.Lexicographic.{pointwise};
@@ -14,12 +14,13 @@ ghost use Rattle.sym_model.specs.Partition.{IsPartition, size};
 ghost use Rattle.coeff_rings.specs.Fractions.{scaled, whole};
 ghost use Rattle.coeff_rings.specs.Room.{magnitude};
 ghost use Rattle.partitions.specs.Limits.{IsWithinLimits};
-ghost use Rattle.monomial_laws.specs.MonomialProduct.{arrangements, product_coefficient};
+ghost use Rattle.monomial_laws.specs.MonomialProduct.{product_coefficient};
 ghost use Rattle.monomial_laws.specs.ExpressionTerms.{over, absolute};
-ghost use Rattle.sparse_polys.specs.MonomialProducts.{greatest_size, row, absolute_row, count_of};
-ghost use Rattle.sparse_polys.specs.MonomialProducts.{AreSums, IsTooLarge, Adds, Overflows};
-ghost use Rattle.sparse_polys.specs.Products.{AreDenominators, IsCommonDenominator, coefficient_at};
-ghost use Rattle.sparse_polys.specs.Products.{AreCleared};
+ghost use Rattle.linear_combinations.specs.Gains.{replaced, scaled as multiple};
+ghost use Rattle.sparse_polys.specs.MonomialProducts.{greatest_size, product_terms, products};
+ghost use Rattle.sparse_polys.specs.MonomialProducts.{AreSums, IsTooLarge};
+ghost use Rattle.sparse_polys.specs.Products.{AreDenominators, IsCommonDenominator};
+ghost use Rattle.sparse_polys.specs.Products.{AreCleared, GainsCleared, OverflowsCleared};
 
 use crate::Lin;
 use crate::counts::exact_product;
@@ -59,13 +60,19 @@ fn add_count<R: Ring>(
     requires small { term.now.count < 2 ^ 127 }
     ensures ok { OnOk result ((d e : ℕ) → AreDenominators d e (R.value left) (R.value right)
         → AreCleared (d * e) sum.old
-        → Adds (d * e) sum.old (λ ν. scaled d (R.value left) *ℤ scaled e (R.value right)
-        *ℤ pos (count_of term.now ν)) sum.new) }
+        → GainsCleared is_label (d * e) sum.old ((
+          term.now.parts.items,
+          scaled d (R.value left)
+              *ℤ scaled e (R.value right) *ℤ pos term.now.count,
+        ) ∷ []) sum.new) }
     ensures large { IsErrOf result SumFault.Large → (d e : ℕ)
         → AreDenominators d e (R.value left) (R.value right)
         → d * e < 2 ^ 127 → AreCleared (d * e) sum.old
-        → Overflows (d * e) sum.old
-        (λ ν. magnitude d (R.value left) * magnitude e (R.value right) * count_of term.now ν) }
+        → OverflowsCleared (d * e) sum.old ((
+          term.now.parts.items,
+          scaled d (R.value left)
+              *ℤ scaled e (R.value right) *ℤ pos term.now.count,
+        ) ∷ []) }
 {
     if term.count == 0 {
         return Ok(());
@@ -89,16 +96,16 @@ fn add_pair<R: Ring>(
     requires sizes { size label.now + size other.now ≤ 512 }
     ensures ok { OnOk result ((d e : ℕ) → AreDenominators d e (R.value left) (R.value right)
         → AreCleared (d * e) sum.old
-        → Adds (d * e) sum.old
-        (λ ν. scaled d (R.value left) *ℤ scaled e (R.value right)
-        *ℤ pos (arrangements label.now other.now ν)) sum.new) }
+        → GainsCleared is_label (d * e) sum.old
+        (multiple (scaled d (R.value left) *ℤ scaled e (R.value right))
+        (product_terms label.now other.now)) sum.new) }
     ensures large { IsErrOf result SumFault.Large → (d e : ℕ)
         → AreDenominators d e (R.value left) (R.value right)
         → d * e < 2 ^ 127 → 0 < magnitude d (R.value left) → 0 < magnitude e (R.value right)
         → AreCleared (d * e) sum.old
-        → Overflows (d * e) sum.old
-        (λ ν. magnitude d (R.value left) * magnitude e (R.value right)
-        * arrangements label.now other.now ν) }
+        → OverflowsCleared (d * e) sum.old
+        (multiple (scaled d (R.value left) *ℤ scaled e (R.value right))
+        (product_terms label.now other.now)) }
 {
     let terms = exact_product(alloc, label.parts(), other.parts())?;
     let entries = terms.as_slice();
@@ -120,14 +127,13 @@ fn add_row<R: Ring>(
     ensures ok { OnOk result ((d e : ℕ) → 0 < d → (R.value left).1 ∣ d
         → IsCommonDenominator e (terms_of R.value right.now)
         → AreCleared (d * e) sum.old
-        → Adds (d * e) sum.old (λ ν. scaled d (R.value left)
-        *ℤ row label.now e (terms_of R.value right.now) ν) sum.new) }
+        → GainsCleared is_label (d * e) sum.old (multiple (scaled d (R.value left))
+        (replaced (product_terms label.now) (over e (terms_of R.value right.now)))) sum.new) }
     ensures large { IsErrOf result SumFault.Large → (d e : ℕ) → 0 < d → (R.value left).1 ∣ d
         → IsCommonDenominator e (terms_of R.value right.now)
         → d * e < 2 ^ 127 → 0 < magnitude d (R.value left) → AreCleared (d * e) sum.old
-        → Overflows (d * e) sum.old
-        (λ ν. magnitude d (R.value left)
-        * absolute_row label.now e (terms_of R.value right.now) ν) }
+        → OverflowsCleared (d * e) sum.old (multiple (scaled d (R.value left))
+        (replaced (product_terms label.now) (over e (terms_of R.value right.now)))) }
 {
     for (other, c) in right.iter() {
         add_pair(alloc, label, other, left, *c, sum)?;
@@ -145,7 +151,7 @@ fn cleared_product<R: Ring>(
     ensures cleared { IfOk result (λ product. (d e : ℕ)
         → IsCommonDenominator d (terms_of R.value left.now)
         → IsCommonDenominator e (terms_of R.value right.now)
-        → Adds (d * e) [] (product_coefficient (over d (terms_of R.value left.now))
+        → GainsCleared is_label (d * e) [] (products (over d (terms_of R.value left.now))
         (over e (terms_of R.value right.now))) product) }
     ensures large { IsErrOf result SumFault.Large → (d e : ℕ)
         → IsCommonDenominator d (terms_of R.value left.now)

@@ -15,7 +15,7 @@
 //! way from the one to the other copies nothing. Labels are partitions, permutations, monomials,
 //! `Pair`, `Power` and `Shifted` (a permutation with a monomial in y). `Monomial` is its list of
 //! exponents without zeros at the end: `from_exponents` has each refusal with its exact cause,
-//! `from_valid_exponents` fails only if out of memory, `degree` is the sum of the exponents,
+//! `degree` is the sum of the exponents,
 //! `cmp_printed` is the printed order, and monomials are labels of tables. `Monomial::times` adds
 //! the exponents, and `Monomial::times_var` raises one. `times`, over every ring: the product of
 //! two polynomials, in every number of variables; `Large` only where the weights of the two lists

@@ -151,6 +151,7 @@ impl<L: Label, R: Scalar> Lin<L, R> {
         ensures same { IfOk result (HasSameCoefficients L.eq self) }
         ensures canonical { IfOk result (IsCanonicalList L.order L.is_label) }
         ensures combination { IfOk result (IsCombination L.eq L.is_label) }
+        ensures was { IsCombination L.eq L.is_label self }
     {
         let Lin { table } = self;
         let list = table.sorted_terms()?;

@@ -75,17 +75,6 @@ impl Monomial {
         Ok(with_degree(alloc, exponents, degree as u16)?)
     }
 
-    /// The monomial with these exponents, of which the caller knows that they lie within the limits
-    /// but for zeros at their end, which are dropped. At most 16 exponents take no memory.
-    pub fn from_valid_exponents(alloc: Global, exponents: &[u16]) -> Result<Monomial, NoMemory>
-        requires { IsWithinLimits (without_last_zeros exponents.now) }
-        ensures ok { IfOk result (λ m. m ≡ without_last_zeros exponents.now) }
-        ensures inline { length (without_last_zeros exponents.now) ≤ 16 → IsOk result }
-    {
-        let exponents = numbers_before_zeros(exponents);
-        with_degree(alloc, exponents, sum_of(exponents) as u16)
-    }
-
     /// The monomial 1. It takes no memory.
     pub fn one(alloc: Global) -> Monomial
         ensures { result ≡ [] }

@@ -64,7 +64,7 @@ fn take_both(
 }
 
 /// Whether the part at a place can be taken from the left label,
-/// and does not stand behind it again.
+/// and does not stand after it again.
 fn is_choice(parts: &[u16], i: usize, part: u16) -> bool
     requires { i < length parts.now }
     ensures { result ≡ is_choice_at parts.now i part }

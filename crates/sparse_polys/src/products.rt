@@ -1,21 +1,21 @@
 //! Products of polynomials.
-ghost use Rattle.std.specs.Prelude.{◌≡◌, ℕ, ◌+◌, ◌*◌, ◌^◌, ◌<◌, ◌≤◌, ◌*ℤ◌, pos, nat_eq, List, IfOk};
-ghost use Rattle.std.specs.Prelude.{OnOk, IsErrOf};
+ghost use Rattle.std.specs.Prelude.{◌≡◌, ℕ, ◌*◌, ◌^◌, ◌<◌, ◌≤◌, ◌*ℤ◌, pos, nat_eq, List, [], ◌∷◌};
+ghost use Rattle.std.specs.Prelude.{IfOk, OnOk, IsErrOf};
 ghost use Rattle.std.specs.Int.{◌∣◌};
 ghost use Rattle.std.specs.Cmp.Lexicographic.{pointwise};
 ghost use Rattle.sym_model.specs.DividedDifference.{variable_in, x_to_in};
 ghost use Rattle.sym_model.specs.Expansion.{Fraction, Represents, denominators};
 ghost use Rattle.sym_model.specs.LabelLimits.{is_monomial_label};
-ghost use Rattle.sym_model.specs.ListWeight.{absolute_sum, list_weight};
+ghost use Rattle.sym_model.specs.ListWeight.{list_weight};
 ghost use Rattle.sym_model.specs.Polynomial.{join, times};
 ghost use Rattle.sym_model.specs.Sum.{Among};
-ghost use Rattle.coeff_rings.specs.Fractions.{scaled, whole, InLowestTerms};
-ghost use Rattle.coeff_rings.specs.Room.{magnitude};
-ghost use Rattle.sparse_polys.specs.Combination.{HasMoreAt, IsCombination};
+ghost use Rattle.monomial_laws.specs.ExpressionTerms.{over};
+ghost use Rattle.coeff_rings.specs.Fractions.{scaled, whole};
+ghost use Rattle.sparse_polys.specs.Combination.{HasMoreAt, IsPolynomialTable};
 ghost use Rattle.sparse_polys.specs.Limits.{IsWithinLimits};
 ghost use Rattle.sparse_polys.specs.Products.{value_in, coefficient_at, FitTogether, HasRoom};
 ghost use Rattle.sparse_polys.specs.Products.{AreCleared, IsCommonDenominator, AreDenominators};
-ghost use Rattle.sparse_polys.specs.Products.{cleared_sum, Adds};
+ghost use Rattle.sparse_polys.specs.Products.{GainsCleared, OverflowsCleared};
 
 use crate::poly::Poly;
 use crate::{Lin, Monomial};
@@ -34,14 +34,12 @@ fn add_product<R: Ring>(
     requires { IsWithinLimits (join left.now right.now) }
     ensures ok { OnOk result ((d e : ℕ) → AreDenominators d e (R.value a) (R.value b)
         → AreCleared (d * e) sum.old
-        → Adds (d * e) sum.old (λ φ. scaled d (R.value a) *ℤ scaled e (R.value b)
-        *ℤ φ (join left.now right.now))
-        (magnitude d (R.value a) * magnitude e (R.value b)) sum.new) }
+        → GainsCleared is_monomial_label (d * e) sum.old
+        ((join left.now right.now, scaled d (R.value a) *ℤ scaled e (R.value b)) ∷ []) sum.new) }
     ensures large { IsErrOf result SumFault.Large → (d e : ℕ)
         → AreDenominators d e (R.value a) (R.value b)
-        → d * e < 2 ^ 127 → AreCleared (d * e) sum.old
-        → 2 ^ 127 ≤ absolute_sum (d * e) sum.old + magnitude d (R.value a)
-        * magnitude e (R.value b) }
+        → d * e < 2 ^ 127 → AreCleared (d * e) sum.old → OverflowsCleared (d * e) sum.old
+        ((join left.now right.now, scaled d (R.value a) *ℤ scaled e (R.value b)) ∷ []) }
 {
     let Some(c) = a.mul(b) else {
         return Err(SumFault::Large);
@@ -59,14 +57,12 @@ fn add_row<R: Ring>(
     requires { (t : List ℕ × Fraction) → Among t right.now → IsWithinLimits (join left.now t.0) }
     ensures ok { OnOk result ((d e : ℕ) → 0 < d → (R.value a).1 ∣ d
         → IsCommonDenominator e right.now → AreCleared (d * e) sum.old
-        → Adds (d * e) sum.old (λ φ. scaled d (R.value a)
-        *ℤ cleared_sum e (λ β. φ (join left.now β)) right.now)
-        (magnitude d (R.value a) * absolute_sum e right.now) sum.new) }
+        → GainsCleared is_monomial_label (d * e) sum.old
+        (times ((left.now, scaled d (R.value a)) ∷ []) (over e right.now)) sum.new) }
     ensures large { IsErrOf result SumFault.Large → (d e : ℕ) → 0 < d → (R.value a).1 ∣ d
         → IsCommonDenominator e right.now
-        → d * e < 2 ^ 127 → AreCleared (d * e) sum.old
-        → 2 ^ 127 ≤ absolute_sum (d * e) sum.old + magnitude d (R.value a)
-        * absolute_sum e right.now }
+        → d * e < 2 ^ 127 → AreCleared (d * e) sum.old → OverflowsCleared (d * e) sum.old
+        (times ((left.now, scaled d (R.value a)) ∷ []) (over e right.now)) }
 {
     for (monomial, b) in right.iter() {
         add_product(sum, left, a, monomial, *b)?;
@@ -88,12 +84,13 @@ pub fn times<R: Ring>(alloc: Global, left: &Poly<R>, right: &Poly<R>) -> Result<
     ensures large { IsErrOf result SumFault.Large
         → 2 ^ 127 ≤ list_weight left.now * list_weight right.now }
 {
-    is_table(right);
+    if right.len() == 0 {
+        return Ok(Lin::new(alloc));
+    }
     let mut sum = Lin::new(alloc);
     for (monomial, a) in left.iter() {
         add_row(&mut sum, monomial, *a, right)?;
     }
-    is_table(&sum);
     Ok(sum)
 }
 
@@ -111,7 +108,6 @@ pub fn times_var<R: Ring>(alloc: Global, list: Poly<R>, r: u16) -> Result<Poly<R
     for (monomial, c) in list.iter() {
         add_new(&mut product, monomial.times_var(r)?, *c)?;
     }
-    is_table(&product);
     Ok(product)
 }
 
@@ -119,21 +115,12 @@ pub fn times_var<R: Ring>(alloc: Global, list: Poly<R>, r: u16) -> Result<Poly<R
 fn add_new<R: Ring>(sum: &mut Poly<R>, monomial: Monomial, c: R) -> Result<(), NoMemory>
     requires { coefficient_at sum.old monomial ≡ whole (pos 0) }
     ensures more { OnOk result (HasMoreAt (pointwise nat_eq) sum.old monomial (R.value c) sum.new) }
-    ensures was { IsCombination (pointwise nat_eq) is_monomial_label sum.old }
-    ensures combination { IsCombination (pointwise nat_eq) is_monomial_label sum.new }
-    ensures lowest { InLowestTerms (R.value c) }
+    ensures was { IsPolynomialTable sum.old }
+    ensures combination { IsPolynomialTable sum.new }
 {
-    let _ = c.is_zero();
     match sum.add_term(monomial, c) {
         Ok(()) => Ok(()),
         Err(SumFault::NoMemory) => Err(NoMemory),
         Err(SumFault::Large) => unreachable!(),
     }
-}
-
-/// Does nothing when it runs: it tells a proof what a polynomial is as a list.
-fn is_table<R: Ring>(list: &Poly<R>)
-    ensures { IsCombination (pointwise nat_eq) is_monomial_label list.now }
-{
-    let _ = list.len();
 }

@@ -41,7 +41,7 @@ fn ways_to_end(states: &[State]) -> u128
     total
 }
 
-/// Puts behind `out` each partition that has the chosen parts first and goes on from the states
+/// Puts after `out` each partition that has the chosen parts first and goes on from the states
 /// with parts up to
 /// `largest`, `left` being the size that is still to come.
 fn extend(

@@ -44,21 +44,6 @@ impl<L: Label, R: Scalar> Terms<L, R> {
         Terms { list }
     }
 
-    /// The list, which contracts see as its own entries.
-    pub fn as_list(&self) -> &List<L, R>
-        ensures { terms_of R.value result.now ≡ self.now }
-    {
-        &self.list
-    }
-
-    /// The list, which contracts see as its own entries.
-    pub fn into_list(self) -> List<L, R>
-        ensures { terms_of R.value result ≡ self }
-    {
-        let Terms { list } = self;
-        list
-    }
-
     /// The number of terms.
     pub fn len(&self) -> usize
         ensures len { result ≡ length self.now }

@@ -1,4 +1,4 @@
-//! Permutations behind fixed letters.
+//! Permutations after fixed letters.
 ghost use Rattle.std.specs.Prelude.{◌≡◌, ◌≤◌, length, IfOk, OnOk};
 ghost use Rattle.perm_codes.specs.Limits.{IsWithinLimits};
 ghost use Rattle.sym_model.specs.Partition.{after};
@@ -9,7 +9,7 @@ use calc_base::NoMemory;
 use perm_codes::Perm;
 use std::alloc::Global;
 
-/// The permutation behind so many fixed letters.
+/// 1^m × w: the permutation after m fixed letters.
 pub(crate) fn behind_fixed(alloc: Global, w: &Perm, fixed: u16) -> Result<Perm, NoMemory>
     requires fixed { fixed ≤ 64 }
     requires letters { length w.now ≤ 16 }

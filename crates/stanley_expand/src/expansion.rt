@@ -21,7 +21,7 @@ use std::alloc::Global;
 ///
 /// It is refused as `Large` exactly if a coefficient exceeds 2^127 - 1.
 ///
-/// The permutation stands behind `rows` fixed letters, and the transition rule of Lascoux and
+/// The permutation stands after `rows` fixed letters, and the transition rule of Lascoux and
 /// Schützenberger lowers it without the terms of variables after the last one, until Grassmannian
 /// permutations are left, whose polynomials are Schur polynomials (Macdonald, Notes on Schubert
 /// polynomials, IV and VII).

@@ -25,8 +25,8 @@ use transition_walk::transition_places;
 /// A sum of Schur polynomials.
 pub(crate) type Schurs = Lin<Partition, Int>;
 
-/// The Schubert polynomial of a permutation that rises at the places from 1 to `rows`, in so many
-/// variables, as a sum of Schur polynomials.
+/// The Schubert polynomial of a permutation that rises at the places from 1 to `rows`, in that
+/// number of variables, as a sum of Schur polynomials.
 ///
 /// What still waits is worked off from its end, so that few permutations wait at a time.
 pub(crate) fn in_schurs(alloc: Global, start: Perm, rows: u16) -> Result<Schurs, SumFault>

@@ -1,4 +1,4 @@
--- A permutation behind m fixed letters rises at the places 1 to m.
+-- A permutation after m fixed letters rises at the places 1 to m.
 use Rattle.std.proofs.Common.{◌≡◌, ℕ, zero, suc, ◌+◌, ◌-◌, ◌<◌, ◌≤◌, List, map, length, get_or, arith, inl, inr, length-append}
 use Rattle.std.proofs.Math.ListN.{get_or-append}
 use Rattle.std.proofs.lemmas.List.{length-map}

@@ -26,46 +26,43 @@ use Rattle.sym_model.proofs.Sums.{Among-map, Among_from_map}
 use Rattle.monomial_laws.specs.ExpressionTerms.{over as numerators_over}
 use Rattle.monomial_laws.proofs.WeightBounds.{lcm-positive}
 use Rattle.coeff_rings.specs.Fractions.{scaled as numerator_over, whole, InLowestTerms}
-use Rattle.coeff_rings.specs.Room.{magnitude}
 use Rattle.coeff_rings.specs.Proved.Divisors.{divides_other_factor, coprime_without, divisor_positive}
 use Rattle.linear_combinations.specs.Entries.{IsCombination}
-use Rattle.linear_combinations.specs.Gains.{over, mass, mass_at, scaled as gained_times, HaveLabels, Gains}
+use Rattle.linear_combinations.specs.Gains.{over, mass, mass_at, scaled as gained_times, HaveLabels}
 use Rattle.linear_combinations.specs.Labels.{same_partition}
-use Rattle.linear_combinations.proofs.Gains.{all_pairs, next_among, over_append, gains_none, gains_both, gains_mass, mass_at_append, overflows_both, scaled_over}
+use Rattle.linear_combinations.proofs.Gains.{all_pairs, next_among, over_append, gains_mass, mass_at_append, overflows_both, scaled_over}
 use Rattle.linear_combinations.proofs.LowestTerms.{lowest-is_reduced}
 use Rattle.linear_combinations.proofs.Totals.{term-among}
 use Rattle.linear_combinations.proofs.Masses.{mass_append, mass_scaled, mass_at_scaled, labels_append, labels_scaled, labels_gained}
 use Rattle.sparse_polys.specs.Combination.{terms_of}
-use Rattle.sparse_polys.specs.Products.{cleared_sum}
 use Rattle.sparse_polys.specs.MonomialProducts.{greatest_size}
-use Rattle.sparse_polys.specs.Products.{AreCleared}
-use Rattle.sparse_polys.proofs.ListSteps.{sum_next, absolute_next, rows_sizes}
-use Rattle.sparse_polys.proofs.ClearedSums.{AreCleared-nothing}
+use Rattle.sparse_polys.specs.Products.{GainsCleared}
+use Rattle.sparse_polys.proofs.ListSteps.{over_pieces}
+use Rattle.sparse_polys.proofs.Steps.{IsCombination-empty}
+use Rattle.sparse_polys.proofs.ClearedSums.{AreCleared-nothing, Gains-none, Gains-both, mass_over, table_over}
 use Rattle.sparse_polys.proofs.Expansions.{divides_terms, least-denominators}
 use Rattle.sparse_polys.proofs.Rows.{greatest_size-among}
 use Rattle.whole_lists.specs.Tables.{IsTable}
 use Rattle.strip_rules.specs.Adding.{IsDenominator, Adds, Exceeds, IsProduct}
 use Rattle.strip_rules.specs.Room.{AreWithin}
-use Rattle.strip_rules.proofs.TermsAdded.{over_numerators, mass_numerators, size_numerator, table-numerators}
 use native.Mathlib.Nat.{mul-le-mul_left, pow-zero, le-div_iff_mul-le}
+use lib.IntN.{+ℤ_idr}
 
 -- ---- one term after another
 
 -- the sum has, times q, the products of f and the terms of the list so far
 pub record AddsList (f : ℕ → Poly) (k q : ℕ) (list done sum : Terms (List ℕ)) : Type 0 where
-  pub cleared : AreCleared q sum
   pub gained : WholeTerms
-  pub gains : Gains [] gained (numerators_over q sum)
-  pub value : (n : ℕ) (φ : List ℕ → ℤ) → over (λ ν. pair (schur ν n) φ) gained ≡ cleared_sum q (λ label. pair (times (f n) (schur label n)) φ) done
-  pub once : (ν : List ℕ) → mass_at (pointwise nat_eq) ν gained ≤ absolute_sum q done
-  pub few : mass gained ≤ absolute_sum q done * (greatest_size list + k) ^ k
+  pub gains : GainsCleared is_label q [] gained sum
+  pub value : (n : ℕ) (φ : List ℕ → ℤ) → over (λ ν. pair (schur ν n) φ) gained ≡ over (λ label. pair (times (f n) (schur label n)) φ) (numerators_over q done)
+  pub once : (ν : List ℕ) → mass_at (pointwise nat_eq) ν gained ≤ mass (numerators_over q done)
+  pub few : mass gained ≤ mass (numerators_over q done) * (greatest_size list + k) ^ k
   pub small : (cells lengths : ℕ) → AreWithin cells lengths list → HaveLabels (λ ν. (size ν ≤ cells + k) × (rows ν ≤ lengths + k)) gained
 
 pub AddsList-none : (f : ℕ → Poly) (k q : ℕ) (list : Terms (List ℕ)) → AddsList f k q list [] []
 AddsList-none f k q list = record {
-  cleared = AreCleared-nothing q;
   gained = [];
-  gains = gains_none [];
+  gains = Gains-none q [] (AreCleared-nothing q);
   value = λ n φ. refl;
   once = λ ν. omega arith;
   few = omega arith;
@@ -75,34 +72,36 @@ AddsList-none f k q list = record {
 module _ {R : Type 0} (value : R → Fraction) (f : ℕ → Poly) (k q : ℕ) (done : List (List ℕ × R)) (list cur : Terms (List ℕ)) (label : List ℕ) (v : R)
     (h : AddsList f k q list (terms_of value done) cur) (terms : WholeTerms) (p : IsProduct f k label terms) where
   -- each label is gained at most as often as the coefficients so far and this one come to
-  once_next : (ν : List ℕ) → mass_at (pointwise nat_eq) ν (h.gained ++ gained_times (numerator_over q (value v)) terms) ≤ absolute_sum q (terms_of value done) + magnitude q (value v)
+  once_next : (ν : List ℕ) → mass_at (pointwise nat_eq) ν (h.gained ++ gained_times (numerator_over q (value v)) terms) ≤ mass (numerators_over q (terms_of value done)) + nat_abs (numerator_over q (value v))
   once_next ν =
       let z = numerator_over q (value v) in
       let a = mass_at_append (pointwise nat_eq) ν h.gained (gained_times z terms) in
       let b = mass_at_scaled (pointwise nat_eq) ν z terms in
       let o = mul-le-mul_left (nat_abs z) (p.once ν) in
       let w = h.once ν in
-      let s = size_numerator q (value v) in
       omega arith
+
+  mass_next : (rest : List (List ℕ × R)) → mass (numerators_over q (terms_of value (done ++ (label, v) ∷ rest)))
+      ≡ mass (numerators_over q (terms_of value done)) + (nat_abs (numerator_over q (value v)) + mass (numerators_over q (terms_of value rest)))
+  mass_next rest = ap mass (over_pieces value q done ((label, v) ∷ rest)) ∙ mass_append (numerators_over q (terms_of value done)) (numerators_over q (terms_of value ((label, v) ∷ rest)))
 
   pub AddsList-next : (new : Terms (List ℕ)) → Among (label, value v) list → IsDenominator q (value v) → Adds (value v) terms cur new
       → AddsList f k q list (terms_of value (done ++ (label, v) ∷ [])) new
   AddsList-next new among d a =
       let z = numerator_over q (value v) in
-      let g = a.gains q d h.cleared in
       record {
-        cleared = g.cleared;
         gained = h.gained ++ gained_times z terms;
-        gains = gains_both [] h.gained (numerators_over q cur) (gained_times z terms) (numerators_over q new) h.gains g.gains;
+        gains = Gains-both q [] h.gained cur (gained_times z terms) new h.gains (a q d h.gains.cleared);
         value =
             λ n φ.
+            let ψ : List ℕ → ℤ = λ l. pair (times (f n) (schur l n)) φ in
             over_append (λ ν. pair (schur ν n) φ) h.gained (gained_times z terms)
-            ∙ ap₂ (λ x y. x +ℤ y) (h.value n φ) (scaled_over z (λ ν. pair (schur ν n) φ) terms ∙ ap (λ y. z *ℤ y) (p.value n φ))
-            ∙ sym (sum_next value q (λ l. pair (times (f n) (schur l n)) φ) done label v);
+            ∙ ap₂ (λ x y. x +ℤ y) (h.value n φ) (scaled_over z (λ ν. pair (schur ν n) φ) terms ∙ ap (λ y. z *ℤ y) (p.value n φ) ∙ sym (+ℤ_idr (z *ℤ ψ label)))
+            ∙ sym (ap (over ψ) (over_pieces value q done ((label, v) ∷ [])) ∙ over_append ψ (numerators_over q (terms_of value done)) ((label, z) ∷ []));
         once =
             λ ν.
             let w = once_next ν in
-            let s = absolute_next value q done label v [] in
+            let s = mass_next [] in
             omega arith;
         few =
             let most = (greatest_size list + k) ^ k in
@@ -112,9 +111,9 @@ module _ {R : Type 0} (value : R → Fraction) (f : ℕ → Poly) (k q : ℕ) (d
             let w = p.few in
             let m = mul-le-mul_left (nat_abs z) (let x : mass terms ≤ most = omega arith in x) in
             let c = mass_scaled z terms in
-            let n = ap (λ x. x * most) (size_numerator q (value v)) in
             let l = mass_append h.gained (gained_times z terms) in
-            let s = rows_sizes most _ _ _ _ (absolute_next value q done label v []) in
+            let s = ap (λ n. n * most) (mass_next []) in
+            let r : (mass (numerators_over q (terms_of value done)) + (nat_abs z + 0)) * most ≡ mass (numerators_over q (terms_of value done)) * most + nat_abs z * most = omega arith in
             omega arith;
         small =
             λ cells lengths within.
@@ -134,40 +133,44 @@ module _ {R : Type 0} (value : R → Fraction) (f : ℕ → Poly) (k q : ℕ) (d
   pub refused_large : (rest : List (List ℕ × R)) → terms_of value (done ++ (label, v) ∷ rest) ≡ list → IsDenominator q (value v) → q < 2 ^ 127
       → Exceeds (value v) terms cur → 2 ^ 127 ≤ absolute_sum q list
   refused_large rest whole d small e =
-      let o = overflows_both (pointwise nat_eq) [] h.gained (numerators_over q cur) (gained_times (numerator_over q (value v)) terms) h.gains (e q d small h.cleared) in
+      let o =
+      overflows_both (pointwise nat_eq) [] h.gained (numerators_over q cur) (gained_times (numerator_over q (value v)) terms) h.gains.gains (e q d small h.gains.cleared) in
       let l = o.1 in
       let w = once_next o.0 in
-      let s = absolute_next value q done label v rest in
-      let i = ap (absolute_sum q) whole in
+      let s = mass_next rest in
+      let i = ap (λ l. mass (numerators_over q l)) whole ∙ mass_over q list in
       omega arith
 
 -- ---- the whole list
 
-module _ {f : ℕ → Poly} {k q : ℕ} {list done sum : Terms (List ℕ)} (is : IsTable sum) (some : 0 < q) (a : AddsList f k q list done sum) where
+module _ {f : ℕ → Poly} {k q : ℕ} {list done sum : Terms (List ℕ)} (some : 0 < q) (a : AddsList f k q list done sum) where
+  pub list_table : IsTable sum
+  list_table = a.gains.table (IsCombination-empty (pointwise nat_eq) is_label)
+
   -- q clears each term
   pub list_divides : (t : List ℕ × Fraction) → Among t sum → t.1.1 ∣ q
-  list_divides = divides_terms q sum is (λ ν p. a.cleared ν)
+  list_divides = divides_terms q sum list_table (λ ν p. a.gains.cleared ν)
 
   table : IsCombination (pointwise nat_eq) is_label whole (numerators_over q sum)
-  table = table-numerators q sum is some list_divides
+  table = table_over q sum list_table some list_divides
 
-  pub list_sums : (n : ℕ) (φ : List ℕ → ℤ) → cleared_sum q (λ ν. pair (schur ν n) φ) sum ≡ cleared_sum q (λ label. pair (times (f n) (schur label n)) φ) done
+  pub list_sums : (n : ℕ) (φ : List ℕ → ℤ) → pair (numerators_over q sum) (λ ν. pair (schur ν n) φ) ≡ pair (numerators_over q done) (λ label. pair (times (f n) (schur label n)) φ)
   list_sums n φ =
-      let s = a.gains.sums (λ ν. pair (schur ν n) φ) in
-      let o = over_numerators q (λ ν. pair (schur ν n) φ) sum in
+      let s = a.gains.gains.sums (λ ν. pair (schur ν n) φ) in
       let v = a.value n φ in
       omega (arith, ints)
 
   pub list_grows : absolute_sum q sum ≤ absolute_sum q done * (greatest_size list + k) ^ k
   list_grows =
-      let g = gains_mass nat_list_eq_equiv same_partition [] a.gained (numerators_over q sum) table a.gains in
-      let m = mass_numerators q sum in
+      let g = gains_mass nat_list_eq_equiv same_partition [] a.gained (numerators_over q sum) table a.gains.gains in
+      let m = mass_over q sum in
+      let n = ap (λ x. x * (greatest_size list + k) ^ k) (mass_over q done) in
       let w = a.few in
       omega arith
 
   pub list_small : (cells lengths : ℕ) → AreWithin cells lengths list → AreWithin (cells + k) (lengths + k) sum
   list_small cells lengths within t m =
-      labels_gained nat_list_eq_equiv same_partition [] a.gained (numerators_over q sum) table a.gains (λ ν. (size ν ≤ cells + k) × (rows ν ≤ lengths + k))
+      labels_gained nat_list_eq_equiv same_partition [] a.gained (numerators_over q sum) table a.gains.gains (λ ν. (size ν ≤ cells + k) × (rows ν ≤ lengths + k))
       (λ u n. absurd n) (a.small cells lengths within) (t.0, numerator_over q t.1)
       (Among-map (λ (u : List ℕ × Fraction). (u.0, numerator_over q u.1)) t sum m)
 

@@ -75,7 +75,7 @@ height_positive k parts list p h ν m =
 pub among_next : (done rest all : List (List ℕ)) (k : List ℕ) → done ++ k ∷ rest ≡ all → Among k all
 among_next done rest all k e = subst (Among k) e (Among-append_right k done (k ∷ rest) (inl refl))
 
--- the current shape comes behind those so far, and before the rest
+-- the current shape comes after those so far, and before the rest
 pub next_on : (done old new all : List (List ℕ)) (item : Option (List ℕ)) (k : List ℕ) → done ++ old ≡ all → old ≡ option_to_list item ++ new → item ≡ Some k → done ++ k ∷ new ≡ all
 next_on done old new all item k so_far next current = ap (λ xs. done ++ xs) (ap (λ o. option_to_list o ++ new) (sym current) ∙ sym next) ∙ so_far
 

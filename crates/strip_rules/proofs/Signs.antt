@@ -1,5 +1,4 @@
 -- The signs of rim hooks by their heights.
---     sign_size                   a sign has the absolute value 1
 --     signed_one, _odd, _even     a coefficient with the sign of a height
 --     negation_large              a negation is refused for its size alone
 --     height_here                 the height that a lister tells

@@ -22,7 +22,7 @@ use Rattle.sym_model.proofs.Polynomials.{pair_ext, pair_plus, pair_scale, pair_e
 use Rattle.coeff_rings.specs.Fractions.{scaled}
 use Rattle.linear_combinations.specs.Gains.{mass, mass_at}
 use Rattle.linear_combinations.specs.Labels.{same_partition}
-use Rattle.sparse_polys.specs.Products.{cleared_sum}
+use Rattle.monomial_laws.specs.ExpressionTerms.{over}
 use Rattle.sparse_polys.proofs.Expansions.{common-denominators}
 use Rattle.sparse_polys.proofs.PolynomialValues.{two_denominators}
 use Rattle.product_laws.specs.StripLists.{ListsEach, AddsRimHook}
@@ -55,7 +55,7 @@ hooks_value k n parts list φ h p l =
     ∙ sym (pair_each (λ (ν : List ℕ). scale (sign ν) (schur ν n)) list φ)
     ∙ sym (pair_determined (times (power_sum_of k n) (schur parts n)) (flat_map (λ (ν : List ℕ). scale (sign ν) (schur ν n)) list) φ (rim_hooks n k parts list h p l))
 
--- there are at most so many rim hooks
+-- there are at most that number of rim hooks
 hook_count : (k : ℕ) (parts : List ℕ) (list : List (List ℕ)) → 1 ≤ k → IsPartition parts → ListsEach (AddsRimHook k parts) list → length list ≤ (size parts + k) ^ k
 hook_count k parts list h p l =
     let c = hooks_within k parts list p l in
@@ -137,29 +137,29 @@ hooks_product k parts base list h p e hooks =
 -- ---- a list
 
 pair_cleared : (n q : ℕ) (terms : Terms (List ℕ)) (φ : List ℕ → ℤ)
-    → pair (cleared (λ ν. basis_polynomial Basis.schurs ν n) q terms) φ ≡ cleared_sum q (λ ν. pair (schur ν n) φ) terms
+    → pair (cleared (λ ν. basis_polynomial Basis.schurs ν n) q terms) φ ≡ pair (over q terms) (λ ν. pair (schur ν n) φ)
 pair_cleared n q [] φ = refl
 pair_cleared n q (t ∷ terms) φ =
     pair_plus (scale (scaled q t.1) (schur t.0 n)) (cleared (λ ν. basis_polynomial Basis.schurs ν n) q terms) φ
     ∙ ap₂ ◌+ℤ◌ (pair_scale (scaled q t.1) (schur t.0 n) φ) (pair_cleared n q terms φ)
 
 pub list_value : (f : Poly) (n : ℕ) (terms : Terms (List ℕ)) (φ : List ℕ → ℤ)
-    → cleared_sum (denominators terms) (λ label. pair (times f (schur label n)) φ) terms ≡ pair (times f (value Basis.schurs terms n)) φ
+    → pair (over (denominators terms) terms) (λ label. pair (times f (schur label n)) φ) ≡ pair (times f (value Basis.schurs terms n)) φ
 list_value f n terms φ =
-    let q = denominators terms in
+    let list = over (denominators terms) terms in
     sym
     (pair_times f (value Basis.schurs terms n) φ
-    ∙ pair_ext f (λ α. pair (value Basis.schurs terms n) (λ β. φ (join α β))) (λ α. cleared_sum q (λ ν. pair (schur ν n) (λ β. φ (join α β))) terms) (λ α. pair_cleared n q terms (λ β. φ (join α β)))
-    ∙ pair_total f (λ (t : List ℕ × Fraction) (α : List ℕ). scaled q t.1 *ℤ pair (schur t.0 n) (λ β. φ (join α β))) terms
-    ∙ total_ext (λ (t : List ℕ × Fraction). pair f (λ α. scaled q t.1 *ℤ pair (schur t.0 n) (λ β. φ (join α β)))) (λ (t : List ℕ × Fraction). scaled q t.1 *ℤ pair (times f (schur t.0 n)) φ)
+    ∙ pair_ext f (λ α. pair (value Basis.schurs terms n) (λ β. φ (join α β))) (λ α. pair list (λ ν. pair (schur ν n) (λ β. φ (join α β)))) (λ α. pair_cleared n (denominators terms) terms (λ β. φ (join α β)))
+    ∙ pair_total f (λ (t : List ℕ × ℤ) (α : List ℕ). t.1 *ℤ pair (schur t.0 n) (λ β. φ (join α β))) list
+    ∙ total_ext (λ (t : List ℕ × ℤ). pair f (λ α. t.1 *ℤ pair (schur t.0 n) (λ β. φ (join α β)))) (λ (t : List ℕ × ℤ). t.1 *ℤ pair (times f (schur t.0 n)) φ)
     (λ t.
-    pair_factor (scaled q t.1) f (λ α. pair (schur t.0 n) (λ β. φ (join α β)))
-    ∙ ap (λ z. scaled q t.1 *ℤ z) (sym (pair_times f (schur t.0 n) φ))) terms)
+    pair_factor t.1 f (λ α. pair (schur t.0 n) (λ β. φ (join α β)))
+    ∙ ap (λ z. t.1 *ℤ z) (sym (pair_times f (schur t.0 n) φ))) list)
 
 -- ---- what a list stands for
 
 pub expansion : (terms : Terms (List ℕ)) (d n : ℕ) (f : Poly) → IsTable terms → ((t : List ℕ × Fraction) → Among t terms → t.1.1 ∣ d)
-    → ((φ : List ℕ → ℤ) → cleared_sum d (λ ν. pair (schur ν n) φ) terms ≡ pair f φ) → IsExpansionOf Basis.schurs terms n f d
+    → ((φ : List ℕ → ℤ) → pair (over d terms) (λ ν. pair (schur ν n) φ) ≡ pair f φ) → IsExpansionOf Basis.schurs terms n f d
 expansion terms d n f is divides sums =
     let q = denominators terms in
     let common = common-denominators terms is in

@@ -1,19 +1,17 @@
 -- Tables of terms in s to which whole numbers at labels are added, each times one coefficient, with
--- the fractions cleared (this project's own).
+-- the fractions cleared.
 use Rattle.std.specs.Prelude.{◌≡◌, ℕ, ◌+◌, ◌^◌, ◌<◌, ◌≤◌, ℤ, ◌*ℤ◌, nat_eq, List, map}
 use Rattle.std.specs.Int.{◌∣◌}
 use Rattle.std.specs.Cmp.Lexicographic.{pointwise}
+use Rattle.sym_model.specs.Canonical.{is_label}
 use Rattle.sym_model.specs.Partition.{size, rows}
 use Rattle.sym_model.specs.Polynomial.{Poly, pair, times}
 use Rattle.sym_model.specs.Schur.{schur}
 use Rattle.sym_model.specs.Expansion.{Fraction, Terms}
 use Rattle.sym_model.specs.WholeTerms.{WholeTerms}
-use Rattle.monomial_laws.specs.ExpressionTerms.{over as numerators_over}
 use Rattle.coeff_rings.specs.Fractions.{scaled as numerator_over}
-use Rattle.linear_combinations.specs.Gains.{over, mass, mass_at, scaled, HaveLabels, Gains}
-use Rattle.linear_combinations.specs.Gains.{Overflows}
-use Rattle.sparse_polys.specs.Products.{AreCleared}
-use Rattle.whole_lists.specs.Tables.{IsTable}
+use Rattle.linear_combinations.specs.Gains.{over, mass, mass_at, scaled, HaveLabels}
+use Rattle.sparse_polys.specs.Products.{AreCleared, GainsCleared, OverflowsCleared}
 
 -- q is a positive multiple of the denominator of c
 pub record IsDenominator (q : ℕ) (c : Fraction) : Type 0 where
@@ -29,22 +27,15 @@ pub record IsSigned (c : Fraction) (sign : ℤ) (d : Fraction) : Type 0 where
 abbrev pub with_signs : (List ℕ → ℤ) → List (List ℕ) → WholeTerms
 with_signs sign shapes = map (λ (ν : List ℕ). (ν, sign ν)) shapes
 
--- the new list, cleared by q, has gained these
-pub record GainsCleared (q : ℕ) (old : Terms (List ℕ)) (gained : WholeTerms)
-    (new : Terms (List ℕ)) : Type 0 where
-  pub cleared : AreCleared q new
-  pub gains : Gains (numerators_over q old) gained (numerators_over q new)
+-- c times the terms is added, cleared by any q
+abbrev pub Adds : Fraction → WholeTerms → Terms (List ℕ) → Terms (List ℕ) → Type 0
+Adds c terms old new = (q : ℕ) → IsDenominator q c → AreCleared q old
+    → GainsCleared is_label q old (scaled (numerator_over q c) terms) new
 
--- c times the terms is added
-pub record Adds (c : Fraction) (terms : WholeTerms) (old new : Terms (List ℕ)) : Type 0 where
-  pub table : IsTable new
-  pub gains : (q : ℕ) → IsDenominator q c → AreCleared q old
-      → GainsCleared q old (scaled (numerator_over q c) terms) new
-
--- c times the terms cannot be added: cleared by any q below 2^127, the sums overflow
+-- c times the terms cannot be added: cleared by any q below 2^127, the list overflows
 abbrev pub Exceeds : Fraction → WholeTerms → Terms (List ℕ) → Type 0
 Exceeds c terms old = (q : ℕ) → IsDenominator q c → q < 2 ^ 127 → AreCleared q old
-    → Overflows (pointwise nat_eq) (numerators_over q old) (scaled (numerator_over q c) terms)
+    → OverflowsCleared q old (scaled (numerator_over q c) terms)
 
 -- the terms are the product of f, a polynomial of degree k, and s_label:
 -- each label at most once, with 1 or -1

@@ -1,4 +1,4 @@
--- The sizes of the labels of a table (this project's own).
+-- The sizes of the labels of a table.
 use Rattle.std.specs.Prelude.{ℕ, ◌+◌, ◌≤◌, List}
 use Rattle.sym_model.specs.Sum.{Among}
 use Rattle.sym_model.specs.Partition.{size, rows}

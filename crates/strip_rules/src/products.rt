@@ -33,7 +33,6 @@ fn add_product<R: Ring>(
     label: &Partition,
     c: R,
 ) -> Result<(), SumFault>
-    requires table { IsTable (terms_of R.value sum.old) }
     requires positive { family ≡ Family.PowerSum → 1 ≤ k }
     requires partition { IsPartition label.now }
     requires lowest { InLowestTerms (R.value c) }

@@ -24,7 +24,6 @@ pub(crate) fn add_each<R: Ring>(
     shapes: Vec<Partition>,
     c: R,
 ) -> Result<(), SumFault>
-    requires table { IsTable (terms_of R.value sum.old) }
     requires lowest { InLowestTerms (R.value c) }
     requires partitions { (ν : List ℕ) → Among ν shapes.items → IsPartition ν }
     ensures ok { OnOk result (Adds (R.value c) (with_signs (λ ν. pos 1) shapes.items)
@@ -65,7 +64,6 @@ pub(crate) fn add_each_hook<R: Ring>(
     hooks: &mut HooksAdded,
     c: R,
 ) -> Result<(), SumFault>
-    requires table { IsTable (terms_of R.value sum.old) }
     requires lowest { InLowestTerms (R.value c) }
     requires limits { (ν : List ℕ) → Among ν hooks.old.rest → IsWithinLimits ν }
     requires heights { (ν : List ℕ) → Among ν hooks.old.rest → 1 ≤ height ν hooks.old.base }

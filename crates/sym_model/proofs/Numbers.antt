@@ -1,5 +1,5 @@
 -- Natural numbers: powers, factorials, products, and their tests.
-use Rattle.std.proofs.Common.{arith, nat_le, suc, ℕ, ◌≡◌, ◌^◌, pow-suc, zero, ◌≤◌, ◌<◌, ◌==◌, sym, cond, nat_lt, ap, true, false, ◌*◌, ◌+◌, List, [], ◌∷◌}
+use Rattle.std.proofs.Common.{arith, nat_le, suc, ℕ, ◌≡◌, ◌^◌, pow-suc, zero, ◌≤◌, ◌<◌, ◌==◌, sym, cond, nat_lt, ap, true, false, ◌*◌, List, [], ◌∷◌}
 use Rattle.std.proofs.lemmas.Bool.Decides.{nat_tests}
 use Rattle.std.proofs.lemmas.Nat.{mul-le}
 use Rattle.std.proofs.Math.Nat.{pow-zero}
@@ -43,9 +43,6 @@ times-more a b h = let p = mul-le-mul_left a h in omega arith
 pub positive_factor : (q a m : ℕ) → q * a ≡ m → 0 < m → 0 < q
 positive_factor zero a m e h = absurd (let z : 0 * a ≡ 0 = omega arith in omega arith)
 positive_factor (suc q) a m e h = omega arith
-
-pub many-within : (A x y z : ℕ) → x + y ≤ z → A * x + A * y ≤ A * z
-many-within A x y z h = let m = mul-le-mul_left A h in omega arith
 
 pub below_more : (k l : ℕ) (w : List ℕ) → k ≤ l → AreBelow k w → AreBelow l w
 below_more k l [] le h = tt

@@ -49,7 +49,7 @@ abbrev pub fits_by : Rule → List ℕ → List ℕ → ℕ → Neighbours → L
 fits_by rule counts start k near front a =
     stands_right near front a && allows rule counts (join start (content k front)) a
 
--- one more than the earlier place whose cell is so many rows above and so many columns right;
+-- one more than the earlier place whose cell is that number of rows above and of columns right;
 -- 0 where there is none
 pub record IsNeighbour (lines ranks : List ℕ) (place down left found : ℕ) : Type 0 where
   pub within : found ≤ place
@@ -63,7 +63,7 @@ pub record AreNeighbours (lines ranks : List ℕ) (down left : ℕ) (found : Lis
   pub places : length found ≡ length lines
   pub each : (p : ℕ) → p < length lines → IsNeighbour lines ranks p down left (slice_index found p)
 
--- the next so many places are below this one, each below the one before it
+-- the next `count` places are below this one, each below the one before it
 abbrev pub IsRun : List ℕ → ℕ → ℕ → Type 0
 IsRun above place count =
     (d : ℕ) → d < count → (place + d + 1 < length above)

@@ -74,7 +74,7 @@ abbrev pub position_of : Rule → List ℕ → List ℕ → Neighbours → List 
 position_of rule counts start near sums word =
     record { setting = setting_of rule counts start (length sums) near; word = word; sums = sums }
 
--- these are the neighbours in the shape, with so many letters
+-- these are the neighbours in the shape, with that number of letters
 pub record IsNearIn (k : ℕ) (outer inner : List ℕ) (near : Neighbours) : Type 0 where
   pub lines : List ℕ
   pub ranks : List ℕ

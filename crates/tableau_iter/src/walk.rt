@@ -9,7 +9,6 @@ use crate::board::Board;
 /// Finds the first word with these letters up to the place; false where there is none.
 #[cycle(walk)]
 pub(crate) fn first(board: &mut Board, place: usize) -> bool
-    requires few { length board.old.word ≤ 4096 }
     requires place { place ≤ length board.old.word }
     requires ready { IsReady place board.old }
     ensures found { OnTrue result (Begins place board.new
@@ -60,7 +59,6 @@ fn first_after(board: &mut Board, place: usize, least: u16) -> bool
 /// Finds the word that comes next among those with these letters up to the place;
 /// false where this is the last one.
 pub(crate) fn next(board: &mut Board, place: usize) -> bool
-    requires few { length board.old.word ≤ 4096 }
     requires place { place ≤ length board.old.word }
     requires ready { IsReady (length board.old.word) board.old }
     ensures found { OnTrue result (Begins place board.new

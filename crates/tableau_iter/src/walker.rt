@@ -85,8 +85,6 @@ fn step(board: &mut Board, stage: Stage) -> bool
     ensures same { IsSameUpTo 0 board.old board.new }
     ensures whole { OnTrue result (IsReady (length board.new.word) board.new) }
 {
-    // This tells the proof that the word is not long.
-    board.len();
     match stage {
         Stage::New => first(board, 0),
         Stage::Listing | Stage::Passed => next(board, 0),

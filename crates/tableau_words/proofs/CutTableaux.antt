@@ -106,7 +106,7 @@ pub none_from : (x : Written (optional from_words)) (words : Words) → words �
 none_from (inl x) words e b = refl
 none_from (inr x) words e b = absurd (subst (BeginsOtherwise (λ t. t ≡ codes "-from")) e b refl)
 
--- the rows of a tableau that begins behind `-from`
+-- the rows of a tableau that begins after `-from`
 pub some_from : (x : Written (optional from_words)) (words more : Words) → May (optional from_words) x → words ≡ words_of (optional from_words) x → words ≡ codes "-from" ∷ more
     → (0 < length (from_rows x)) × EachOf (EachOf IsNumber) (from_rows x) × (more ≡ rows_text (from_rows x))
 some_from (inl x) words more m e f = let z = sym e ∙ f in cc

@@ -1,4 +1,4 @@
--- The first offence of two shapes and a tableau behind `-from`.
+-- The first offence of two shapes and a tableau after `-from`.
 use Rattle.std.proofs.Common.{◌≡◌, ℕ, ◌+◌, ◌<◌, ◌≤◌, nat_lt, ◌==◌, min, Bool, true, false, cond, ◌⊎◌, inl, inr, List, [], ◌∷◌, ◌++◌, map, length, refl, sym, ap, ap₂, ◌∙◌, subst, arith, append_assoc, Option, Some, None, Result, Ok}
 use Rattle.std.proofs.lemmas.Bool.{eqb-false}
 use Rattle.std.proofs.lemmas.Bool.Decides.{nat_tests}
@@ -222,7 +222,7 @@ IsTabJudged outer inner rows r =
     IsJudged (IsTab (partition outer) (partition inner) (last_of (partition outer) (partition inner) (map numbers rows)))
     (first_offence (all_tab_offences outer inner rows)) r
 
--- what words say and offend by where the tableau behind `-from` is this one
+-- what words say and offend by where the tableau after `-from` is this one
 tab_said : (P Q : List ℕ) (x : Written (optional from_words)) → last_reading P Q x ≡ last_of P Q (map numbers (from_rows x))
 tab_said P Q (inl x) = refl
 tab_said P Q (inr x) = ap (λ ns. Some (column_reading P Q (rows_in P ns))) (rows_entered x.1)

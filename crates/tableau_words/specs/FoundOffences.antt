@@ -38,9 +38,9 @@ left_at ns i = cond (i == 0) None (slice_get ns (i - 1))
 abbrev pub is_disordered_at : ℕ → List ℕ → ℕ → List ℕ → ℕ → ℕ → Bool
 is_disordered_at c upper d ns i a = falls (left_at ns i) a || stays (entry_above upper c (d + i)) a
 
--- whether a number at the place of a row of a tableau of so many cells that records, below a row
--- and after these entries, is past their number, not greater than its left neighbour or the entry
--- above, or stands earlier
+-- whether a number at the place of a row of a tableau of that number of cells that records, below a
+-- row and after these entries, is past their number, not greater than its left neighbour or the
+-- entry above, or stands earlier
 abbrev pub is_no_record_at : ℕ → List ℕ → List ℕ → List ℕ → ℕ → ℕ → Bool
 is_no_record_at cells earlier upper ns i a =
     nat_lt cells a || stays (left_at ns i) a || stays (slice_get upper i) a

@@ -1,4 +1,4 @@
--- Two tableaux that have been read (this project's own).
+-- Two tableaux that have been read.
 use Rattle.std.specs.Prelude.{◌≡◌, ℕ, List, map}
 use Rattle.tableau_words.specs.declared.pairs.TwoFillings.{TwoFillings}
 

@@ -1,4 +1,4 @@
--- Two shapes and a tableau among the words of a command (this project's own).
+-- Two shapes and a tableau among the words of a command.
 use Rattle.std.specs.Prelude.{◌≡◌, ℕ, ◌<◌, List, [], ◌∷◌, ◌++◌, map, length, codes}
 use Rattle.sym_model.specs.CommandOffence.{Offence, row_offences, entry_rule, order_offences}
 use Rattle.sym_model.specs.Form.{EachOf, Has}
@@ -9,7 +9,7 @@ use Rattle.word_laws.specs.WrittenRows.{rows_text, rows_at, written_rows}
 use Rattle.calc_words.specs.NumberRuns.{IsNumber}
 use Rattle.tableau_words.specs.declared.skew_tableaux.SkewRows.{SkewRows}
 
--- the words are `rect` and two lists of numbers with `/` between them and, behind `-`,
+-- the words are `rect` and two lists of numbers with `/` between them and, after `-`,
 -- a tableau of these rows
 pub record AreSkewWords (outer inner : List (List ℕ)) (rows : List (List (List ℕ)))
     (words : List (List ℕ)) : Type 0 where

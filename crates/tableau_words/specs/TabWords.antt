@@ -1,4 +1,4 @@
--- Two shapes and a tableau behind `-from` among the words of a command (this project's own).
+-- Two shapes and a tableau after `-from` among the words of a command.
 use Rattle.std.specs.Prelude.{◌≡◌, ℕ, ◌+◌, cond, List, [], ◌∷◌, ◌++◌, map, length, codes, Option}
 use Rattle.std.specs.Prelude.{Some, None}
 use Rattle.sym_model.specs.CommandOffence.{Offence, judged_against, row_offences, entry_rule}
@@ -12,18 +12,18 @@ use Rattle.sym_model.specs.WordForms.{optional, from_words, numbers, partition}
 use Rattle.word_laws.specs.WrittenRows.{rows_text, rows_at, written_rows}
 use Rattle.calc_words.specs.NumberRuns.{IsNumber}
 
--- the words of a tableau behind `-from`; no word where there is no row
+-- the words of a tableau after `-from`; no word where there is no row
 abbrev pub from_text : List (List (List ℕ)) → List (List ℕ)
 from_text [] = []
 from_text (row ∷ rows) = codes "-from" ∷ rows_text (row ∷ rows)
 
--- the rows behind `-from`, where they are there
+-- the rows after `-from`, where they are there
 abbrev pub from_rows : Written (optional from_words) → List (List (List ℕ))
 from_rows (inl x) = []
 from_rows (inr x) = written_rows x.1
 
 -- the words are `tab` and two lists of numbers with `/` between them,
--- and what may stand behind them
+-- and what may stand after them
 pub record AreTabWords (outer inner : List (List ℕ)) (rows : List (List (List ℕ)))
     (words : List (List ℕ)) : Type 0 where
   pub has : Has tab_words words
@@ -44,7 +44,7 @@ unlisted k outer inner [] = []
 unlisted k outer inner (row ∷ rows) =
     cond (is_lattice_tableau outer inner (rows_in outer (row ∷ rows))) [] ((k, 0, shape) ∷ [])
 
--- the offences of a tableau behind `-from`, which is the word
+-- the offences of a tableau after `-from`, which is the word
 abbrev pub from_offences : ℕ → List ℕ → List ℕ → List (List (List ℕ)) → List Offence
 from_offences k outer inner rows =
     unlisted k outer inner (map numbers rows) ++ row_offences entry_rule (rows_at (k + 1) rows)

@@ -1,4 +1,4 @@
--- The rows of a tableau among the words of a command (this project's own).
+-- The rows of a tableau among the words of a command.
 use Rattle.std.specs.Prelude.{◌≡◌, ℕ, ◌<◌, List, ◌∷◌, ◌++◌, length, codes}
 use Rattle.sym_model.specs.Form.{EachOf, Has}
 use Rattle.sym_model.specs.Grammar.{unrsk_words}

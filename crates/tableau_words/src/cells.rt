@@ -36,7 +36,7 @@ pub(crate) struct Columns {
     pub(crate) here: usize,
 }
 
-/// Whether the number behind so many of its row is the 257th of the tableau.
+/// Whether the number after that number of entries of its row is the 257th of the tableau.
 fn is_past_the_most(counted: Option<usize>, place: usize) -> bool
     ensures { result ≡ is_too_much counted place }
 {
@@ -46,7 +46,7 @@ fn is_past_the_most(counted: Option<usize>, place: usize) -> bool
     }
 }
 
-/// Whether the number behind so many of its row makes it too long.
+/// Whether the number after that number of entries of its row makes it too long.
 fn makes_too_long(most: Option<usize>, place: usize) -> bool
     ensures { result ≡ is_too_long most place }
 {

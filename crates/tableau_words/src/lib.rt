@@ -3,7 +3,7 @@
 //! What is proved:
 //!
 //! The words of `tab`, `unrsk` and `rect`, with the rows of tableaux, read in the same way: each
-//! entry that is out of its place is refused where it stands, and a tableau behind `-from` that is
+//! entry that is out of its place is refused where it stands, and a tableau after `-from` that is
 //! not in the list at the word `-from`.
 #![tactic(auto)]
 

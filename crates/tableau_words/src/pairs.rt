@@ -172,7 +172,7 @@ fn straight(alloc: Global, rows: &[Vec<u16>]) -> Result<Tableau, NoMemory>
     tableau_of(alloc, outer, inner, rows)
 }
 
-/// The rows of the two tableaux of an `unrsk`; else where its words go wrong.
+/// The rows of the two tableaux of an `unrsk`; else where its words first fail.
 fn two_tableaux(
     alloc: Global,
     words: &[String],
@@ -195,7 +195,7 @@ fn two_tableaux(
 /// Reads the words of `unrsk`: that word and two tableaux with `-` between them, whose rows stand
 /// between words `/`; `.` is a row without numbers.
 ///
-/// Words that are no such command are refused as `Syntax`, at the word where they go wrong.
+/// Words that are no such command are refused as `Syntax`, at the word where they first fail.
 /// Otherwise the first offence is refused: a number past 2^127 - 1 as `Literal`; an entry that is 0
 /// or past 65,535, and the 257th of a tableau, as `Range`; as `Shape` in the first tableau a number
 /// that makes its row longer than the row above, a `.` that is not the whole tableau, a number

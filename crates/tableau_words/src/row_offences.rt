@@ -87,7 +87,7 @@ pub(crate) fn insertion_offence(at: u64, rows: &[&[String]]) -> Option<Found>
     earlier(inserted_number(at, rows), empty_row(at, rows))
 }
 
-/// The first number that offends in the rows of a tableau of so many cells that records.
+/// The first number that offends in the rows of a tableau of that number of cells that records.
 pub(crate) fn recorded_number(at: u64, rows: &[&[String]], cells: usize) -> Option<Found>
     requires { at + length (further_text (map (λ r. map string_bytes r.now) rows.now)) < 2 ^ 64 }
     ensures { found_of result ≡ first_offence
@@ -212,7 +212,7 @@ pub(crate) fn total(lengths: &[usize]) -> usize
     sum
 }
 
-/// How many words rows have with a word behind each.
+/// How many words rows have with a word after each.
 pub(crate) fn text_length(rows: &[&[String]]) -> u64
     requires { length (further_text (map (λ r. map string_bytes r.now) rows.now)) < 2 ^ 64 }
     ensures { result ≡ length (further_text (map (λ r. map string_bytes r.now) rows.now)) }

@@ -8,7 +8,7 @@ use calc_base::NoMemory;
 use calc_words::{behind, numbers_first as numbers};
 use std::alloc::Global;
 
-/// The numbers of the row at the front, and the words behind it.
+/// The numbers of the row at the front, and the words after it.
 fn row_first(words: &[String]) -> (&[String], &[String])
     ensures is { (row : List (List ℕ)) (rows : List (List (List ℕ))) → EachOf IsNumber row
         → map string_bytes words.now ≡ row_text row ++ further_text rows

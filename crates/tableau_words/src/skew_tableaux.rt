@@ -157,7 +157,7 @@ fn read_skew_tableau(
 }
 
 /// The numbers of the two shapes of a `rect`, and the rows of its tableau;
-/// else where its words go wrong.
+/// else where its words first fail.
 fn skew_parts(
     alloc: Global,
     words: &[String],
@@ -184,10 +184,10 @@ fn skew_parts(
 }
 
 /// Reads the words of `rect`: that word, an outer and an inner partition with `/` between them,
-/// and, behind `-`, a tableau of the first over the second, whose rows stand between words `/`; `.`
+/// and, after `-`, a tableau of the first over the second, whose rows stand between words `/`; `.`
 /// is a row without numbers.
 ///
-/// Words that are no such command are refused as `Syntax`, at the word where they go wrong.
+/// Words that are no such command are refused as `Syntax`, at the word where they first fail.
 /// Otherwise the first offence is refused: those of the partitions as `read_skew` says, and as
 /// `Shape` an inner number greater than the outer part of its row; an entry past 2^127 - 1 as
 /// `Literal`, one that is 0 or past 65,535 as `Range`; as `Shape` the word at which the tableau

@@ -19,7 +19,7 @@ use partitions::Partition;
 use std::alloc::Global;
 use tableau_iter::lattice_reading;
 
-/// The shapes with the tableau of these rows, which stands behind this word, `-from`; or its first
+/// The shapes with the tableau of these rows, which stands after this word, `-from`; or its first
 /// offence, where it is not in the list of the shapes. No rows are no tableau.
 fn judge_last(
     alloc: Global,
@@ -74,8 +74,8 @@ fn judge_tab(
     judge_last(alloc, at, outer, inner, rows)
 }
 
-/// The numbers of the two shapes of a `tab`, and the rows behind `-from`, none where it is not
-/// there; else where its words go wrong.
+/// The numbers of the two shapes of a `tab`, and the rows after `-from`, none where it is not
+/// there; else where its words first fail.
 fn tab_parts(
     alloc: Global,
     words: &[String],
@@ -99,13 +99,13 @@ fn tab_parts(
 }
 
 /// Reads the words of `tab`: that word, an outer and an inner partition with `/` between them and,
-/// where the list is to go on behind a tableau, `-from` and that tableau, whose rows stand between
+/// where the list is to go on after a tableau, `-from` and that tableau, whose rows stand between
 /// words `/`; `.` is a row without numbers.
 ///
-/// Words that are no such command are refused as `Syntax`, at the word where they go wrong.
+/// Words that are no such command are refused as `Syntax`, at the word where they first fail.
 /// Otherwise the first offence is refused: those of the partitions as `read_mult` says, and as
-/// `Shape`, at the word `-from`, a tableau that is none of the list of the lattice tableaux of the
-/// outer over the inner partition.
+/// `Shape`, at the word `-from`, a tableau that is not one of the list of the lattice tableaux of
+/// the outer over the inner partition.
 pub fn read_tab(alloc: Global, words: &[String]) -> Result<Command, WordsFault>
     ensures { IsRead (tab_entry ∷ []) (map string_bytes words.now) result }
 {

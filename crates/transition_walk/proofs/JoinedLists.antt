@@ -1,6 +1,7 @@
 -- Lists that are added to those that wait (specs/Waiting).
 --     joined, joined_overflow                  one list at one permutation
 --     joins_none, joins_both, overflows_both   one thing after another
+--     joins_swapped, overflows_swapped         in either order
 --     each_append, each_value, each_growth     one list at each of some permutations
 use Rattle.std.proofs.Common.{◌≡◌, ℕ, ◌+◌, ◌<◌, ◌≤◌, Bool, true, List, [], ◌∷◌, ◌++◌, length, get_or, set, refl, sym, ap, ◌∙◌, subst, inl, inr, arith, ℤ, ◌+ℤ◌}
 use Rattle.std.specs.Cmp.{IsEquivalence}
@@ -8,7 +9,7 @@ use Rattle.std.proofs.lemmas.Int.{ints}
 use Rattle.coeff_rings.specs.Fractions.{whole}
 use Rattle.sym_model.specs.PlaceOrders.{inversions}
 use Rattle.sym_model.specs.Sum.{total, Among}
-use Rattle.sym_model.proofs.Sums.{total_append, Among-append_left, Among-append_right, Among-get_or}
+use Rattle.sym_model.proofs.Sums.{total_append, Among-append_left, Among-append_right, Among-get_or, Among_from_append}
 use Rattle.linear_combinations.specs.Entries.{IsCombination}
 use Rattle.linear_combinations.specs.Gains.{WholeTermsOf, over, HaveLabels, Gains, Overflows}
 use Rattle.linear_combinations.proofs.Masses.{labels_gained}
@@ -135,11 +136,48 @@ module _ {L : Type 0} where
         omega arith;
   }
 
+  -- what is added may be added in another order
+  pub joins_swapped : (old g h new : List (WithList L)) → Joins old (g ++ h) new → Joins old (h ++ g) new
+  joins_swapped old g h new a = record {
+    value = λ φ.
+        let x = a.value φ in
+        let y = total_append (λ (w : WithList L). over (φ w.perm) w.factor) g h in
+        let z = total_append (λ (w : WithList L). over (φ w.perm) w.factor) h g in
+        omega (arith, ints);
+    grows = λ share.
+        let x = a.grows share in
+        let y = weigh_append (λ (w : WithList L). weighed (share w.perm) w.factor) g h in
+        let z = weigh_append (λ (w : WithList L). weighed (share w.perm) w.factor) h g in
+        omega arith;
+    waiting = λ extent n top was more.
+        a.waiting extent n top was
+        (λ w m. elim (Among_from_append w g h m) [ inl l ↦ more w (Among-append_right w h g l) | inr r ↦ more w (Among-append_left w h g r) ]);
+    ordered = a.ordered;
+    loaded = let x = a.loaded in let y = load_append g h in let z = load_append h g in omega arith;
+  }
+
+  pub overflows_swapped : (old g h : List (WithList L)) → WaitingOverflows old (g ++ h) → WaitingOverflows old (h ++ g)
+  overflows_swapped old g h o = record {
+    entry = o.entry;
+    added = elim (Among_from_append o.entry g h o.added) [ inl l ↦ Among-append_right o.entry h g l | inr r ↦ Among-append_left o.entry h g r ];
+    label = o.label;
+    large = λ share some.
+        let x = o.large share some in
+        let y = weigh_append (λ (w : WithList L). weighed (share w.perm) w.factor) g h in
+        let z = weigh_append (λ (w : WithList L). weighed (share w.perm) w.factor) h g in
+        omega arith;
+  }
+
   -- ---- one list at each of some permutations
 
   pub each_append : (list : WholeTermsOf L) (xs ys : List (List ℕ)) → each_waits list (xs ++ ys) ≡ each_waits list xs ++ each_waits list ys
   each_append list [] ys = refl
   each_append list (x ∷ xs) ys = ap (λ (l : List (WithList L)). (record { perm = x; factor = list }) ∷ l) (each_append list xs ys)
+
+  -- the last one apart
+  pub each_popped : (list : WholeTermsOf L) (xs rest : List (List ℕ)) (x : List ℕ) → xs ≡ rest ++ x ∷ []
+      → each_waits list rest ++ (record { perm = x; factor = list }) ∷ [] ≡ each_waits list xs
+  each_popped list xs rest x e = sym (each_append list rest (x ∷ [])) ∙ ap (each_waits list) (sym e)
 
   pub each_value : (φ : List ℕ → L → ℤ) (list : WholeTermsOf L) (xs : List (List ℕ)) → value_of φ (each_waits list xs) ≡ total (λ (x : List ℕ). over (φ x) list) xs
   each_value φ list [] = refl

@@ -9,6 +9,7 @@ pub mod Labels
 pub mod Monomials
 pub mod Weighed
 pub mod Shares
+pub mod GivenLists
 pub mod JoinedLists
 pub mod Steps
 pub mod UnderWay

@@ -1,5 +1,5 @@
 -- The weights by which the work of the transition rule falls.
---     weights_less    so many lower permutations weigh less than the one that they come of
+--     weights_less    that number of lower permutations weigh less than the one that they come of
 use Rattle.std.proofs.Common.{◌≡◌, ℕ, zero, suc, ◌+◌, ◌-◌, ◌*◌, ◌^◌, ◌<◌, ◌≤◌, List, ap, ◌∙◌, arith}
 use Rattle.transition_walk.specs.Transitions.{rank, weight}
 use native.Mathlib.Nat.{mul-le-mul_left, pow-suc}

@@ -78,7 +78,7 @@ module _ {X K : Type 0} (key : X → K) (R : K → K → Ordering) (o : IsTotalO
   absent_where (x ∷ xs) k h (inl e) = h 0 x (omega arith) (ap (λ l. R l k) (sym e) ∙ tied_itself o k)
   absent_where (x ∷ xs) k h (inr m) = absent_where xs k (λ j d l. h (suc j) d (omega arith)) m
 
-  -- a key that has a gap is none of the keys
+  -- a key that has a gap is not one of the keys
   pub absent : (xs : List X) (k : K) (at : ℕ) → IsPartitionPoint (λ x. R (key x) k ≡ Less) (λ x. R (key x) k ≡ Greater) xs at → Among k (map key xs) → ⊥
   absent xs k at p = absent_where xs k (λ j d l e. elim (cases_lt j at) [ inl f ↦ let q = p.0 j d (omega arith) f in cc | inr f ↦ let q = p.1 j d f l in cc ])
 

@@ -59,7 +59,7 @@ pub fn product_of<L: Label, F: Factor<L>>(
     })?;
     let mut sum = Lin::new(alloc);
     while let Some(waiting) = todo.pop() {
-        work_off::<L, F>(alloc, &mut todo, &waiting, &mut sum)?;
+        work_off::<L, F>(alloc, &mut todo, waiting, &mut sum)?;
     }
     Ok(sum)
 }

@@ -1,12 +1,12 @@
 //! The transition rule on what waits.
-ghost use Rattle.std.specs.Prelude.{ℕ, ◌<◌, ◌≤◌, ◌∷◌, [], pos, FitsSigned, List, length, OnOk};
-ghost use Rattle.std.specs.Prelude.{IsErrOf};
+ghost use Rattle.std.specs.Prelude.{ℕ, ◌<◌, ◌≤◌, ◌∷◌, ◌++◌, [], pos, FitsSigned, List, length};
+ghost use Rattle.std.specs.Prelude.{OnOk, IsErrOf};
 ghost use Rattle.std.specs.Int.{w128};
 ghost use Rattle.sym_model.specs.Permutation.{IsTransition};
 ghost use Rattle.sym_model.specs.PlaceOrders.{inversions};
 ghost use Rattle.coeff_rings.specs.Fractions.{whole};
-ghost use Rattle.linear_combinations.specs.Entries.{IsCombination, IsTable};
-ghost use Rattle.linear_combinations.specs.Gains.{HaveLabels, replaced};
+ghost use Rattle.linear_combinations.specs.Entries.{AreHeld, IsCombination, IsTable};
+ghost use Rattle.linear_combinations.specs.Gains.{Gains, HaveLabels, Overflows, replaced};
 ghost use Rattle.transition_walk.specs.Transitions.{IsShort};
 ghost use Rattle.transition_walk.specs.Waiting.{Joins, WaitingOverflows, each_waits, stepped};
 ghost use Rattle.transition_walk.specs.Growth.{WorksOff, OverflowsAt};
@@ -19,6 +19,21 @@ use coeff_rings::Int;
 use linear_combinations::{Label, Lin, Rule};
 use perm_codes::Perm;
 use std::alloc::Global;
+use std::mem;
+
+/// Adds a list that is given away: the shorter of the two is added to the longer one.
+fn add_given<L: Label>(sum: &mut Lin<L, Int>, list: Lin<L, Int>) -> Result<(), SumFault>
+    ensures gains { OnOk result (Gains sum.old list sum.new) }
+    ensures table { OnOk result (IsCombination L.eq L.is_label whole sum.new) }
+    ensures held { OnOk result (AreHeld L.eq (pos 0) (FitsSigned w128) sum.new) }
+    ensures large { IsErrOf result SumFault.Large → Overflows L.eq sum.old list }
+{
+    if list.len() <= sum.len() {
+        return sum.add_terms(&list);
+    }
+    let shorter = mem::replace(sum, list);
+    sum.add_terms(&shorter)
+}
 
 /// Adds a list to the one that waits with a permutation.
 fn add_waiting<L: Label>(
@@ -36,6 +51,24 @@ fn add_waiting<L: Label>(
     let at = entry_at(todo, perm, none)?;
     let waiting = &mut todo[at];
     waiting.factor.add_terms(list)
+}
+
+/// Adds a list that is given away to the one that waits with a permutation.
+fn give_waiting<L: Label>(
+    alloc: Global,
+    todo: &mut Vec<Waiting<Lin<L, Int>>>,
+    perm: Perm,
+    list: Lin<L, Int>,
+) -> Result<(), SumFault>
+    ensures joins { OnOk result (Joins todo.old.items
+        (record { perm = perm; factor = list } ∷ []) todo.new.items) }
+    ensures large { IsErrOf result SumFault.Large
+        → WaitingOverflows todo.old.items (record { perm = perm; factor = list } ∷ []) }
+{
+    let none = Lin::new(alloc);
+    let at = entry_at(todo, perm, none)?;
+    let waiting = &mut todo[at];
+    add_given(&mut waiting.factor, list)
 }
 
 /// Adds the product of a list and a factor to the list that waits with a permutation.
@@ -61,7 +94,7 @@ fn add_waiting_by<L: Label, F: Rule<L, L>>(
 }
 
 /// Adds a list to those that wait with each of some permutations.
-fn add_covers<L: Label>(
+fn add_to_each<L: Label>(
     alloc: Global,
     todo: &mut Vec<Waiting<Lin<L, Int>>>,
     covers: Vec<Perm>,
@@ -78,29 +111,68 @@ fn add_covers<L: Label>(
     Ok(())
 }
 
+/// Adds a list to those that wait with each of some permutations and with a last one, to which it
+/// is given away.
+fn give_to_last<L: Label>(
+    alloc: Global,
+    todo: &mut Vec<Waiting<Lin<L, Int>>>,
+    covers: Vec<Perm>,
+    last: Perm,
+    list: Lin<L, Int>,
+) -> Result<(), SumFault>
+    ensures joins { OnOk result (Joins todo.old.items
+        (each_waits list covers.items ++ (record { perm = last; factor = list }) ∷ [])
+        todo.new.items) }
+    ensures large { IsErrOf result SumFault.Large → WaitingOverflows todo.old.items
+        (each_waits list covers.items ++ (record { perm = last; factor = list }) ∷ []) }
+{
+    add_to_each(alloc, todo, covers, &list)?;
+    give_waiting(alloc, todo, last, list)
+}
+
+/// Adds a list that is given away to those that wait with each of some permutations.
+fn add_covers<L: Label>(
+    alloc: Global,
+    todo: &mut Vec<Waiting<Lin<L, Int>>>,
+    covers: Vec<Perm>,
+    list: Lin<L, Int>,
+) -> Result<(), SumFault>
+    ensures joins { OnOk result (Joins todo.old.items
+        (each_waits list covers.items) todo.new.items) }
+    ensures large { IsErrOf result SumFault.Large
+        → WaitingOverflows todo.old.items (each_waits list covers.items) }
+{
+    let mut covers = covers;
+    match covers.pop() {
+        Some(last) => give_to_last(alloc, todo, covers, last, list),
+        None => Ok(()),
+    }
+}
+
 /// Puts in the place of a permutation that waits those that the transition rule makes of it.
 fn expand<L: Label, F: Factor<L>>(
     alloc: Global,
     todo: &mut Vec<Waiting<Lin<L, Int>>>,
-    waiting: &Waiting<Lin<L, Int>>,
+    waiting: Waiting<Lin<L, Int>>,
     r: u16,
     s: u16,
 ) -> Result<(), SumFault>
-    requires permutation { IsShort 255 waiting.now.perm }
-    requires few { length waiting.now.perm ≤ F.most }
-    requires places { IsTransition waiting.now.perm r s }
-    requires labels { HaveLabels (λ label. F.extent label ≤ F.most) waiting.now.factor }
+    requires permutation { IsShort 255 waiting.perm }
+    requires few { length waiting.perm ≤ F.most }
+    requires places { IsTransition waiting.perm r s }
+    requires labels { HaveLabels (λ label. F.extent label ≤ F.most) waiting.factor }
     ensures joins { OnOk result (Joins todo.old.items
-        (stepped (λ v. F.image (F.made r v)) r s waiting.now) todo.new.items) }
-    ensures table { OnOk result (IsCombination L.eq L.is_label whole waiting.now.factor) }
+        (stepped (λ v. F.image (F.made r v)) r s waiting) todo.new.items) }
+    ensures table { OnOk result (IsCombination L.eq L.is_label whole waiting.factor) }
     ensures large { IsErrOf result SumFault.Large
-        → WaitingOverflows todo.old.items (stepped (λ v. F.image (F.made r v)) r s waiting.now) }
+        → WaitingOverflows todo.old.items (stepped (λ v. F.image (F.made r v)) r s waiting) }
 {
-    let lower = waiting.perm.times_swap(r, s)?;
+    let Waiting { perm, factor: list } = waiting;
+    let lower = perm.times_swap(r, s)?;
     let covers = lower.covers_down(r)?;
-    add_covers(alloc, todo, covers, &waiting.factor)?;
     let factor = F::at(r, &lower);
-    add_waiting_by(alloc, todo, lower, &waiting.factor, &factor)
+    add_waiting_by(alloc, todo, lower, &list, &factor)?;
+    add_covers(alloc, todo, covers, list)
 }
 
 /// Puts in the place of a permutation that waits those that the transition rule makes of it; the
@@ -108,22 +180,22 @@ fn expand<L: Label, F: Factor<L>>(
 pub(crate) fn work_off<L: Label, F: Factor<L>>(
     alloc: Global,
     todo: &mut Vec<Waiting<Lin<L, Int>>>,
-    waiting: &Waiting<Lin<L, Int>>,
+    waiting: Waiting<Lin<L, Int>>,
     sum: &mut Lin<L, Int>,
 ) -> Result<(), SumFault>
-    requires few { 0 < inversions waiting.now.perm → length waiting.now.perm ≤ F.most }
-    requires labels { 0 < inversions waiting.now.perm
-        → HaveLabels (λ label. F.extent label ≤ F.most) waiting.now.factor }
+    requires few { 0 < inversions waiting.perm → length waiting.perm ≤ F.most }
+    requires labels { 0 < inversions waiting.perm
+        → HaveLabels (λ label. F.extent label ≤ F.most) waiting.factor }
     ensures step { OnOk result (WorksOff F.product (λ r v. F.image (F.made r v)) F.extent F.most
-        sum.old todo.old.items waiting.now sum.new todo.new.items) }
+        sum.old todo.old.items waiting sum.new todo.new.items) }
     ensures table { OnOk result (IsTable L.eq L.is_label (pos 0) whole (FitsSigned w128) sum.old
         → IsTable L.eq L.is_label (pos 0) whole (FitsSigned w128) sum.new) }
     ensures large { IsErrOf result SumFault.Large
         → OverflowsAt (λ r v. F.image (F.made r v)) F.extent F.most sum.old todo.old.items
-        waiting.now }
+        waiting }
 {
     match transition_places(&waiting.perm) {
         Some((r, s)) => expand::<L, F>(alloc, todo, waiting, r, s),
-        None => sum.add_terms(&waiting.factor),
+        None => add_given(sum, waiting.factor),
     }
 }

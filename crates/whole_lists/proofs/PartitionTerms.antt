@@ -1,29 +1,15 @@
 -- The partitions of a number one after another, as terms with the coefficient 1.
-use Rattle.std.proofs.Common.{◌≡◌, ℕ, ◌≤◌, List, [], ◌∷◌, ◌++◌, map, replicate, sym, ◌∙◌, ap, subst, refl, inl, inr, arith, append_assoc, pos, cond}
+use Rattle.std.proofs.Common.{◌≡◌, ℕ, ◌≤◌, List, [], ◌∷◌, ◌++◌, sym, ◌∙◌, ap, subst, refl, inl, inr, arith, append_assoc}
 use Rattle.std.specs.Prelude.{Option, Some}
 use Rattle.std.specs.Option.{option_to_list}
-use Rattle.std.proofs.lemmas.List.{map-append}
 use Rattle.sym_model.specs.Sum.{Among, Once}
-use Rattle.sym_model.specs.Polynomial.{Term, same, coefficient}
 use Rattle.sym_model.specs.Partition.{IsPartition, size}
 use Rattle.sym_model.specs.PartitionList.{partitions_of}
-use Rattle.sym_model.specs.WholeTerms.{WholeTerms}
-use Rattle.sym_model.proofs.Sums.{total_map, total_none}
-use Rattle.sym_model.proofs.Exponents.{same_apart}
 use Rattle.sym_model.proofs.SortedParts.{rows_within_size}
-use Rattle.sym_model.proofs.PartitionLists.{partitions_of-tells, Once-FallsLexicographically, FallsLexicographically-partitions_within}
-use Rattle.sym_model.proofs.Parts.{size-ones, ArePositive-ones}
-use Rattle.monomial_laws.proofs.AtomTerms.{Falls-ones}
+use Rattle.sym_model.proofs.PartitionLists.{partitions_of-tells}
 use Rattle.partitions.specs.Limits.{IsWithinLimits}
 
--- the labels with the coefficient 1
-abbrev pub ones : List (List ℕ) → WholeTerms
-ones labels = map (λ (parts : List ℕ). (parts, pos 1)) labels
-
-pub ones-push : (labels : List (List ℕ)) (label : List ℕ) → ones labels ++ (label, pos 1) ∷ [] ≡ ones (labels ++ label ∷ [])
-ones-push labels label = sym (map-append (λ (parts : List ℕ). (parts, pos 1)) labels (label ∷ []))
-
--- the current label comes behind those before it, and before the rest
+-- the current label comes after those before it, and before the rest
 pub listed_on : (before old new all : List (List ℕ)) (item : Option (List ℕ)) (label : List ℕ) → before ++ old ≡ all
     → old ≡ option_to_list item ++ new → item ≡ Some label → before ++ (label ∷ new) ≡ all
 listed_on before old new all item label e next current =
@@ -54,22 +40,5 @@ once_before [] new label o m = m
 once_before (l ∷ before) new label o (inl e) = o.0 (subst (λ x. Among x (before ++ (label ∷ new))) e (Among-after before label new))
 once_before (l ∷ before) new label o (inr m) = once_before before new label o.1 m
 
-coefficient-absent : (labels : List (List ℕ)) (label : List ℕ) → (Among label labels → ⊥) → coefficient (ones labels) label ≡ pos 0
-coefficient-absent labels label n =
-    total_map (λ (t : Term). cond (same t.0 label) t.1 (pos 0)) (λ (parts : List ℕ). (parts, pos 1)) labels
-    ∙ total_none (λ (parts : List ℕ). cond (same parts label) (pos 1) (pos 0)) labels
-    (λ parts m. ap (λ b. cond b (pos 1) (pos 0)) (same_apart parts label (λ e. n (subst (λ x. Among x labels) e m))))
-
-pub coefficient-listed : (before new : List (List ℕ)) (d : ℕ) (label : List ℕ) → before ++ (label ∷ new) ≡ partitions_of d → coefficient (ones before) label ≡ pos 0
-coefficient-listed before new d label e =
-    coefficient-absent before label
-    (once_before before new label
-    (let P : List (List ℕ) → Type 0 = λ l. Once l in
-    subst P (sym e) (Once-FallsLexicographically (partitions_of d) (FallsLexicographically-partitions_within d d d))))
-
 pub listed_next : (before new all : List (List ℕ)) (label : List ℕ) → before ++ (label ∷ new) ≡ all → (before ++ label ∷ []) ++ new ≡ all
 listed_next before new all label e = append_assoc before (label ∷ []) new ∙ e
-
-pub IsWithinLimits-ones : (k : ℕ) → k ≤ 512 → IsWithinLimits (replicate k 1)
-IsWithinLimits-ones k h =
-    IsWithinLimits-low (replicate k 1) (record { falls = Falls-ones k; positive = ArePositive-ones k }) (omega (arith, size-ones k))

@@ -1,4 +1,4 @@
--- Lists of terms with a coefficient that is too large (this project's own).
+-- Lists of terms with a coefficient that is too large.
 use Rattle.std.specs.Prelude.{◌^◌, ◌≤◌, ◌⊎◌, ℕ, nat_abs, ℤ, pos, ◌≤ℤ◌, List}
 use Rattle.sym_model.specs.Partition.{IsPartition}
 use Rattle.sym_model.specs.Polynomial.{coefficient, plus, scale}

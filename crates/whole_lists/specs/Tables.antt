@@ -1,4 +1,4 @@
--- Tables with partitions as labels, as lists of terms (this project's own).
+-- Tables with partitions as labels, as lists of terms.
 use Rattle.std.specs.Prelude.{ℕ, nat_eq, Bool, List}
 use Rattle.std.specs.Cmp.Lexicographic.{pointwise}
 use Rattle.coeff_rings.specs.Fractions.{whole}

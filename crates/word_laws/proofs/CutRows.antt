@@ -1,4 +1,4 @@
--- The rows of a tableau at the front of words, and where words go wrong in their place.
+-- The rows of a tableau at the front of words, and where words first fail in their place.
 use Rattle.std.proofs.Common.{◌≡◌, ℕ, true, ◌<◌, List, [], ◌∷◌, ◌++◌, append_assoc, length, length-append, refl, sym, ap, ◌∙◌, subst, arith, inl, inr}
 use Rattle.std.specs.Prelude.{codes}
 use Rattle.sym_model.specs.Sum.{Among}
@@ -12,7 +12,7 @@ use Rattle.word_laws.proofs.Readings.{OfOne, Unlike, unlike}
 use Rattle.word_laws.proofs.Cuts.{StartsAs, EndsAt, IsTaken, StopsIn, unlike_second, unlike_last, ends_unlike, stops_first, stops_left, stops_right, optional_taken, optional_absent, optional_stops}
 use Rattle.word_laws.proofs.CutParts.{is_exact, is_number, unlike_kind, unlike_text, the_taken, letters_taken}
 
--- ---- one form behind another
+-- ---- one form after another
 
 starts_behind : (q r rest : Words) → StartsAs r rest → StartsAs (q ++ r) (q ++ rest)
 starts_behind [] r rest s = s
@@ -76,7 +76,7 @@ row_wrong words d b = stops_first row_words words refl refl (by words d b)
     by [] d b = tt
     by (t ∷ ws) d b = λ o. b (of_row t o d)
 
--- ---- further rows, each behind a `/`: no word, or a row and then further ones
+-- ---- further rows, each after a `/`: no word, or a row and then further ones
 
 abbrev next_row : Form
 next_row = sequence (the (codes "/")) row_words
@@ -149,7 +149,7 @@ further_taken p q more behind rest ws e k l =
     (optional_taken more_rows ((codes "/" ∷ p) ++ q) rest ws refl
     (sequence_taken next_row further_rows (codes "/" ∷ p) q behind rest ws refl (next_taken p more behind ws e k) l))
 
--- words stop in the row behind a `/`, or in one behind that
+-- words stop in the row after a `/`, or in one after that
 stops_more : (ws : Words) (left : ℕ) → left < length ws → StopsIn more_rows ws left → StopsIn further_rows ws left
 stops_more ws left l w =
     let o = optional_stops more_rows ws left l w in (
@@ -201,7 +201,7 @@ further_stops p more behind ws left e k w =
         let i = w.0.left_is in
         omega (arith, a, b, c, d, i)
 
--- ---- rows of a tableau that have been passed, and the words behind them
+-- ---- rows of a tableau that have been passed, and the words after them
 
 pub record RowsPassed (rest words : Words) : Type 0 where
   pub front : Words
@@ -234,7 +234,7 @@ next_passed p rest more behind words r e k = record {
   stops = λ left w. r.stops left (further_stops p more behind rest left e k w);
 }
 
--- ---- a tableau behind `-from`, or no word
+-- ---- a tableau after `-from`, or no word
 
 pub from_absent : (words : Words) → BeginsOtherwise (λ t. t ≡ codes "-from") words → IsTaken (optional from_words) [] words words
 from_absent words b = optional_absent from_words words refl (unlike_text (codes "-from") words b)

@@ -1,4 +1,4 @@
--- Words of one form after another at the front of words, and where words go wrong that are none of a form.
+-- Words of one form after another at the front of words, and where words first fail that are not of a form.
 use Rattle.std.proofs.Common.{◌≡◌, ℕ, zero, suc, ◌+◌, ◌-◌, ◌<◌, ◌≤◌, Bool, true, false, ◌&&◌, cond, List, [], ◌∷◌, ◌++◌, append_assoc, length, length-append, take, refl, sym, ap, ◌∙◌, subst, arith, ◌⊎◌, inl, inr}
 use Rattle.std.proofs.lemmas.Bool.{and_parts}
 use Rattle.std.proofs.lemmas.List.{append-nil}
@@ -22,12 +22,12 @@ abbrev pub StartsAs : Words → Words → Type 0
 StartsAs [] rest = Unit {0}
 StartsAs (t ∷ r) rest = (u : Words) × (rest ≡ t ∷ u)
 
--- behind what is written, words of the form go on to nothing that starts as the rest
+-- after what is written, words of the form go on to nothing that starts as the rest
 abbrev pub EndsAt : (f : Form) → Written f → Words → Type 0
 EndsAt f x rest =
     (y : Written f) (r s : Words) → May f y → StartsAs r rest → words_of f x ++ r ≡ words_of f y ++ s → Unlike (continuing f) s → r ≡ s
 
--- the piece is of the form, and words of the form end behind it
+-- the piece is of the form, and words of the form end after it
 pub record IsTaken (f : Form) (piece rest words : Words) : Type 0 where
   pub written : Written f
   pub allowed : May f written
@@ -35,7 +35,7 @@ pub record IsTaken (f : Form) (piece rest words : Words) : Type 0 where
   pub words_are : words ≡ piece ++ rest
   pub ends : EndsAt f written rest
 
--- the words are none of the form, and go wrong where so many of them are left
+-- the words are not of the form, and first fail where that number of them is left
 pub record GoesWrong (f : Form) (words : Words) (left : ℕ) : Type 0 where
   pub before : Words
   pub after : Words
@@ -45,7 +45,7 @@ pub record GoesWrong (f : Form) (words : Words) (left : ℕ) : Type 0 where
   pub stops : (t : List ℕ) (rest : Words) → after ≡ t ∷ rest → Begins f (before ++ t ∷ []) → ⊥
   pub is_none : Has f words → ⊥
 
--- they go wrong inside of the form: what follows it can begin at none of the words before
+-- they fail inside the form: what follows it can begin at none of the words before
 abbrev pub StopsIn : Form → Words → ℕ → Type 0
 StopsIn f words left =
     (w : GoesWrong f words left) × ((us vs : Words) → w.before ≡ us ++ vs → Has f us → Unlike (continuing f) vs → ⊥)
@@ -85,7 +85,7 @@ seam (u ∷ us) t vs (x ∷ first) second e = by (seam us t vs first second cc)
     by (short v h) = short v (ap (λ ws. u ∷ ws) h ∙ ap (λ y. y ∷ (first ++ v)) (sym same))
     by (long v h) = long v (ap (λ ws. x ∷ ws) h ∙ ap (λ y. y ∷ ((us ++ t ∷ []) ++ v)) same)
 
--- behind the first part stands the rest of the words
+-- after the first part stands the rest of the words
 seam_rest : (us : Words) (t : List ℕ) (vs first second v : Words) → us ≡ first ++ v → (us ++ t ∷ []) ++ vs ≡ first ++ second → second ≡ v ++ t ∷ vs
 seam_rest us t vs first second v i e = same first (sym e ∙ append_assoc us (t ∷ []) vs ∙ ap (λ ws. ws ++ t ∷ vs) i ∙ append_assoc first v (t ∷ vs))
   where
@@ -104,7 +104,7 @@ pub ends_unlike : (f : Form) → is_unambiguous f ≡ true → (x : Written f) �
 ends_unlike f h x a rest u =
     λ y r s b st e v. (reads_once one_phrase f h x y a b r s e (starts_unlike r rest st f u) v).1
 
--- what stands behind it is of the form that follows
+-- what stands after it is of the form that follows
 has_right : (f g : Form) (p rest ws q : Words) → are_apart (continuing f) (firsts g) ≡ true → IsTaken f p rest ws → StartsAs q rest
     → Has (sequence f g) (p ++ q) → Has g q
 has_right f g p rest ws q a k s h = record {
@@ -141,7 +141,7 @@ wrong_right f g p rest ws left a k w = record {
   is_none = λ h. w.is_none (has_right f g p rest ws rest a k (starts_itself rest) (subst (Has (sequence f g)) k.words_are h));
 }
 
--- behind words of two forms stand none of those by which the first may go on
+-- after words of two forms stand none of those by which the first may go on
 pub unlike_second : (f g : Form) (z : Written g) → May g z → (vs : Words) → are_apart (continuing f) (firsts g) ≡ true
     → Unlike (continuing (sequence f g)) vs → Unlike (continuing f) (words_of g z ++ vs)
 unlike_second f g z m vs a u =
@@ -165,7 +165,7 @@ stops_right f g p rest ws left a k w = (
       w.1 (words_of g h.written.1) vs s (record { written = h.written.1; allowed = h.allowed.1; spelled = refl }) (unlike_last f g vs u),
 )
 
--- ---- a form in which words go wrong
+-- ---- a form in which words first fail
 
 -- no words of the form are followed by those of another one that is told from it
 none_within : (f g : Form) (words : Words) (left : ℕ) → are_apart (continuing f) (firsts g) ≡ true → (w : StopsIn f words left) (t : List ℕ) (more tail : Words)
@@ -401,7 +401,7 @@ abbrev pub IsByte : Form → Words → Words → ℕ → Type 0
 IsByte f before after byte =
     ((a : IsAwaited f before after) × IsLongestPrefix BeginsExpression a.0 byte) ⊎ ((IsAwaited f before after → ⊥) × (byte ≡ 0))
 
--- the words are none of the form, and first fail at this byte of the word from which on so many are left
+-- the words are not of the form, and first fail at this byte of the word from which on that number of words is left
 abbrev pub IsWrongAt : Form → Words → ℕ → ℕ → Type 0
 IsWrongAt f words left byte = (w : GoesWrong f words left) × IsByte f w.before w.after byte
 
@@ -523,7 +523,7 @@ left_over_at f p rest ws left byte k settled (w, inl (a, l)) = absurd a.3
 left_over_at f p rest ws left byte k settled (w, inr (n, z)) =
     (left_over f p rest ws left k w, inr (λ a. settled [] (subst (Awaits f) (sym (append-nil p)) a.3), z))
 
--- words of one command alone go wrong there
+-- words of one command alone first fail there
 pub wrong_place : (e : Entry) (words : Words) (left byte : ℕ) → IsWrongAt e.form words left byte
     → IsSyntaxPlace (e ∷ []) words (length words - left) byte
 wrong_place e words left byte (w, b) =

@@ -1,4 +1,4 @@
--- What is proved of forms, said of lists of commands: where words go wrong, and that they spell one command.
+-- What is proved of forms, said of lists of commands: where words first fail, and that they spell one command.
 use Rattle.std.proofs.Common.{◌≡◌, ℕ, ◌<◌, nat_lt, Bool, true, false, not, ◌&&◌, cond, List, [], ◌∷◌, ◌++◌, length, take, refl, sym, ap, ◌∙◌, subst, arith, inl, inr, Option, Some, None}
 use Rattle.std.specs.Prelude.{slice_index_or}
 use Rattle.std.proofs.lemmas.Bool.{ltb-true, lt-ltb, and_parts}
@@ -44,7 +44,7 @@ has_spells [] words h = absurd h
 has_spells (e ∷ entries) words (inl h) = (e.says h.written, inl (record { has = h; says_it = refl }))
 has_spells (e ∷ entries) words (inr h) = let r = has_spells entries words h in (r.0, inr r.1)
 
--- ---- where words go wrong
+-- ---- where words first fail
 
 pub not_true : (b : Bool) → b ≡ false → b ≡ true → ⊥
 not_true b h k = cc
@@ -104,7 +104,7 @@ same_place a b c d h = (ap first h, ap second h)
     second None = 0
     second (Some p) = p.1
 
--- words that are no command go wrong at the place that is computed
+-- words that are no command first fail at the place that is computed
 pub syntax_sound : (entries : List Entry) → CanBe (forms_of entries) → 0 < length entries → (words : Words) (word byte : ℕ)
     → syntax_place entries words ≡ Some (word, byte) → IsSyntaxPlace entries words word byte
 syntax_sound entries c n words word byte h = by (is_command entries words) refl h
@@ -127,7 +127,7 @@ syntax_sound entries c n words word byte h = by (is_command entries words) refl 
               (subst (IsSyntaxByte entries words (syntax_word entries words)) k (byte_is entries words (syntax_word entries words)));
         }
 
--- words that go wrong nowhere spell a command
+-- words that fail nowhere spell a command
 pub command_sound : (entries : List Entry) (words : Words) → syntax_place entries words ≡ None
     → (command : Command) × SpellsCommand entries words command
 command_sound entries words h = by (is_command entries words) refl h
@@ -228,7 +228,7 @@ one_length P xs k j h l =
     let up = l.longest k h.within h.begins in
     let down = h.longest j l.within l.begins in omega arith
 
--- words go wrong at one place
+-- words first fail at one place
 pub one_place : (entries : List Entry) (words : Words) (word byte other at : ℕ)
     → IsSyntaxPlace entries words word byte → IsSyntaxPlace entries words other at → (word ≡ other) × (byte ≡ at)
 one_place entries words word byte other at h k =

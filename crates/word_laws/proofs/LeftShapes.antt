@@ -148,7 +148,7 @@ row_fits lengths (suc (suc n)) (w ∷ v ∷ row) more a e =
     ∙ row_fits lengths (suc n) (v ∷ row) more a.1 (omega (arith, e)))
     ∙ shift_more 1 (length (v ∷ row)) (length (w ∷ v ∷ row)) (found (then lengths empty) more) (omega arith)
 
--- a row that has another length, with further rows behind it
+-- a row that has another length, with further rows after it
 further_stops : (lengths : List ℕ) (n : ℕ) (rows : List Words) → found (then lengths (row_of (suc n))) (further_text rows) ≡ Some 0
 further_stops lengths n [] =
     ap (λ b. left_if (b || false) 0) (no_skip lengths (row_of (suc n)) (row_no_skip (suc n)))
@@ -203,7 +203,7 @@ row_misses lengths (suc (suc n)) (w ∷ v ∷ row) rows m a e k =
 
 -- ---- all rows
 
--- behind a row that fits and ends at the word e, where no rows more are asked for, or none are there
+-- after a row that fits and ends at the word e, where no rows more are asked for, or none are there
 no_rows_asked : (e : ℕ) (rows : List Words) (later : List Offence)
     → offence_at e (found (then [] empty) (further_text rows)) ≡ left_behind e [] rows later
 no_rows_asked e [] later = refl
@@ -215,7 +215,7 @@ no_rows_there : (e m : ℕ) (ls : List ℕ) (later : List Offence)
     → offence_at e (found (then (m ∷ ls) empty) (further_text [])) ≡ left_behind e (m ∷ ls) [] later
 no_rows_there e m ls later = let z : e + 0 ≡ e = omega arith in ap (λ p. (p, 0, shape) ∷ []) z
 
--- a row, and what is behind it where it fits
+-- a row, and what is after it where it fits
 row_left : (k n : ℕ) (lengths : List ℕ) (row : Words) (rows : List Words) (behind : List Offence) → EachOf IsNumber row
     → offence_at (k + length (row_text row)) (found (then lengths empty) (further_text rows)) ≡ behind
     → offence_at k (found (tableau_of (n ∷ lengths)) (rows_text (row ∷ rows)))

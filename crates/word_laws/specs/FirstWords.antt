@@ -1,4 +1,4 @@
--- Number words, and with what words begin (this project's own).
+-- Number words, and with what words begin.
 use Rattle.std.specs.Prelude.{◌≡◌, ℕ, true, List, [], ◌∷◌}
 use Rattle.sym_model.specs.Form.{is_number_word}
 

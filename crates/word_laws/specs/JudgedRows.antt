@@ -1,4 +1,4 @@
--- The offences of the rows of a tableau, row by row, each number by one rule (this project's own).
+-- The offences of the rows of a tableau, row by row, each number by one rule.
 use Rattle.std.specs.Prelude.{ℕ, ◌+◌, ◌==◌, nat_le, nat_lt, Bool, false, ◌||◌, List, [], ◌∷◌, ◌++◌}
 use Rattle.std.specs.Prelude.{length, drop, Option, Some, None}
 use Rattle.sym_model.specs.Partition.{part}
@@ -12,13 +12,14 @@ abbrev pub earlier : Option Offence → Option Offence → Option Offence
 earlier None p = p
 earlier (Some o) p = earlier_of o p
 
--- whether the number behind so many of its row is the 257th,
--- where so many are counted before the row
+-- whether the number after that number of entries of its row is the 257th,
+-- where that number of entries is counted before the row
 abbrev pub is_too_much : Option ℕ → ℕ → Bool
 is_too_much None j = false
 is_too_much (Some count) j = count + j == most_letters
 
--- whether the number behind so many of its row is past the length that the row may have
+-- whether the number after that number of entries of its row exceeds the length that the row may
+-- have
 abbrev pub is_too_long : Option ℕ → ℕ → Bool
 is_too_long None j = false
 is_too_long (Some most) j = nat_le most j
@@ -37,9 +38,9 @@ abbrev pub is_disordered : ℕ → List ℕ → ℕ → List ℕ → ℕ → Boo
 is_disordered c upper d before a =
     falls (left_of before) a || stays (entry_above upper c (d + length before)) a
 
--- whether a number of a tableau that is to be standard, of so many cells, below a row and after
--- these entries, is past their number, not greater than its left neighbour or the entry above,
--- or stands earlier
+-- whether a number of a tableau that is to be standard, of that number of cells, below a row and
+-- after these entries, is past their number, not greater than its left neighbour or the entry
+-- above, or stands earlier
 abbrev pub is_no_record : ℕ → List ℕ → List ℕ → List ℕ → ℕ → Bool
 is_no_record cells earlier upper before a =
     nat_lt cells a || stays (left_of before) a || stays (entry_above upper 0 (length before)) a

@@ -1,4 +1,4 @@
--- The place at which words go wrong, computed: the words taken from the left, and in an
+-- The place at which words first fail, computed: the words taken from the left, and in an
 -- expression's word the bytes.
 use Rattle.std.specs.Prelude.{ℕ, ◌+◌, nat_lt, Bool, ◌&&◌, cond, List, [], ◌∷◌, map, length, take}
 use Rattle.std.specs.Prelude.{Option, Some, None, is_some, slice_index_or}
@@ -27,11 +27,11 @@ forms_of entries = map (λ (e : Entry). e.form) entries
 abbrev pub is_command : List Entry → List (List ℕ) → Bool
 is_command entries words = has_skippable (after_words is_expression (forms_of entries) words)
 
--- the word at which words go wrong that are no command
+-- the word at which words first fail that are no command
 abbrev pub syntax_word : List Entry → List (List ℕ) → ℕ
 syntax_word entries words = taken is_expression (forms_of entries) words
 
--- the byte at which the word goes wrong that stands after so many
+-- the byte at which the word first fails that stands after that number of words
 abbrev pub syntax_byte : List Entry → List (List ℕ) → ℕ → ℕ
 syntax_byte entries words word =
     cond
@@ -40,7 +40,7 @@ syntax_byte entries words word =
     (bytes_taken start (slice_index_or words word []))
     0
 
--- where words go wrong; nowhere where they are a command
+-- where words first fail; nowhere where they are a command
 abbrev pub syntax_place : List Entry → List (List ℕ) → Option (ℕ × ℕ)
 syntax_place entries words =
     let word = syntax_word entries words in

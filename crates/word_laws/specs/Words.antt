@@ -1,4 +1,4 @@
--- The words of a command, each as its bytes (this project's own).
+-- The words of a command, each as its bytes.
 use Rattle.std.specs.Prelude.{ℕ, List}
 
 abbrev pub Words : Type 0

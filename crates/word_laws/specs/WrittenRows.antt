@@ -1,4 +1,4 @@
--- Tableaux as they are written, row by row: the number words of each row (this project's own).
+-- Tableaux as they are written, row by row: the number words of each row.
 use Rattle.std.specs.Prelude.{ℕ, ◌+◌, ◌==◌, cond, min, List, [], ◌∷◌, ◌++◌, length, codes}
 use Rattle.std.proofs.Common.{inl, inr}
 use Rattle.sym_model.specs.ExpressionOffence.{shape}
@@ -11,7 +11,7 @@ abbrev pub row_text : List (List ℕ) → List (List ℕ)
 row_text [] = codes "." ∷ []
 row_text (w ∷ row) = w ∷ row
 
--- the words of further rows, each behind a `/`
+-- the words of further rows, each after a `/`
 abbrev pub further_text : List (List (List ℕ)) → List (List ℕ)
 further_text [] = []
 further_text (row ∷ rows) = codes "/" ∷ (row_text row ++ further_text rows)
@@ -26,7 +26,7 @@ abbrev pub written_row : Written row_words → List (List ℕ)
 written_row (inl dot) = []
 written_row (inr x) = x.0 ∷ x.1
 
--- those of further rows, each behind a `/`
+-- those of further rows, each after a `/`
 abbrev pub later_rows : List (Written (sequence (the (codes "/")) row_words)) → List (List (List ℕ))
 later_rows [] = []
 later_rows (x ∷ xs) = written_row x.1 ∷ later_rows xs
@@ -40,7 +40,7 @@ abbrev pub rows_at : ℕ → List (List (List ℕ)) → List PlacedRow
 rows_at k [] = []
 rows_at k (row ∷ rows) = (k, numbers row) ∷ rows_at (k + length (row_text row) + 1) rows
 
--- behind a row that ends at the word: no rows more where none are asked for,
+-- after a row that ends at the word: no rows more where none are asked for,
 -- else what is said of the later ones
 abbrev pub left_behind : ℕ → List ℕ → List (List (List ℕ)) → List Offence → List Offence
 left_behind k [] [] later = []
@@ -48,7 +48,7 @@ left_behind k [] (row ∷ rows) later = (k, 0, shape) ∷ []
 left_behind k (n ∷ lengths) [] later = (k, 0, shape) ∷ []
 left_behind k (n ∷ lengths) (row ∷ rows) later = later
 
--- where rows from the word on leave a shape with rows of these lengths: inside a row, or behind one
+-- where rows from the word on leave a shape with rows of these lengths: inside a row, or after one
 abbrev pub left_at : ℕ → List ℕ → List (List (List ℕ)) → List Offence
 left_at k [] rows = []
 left_at k (n ∷ lengths) [] = []

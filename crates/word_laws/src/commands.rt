@@ -23,7 +23,7 @@ ghost use Rattle.word_laws.specs.Reading.{bytes_taken, forms_of, syntax_place};
 /// Words are taken one by one as long as some words may follow that are of one of the forms: how
 /// many that are is the length of their longest prefix that begins such words, for any forms of
 /// which each has words. So it is with the bytes of a word that begin an expression. Words that are
-/// those of no command go wrong at the place that is computed so and at no other,
+/// those of no command first fail at the place that is computed so and at no other,
 /// and other words spell a command.
 pub fn syntax_place_law()
     ensures longest_prefix { (reads : List ℕ → Bool) → TellsExpressions reads → (forms : List Form)

@@ -1,5 +1,5 @@
-//! Laws of the words of commands: where words go wrong, that they spell one command, which offence
-//! comes first, what the words of a tableau are.
+//! Laws of the words of commands: where words first fail, that they spell one command, which
+//! offence comes first, what the words of a tableau are.
 //!
 //! A law function takes nothing, answers nothing and does no work when it runs: its contract is
 //! the law.
@@ -7,7 +7,7 @@
 //! What is proved:
 //!
 //! `one_command_law`: no words spell two commands or have two first offences. `syntax_place_law`:
-//! where words go wrong is the longest prefix that begins a command. `command_offence_law`,
+//! where words first fail is the longest prefix that begins a command. `command_offence_law`,
 //! `words_of_commands_law`, `tableau_shape_law`. `left_shape_law`: where rows as they are written
 //! leave a shape. `judged_rows_law`: the first offence of the rows of a tableau is that of judging
 //! each number once. `earlier_offence_law`: the first offence of two lists is the earlier of their

@@ -7,7 +7,7 @@ ghost use Rattle.sym_model.specs.WordForms.{shape_offences};
 ghost use Rattle.word_laws.specs.WrittenRows.{rows_text, left_at};
 
 /// The words of rows that are to have given lengths offend where the rows leave that shape: inside
-/// the first row that has another length, or behind the last row where there are fewer or more. It
+/// the first row that has another length, or after the last row where there are fewer or more. It
 /// does nothing when it runs.
 pub fn left_shape_law()
     ensures { (k n : ℕ) (lengths : List ℕ) (row : List (List ℕ)) (rows : List (List (List ℕ)))

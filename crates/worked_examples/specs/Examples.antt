@@ -25,11 +25,11 @@ Offends line first = HasFirstOffence all_commands (words_of_line line) (Some fir
 abbrev pub GoesWrong : List ℕ → ℕ → ℕ → Type 0
 GoesWrong line word byte = IsSyntaxPlace all_commands (words_of_line line) word byte
 
--- a text so many times, each with a space after it
+-- a text n times, each with a space after it
 abbrev pub repeated : ℕ → List ℕ → List ℕ
 repeated zero text = []
 repeated (suc n) text = text ++ (codes " " ++ repeated n text)
 
--- so many digits 0
+-- n digits 0
 abbrev pub zeros_of : ℕ → List ℕ
 zeros_of n = replicate n 48

@@ -21,37 +21,60 @@ pub returns-in_default-clause-leaves : goal.returns-in_default-clause-leaves
 returns-in_default-clause-leaves c = record {
   status = statuses.NoMemory;
   is = c.code.ensures;
-  holds = record { text = []; is_left = inl refl; needs = refl; stands = λ room. refl; untouched = λ none. refl };
+  holds = record {
+    text = [];
+    is_left = inl refl;
+    needs = refl;
+    stands = λ room. refl;
+    untouched =
+        λ none. refl;
+  };
 }
 
 pub returns-in_default-clause-ends : goal.returns-in_default-clause-ends
-returns-in_default-clause-ends c = record { status = statuses.NoMemory; is = c.code.ensures; holds = search rules }
+returns-in_default-clause-ends c = record {
+  status = statuses.NoMemory;
+  is = c.code.ensures;
+  holds =
+      search rules;
+}
 
 pub returns-clause-lines : goal.returns-clause-lines
 returns-clause-lines c = λ runs small room.
-    let same : map seen (words_of_line c.args.line.now) ≡ map string_bytes c.deref.result.now = search rules in
+    let same : map seen (words_of_line c.args.line.now) ≡ map string_bytes c.deref.result.now =
+    search rules in
     c.run_words.ensures.lines (subst RunsLines same runs)
-    (went_through c.run_words.result (subst (λ k. k ≤ code_of statuses.SomeRefused) c.code-2.ensures small)) room
+    (went_through c.run_words.result (subst (λ k. k ≤ code_of statuses.SomeRefused) c.code-2.ensures
+    small)) room
 
 pub returns-clause-answers : goal.returns-clause-answers
 returns-clause-answers c =
-    let same : map seen (words_of_line c.args.line.now) ≡ map string_bytes c.deref.result.now = search rules in
+    let same : map seen (words_of_line c.args.line.now) ≡ map string_bytes c.deref.result.now =
+    search rules in
     record {
       status = c.run_words.result;
       is = c.code-2.ensures;
-      holds = subst (λ (words : List (List ℕ)). AnswersWords words (StandsIn c.run_words.new.needed c.run_words.new.out) c.run_words.result)
+      holds = subst (λ (words : List (List ℕ)). AnswersWords words
+          (StandsIn c.run_words.new.needed c.run_words.new.out) c.run_words.result)
           (sym same) c.run_words.ensures.answers;
     }
 
 pub returns-clause-leaves : goal.returns-clause-leaves
 returns-clause-leaves c =
-    let same : map seen (words_of_line c.args.line.now) ≡ map string_bytes c.deref.result.now = search rules in
+    let same : map seen (words_of_line c.args.line.now) ≡ map string_bytes c.deref.result.now =
+    search rules in
     record {
       status = c.run_words.result;
       is = c.code-2.ensures;
-      holds = subst (λ (words : List (List ℕ)). LeavesText words c.args.input.now c.run_words.new.needed c.args.out.now c.run_words.new.out c.run_words.result)
+      holds = subst (λ (words : List (List ℕ)). LeavesText words c.args.input.now
+          c.run_words.new.needed c.args.out.now c.run_words.new.out c.run_words.result)
           (sym same) c.run_words.ensures.leaves;
     }
 
 pub returns-clause-ends : goal.returns-clause-ends
-returns-clause-ends c = record { status = c.run_words.result; is = c.code-2.ensures; holds = c.run_words.ensures.ends }
+returns-clause-ends c = record {
+  status = c.run_words.result;
+  is = c.code-2.ensures;
+  holds =
+      c.run_words.ensures.ends;
+}

@@ -1,7 +1,8 @@
 use Rattle.tableau_laws.proofs.ColumnCounts.{falling-resize}
 use Rattle.alternant_laws.proofs.FallingAlternants.{coefficient_at_partition}
 use Rattle.alternant_laws.proofs.SchurProducts.{product-good_schurs, skew-good_schurs}
-use Rattle.alternant_laws.proofs.CountedTerms.{product_coefficients, product_counts_stable, skew_coefficients}
+use Rattle.alternant_laws.proofs.CountedTerms.{product_coefficients, product_counts_stable}
+use Rattle.alternant_laws.proofs.CountedTerms.{skew_coefficients}
 use Rattle.alternant_laws.proofs.stembridge.littlewood_richardson_law.Goals as goal
 
 pub returns-clause-product : goal.returns-clause-product
@@ -11,7 +12,8 @@ pub returns-clause-skew : goal.returns-clause-skew
 returns-clause-skew c = skew-good_schurs
 
 pub returns-clause-alternant : goal.returns-clause-alternant
-returns-clause-alternant c = λ n α ν l f p h. coefficient_at_partition n α ν l f p h (falling-resize n ν p.falls)
+returns-clause-alternant c = λ n α ν l f p h. coefficient_at_partition n α ν l f p h
+    (falling-resize n ν p.falls)
 
 pub returns-clause-product_coefficient : goal.returns-clause-product_coefficient
 returns-clause-product_coefficient c = product_coefficients

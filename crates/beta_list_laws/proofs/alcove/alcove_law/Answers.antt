@@ -1,5 +1,6 @@
 use Rattle.beta_list_laws.proofs.Windows.{alcove_only, length-end}
-use Rattle.beta_list_laws.proofs.AlcoveEnds.{alcove_zero_where, alcove_end, alcove_sign, alcove_found}
+use Rattle.beta_list_laws.proofs.AlcoveEnds.{alcove_zero_where, alcove_end, alcove_sign}
+use Rattle.beta_list_laws.proofs.AlcoveEnds.{alcove_found}
 use Rattle.beta_list_laws.proofs.alcove.alcove_law.Goals as goal
 
 pub returns-clause-zero : goal.returns-clause-zero

@@ -1,4 +1,6 @@
-use Rattle.beta_list_laws.proofs.Ends.{goes_to_end, goes_end, goes_sign, goes_power, goes_cells, goes_partition, goes_rows, reduces_by_remainders, reduces_only}
+use Rattle.beta_list_laws.proofs.Ends.{goes_to_end, goes_end, goes_sign, goes_power, goes_cells}
+use Rattle.beta_list_laws.proofs.Ends.{goes_partition, goes_rows, reduces_by_remainders}
+use Rattle.beta_list_laws.proofs.Ends.{reduces_only}
 use Rattle.beta_list_laws.proofs.removals.removals_end_law.Goals as goal
 
 pub returns-clause-goes : goal.returns-clause-goes

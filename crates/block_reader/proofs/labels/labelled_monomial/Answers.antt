@@ -3,4 +3,5 @@ use Rattle.block_reader.proofs.LabelCauses.{at_none, not_monomial-numbers}
 use Rattle.block_reader.proofs.labels.labelled_monomial.Goals as goal
 
 pub returns-in-None : goal.returns-in-None
-returns-in-None c = not_monomial-numbers (label_of c.args.label.now) (at_none _ _ c.in_ok-exponents.field-0 c.in-None.is c.in_ok-exponents.ensures)
+returns-in-None c = not_monomial-numbers (label_of c.args.label.now)
+    (at_none _ _ c.in_ok-exponents.field-0 c.in-None.is c.in_ok-exponents.ensures)

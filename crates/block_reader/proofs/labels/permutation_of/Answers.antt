@@ -5,4 +5,6 @@ use Rattle.block_reader.proofs.labels.permutation_of.Goals as goal
 
 pub returns-in-Err-Letter : goal.returns-in-Err-Letter
 returns-in-Err-Letter c =
-    not_permutation-letter c.args.letters.now c.in-Err-Letter.field-0-0 ((c.in-Err-Letter.ensures.letter c.in-Err-Letter.field-0-0).0 (ap Err c.in-Err-Letter.field-0-is)).1
+    not_permutation-letter c.args.letters.now c.in-Err-Letter.field-0-0
+    ((c.in-Err-Letter.ensures.letter c.in-Err-Letter.field-0-0).0
+    (ap Err c.in-Err-Letter.field-0-is)).1

@@ -7,4 +7,5 @@ pub returns : goal.returns
 returns c =
     not_monomial-cut c.args.exponents.now
     (λ e. let clash : true ≡ false =
-    sym ((bytes_eq-Decides c.exponents.result.now c.args.exponents.now).1 (c.exponents.ensures.value ∙ c.requires ∙ e)) ∙ sym c.eq.ensures ∙ c.if-eq.false in cc)
+    sym ((bytes_eq-Decides c.exponents.result.now c.args.exponents.now).1 (c.exponents.ensures.value
+    ∙ c.requires ∙ e)) ∙ sym c.eq.ensures ∙ c.if-eq.false in cc)

@@ -7,4 +7,5 @@ pub returns : goal.returns
 returns c =
     not_label-cut c.args.parts.now
     (λ e. let clash : true ≡ false =
-    sym ((bytes_eq-Decides c.parts.result.now c.args.parts.now).1 (c.parts.ensures.value ∙ c.requires ∙ e)) ∙ sym c.eq.ensures ∙ c.if-eq.false in cc)
+    sym ((bytes_eq-Decides c.parts.result.now c.args.parts.now).1
+    (c.parts.ensures.value ∙ c.requires ∙ e)) ∙ sym c.eq.ensures ∙ c.if-eq.false in cc)

@@ -16,4 +16,5 @@ returns-in-None-clause-refused g c =
     λ e. not_true (is_ordered order terms && all_fit has_fractions is_label terms) (λ h.
     let p = and_parts (is_ordered order terms) (all_fit has_fractions is_label terms) h in
     c.in-None.ensures (subst (IsCanonicalList order is_label) (sym c.in_ok-pairs.ensures.ok)
-    (and_from (is_ordered order terms) (are_terms is_label terms) p.0 (fit-terms has_fractions is_label terms p.1))))
+    (and_from (is_ordered order terms) (are_terms is_label terms) p.0
+    (fit-terms has_fractions is_label terms p.1))))

@@ -9,7 +9,12 @@ use Rattle.block_reader.proofs.read.read_product.Goals as goal
 pub returns-in_err-terms : goal.returns-in_err-terms
 returns-in_err-terms c =
     let p = err_from_is_err_and c.from_residual.result c.from_residual.ensures.1 in
-    rw (p.1, p.2) (reading-refused product c.args.text.now c.in_err-terms.field-0.0 (λ e. c.in_err-terms.ensures.refused (ap Err e)))
+    rw (p.1, p.2) (reading-refused product c.args.text.now c.in_err-terms.field-0.0
+    (λ e. c.in_err-terms.ensures.refused (ap Err e)))
 
 pub returns : goal.returns
-returns c = (refl, λ terms e. ap (answer product) (c.in_ok-terms.ensures.ok ∙ read-terms product c.args.text.now terms e))
+returns c = (
+  refl,
+  λ terms e. ap (answer product) (c.in_ok-terms.ensures.ok ∙ read-terms product
+      c.args.text.now terms e),
+)

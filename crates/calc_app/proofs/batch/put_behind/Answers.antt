@@ -8,5 +8,6 @@ pub returns-clause-goes : goal.returns-clause-goes
 returns-clause-goes g c =
     let well : c.put_separator.result ≡ true = search (rules, tests) in
     let P : Bool → Type 0 = λ m.
-    Puts true (g.K.Sink.seen c.args.sink.now) m (g.K.Sink.seen c.put_separator.new.sink) (separator c.args.is_first) in
+    Puts true (g.K.Sink.seen c.args.sink.now) m (g.K.Sink.seen c.put_separator.new.sink)
+    (separator c.args.is_first) in
     Puts-then (subst P well c.put_separator.ensures) c.put_text.ensures.goes

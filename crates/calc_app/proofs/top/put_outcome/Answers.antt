@@ -9,5 +9,6 @@ returns g c = record {
   puts = Puts-finished c.if-not-put_text.ensures.goes c.finished.ensures.puts;
   settles = c.finished.ensures.settles;
   printable = c.put_text.ensures.printable;
-  is = c.finished.ensures.is ∙ ap (status_where c.finished.ensures.well) c.status_if_put-status.ensures;
+  is = c.finished.ensures.is ∙ ap (status_where c.finished.ensures.well)
+      c.status_if_put-status.ensures;
 }

@@ -5,10 +5,16 @@ use Rattle.calc_app.proofs.WorkSums.{work_ran, seed_within}
 use Rattle.calc_app.proofs.top.run.Given.{Over}
 use Rattle.calc_app.proofs.top.run.Goals as goal
 
-lines : (g : Over) (c : goal.After-batch g) → Ran (map string_bytes c.args.words.now) (g.K.Sink.seen c.args.sink.now) (g.K.Sink.seen c.batch.new.sink) (g.S.Source.seen c.args.source.now) (g.S.Source.seen c.batch.new.source) (c.batch.new.sink ≡ c.args.sink.now)
+lines : (g : Over) (c : goal.After-batch g) → Ran (map string_bytes c.args.words.now)
+    (g.K.Sink.seen c.args.sink.now) (g.K.Sink.seen c.batch.new.sink)
+    (g.S.Source.seen c.args.source.now) (g.S.Source.seen c.batch.new.source)
+    (c.batch.new.sink ≡ c.args.sink.now)
     c.batch.result
-lines g c = lines_ran (map string_bytes c.args.words.now) (g.K.Sink.seen c.args.sink.now) (g.K.Sink.seen c.batch.new.sink) (g.S.Source.seen c.args.source.now) (g.S.Source.seen c.batch.new.source) (c.batch.new.sink ≡ c.args.sink.now) c.batch.result
-    (task_is c.in-Ok-Lines.field-0-is c.in-Ok-Lines.ensures.computes c.in-Ok-Lines.ensures.accepts c.in-Ok-Lines.ensures.refuses
+lines g c = lines_ran (map string_bytes c.args.words.now) (g.K.Sink.seen c.args.sink.now)
+    (g.K.Sink.seen c.batch.new.sink) (g.S.Source.seen c.args.source.now)
+    (g.S.Source.seen c.batch.new.source) (c.batch.new.sink ≡ c.args.sink.now) c.batch.result
+    (task_is c.in-Ok-Lines.field-0-is c.in-Ok-Lines.ensures.computes c.in-Ok-Lines.ensures.accepts
+    c.in-Ok-Lines.ensures.refuses
     c.in-Ok-Lines.ensures.goes_wrong) c.batch.ensures
 
 pub returns-in-Ok-Lines-clause-headline : goal.returns-in-Ok-Lines-clause-headline
@@ -32,10 +38,16 @@ returns-in-Ok-Lines-clause-faults g c = (lines g c).faults
 pub returns-in-Ok-Lines-clause-all_read : goal.returns-in-Ok-Lines-clause-all_read
 returns-in-Ok-Lines-clause-all_read g c = (lines g c).all_read
 
-put : (g : Over) (c : goal.After-put_outcome g) → Ran (map string_bytes c.args.words.now) (g.K.Sink.seen c.args.sink.now) (g.K.Sink.seen c.put_outcome.new.sink) (g.S.Source.seen c.args.source.now) (g.S.Source.seen c.args.source.now) (c.put_outcome.new.sink ≡ c.args.sink.now)
+put : (g : Over) (c : goal.After-put_outcome g) → Ran (map string_bytes c.args.words.now)
+    (g.K.Sink.seen c.args.sink.now) (g.K.Sink.seen c.put_outcome.new.sink)
+    (g.S.Source.seen c.args.source.now) (g.S.Source.seen c.args.source.now)
+    (c.put_outcome.new.sink ≡ c.args.sink.now)
     c.put_outcome.result
-put g c = put_ran (map string_bytes c.args.words.now) (g.K.Sink.seen c.args.sink.now) (g.K.Sink.seen c.put_outcome.new.sink) (g.S.Source.seen c.args.source.now) (c.put_outcome.new.sink ≡ c.args.sink.now) c.in-Ok-Put.outcome c.put_outcome.result
-    (task_is c.in-Ok-Put.field-0-is c.in-Ok-Put.ensures.computes c.in-Ok-Put.ensures.accepts c.in-Ok-Put.ensures.refuses
+put g c = put_ran (map string_bytes c.args.words.now) (g.K.Sink.seen c.args.sink.now)
+    (g.K.Sink.seen c.put_outcome.new.sink) (g.S.Source.seen c.args.source.now)
+    (c.put_outcome.new.sink ≡ c.args.sink.now) c.in-Ok-Put.outcome c.put_outcome.result
+    (task_is c.in-Ok-Put.field-0-is c.in-Ok-Put.ensures.computes c.in-Ok-Put.ensures.accepts
+    c.in-Ok-Put.ensures.refuses
     c.in-Ok-Put.ensures.goes_wrong) c.put_outcome.ensures
 
 pub returns-in-Ok-Put-clause-headline : goal.returns-in-Ok-Put-clause-headline
@@ -59,10 +71,17 @@ returns-in-Ok-Put-clause-faults g c = (put g c).faults
 pub returns-in-Ok-Put-clause-all_read : goal.returns-in-Ok-Put-clause-all_read
 returns-in-Ok-Put-clause-all_read g c = (put g c).all_read
 
-worked : (g : Over) (c : goal.After-work g) → Ran (map string_bytes c.args.words.now) (g.K.Sink.seen c.args.sink.now) (g.K.Sink.seen c.work.new.sink) (g.S.Source.seen c.args.source.now) (g.S.Source.seen c.args.source.now) (c.work.new.sink ≡ c.args.sink.now)
+worked : (g : Over) (c : goal.After-work g) → Ran (map string_bytes c.args.words.now)
+    (g.K.Sink.seen c.args.sink.now) (g.K.Sink.seen c.work.new.sink)
+    (g.S.Source.seen c.args.source.now) (g.S.Source.seen c.args.source.now)
+    (c.work.new.sink ≡ c.args.sink.now)
     c.work.result
-worked g c = work_ran (map string_bytes c.args.words.now) (g.K.Sink.seen c.args.sink.now) (g.K.Sink.seen c.work.new.sink) (g.S.Source.seen c.args.source.now) (c.work.new.sink ≡ c.args.sink.now) c.in-Ok-Workload.lines c.in-Ok-Workload.seed c.work.result (ap g.K.Sink.seen)
-    (task_is c.in-Ok-Workload.field-0-is c.in-Ok-Workload.ensures.computes c.in-Ok-Workload.ensures.accepts c.in-Ok-Workload.ensures.refuses
+worked g c = work_ran (map string_bytes c.args.words.now) (g.K.Sink.seen c.args.sink.now)
+    (g.K.Sink.seen c.work.new.sink) (g.S.Source.seen c.args.source.now)
+    (c.work.new.sink ≡ c.args.sink.now) c.in-Ok-Workload.lines c.in-Ok-Workload.seed c.work.result
+    (ap g.K.Sink.seen)
+    (task_is c.in-Ok-Workload.field-0-is c.in-Ok-Workload.ensures.computes
+    c.in-Ok-Workload.ensures.accepts c.in-Ok-Workload.ensures.refuses
     c.in-Ok-Workload.ensures.goes_wrong) c.work.ensures
 
 pub returns-in-Ok-Workload-clause-headline : goal.returns-in-Ok-Workload-clause-headline
@@ -87,9 +106,13 @@ pub returns-in-Ok-Workload-clause-all_read : goal.returns-in-Ok-Workload-clause-
 returns-in-Ok-Workload-clause-all_read g c = (worked g c).all_read
 
 pub returns-in-Ok-Lines-clause-untouched : goal.returns-in-Ok-Lines-clause-untouched
-returns-in-Ok-Lines-clause-untouched g c = λ runs_none. absurd (runs_none (task_is c.in-Ok-Lines.field-0-is c.in-Ok-Lines.ensures.computes c.in-Ok-Lines.ensures.accepts c.in-Ok-Lines.ensures.refuses
+returns-in-Ok-Lines-clause-untouched g c = λ runs_none.
+    absurd (runs_none (task_is c.in-Ok-Lines.field-0-is c.in-Ok-Lines.ensures.computes
+    c.in-Ok-Lines.ensures.accepts c.in-Ok-Lines.ensures.refuses
     c.in-Ok-Lines.ensures.goes_wrong).computes)
 
 pub work-requires : goal.work-requires
-work-requires g c = seed_within (map string_bytes c.args.words.now) c.in-Ok-Workload.lines c.in-Ok-Workload.seed (task_is c.in-Ok-Workload.field-0-is c.in-Ok-Workload.ensures.computes c.in-Ok-Workload.ensures.accepts c.in-Ok-Workload.ensures.refuses
+work-requires g c = seed_within (map string_bytes c.args.words.now) c.in-Ok-Workload.lines
+    c.in-Ok-Workload.seed (task_is c.in-Ok-Workload.field-0-is c.in-Ok-Workload.ensures.computes
+    c.in-Ok-Workload.ensures.accepts c.in-Ok-Workload.ensures.refuses
     c.in-Ok-Workload.ensures.goes_wrong).computes

@@ -7,11 +7,14 @@ use Rattle.calc_app.proofs.workload.add_line.Goals as goal
 
 pub returns-in-Some : goal.returns-in-Some
 returns-in-Some c =
-    add_some (batch_line c.args.line.now) c.in-Some.outcome c.add_block.result c.args.sums.now c.add_block.new.sums
-    (subst (λ (o : Option Outcome). ComesOfLine (batch_line c.args.line.now) o) c.in-Some.is c.in_ok-outcome.ensures)
+    add_some (batch_line c.args.line.now) c.in-Some.outcome c.add_block.result c.args.sums.now
+    c.add_block.new.sums
+    (subst (λ (o : Option Outcome). ComesOfLine (batch_line c.args.line.now) o) c.in-Some.is
+    c.in_ok-outcome.ensures)
     c.add_block.ensures.sums c.add_block.ensures.small c.add_block.ensures.printable
 
 pub returns-in-None : goal.returns-in-None
 returns-in-None c =
     add_none (batch_line c.args.line.now) c.args.sums.now
-    (subst (λ (o : Option Outcome). ComesOfLine (batch_line c.args.line.now) o) c.in-None.is c.in_ok-outcome.ensures) c.requires.small
+    (subst (λ (o : Option Outcome). ComesOfLine (batch_line c.args.line.now) o) c.in-None.is
+    c.in_ok-outcome.ensures) c.requires.small

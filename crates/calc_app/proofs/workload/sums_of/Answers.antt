@@ -4,7 +4,8 @@ use Rattle.calc_app.proofs.workload.sums_of.Goals as goal
 
 pub loop-index-init : goal.loop-index-init
 loop-index-init c =
-    none_ran c.args.lines c.args.seed c.new-sums.result c.requires c.new-sums.ensures.sums c.new-sums.ensures.small
+    none_ran c.args.lines c.args.seed c.new-sums.result c.requires c.new-sums.ensures.sums
+    c.new-sums.ensures.small
 
 pub work_line-requires : goal.work_line-requires
 work_line-requires c = c.loop-index.invariant.within
@@ -21,11 +22,14 @@ add_line-requires-clause-room c =
 
 pub loop-index-preserved : goal.loop-index-preserved
 loop-index-preserved c =
-    one_ran c.args.lines c.args.seed c.loop-index._index c.loop-index.state c.loop-index.sums c.as_bytes.result.now c.work_line.new.state
-    c.add_line.new.sums c.loop-index.invariant c.loop-index-test.true (c.as_bytes.ensures ∙ c.work_line.ensures.line) c.work_line.ensures.moved
+    one_ran c.args.lines c.args.seed c.loop-index._index c.loop-index.state c.loop-index.sums
+    c.as_bytes.result.now c.work_line.new.state
+    c.add_line.new.sums c.loop-index.invariant c.loop-index-test.true
+    (c.as_bytes.ensures ∙ c.work_line.ensures.line) c.work_line.ensures.moved
     c.work_line.ensures.within c.in_ok-add_line.ensures
 
 pub returns : goal.returns
 returns c =
     let above : c.args.lines ≤ c.loop-index._index = search (rules, tests) in
-    all_ran c.args.lines c.args.seed c.loop-index._index c.loop-index.state c.loop-index.sums c.loop-index.invariant above
+    all_ran c.args.lines c.args.seed c.loop-index._index c.loop-index.state c.loop-index.sums
+    c.loop-index.invariant above

@@ -7,7 +7,8 @@ use Rattle.calc_base.proofs.std_out.write_whole.Goals as goal
 pub loop-at-preserved : goal.loop-at-preserved
 loop-at-preserved g c = (
   omega (arith, c.in-Ok.ensures.bound),
-  Appends-more _ _ _ c.args.bytes.now _ c.loop-at.at c.in-Ok.count refl c.loop-at.invariant.1 c.in-Ok.ensures.bytes,
+  Appends-more _ _ _ c.args.bytes.now _ c.loop-at.at c.in-Ok.count refl c.loop-at.invariant.1
+      c.in-Ok.ensures.bytes,
 )
 
 pub returns-in_default-clause-part : goal.returns-in_default-clause-part
@@ -16,7 +17,8 @@ returns-in_default-clause-part g c =
     let n = c.loop-at.at + c.in-Ok.count in (
       take n bytes,
       record { rest = drop n bytes; joined = take-append-drop n bytes },
-      Appends-more _ _ _ bytes _ c.loop-at.at c.in-Ok.count refl c.loop-at.invariant.1 c.in-Ok.ensures.bytes,
+      Appends-more _ _ _ bytes _ c.loop-at.at c.in-Ok.count refl c.loop-at.invariant.1
+          c.in-Ok.ensures.bytes,
     )
 
 pub returns-in_default-2-clause-part : goal.returns-in_default-2-clause-part

@@ -1,4 +1,4 @@
--- A word that is none of the names names no command.
+-- A word that is not one of the names names no command.
 use Rattle.std.proofs.Common.{◌≡◌, map, None, Err, ap, sym, subst}
 use Rattle.std.specs.Prelude.{string_bytes}
 use Rattle.calc_language.specs.BuiltCommands.{command_entries}
@@ -8,5 +8,7 @@ use Rattle.calc_language.proofs.by_name.by_name.Goals as goal
 
 pub returns-in_default : goal.returns-in_default
 returns-in_default c =
-    let none : entry_named c.args.name.now command_entries ≡ None = none_named c.args.name.now command_entries (search parts 64) in
-    subst (λ o. IsReadAs o (map string_bytes c.args.words.now) (Err c.syntax.result)) (sym none) (ap Err c.syntax.ensures)
+    let none : entry_named c.args.name.now command_entries ≡ None = none_named c.args.name.now
+    command_entries (search parts 64) in
+    subst (λ o. IsReadAs o (map string_bytes c.args.words.now) (Err c.syntax.result)) (sym none)
+    (ap Err c.syntax.ensures)

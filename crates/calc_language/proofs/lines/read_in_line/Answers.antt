@@ -9,15 +9,19 @@ use Rattle.calc_language.proofs.lines.read_in_line.Goals as goal
 
 pub returns-in_default : goal.returns-in_default
 returns-in_default c =
-    no_words (map string_bytes c.args.words.now) _ batch_entries lines_told (empty_map string_bytes c.args.words.now c.in_default.ensures.cases) (ap Err c.syntax.ensures)
+    no_words (map string_bytes c.args.words.now) _ batch_entries lines_told
+    (empty_map string_bytes c.args.words.now c.in_default.ensures.cases)
+    (ap Err c.syntax.ensures)
 
 pub returns-in_default-as_str : goal.returns-in_default-as_str
 returns-in_default-as_str c =
     let is = c.as_str.ensures.value in
-    read_in_line (string_bytes c.in-Some.first.now) (map string_bytes c.args.words.now) (map string_bytes c.in-Some.field-0-1.now) c.by_name.result
+    read_in_line (string_bytes c.in-Some.first.now) (map string_bytes c.args.words.now)
+    (map string_bytes c.in-Some.field-0-1.now) c.by_name.result
     (ap (map string_bytes) c.in-Some.ensures.cases.0)
     (λ h. c.in_default-as_str.not-batch (is ∙ h)) (λ h. c.in_default-as_str.not-work (is ∙ h))
-    (subst (λ v. IsReadAs (entry_named v command_entries) (map string_bytes c.args.words.now) c.by_name.result) is c.by_name.ensures)
+    (subst (λ v. IsReadAs (entry_named v command_entries) (map string_bytes c.args.words.now)
+    c.by_name.result) is c.by_name.ensures)
 
 pub returns-in-batch : goal.returns-in-batch
 returns-in-batch c =
@@ -25,4 +29,5 @@ returns-in-batch c =
     let is : (first ≡ codes "batch") ⊎ (first ≡ codes "work") =
     subst (λ v. (v ≡ codes "batch") ⊎ (v ≡ codes "work")) c.as_str.ensures.value c.in-batch.is in
     elsewhere first (map string_bytes c.args.words.now) (map string_bytes c.in-Some.field-0-1.now) _
-    (ap (map string_bytes) c.in-Some.ensures.cases.0) (runs_others first is) (ap Err c.syntax-in-batch.ensures)
+    (ap (map string_bytes) c.in-Some.ensures.cases.0) (runs_others first is)
+    (ap Err c.syntax-in-batch.ensures)

@@ -19,5 +19,9 @@ returns c =
     plethysm_read _ c.in_ok-places.places k (basis_of c.target_of-target.result) c.judged.result
     (c.target_of-target.ensures k.parts.0 (c.piece_at-letter.ensures.is _ _ k.parts.2).1)
     (c.judged.ensures f g
-    (subst (λ v. SpellsPhrase v f) (sym (c.text_of-outer.ensures _ (c.piece_at-first.ensures.is _ _ k.parts.3.2).1)) (record { allowed = k.parts.3.1; spelled = refl }))
-    (subst (λ v. SpellsPhrase v g) (sym (c.text_of-inner.ensures _ (c.piece_at-second.ensures.is _ _ k.parts.3.3.2).1)) (record { allowed = k.parts.3.3.1; spelled = refl })))
+    (subst (λ v. SpellsPhrase v f)
+    (sym (c.text_of-outer.ensures _ (c.piece_at-first.ensures.is _ _ k.parts.3.2).1))
+    (record { allowed = k.parts.3.1; spelled = refl }))
+    (subst (λ v. SpellsPhrase v g)
+    (sym (c.text_of-inner.ensures _ (c.piece_at-second.ensures.is _ _ k.parts.3.3.2).1))
+    (record { allowed = k.parts.3.3.1; spelled = refl })))

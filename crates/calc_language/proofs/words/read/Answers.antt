@@ -9,10 +9,14 @@ use Rattle.calc_language.proofs.words.read.Goals as goal
 
 pub returns-in_default : goal.returns-in_default
 returns-in_default c =
-    no_words (map string_bytes c.args.words.now) _ command_entries commands_told (empty_map string_bytes c.args.words.now c.in_default.ensures.cases) (ap Err c.syntax.ensures)
+    no_words (map string_bytes c.args.words.now) _ command_entries commands_told
+    (empty_map string_bytes c.args.words.now c.in_default.ensures.cases)
+    (ap Err c.syntax.ensures)
 
 pub returns : goal.returns
 returns c =
-    read_named (string_bytes c.in-Some.first.now) (map string_bytes c.args.words.now) (map string_bytes c.in-Some.field-0-1.now) c.by_name.result
+    read_named (string_bytes c.in-Some.first.now) (map string_bytes c.args.words.now)
+    (map string_bytes c.in-Some.field-0-1.now) c.by_name.result
     (ap (map string_bytes) c.in-Some.ensures.cases.0)
-    (subst (λ v. IsReadAs (entry_named v command_entries) (map string_bytes c.args.words.now) c.by_name.result) c.as_str.ensures.value c.by_name.ensures)
+    (subst (λ v. IsReadAs (entry_named v command_entries) (map string_bytes c.args.words.now)
+    c.by_name.result) c.as_str.ensures.value c.by_name.ensures)

@@ -7,6 +7,8 @@ use Rattle.calc_replies.proofs.composing.composition.Goals as goal
 
 pub returns-clause-expands : goal.returns-clause-expands
 returns-clause-expands c = λ n.
-    represents-same_coefficients nat_list_eq_equiv same_partition c.in_ok-list.list c.in_ok-terms.terms c.len.ensures.combination
+    represents-same_coefficients nat_list_eq_equiv same_partition c.in_ok-list.list
+    c.in_ok-terms.terms c.sorted_terms.ensures.was
     c.in_ok-terms.ensures.combination c.in_ok-terms.ensures.same
-    (λ label. basis_polynomial (basis_of c.args.target) label n) _ _ (c.in_ok-list.ensures.expands n)
+    (λ label. basis_polynomial (basis_of c.args.target) label n) _ _
+    (c.in_ok-list.ensures.expands n)

@@ -17,14 +17,17 @@ returns-in_default-clause-large c = λ is.
     let f = c.args.outer.now in
     let g = c.args.inner.now in
     let p = positive f.tree f.within.numbers in
-    outer-large (tree_of f.tree) (tree_of g.tree) p (positive g.tree g.within.numbers) (wide-weight monomials (tree_of f.tree) p c.in_default.ensures)
+    outer-large (tree_of f.tree) (tree_of g.tree) p (positive g.tree g.within.numbers)
+    (wide-weight monomials (tree_of f.tree) p c.in_default.ensures)
 
 pub returns-in_err-list-clause-large : goal.returns-in_err-list-clause-large
 returns-in_err-list-clause-large c =
     let p = err_from_is_err_and c.from_residual.result c.from_residual.ensures.1 in
     let f = c.args.outer.now in
     let g = c.args.inner.now in
-    rw (p.1, p.2) (λ is. outer-large (tree_of f.tree) (tree_of g.tree) (positive f.tree f.within.numbers) (positive g.tree g.within.numbers) (c.in_err-list.ensures.large is))
+    rw (p.1, p.2) (λ is. outer-large (tree_of f.tree) (tree_of g.tree)
+    (positive f.tree f.within.numbers) (positive g.tree g.within.numbers)
+    (c.in_err-list.ensures.large is))
 
 pub plethysm-requires-clause-positive : goal.plethysm-requires-clause-positive
 plethysm-requires-clause-positive c =
@@ -34,9 +37,11 @@ plethysm-requires-clause-positive c =
 
 pub plethysm-requires-clause-sizes : goal.plethysm-requires-clause-sizes
 plethysm-requires-clause-sizes c =
-    let x = greatest-within (degree (tree_of c.args.outer.now.tree)) c.in_ok-list.list c.in_ok-list.ensures.labels in
+    let x = greatest-within (degree (tree_of c.args.outer.now.tree)) c.in_ok-list.list
+    c.in_ok-list.ensures.labels in
     let none : greatest_size c.new.result ≡ 0 = ap greatest_size c.new.ensures in
-    let product : greatest_size c.in_ok-list.list * greatest_size c.new.result ≡ greatest_size c.in_ok-list.list * 0 = ap (λ b. greatest_size c.in_ok-list.list * b) none in
+    let product : greatest_size c.in_ok-list.list * greatest_size c.new.result ≡ greatest_size
+    c.in_ok-list.list * 0 = ap (λ b. greatest_size c.in_ok-list.list * b) none in
     (omega (arith, x, c.requires.0), omega (arith, none), omega (arith, product))
 
 pub returns-then-degree-eq0-clause-expands : goal.returns-then-degree-eq0-clause-expands
@@ -46,7 +51,8 @@ returns-then-degree-eq0-clause-expands c =
     let constant : degree f ≡ 0 = omega (arith, c.if-degree-eq0.true, c.degree.ensures) in
     let within = subst (λ d. AreWithin d c.in_ok-list.list) constant c.in_ok-list.ensures.labels in
     IfOk-weaker c.plethysm-then-degree-eq0.result _ _
-    (λ list h n. h within n (degree g) (denominator f) (cleared_value f) (cleared_value g n) c.in_ok-list.ensures.value)
+    (λ list h n. h within n (degree g) (denominator f) (cleared_value f) (cleared_value g n)
+    c.in_ok-list.ensures.value)
     c.plethysm-then-degree-eq0.ensures.constant
 
 pub returns-then-degree-eq0-clause-large : goal.returns-then-degree-eq0-clause-large
@@ -55,7 +61,9 @@ returns-then-degree-eq0-clause-large c = λ is.
     let g = tree_of c.args.inner.now.tree in
     let constant : degree f ≡ 0 = omega (arith, c.if-degree-eq0.true, c.degree.ensures) in
     let within = subst (λ d. AreWithin d c.in_ok-list.list) constant c.in_ok-list.ensures.labels in
-    let none : AreWithin (degree g) c.new.result = subst (AreWithin (degree g)) (sym c.new.ensures) (λ t m. absurd m) in
+    let none : AreWithin (degree g) c.new.result = subst (AreWithin (degree g)) (sym c.new.ensures)
+    (λ t m. absurd m) in
     let heavy = c.plethysm-then-degree-eq0.ensures.large is 0 (degree g) within none in
     let same = constant-weight c.in-Some.bound.num c.in-Some.bound.den (numerator g) (degree g) in
-    rw (constant, sym c.in-Some.ensures.0, sym c.in-Some.ensures.1) (subst (λ w. 2 ^ 127 ≤ w) same heavy)
+    rw (constant, sym c.in-Some.ensures.0, sym c.in-Some.ensures.1)
+    (subst (λ w. 2 ^ 127 ≤ w) same heavy)

@@ -9,12 +9,14 @@ use Rattle.calc_replies.proofs.expanding.by_monomials.Goals as goal
 pub returns-in_err-list-clause-large : goal.returns-in_err-list-clause-large
 returns-in_err-list-clause-large c =
     let p = err_from_is_err_and c.from_residual.result c.from_residual.ensures.1 in
-    rw (p.1, p.2) (λ is. heavy_for_m (basis_of c.args.target) (tree_of c.args.formula.now.tree) (c.in_err-list.ensures.large is))
+    rw (p.1, p.2) (λ is. heavy_for_m (basis_of c.args.target) (tree_of c.args.formula.now.tree)
+    (c.in_err-list.ensures.large is))
 
 pub returns-in_default-clause-large : goal.returns-in_default-clause-large
 returns-in_default-clause-large c = λ is.
     let e = c.args.formula.now in
-    wide-weight (basis_of c.args.target) (tree_of e.tree) (positive e.tree e.within.numbers) c.in_default.ensures
+    wide-weight (basis_of c.args.target) (tree_of e.tree) (positive e.tree e.within.numbers)
+    c.in_default.ensures
 
 pub to_basis-requires-clause-positive : goal.to_basis-requires-clause-positive
 to_basis-requires-clause-positive c =
@@ -24,4 +26,5 @@ to_basis-requires-clause-positive c =
 
 pub returns-clause-expands : goal.returns-clause-expands
 returns-clause-expands c =
-    IfOk-weaker c.to_basis.result _ _ (λ list h n. h n _ _ (c.in_ok-list.ensures.value n)) c.to_basis.ensures.value
+    IfOk-weaker c.to_basis.result _ _ (λ list h n. h n _ _ (c.in_ok-list.ensures.value n))
+    c.to_basis.ensures.value

@@ -13,17 +13,21 @@ returns-in_default c =
     let P : List ℕ → Type 0 = λ x. Holds x c.in_ok-copy-2.field-0 in
     let Q : List ℕ → Type 0 = λ y. Holds outer y in
     let outside = contains-false outer inner
-    (λ holds. let some = c.in_default.ensures.some.1 (subst P (sym c.in_ok-copy.ensures.ok) (subst Q (sym c.in_ok-copy-2.ensures.ok) holds)) in cc) in
-    rw (c.told.ensures) (ap (readings_text outer inner) (sym (none_after outer inner c.args.after.now outside)))
+    (λ holds. let some = c.in_default.ensures.some.1 (subst P (sym c.in_ok-copy.ensures.ok)
+    (subst Q (sym c.in_ok-copy-2.ensures.ok) holds)) in cc) in
+    rw (c.told.ensures) (ap (readings_text outer inner)
+    (sym (none_after outer inner c.args.after.now outside)))
 
 pub listed-requires-clause-rows : goal.listed-requires-clause-rows
 listed-requires-clause-rows c =
-    c.rows.ensures.value ∙ ap length (sym c.in_ok-copy.ensures.ok) ∙ ap (λ (s : List ℕ × List ℕ). length s.0) (sym c.in-Some.ensures.value)
+    c.rows.ensures.value ∙ ap length (sym c.in_ok-copy.ensures.ok) ∙ ap (λ (s : List ℕ × List ℕ).
+    length s.0) (sym c.in-Some.ensures.value)
 
 pub listed-requires-clause-small : goal.listed-requires-clause-small
 listed-requires-clause-small c =
     let outer : size c.in-Some.shape.0 ≡ size c.args.outer.now =
-    ap (λ (s : List ℕ × List ℕ). size s.0) c.in-Some.ensures.value ∙ ap size c.in_ok-copy.ensures.ok in
+    ap (λ (s : List ℕ × List ℕ). size s.0) c.in-Some.ensures.value ∙ ap size c.in_ok-copy.ensures.ok
+    in
     omega (arith, outer, c.requires.0.small)
 
 pub listed-requires-clause-listed : goal.listed-requires-clause-listed
@@ -45,4 +49,5 @@ returns c =
     ∙ ap (λ (x : List ℕ). (x, c.in_ok-copy-2.field-0)) c.in_ok-copy.ensures.ok
     ∙ ap (λ (y : List ℕ). (outer, y)) c.in_ok-copy-2.ensures.ok in
     rw (c.told-2.ensures, c.in_ok-order.ensures)
-    (listed-lines outer inner c.in-Some.shape c.args.after.now c.in_ok-lattice.lattice.rest shape c.in_ok-lattice.ensures)
+    (listed-lines outer inner c.in-Some.shape c.args.after.now c.in_ok-lattice.lattice.rest shape
+    c.in_ok-lattice.ensures)

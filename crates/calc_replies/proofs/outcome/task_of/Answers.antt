@@ -7,17 +7,20 @@ use Rattle.calc_replies.proofs.outcome.task_of.Goals as goal
 
 pub returns-in-Ok-clause-computes : goal.returns-in-Ok-clause-computes
 returns-in-Ok-clause-computes c =
-    task_reply (map string_bytes c.args.words.now) (command_of c.in-Ok.command) c.task_for-task.result c.in-Ok.ensures.read.0 c.task_for-task.ensures
+    task_reply (map string_bytes c.args.words.now) (command_of c.in-Ok.command)
+    c.task_for-task.result c.in-Ok.ensures.read.0 c.task_for-task.ensures
 
 pub returns-in-Ok-clause-accepts : goal.returns-in-Ok-clause-accepts
 returns-in-Ok-clause-accepts c = λ command spelled.
-    accepts_task (command_of c.in-Ok.command) c.task_for-task.result command c.task_for-task.ensures (c.in-Ok.ensures.accepts command spelled)
+    accepts_task (command_of c.in-Ok.command) c.task_for-task.result command c.task_for-task.ensures
+    (c.in-Ok.ensures.accepts command spelled)
 
 pub returns-in-Ok-clause-refuses : goal.returns-in-Ok-clause-refuses
 returns-in-Ok-clause-refuses c = λ offence first. absurd (c.in-Ok.ensures.refuses offence first)
 
 pub returns-in-Ok-clause-goes_wrong : goal.returns-in-Ok-clause-goes_wrong
-returns-in-Ok-clause-goes_wrong c = λ word byte place. absurd (c.in-Ok.ensures.goes_wrong word byte place)
+returns-in-Ok-clause-goes_wrong c = λ word byte place.
+    absurd (c.in-Ok.ensures.goes_wrong word byte place)
 
 pub returns-in-Err : goal.returns-in-Err
 returns-in-Err c =
@@ -25,6 +28,8 @@ returns-in-Err c =
     record {
       computes = (c.in-Err.ensures.read, memory);
       accepts = λ command spelled. absurd (memory (c.in-Err.ensures.accepts command spelled));
-      refuses = λ offence first. refused_by offence c.in-Err.fault memory (c.in-Err.ensures.refuses offence first);
-      goes_wrong = λ word byte place. refused_at word byte c.in-Err.fault memory (c.in-Err.ensures.goes_wrong word byte place);
+      refuses = λ offence first. refused_by offence c.in-Err.fault memory
+          (c.in-Err.ensures.refuses offence first);
+      goes_wrong = λ word byte place. refused_at word byte c.in-Err.fault memory
+          (c.in-Err.ensures.goes_wrong word byte place);
     }

@@ -10,5 +10,10 @@ use Rattle.calc_replies.proofs.permutations.dschubmult.Goals as goal
 pub returns-in-Ok : goal.returns-in-Ok
 returns-in-Ok c =
     let command = commands.dschubmult c.args.left.now c.args.right.now in
-    let meets = subst (λ ts. Meets command (answer shifts ts)) (sym c.from_list.ensures) c.in-Ok.ensures.meets in
-    subst (λ outcome. IsReplyTo command (Ok outcome)) (sym c.as_block.ensures) ((λ m. absurd m.1), meets, refl)
+    let meets = subst (λ ts. Meets command (answer shifts ts)) (sym c.from_list.ensures)
+    c.in-Ok.ensures.meets in
+    subst (λ outcome. IsReplyTo command (Ok outcome)) (sym c.as_block.ensures) (
+      (λ m. absurd m.1),
+      meets,
+      refl,
+    )

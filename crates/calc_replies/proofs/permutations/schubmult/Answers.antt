@@ -9,10 +9,16 @@ use Rattle.calc_replies.proofs.FewInversions.{product-within}
 use Rattle.calc_replies.proofs.permutations.schubmult.Goals as goal
 
 pub schubmult-requires : goal.schubmult-requires
-schubmult-requires c = product-within c.args.left.now c.args.right.now c.requires.0.few c.requires.1.few
+schubmult-requires c = product-within c.args.left.now c.args.right.now c.requires.0.few
+    c.requires.1.few
 
 pub returns-in-Ok : goal.returns-in-Ok
 returns-in-Ok c =
     let command = commands.schubmult c.args.left.now c.args.right.now in
-    let meets = subst (λ ts. Meets command (answer permutations ts)) (sym c.from_list.ensures) c.in-Ok.ensures.meets in
-    subst (λ outcome. IsReplyTo command (Ok outcome)) (sym c.as_block.ensures) ((λ m. absurd m.1), meets, refl)
+    let meets = subst (λ ts. Meets command (answer permutations ts)) (sym c.from_list.ensures)
+    c.in-Ok.ensures.meets in
+    subst (λ outcome. IsReplyTo command (Ok outcome)) (sym c.as_block.ensures) (
+      (λ m. absurd m.1),
+      meets,
+      refl,
+    )

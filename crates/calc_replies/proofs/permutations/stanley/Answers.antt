@@ -10,5 +10,7 @@ use Rattle.calc_replies.proofs.permutations.stanley.Goals as goal
 pub returns-in-Ok : goal.returns-in-Ok
 returns-in-Ok c =
     let command = commands.stanley c.args.rows c.args.perm.now in
-    let meets = subst (λ ts. Meets command (answer product ts)) (sym c.from_list.ensures) c.in-Ok.ensures.meets in
-    subst (λ outcome. IsReplyTo command (Ok outcome)) (sym c.as_block.ensures) (c.in-Ok.ensures.fits, meets, refl)
+    let meets = subst (λ ts. Meets command (answer product ts)) (sym c.from_list.ensures)
+    c.in-Ok.ensures.meets in
+    subst (λ outcome. IsReplyTo command (Ok outcome)) (sym c.as_block.ensures)
+    (c.in-Ok.ensures.fits, meets, refl)

@@ -14,4 +14,5 @@ returns-in_err-cut c =
 
 pub returns : goal.returns
 returns c =
-    fine (codes "batch") [] c.in_ok-cut.field-0 (map string_bytes c.args.words.now) c.in_ok-cut.ensures.cut (λ x. batch) (λ x. []) Batch Batch refl (tt {0}) refl refl (tt {0})
+    fine (codes "batch") [] c.in_ok-cut.field-0 (map string_bytes c.args.words.now)
+    c.in_ok-cut.ensures.cut (λ x. batch) (λ x. []) Batch Batch refl (tt {0}) refl refl (tt {0})

@@ -21,8 +21,10 @@ pub returns-in_err-lines : goal.returns-in_err-lines
 returns-in_err-lines c =
     let words = map string_bytes c.args.words.now in
     let k = c.in_ok-places.ensures.cut in
-    let p = err_from_is_err_and c.from_residual-in_err-lines.result c.from_residual-in_err-lines.ensures.1 in
-    rw (p.1, p.2) (faulty (codes "work") parts c.in_ok-places.places words k work_says work_offends _ refl refl
+    let p = err_from_is_err_and c.from_residual-in_err-lines.result
+    c.from_residual-in_err-lines.ensures.1 in
+    rw (p.1, p.2) (faulty (codes "work") parts c.in_ok-places.places words k work_says work_offends
+    _ refl refl
     (inl (c.in_err-lines.ensures _ k.parts.0 (c.piece_at-first.ensures.is _ _ k.parts.2))))
 
 pub returns-in_err-seed : goal.returns-in_err-seed
@@ -30,9 +32,15 @@ returns-in_err-seed c =
     let words = map string_bytes c.args.words.now in
     let k = c.in_ok-places.ensures.cut in
     let lines = c.in_ok-lines.ensures _ k.parts.0 (c.piece_at-first.ensures.is _ _ k.parts.2) in
-    let p = err_from_is_err_and c.from_residual-in_err-seed.result c.from_residual-in_err-seed.ensures.1 in
-    rw (p.1, p.2) (faulty (codes "work") parts c.in_ok-places.places words k work_says work_offends _ refl refl
-    (inr (lines.1, c.in_err-seed.ensures _ k.parts.3.0 (c.piece_at-second.ensures.is _ _ k.parts.3.2))))
+    let p = err_from_is_err_and c.from_residual-in_err-seed.result
+    c.from_residual-in_err-seed.ensures.1 in
+    rw (p.1, p.2) (faulty (codes "work") parts c.in_ok-places.places words k work_says work_offends
+    _ refl refl
+    (inr (
+      lines.1,
+      c.in_err-seed.ensures _ k.parts.3.0
+          (c.piece_at-second.ensures.is _ _ k.parts.3.2),
+    )))
 
 pub returns : goal.returns
 returns c =
@@ -40,5 +48,7 @@ returns c =
     let k = c.in_ok-places.ensures.cut in
     let lines = c.in_ok-lines.ensures _ k.parts.0 (c.piece_at-first.ensures.is _ _ k.parts.2) in
     let seed = c.in_ok-seed.ensures _ k.parts.3.0 (c.piece_at-second.ensures.is _ _ k.parts.3.2) in
-    fine (codes "work") parts c.in_ok-places.places words k work_says work_offends _ _ refl (lines.1, seed.1)
-    (ap (λ x. Work x c.in_ok-seed.seed) lines.0 ∙ ap (λ x. Work (decimal_value k.parts.0) x) seed.0) refl tt
+    fine (codes "work") parts c.in_ok-places.places words k work_says work_offends _ _ refl
+    (lines.1, seed.1)
+    (ap (λ x. Work x c.in_ok-seed.seed) lines.0 ∙ ap (λ x. Work (decimal_value k.parts.0) x) seed.0)
+    refl tt

@@ -1,4 +1,5 @@
-use Rattle.std.proofs.Common.{◌≡◌, ℕ, ◌+◌, ◌++◌, List, map, length, length-append, refl, sym, ap, subst, arith, None}
+use Rattle.std.proofs.Common.{◌≡◌, ℕ, ◌+◌, ◌++◌, List, map, length, length-append, refl, sym, ap}
+use Rattle.std.proofs.Common.{subst, arith, None}
 use Rattle.std.specs.Prelude.{string_bytes}
 use Rattle.std.proofs.lemmas.List.{append-nil, length-map}
 use Rattle.std.proofs.lemmas.Result.{err_from_is_err_and}
@@ -16,8 +17,11 @@ pub returns-in_default : goal.returns-in_default
 returns-in_default t c =
     λ others e n.
     let factors = c.args.factors in
-    subst (λ os. (factors ≡ factors ++ map partition os) × (first_offence (factor_offences (length factors) (c.args.at + 1) (map numbers os)) ≡ None))
-    (sym (nothing_behind (map string_bytes c.args.words.now) others e c.in_default.ensures)) (sym (append-nil factors), refl)
+    subst (λ os. (factors ≡ factors ++ map partition os)
+    × (first_offence (factor_offences (length factors) (c.args.at + 1) (map numbers os))
+    ≡ None))
+    (sym (nothing_behind (map string_bytes c.args.words.now) others e c.in_default.ensures))
+    (sym (append-nil factors), refl)
 
 pub read_later-requires : goal.read_later-requires
 read_later-requires t c =
@@ -38,7 +42,8 @@ read_later-requires t c =
       (
         omega (arith, w, l, m, r, a, b, s, p),
         subst (EachOf IsWritten) (sym c.in_ok-factors.ensures.0)
-            (next_written c.args.factors (length c.args.factors) c.args.at (map string_bytes list) c.requires.written c.in_ok-factors.ensures.1),
+            (next_written c.args.factors (length c.args.factors) c.args.at (map string_bytes list)
+            c.requires.written c.in_ok-factors.ensures.1),
       ),
     )
 
@@ -47,11 +52,14 @@ returns-in_err-factors t c =
     λ others e n.
     let factors = c.args.factors in
     let list = map string_bytes c.list_first.result.0.now in
-    let k = next_cut (map string_bytes c.args.words.now) (map string_bytes c.in-Some.later.now) list (map string_bytes c.list_first.result.1.now) others e n
-    c.in-Some.ensures c.list_first.ensures.parts c.list_first.ensures.list c.list_first.ensures.rest in
+    let k = next_cut (map string_bytes c.args.words.now) (map string_bytes c.in-Some.later.now) list
+    (map string_bytes c.list_first.result.1.now) others e n
+    c.in-Some.ensures c.list_first.ensures.parts c.list_first.ensures.list c.list_first.ensures.rest
+    in
     let p = err_from_is_err_and c.from_residual.result c.from_residual.ensures.1 in
     rw (p.1, p.2)
-    (subst (λ os. IsFirst (first_offence (factor_offences (length factors) (c.args.at + 1) (map numbers os))) c.in_err-factors.field-0.0) (sym k.others_are)
+    (subst (λ os. IsFirst (first_offence (factor_offences (length factors) (c.args.at + 1)
+    (map numbers os))) c.in_err-factors.field-0.0) (sym k.others_are)
     (next_faulty (length factors) c.args.at list k.more _ c.in_err-factors.ensures))
 
 pub returns : goal.returns
@@ -60,11 +68,17 @@ returns t c =
     let factors = c.args.factors in
     let list = map string_bytes c.list_first.result.0.now in
     let after = c.args.at + 1 + length c.list_first.result.0.now in
-    let k = next_cut (map string_bytes c.args.words.now) (map string_bytes c.in-Some.later.now) list (map string_bytes c.list_first.result.1.now) others e n
-    c.in-Some.ensures c.list_first.ensures.parts c.list_first.ensures.list c.list_first.ensures.rest in
+    let k = next_cut (map string_bytes c.args.words.now) (map string_bytes c.in-Some.later.now) list
+    (map string_bytes c.list_first.result.1.now) others e n
+    c.in-Some.ensures c.list_first.ensures.parts c.list_first.ensures.list c.list_first.ensures.rest
+    in
     subst
-    (λ os. IsJudged (λ (f : List (List ℕ)). f ≡ factors ++ map partition os) (first_offence (factor_offences (length factors) (c.args.at + 1) (map numbers os))) c.read_later.result)
+    (λ os. IsJudged (λ (f : List (List ℕ)). f ≡ factors ++ map partition os)
+    (first_offence (factor_offences (length factors) (c.args.at + 1) (map numbers os)))
+    c.read_later.result)
     (sym k.others_are)
-    (next_fine factors c.in_ok-factors.factors c.args.at after list k.more c.read_later.result c.in_ok-factors.ensures.0
-    (ap (λ m. c.args.at + 1 + m) (sym (length-map c.list_first.result.0.now string_bytes))) c.in_ok-factors.ensures.1
+    (next_fine factors c.in_ok-factors.factors c.args.at after list k.more c.read_later.result
+    c.in_ok-factors.ensures.0
+    (ap (λ m. c.args.at + 1 + m) (sym (length-map c.list_first.result.0.now string_bytes)))
+    c.in_ok-factors.ensures.1
     (c.read_later.ensures k.more k.rest_are k.more_numbers))

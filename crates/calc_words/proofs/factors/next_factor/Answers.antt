@@ -13,4 +13,6 @@ returns-then-len-eq-MOST_FACTORS c =
 
 pub pushed-requires-clause-next : goal.pushed-requires-clause-next
 pushed-requires-clause-next c =
-    subst IsWritten (sym c.in_ok-next.ensures.0) (written (c.args.at + 1) (numbers (map string_bytes c.args.list.now)) c.in_ok-next.ensures.1)
+    subst IsWritten (sym c.in_ok-next.ensures.0)
+    (written (c.args.at + 1) (numbers (map string_bytes c.args.list.now))
+    c.in_ok-next.ensures.1)

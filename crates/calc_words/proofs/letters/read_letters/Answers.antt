@@ -12,9 +12,11 @@ returns-in_default c =
     let ns = numbers (map string_bytes ws) in
     let i = c.loop-i.i in
     let x = counted string_bytes decimal_value ws in
-    let e = number_at string_bytes decimal_value ws i c.index-words-i.result c.loop-i-test.true c.index-words-i.is in
+    let e = number_at string_bytes decimal_value ws i c.index-words-i.result c.loop-i-test.true
+    c.index-words-i.is in
     wide_in_word c.args.at ns i _ c.loop-i.letters
-    c.loop-i.invariant (omega (arith, x)) (e ∙ ap decimal_value (sym c.as_bytes.ensures.value)) (sym c.value_of.ensures ∙ c.in_default.is) c.offence.result c.offence.ensures
+    c.loop-i.invariant (omega (arith, x)) (e ∙ ap decimal_value (sym c.as_bytes.ensures.value))
+    (sym c.value_of.ensures ∙ c.in_default.is) c.offence.result c.offence.ensures
 
 pub returns-then-is_past : goal.returns-then-is_past
 returns-then-is_past c =
@@ -22,10 +24,13 @@ returns-then-is_past c =
     let ns = numbers (map string_bytes ws) in
     let i = c.loop-i.i in
     let x = counted string_bytes decimal_value ws in
-    let e = number_at string_bytes decimal_value ws i c.index-words-i.result c.loop-i-test.true c.index-words-i.is in
+    let e = number_at string_bytes decimal_value ws i c.index-words-i.result c.loop-i-test.true
+    c.index-words-i.is in
     past_in_word c.args.at ns i _ c.in-Some.value c.loop-i.letters
-    c.loop-i.invariant (omega (arith, x)) (e ∙ ap decimal_value (sym c.as_bytes.ensures.value)) (sym c.in-Some.is ∙ c.value_of.ensures)
-    (sym c.is_past.ensures ∙ c.if-is_past.true) c.offence-then-is_past.result c.offence-then-is_past.ensures
+    c.loop-i.invariant (omega (arith, x)) (e ∙ ap decimal_value (sym c.as_bytes.ensures.value))
+    (sym c.in-Some.is ∙ c.value_of.ensures)
+    (sym c.is_past.ensures ∙ c.if-is_past.true) c.offence-then-is_past.result
+    c.offence-then-is_past.ensures
 
 pub loop-i-preserved : goal.loop-i-preserved
 loop-i-preserved c =
@@ -33,7 +38,9 @@ loop-i-preserved c =
     let ns = numbers (map string_bytes ws) in
     let i = c.loop-i.i in
     let x = counted string_bytes decimal_value ws in
-    let e = number_at string_bytes decimal_value ws i c.index-words-i.result c.loop-i-test.true c.index-words-i.is in
+    let e = number_at string_bytes decimal_value ws i c.index-words-i.result c.loop-i-test.true
+    c.index-words-i.is in
     word_goes_on c.args.at ns i _ c.in-Some.value c.loop-i.letters
-    c.loop-i.invariant (omega (arith, x)) (e ∙ ap decimal_value (sym c.as_bytes.ensures.value)) (sym c.in-Some.is ∙ c.value_of.ensures)
+    c.loop-i.invariant (omega (arith, x)) (e ∙ ap decimal_value (sym c.as_bytes.ensures.value))
+    (sym c.in-Some.is ∙ c.value_of.ensures)
     (sym c.is_past.ensures ∙ c.if-is_past.false)

@@ -10,15 +10,20 @@ loop-byte-preserved-then-is_space c =
     let words = map string_bytes c.loop-byte.words.items in
     let more = map string_bytes c.end_word.new.words.items in
     subst (AreWordsSo line (i + 1) more) (sym c.new-word-then-is_space.ensures.bytes)
-    (space_read line i words more (string_bytes c.loop-byte.word) c.loop-byte-test.true (sym c.is_space.ensures ∙ c.if-is_space.true)
+    (space_read line i words more (string_bytes c.loop-byte.word) c.loop-byte-test.true
+    (sym c.is_space.ensures ∙ c.if-is_space.true)
     c.in_ok-end_word.ensures c.loop-byte.invariant)
 
 pub loop-byte-preserved : goal.loop-byte-preserved
 loop-byte-preserved c =
-    byte_read c.args.line.now c.loop-byte.byte-index (map string_bytes c.loop-byte.words.items) (string_bytes c.loop-byte.word) (string_bytes c.add_byte.new.word)
-    c.loop-byte-test.true (sym c.is_space.ensures ∙ c.if-is_space.false) c.in_ok-add_byte.ensures c.loop-byte.invariant
+    byte_read c.args.line.now c.loop-byte.byte-index (map string_bytes c.loop-byte.words.items)
+    (string_bytes c.loop-byte.word) (string_bytes c.add_byte.new.word)
+    c.loop-byte-test.true (sym c.is_space.ensures ∙ c.if-is_space.false) c.in_ok-add_byte.ensures
+    c.loop-byte.invariant
 
 pub returns : goal.returns
 returns c =
-    all_read c.args.line.now c.loop-byte.byte-index (map string_bytes c.loop-byte.words.items) (map string_bytes c.end_word-2.new.words.items)
-    (string_bytes c.loop-byte.word) c.loop-byte-test.false c.in_ok-end_word-2.ensures c.loop-byte.invariant
+    all_read c.args.line.now c.loop-byte.byte-index (map string_bytes c.loop-byte.words.items)
+    (map string_bytes c.end_word-2.new.words.items)
+    (string_bytes c.loop-byte.word) c.loop-byte-test.false c.in_ok-end_word-2.ensures
+    c.loop-byte.invariant

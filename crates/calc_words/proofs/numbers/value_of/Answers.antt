@@ -1,4 +1,5 @@
-use Rattle.std.proofs.Common.{◌≡◌, ℕ, ◌^◌, nat_lt, nat_le, min, Bool, true, false, cond, Some, None, refl, sym, ap, ◌∙◌, arith}
+use Rattle.std.proofs.Common.{◌≡◌, ℕ, ◌^◌, nat_lt, nat_le, min, Bool, true, false, cond, Some, None}
+use Rattle.std.proofs.Common.{refl, sym, ap, ◌∙◌, arith}
 use Rattle.std.specs.Bool.{then_some}
 use Rattle.std.proofs.lemmas.Bool.{leb-true, lt-ltb, le-ltb, leb-false}
 use Rattle.std.proofs.lemmas.List.{take_all}
@@ -8,11 +9,14 @@ use Rattle.printing_laws.proofs.Decimals.{decimal_value_more}
 use Rattle.calc_words.proofs.numbers.value_of.Goals as goal
 
 -- a number below the limit is kept, and none else
-kept_by : (n v : ℕ) (b d : Bool) → nat_lt v (2 ^ 127) ≡ d → nat_le (2 ^ 127) n ≡ b → (b ≡ true → d ≡ false) → (b ≡ false → (d ≡ true) × (v ≡ n))
+kept_by : (n v : ℕ) (b d : Bool) → nat_lt v (2 ^ 127) ≡ d → nat_le (2 ^ 127) n ≡ b →
+    (b ≡ true → d ≡ false) → (b ≡ false → (d ≡ true) × (v ≡ n))
     → then_some (nat_lt v (2 ^ 127)) v ≡ cond (nat_le (2 ^ 127) n) None (Some n)
-kept_by n v true d e h x y = ap (λ t. then_some t v) (e ∙ x refl) ∙ ap (λ t. cond t None (Some n)) (sym h)
+kept_by n v true d e h x y = ap (λ t. then_some t v) (e ∙ x refl) ∙ ap (λ t. cond t None (Some n))
+    (sym h)
 kept_by n v false d e h x y =
-    ap (λ t. then_some t v) (e ∙ (y refl).0) ∙ (ap Some (y refl).1 ∙ ap (λ t. cond t None (Some n)) (sym h))
+    ap (λ t. then_some t v) (e ∙ (y refl).0) ∙ (ap Some (y refl).1 ∙ ap (λ t. cond t None (Some n))
+    (sym h))
 
 kept : (n v : ℕ) → v ≡ min n (2 ^ 127) → then_some (nat_lt v (2 ^ 127)) v ≡ narrow n
 kept n v h =
@@ -29,4 +33,5 @@ pub returns : goal.returns
 returns c =
     c.then_some.ensures
     ∙ kept (decimal_value c.args.word.now) c.loop-byte.value
-    (c.loop-byte.invariant ∙ ap (λ w. min (decimal_value w) (2 ^ 127)) (take_all c.loop-byte.byte-index c.args.word.now c.loop-byte-test.false))
+    (c.loop-byte.invariant ∙ ap (λ w. min (decimal_value w) (2 ^ 127))
+    (take_all c.loop-byte.byte-index c.args.word.now c.loop-byte-test.false))

@@ -9,7 +9,8 @@ same_test a b = grind (arith, nat_tests)
 
 any_stands : (a : ℕ) (ns : List ℕ) → list_any (λ b. b == a) ns ≡ stands_in a ns
 any_stands a [] = refl
-any_stands a (b ∷ ns) = ap (λ t. t || list_any (λ c. c == a) ns) (same_test a b) ∙ ap (λ t. (a == b) || t) (any_stands a ns)
+any_stands a (b ∷ ns) = ap (λ t. t || list_any (λ c. c == a) ns) (same_test a b) ∙ ap (λ t.
+    (a == b) || t) (any_stands a ns)
 
 pub returns : goal.returns
 returns c = c.contains.ensures.value ∙ any_stands c.args.letter c.args.letters.now

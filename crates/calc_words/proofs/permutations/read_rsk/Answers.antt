@@ -20,8 +20,10 @@ pub returns-in_err-letters : goal.returns-in_err-letters
 returns-in_err-letters c =
     let words = map string_bytes c.args.words.now in
     let k = c.in_ok-places.ensures.cut in
-    let p = err_from_is_err_and c.from_residual-in_err-letters.result c.from_residual-in_err-letters.ensures.1 in
-    rw (p.1, p.2) (faulty (codes "rsk") parts c.in_ok-places.places words k rsk_says rsk_offends _ refl refl
+    let p = err_from_is_err_and c.from_residual-in_err-letters.result
+    c.from_residual-in_err-letters.ensures.1 in
+    rw (p.1, p.2) (faulty (codes "rsk") parts c.in_ok-places.places words k rsk_says rsk_offends _
+    refl refl
     (c.in_err-letters.ensures _ k.parts.0 (c.piece_at-list.ensures.is _ _ k.parts.2)))
 
 pub returns : goal.returns

@@ -20,8 +20,10 @@ pub returns-in_err-perm : goal.returns-in_err-perm
 returns-in_err-perm c =
     let words = map string_bytes c.args.words.now in
     let k = c.in_ok-places.ensures.cut in
-    let p = err_from_is_err_and c.from_residual-in_err-perm.result c.from_residual-in_err-perm.ensures.1 in
-    rw (p.1, p.2) (faulty (codes "schubert") parts c.in_ok-places.places words k schubert_says schubert_offends _ refl refl
+    let p = err_from_is_err_and c.from_residual-in_err-perm.result
+    c.from_residual-in_err-perm.ensures.1 in
+    rw (p.1, p.2) (faulty (codes "schubert") parts c.in_ok-places.places words k schubert_says
+    schubert_offends _ refl refl
     (c.in_err-perm.ensures _ k.parts.0 (c.piece_at-list.ensures.is _ _ k.parts.2)))
 
 pub returns : goal.returns
@@ -29,5 +31,6 @@ returns c =
     let words = map string_bytes c.args.words.now in
     let k = c.in_ok-places.ensures.cut in
     let perm = c.in_ok-perm.ensures _ k.parts.0 (c.piece_at-list.ensures.is _ _ k.parts.2) in
-    fine (codes "schubert") parts c.in_ok-places.places words k schubert_says schubert_offends _ _ refl perm.1
+    fine (codes "schubert") parts c.in_ok-places.places words k schubert_says schubert_offends _ _
+    refl perm.1
     (ap (λ x. Schubert x) perm.0) refl tt

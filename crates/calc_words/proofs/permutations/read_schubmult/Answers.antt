@@ -22,8 +22,10 @@ pub returns-in_err-left : goal.returns-in_err-left
 returns-in_err-left c =
     let words = map string_bytes c.args.words.now in
     let k = c.in_ok-places.ensures.cut in
-    let p = err_from_is_err_and c.from_residual-in_err-left.result c.from_residual-in_err-left.ensures.1 in
-    rw (p.1, p.2) (faulty (codes "schubmult") parts c.in_ok-places.places words k schubmult_says schubmult_offends _ (schubmult_parts k.parts.0 k.parts.3.3.0) refl
+    let p = err_from_is_err_and c.from_residual-in_err-left.result
+    c.from_residual-in_err-left.ensures.1 in
+    rw (p.1, p.2) (faulty (codes "schubmult") parts c.in_ok-places.places words k schubmult_says
+    schubmult_offends _ (schubmult_parts k.parts.0 k.parts.3.3.0) refl
     (inl (c.in_err-left.ensures _ k.parts.0 (c.piece_at-first.ensures.is _ _ k.parts.2))))
 
 pub returns-in_err-right : goal.returns-in_err-right
@@ -31,15 +33,27 @@ returns-in_err-right c =
     let words = map string_bytes c.args.words.now in
     let k = c.in_ok-places.ensures.cut in
     let left = c.in_ok-left.ensures _ k.parts.0 (c.piece_at-first.ensures.is _ _ k.parts.2) in
-    let p = err_from_is_err_and c.from_residual-in_err-right.result c.from_residual-in_err-right.ensures.1 in
-    rw (p.1, p.2) (faulty (codes "schubmult") parts c.in_ok-places.places words k schubmult_says schubmult_offends _ (schubmult_parts k.parts.0 k.parts.3.3.0) refl
-    (inr (left.1, inr (refl, c.in_err-right.ensures _ k.parts.3.3.0 (c.piece_at-second.ensures.is _ _ k.parts.3.3.2)))))
+    let p = err_from_is_err_and c.from_residual-in_err-right.result
+    c.from_residual-in_err-right.ensures.1 in
+    rw (p.1, p.2) (faulty (codes "schubmult") parts c.in_ok-places.places words k schubmult_says
+    schubmult_offends _ (schubmult_parts k.parts.0 k.parts.3.3.0) refl
+    (inr (
+      left.1,
+      inr (
+        refl,
+        c.in_err-right.ensures _ k.parts.3.3.0
+            (c.piece_at-second.ensures.is _ _ k.parts.3.3.2),
+      ),
+    )))
 
 pub returns : goal.returns
 returns c =
     let words = map string_bytes c.args.words.now in
     let k = c.in_ok-places.ensures.cut in
     let left = c.in_ok-left.ensures _ k.parts.0 (c.piece_at-first.ensures.is _ _ k.parts.2) in
-    let right = c.in_ok-right.ensures _ k.parts.3.3.0 (c.piece_at-second.ensures.is _ _ k.parts.3.3.2) in
-    fine (codes "schubmult") parts c.in_ok-places.places words k schubmult_says schubmult_offends _ _ (schubmult_parts k.parts.0 k.parts.3.3.0) (left.1, (refl, right.1))
-    (ap (λ x. Schubmult x c.in_ok-right.right) left.0 ∙ ap (λ x. Schubmult (kept (letters k.parts.0)) x) right.0) refl tt
+    let right = c.in_ok-right.ensures _ k.parts.3.3.0
+    (c.piece_at-second.ensures.is _ _ k.parts.3.3.2) in
+    fine (codes "schubmult") parts c.in_ok-places.places words k schubmult_says schubmult_offends _
+    _ (schubmult_parts k.parts.0 k.parts.3.3.0) (left.1, (refl, right.1))
+    (ap (λ x. Schubmult x c.in_ok-right.right) left.0
+    ∙ ap (λ x. Schubmult (kept (letters k.parts.0)) x) right.0) refl tt

@@ -20,8 +20,10 @@ pub returns-in_err-shape : goal.returns-in_err-shape
 returns-in_err-shape c =
     let words = map string_bytes c.args.words.now in
     let k = c.in_ok-places.ensures.cut in
-    let p = err_from_is_err_and c.from_residual-in_err-shape.result c.from_residual-in_err-shape.ensures.1 in
-    rw (p.1, p.2) (faulty (codes "coprod") parts c.in_ok-places.places words k coprod_says coprod_offends _ refl refl
+    let p = err_from_is_err_and c.from_residual-in_err-shape.result
+    c.from_residual-in_err-shape.ensures.1 in
+    rw (p.1, p.2) (faulty (codes "coprod") parts c.in_ok-places.places words k coprod_says
+    coprod_offends _ refl refl
     (c.in_err-shape.ensures _ k.parts.0 (c.piece_at-list.ensures.is _ _ k.parts.2)))
 
 pub returns : goal.returns
@@ -29,5 +31,6 @@ returns c =
     let words = map string_bytes c.args.words.now in
     let k = c.in_ok-places.ensures.cut in
     let shape = c.in_ok-shape.ensures _ k.parts.0 (c.piece_at-list.ensures.is _ _ k.parts.2) in
-    fine (codes "coprod") parts c.in_ok-places.places words k coprod_says coprod_offends _ _ refl shape.1
+    fine (codes "coprod") parts c.in_ok-places.places words k coprod_says coprod_offends _ _ refl
+    shape.1
     (ap (λ x. Coprod x) shape.0) refl tt

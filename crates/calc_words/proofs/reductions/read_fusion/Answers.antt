@@ -21,8 +21,11 @@ pub returns-in_err-rows : goal.returns-in_err-rows
 returns-in_err-rows c =
     let words = map string_bytes c.args.words.now in
     let k = c.in_ok-places.ensures.cut in
-    let p = err_from_is_err_and c.from_residual-in_err-rows.result c.from_residual-in_err-rows.ensures.1 in
-    rw (p.1, p.2) (faulty (codes "fusion") parts c.in_ok-places.places words k fusion_says (reduction_offends (codes "fusion")) _ (reduction_parts (codes "fusion") k.parts.0 k.parts.3.0 k.parts.3.3.0) refl
+    let p = err_from_is_err_and c.from_residual-in_err-rows.result
+    c.from_residual-in_err-rows.ensures.1 in
+    rw (p.1, p.2) (faulty (codes "fusion") parts c.in_ok-places.places words k fusion_says
+    (reduction_offends (codes "fusion")) _ (reduction_parts (codes "fusion") k.parts.0
+    k.parts.3.0 k.parts.3.3.0) refl
     (inl (c.in_err-rows.ensures _ k.parts.0 (c.piece_at-first.ensures.is _ _ k.parts.2))))
 
 pub returns-in_err-level : goal.returns-in_err-level
@@ -30,26 +33,51 @@ returns-in_err-level c =
     let words = map string_bytes c.args.words.now in
     let k = c.in_ok-places.ensures.cut in
     let rows = c.in_ok-rows.ensures _ k.parts.0 (c.piece_at-first.ensures.is _ _ k.parts.2) in
-    let p = err_from_is_err_and c.from_residual-in_err-level.result c.from_residual-in_err-level.ensures.1 in
-    rw (p.1, p.2) (faulty (codes "fusion") parts c.in_ok-places.places words k fusion_says (reduction_offends (codes "fusion")) _ (reduction_parts (codes "fusion") k.parts.0 k.parts.3.0 k.parts.3.3.0) refl
-    (inr (rows.1, inl (c.in_err-level.ensures _ k.parts.3.0 (c.piece_at-second.ensures.is _ _ k.parts.3.2)))))
+    let p = err_from_is_err_and c.from_residual-in_err-level.result
+    c.from_residual-in_err-level.ensures.1 in
+    rw (p.1, p.2) (faulty (codes "fusion") parts c.in_ok-places.places words k fusion_says
+    (reduction_offends (codes "fusion")) _ (reduction_parts (codes "fusion") k.parts.0
+    k.parts.3.0 k.parts.3.3.0) refl
+    (inr (
+      rows.1,
+      inl (c.in_err-level.ensures _ k.parts.3.0
+          (c.piece_at-second.ensures.is _ _ k.parts.3.2)),
+    )))
 
 pub returns-in_err-factors : goal.returns-in_err-factors
 returns-in_err-factors c =
     let words = map string_bytes c.args.words.now in
     let k = c.in_ok-places.ensures.cut in
     let rows = c.in_ok-rows.ensures _ k.parts.0 (c.piece_at-first.ensures.is _ _ k.parts.2) in
-    let level = c.in_ok-level.ensures _ k.parts.3.0 (c.piece_at-second.ensures.is _ _ k.parts.3.2) in
-    let p = err_from_is_err_and c.from_residual-in_err-factors.result c.from_residual-in_err-factors.ensures.1 in
-    rw (p.1, p.2) (faulty (codes "fusion") parts c.in_ok-places.places words k fusion_says (reduction_offends (codes "fusion")) _ (reduction_parts (codes "fusion") k.parts.0 k.parts.3.0 k.parts.3.3.0) refl
-    (inr (rows.1, inr (level.1, c.in_err-factors.ensures _ k.parts.3.3.0 k.parts.3.3.1 (c.piece_at-list.ensures.is _ _ k.parts.3.3.2)))))
+    let level = c.in_ok-level.ensures _ k.parts.3.0 (c.piece_at-second.ensures.is _ _ k.parts.3.2)
+    in
+    let p = err_from_is_err_and c.from_residual-in_err-factors.result
+    c.from_residual-in_err-factors.ensures.1 in
+    rw (p.1, p.2) (faulty (codes "fusion") parts c.in_ok-places.places words k fusion_says
+    (reduction_offends (codes "fusion")) _ (reduction_parts (codes "fusion") k.parts.0
+    k.parts.3.0 k.parts.3.3.0) refl
+    (inr (
+      rows.1,
+      inr (
+        level.1,
+        c.in_err-factors.ensures _ k.parts.3.3.0 k.parts.3.3.1
+            (c.piece_at-list.ensures.is _ _ k.parts.3.3.2),
+      ),
+    )))
 
 pub returns : goal.returns
 returns c =
     let words = map string_bytes c.args.words.now in
     let k = c.in_ok-places.ensures.cut in
     let rows = c.in_ok-rows.ensures _ k.parts.0 (c.piece_at-first.ensures.is _ _ k.parts.2) in
-    let level = c.in_ok-level.ensures _ k.parts.3.0 (c.piece_at-second.ensures.is _ _ k.parts.3.2) in
-    let factors = c.in_ok-factors.ensures _ k.parts.3.3.0 k.parts.3.3.1 (c.piece_at-list.ensures.is _ _ k.parts.3.3.2) in
-    fine (codes "fusion") parts c.in_ok-places.places words k fusion_says (reduction_offends (codes "fusion")) _ _ (reduction_parts (codes "fusion") k.parts.0 k.parts.3.0 k.parts.3.3.0) (rows.1, (level.1, factors.1))
-    (ap (λ x. Fusion x c.in_ok-level.level c.in_ok-factors.factors) rows.0 ∙ ap (λ x. Fusion (decimal_value k.parts.0) x c.in_ok-factors.factors) level.0 ∙ ap (λ x. Fusion (decimal_value k.parts.0) (decimal_value k.parts.3.0) x) factors.0) refl tt
+    let level = c.in_ok-level.ensures _ k.parts.3.0 (c.piece_at-second.ensures.is _ _ k.parts.3.2)
+    in
+    let factors = c.in_ok-factors.ensures _ k.parts.3.3.0 k.parts.3.3.1
+    (c.piece_at-list.ensures.is _ _ k.parts.3.3.2) in
+    fine (codes "fusion") parts c.in_ok-places.places words k fusion_says
+    (reduction_offends (codes "fusion")) _ _ (reduction_parts (codes "fusion") k.parts.0
+    k.parts.3.0 k.parts.3.3.0) (rows.1, (level.1, factors.1))
+    (ap (λ x. Fusion x c.in_ok-level.level c.in_ok-factors.factors) rows.0
+    ∙ ap (λ x. Fusion (decimal_value k.parts.0) x c.in_ok-factors.factors) level.0
+    ∙ ap (λ x. Fusion (decimal_value k.parts.0) (decimal_value k.parts.3.0) x) factors.0) refl
+    tt

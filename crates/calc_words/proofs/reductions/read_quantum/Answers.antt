@@ -21,8 +21,11 @@ pub returns-in_err-rows : goal.returns-in_err-rows
 returns-in_err-rows c =
     let words = map string_bytes c.args.words.now in
     let k = c.in_ok-places.ensures.cut in
-    let p = err_from_is_err_and c.from_residual-in_err-rows.result c.from_residual-in_err-rows.ensures.1 in
-    rw (p.1, p.2) (faulty (codes "quantum") parts c.in_ok-places.places words k quantum_says (reduction_offends (codes "quantum")) _ (reduction_parts (codes "quantum") k.parts.0 k.parts.3.0 k.parts.3.3.0) refl
+    let p = err_from_is_err_and c.from_residual-in_err-rows.result
+    c.from_residual-in_err-rows.ensures.1 in
+    rw (p.1, p.2) (faulty (codes "quantum") parts c.in_ok-places.places words k quantum_says
+    (reduction_offends (codes "quantum")) _ (reduction_parts (codes "quantum") k.parts.0
+    k.parts.3.0 k.parts.3.3.0) refl
     (inl (c.in_err-rows.ensures _ k.parts.0 (c.piece_at-first.ensures.is _ _ k.parts.2))))
 
 pub returns-in_err-cols : goal.returns-in_err-cols
@@ -30,9 +33,16 @@ returns-in_err-cols c =
     let words = map string_bytes c.args.words.now in
     let k = c.in_ok-places.ensures.cut in
     let rows = c.in_ok-rows.ensures _ k.parts.0 (c.piece_at-first.ensures.is _ _ k.parts.2) in
-    let p = err_from_is_err_and c.from_residual-in_err-cols.result c.from_residual-in_err-cols.ensures.1 in
-    rw (p.1, p.2) (faulty (codes "quantum") parts c.in_ok-places.places words k quantum_says (reduction_offends (codes "quantum")) _ (reduction_parts (codes "quantum") k.parts.0 k.parts.3.0 k.parts.3.3.0) refl
-    (inr (rows.1, inl (c.in_err-cols.ensures _ k.parts.3.0 (c.piece_at-second.ensures.is _ _ k.parts.3.2)))))
+    let p = err_from_is_err_and c.from_residual-in_err-cols.result
+    c.from_residual-in_err-cols.ensures.1 in
+    rw (p.1, p.2) (faulty (codes "quantum") parts c.in_ok-places.places words k quantum_says
+    (reduction_offends (codes "quantum")) _ (reduction_parts (codes "quantum") k.parts.0
+    k.parts.3.0 k.parts.3.3.0) refl
+    (inr (
+      rows.1,
+      inl (c.in_err-cols.ensures _ k.parts.3.0
+          (c.piece_at-second.ensures.is _ _ k.parts.3.2)),
+    )))
 
 pub returns-in_err-factors : goal.returns-in_err-factors
 returns-in_err-factors c =
@@ -40,9 +50,19 @@ returns-in_err-factors c =
     let k = c.in_ok-places.ensures.cut in
     let rows = c.in_ok-rows.ensures _ k.parts.0 (c.piece_at-first.ensures.is _ _ k.parts.2) in
     let cols = c.in_ok-cols.ensures _ k.parts.3.0 (c.piece_at-second.ensures.is _ _ k.parts.3.2) in
-    let p = err_from_is_err_and c.from_residual-in_err-factors.result c.from_residual-in_err-factors.ensures.1 in
-    rw (p.1, p.2) (faulty (codes "quantum") parts c.in_ok-places.places words k quantum_says (reduction_offends (codes "quantum")) _ (reduction_parts (codes "quantum") k.parts.0 k.parts.3.0 k.parts.3.3.0) refl
-    (inr (rows.1, inr (cols.1, c.in_err-factors.ensures _ k.parts.3.3.0 k.parts.3.3.1 (c.piece_at-list.ensures.is _ _ k.parts.3.3.2)))))
+    let p = err_from_is_err_and c.from_residual-in_err-factors.result
+    c.from_residual-in_err-factors.ensures.1 in
+    rw (p.1, p.2) (faulty (codes "quantum") parts c.in_ok-places.places words k quantum_says
+    (reduction_offends (codes "quantum")) _ (reduction_parts (codes "quantum") k.parts.0
+    k.parts.3.0 k.parts.3.3.0) refl
+    (inr (
+      rows.1,
+      inr (
+        cols.1,
+        c.in_err-factors.ensures _ k.parts.3.3.0 k.parts.3.3.1
+            (c.piece_at-list.ensures.is _ _ k.parts.3.3.2),
+      ),
+    )))
 
 pub returns : goal.returns
 returns c =
@@ -50,6 +70,12 @@ returns c =
     let k = c.in_ok-places.ensures.cut in
     let rows = c.in_ok-rows.ensures _ k.parts.0 (c.piece_at-first.ensures.is _ _ k.parts.2) in
     let cols = c.in_ok-cols.ensures _ k.parts.3.0 (c.piece_at-second.ensures.is _ _ k.parts.3.2) in
-    let factors = c.in_ok-factors.ensures _ k.parts.3.3.0 k.parts.3.3.1 (c.piece_at-list.ensures.is _ _ k.parts.3.3.2) in
-    fine (codes "quantum") parts c.in_ok-places.places words k quantum_says (reduction_offends (codes "quantum")) _ _ (reduction_parts (codes "quantum") k.parts.0 k.parts.3.0 k.parts.3.3.0) (rows.1, (cols.1, factors.1))
-    (ap (λ x. Quantum x c.in_ok-cols.cols c.in_ok-factors.factors) rows.0 ∙ ap (λ x. Quantum (decimal_value k.parts.0) x c.in_ok-factors.factors) cols.0 ∙ ap (λ x. Quantum (decimal_value k.parts.0) (decimal_value k.parts.3.0) x) factors.0) refl tt
+    let factors = c.in_ok-factors.ensures _ k.parts.3.3.0 k.parts.3.3.1
+    (c.piece_at-list.ensures.is _ _ k.parts.3.3.2) in
+    fine (codes "quantum") parts c.in_ok-places.places words k quantum_says
+    (reduction_offends (codes "quantum")) _ _ (reduction_parts (codes "quantum") k.parts.0
+    k.parts.3.0 k.parts.3.3.0) (rows.1, (cols.1, factors.1))
+    (ap (λ x. Quantum x c.in_ok-cols.cols c.in_ok-factors.factors) rows.0
+    ∙ ap (λ x. Quantum (decimal_value k.parts.0) x c.in_ok-factors.factors) cols.0
+    ∙ ap (λ x. Quantum (decimal_value k.parts.0) (decimal_value k.parts.3.0) x) factors.0) refl
+    tt

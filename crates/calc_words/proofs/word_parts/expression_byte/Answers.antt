@@ -10,7 +10,8 @@ pub returns-in_default : goal.returns-in_default
 returns-in_default c =
     λ left w.
     let e = empty_map string_bytes c.args.words.now c.in_default.ensures.cases in
-    expression_byte (map string_bytes c.args.words.now) left 0 w (λ t rest k. let z = sym e ∙ k in cc) (λ k. refl)
+    expression_byte (map string_bytes c.args.words.now) left 0 w (λ t rest k. let z = sym e ∙ k in
+    cc) (λ k. refl)
 
 pub returns-in-Some-wrong_byte : goal.returns-in-Some-wrong_byte
 returns-in-Some-wrong_byte c =
@@ -19,7 +20,8 @@ returns-in-Some-wrong_byte c =
     let b = subst (λ v. IsWrongByte v byte) c.as_bytes.ensures.value c.in-Some-wrong_byte.ensures in
     λ left w.
     expression_byte (map string_bytes c.args.words.now) left byte w
-    (λ t rest k. inr (subst (λ v. IsWrongByte v byte) (first_text _ _ _ _ (sym first ∙ k)) b).1) (λ k. let z = sym first ∙ k in cc)
+    (λ t rest k. inr (subst (λ v. IsWrongByte v byte) (first_text _ _ _ _ (sym first ∙ k)) b).1)
+    (λ k. let z = sym first ∙ k in cc)
 
 pub returns-in-None : goal.returns-in-None
 returns-in-None c =

@@ -7,8 +7,15 @@ use Rattle.calc_words.proofs.CutWords.{counted}
 use Rattle.calc_words.proofs.word_parts.letter.Goals as goal
 
 pub returns-in-Some-clause-ok : goal.returns-in-Some-clause-ok
-returns-in-Some-clause-ok c = (_ ∷ [], _, letter_taken _ _ (map string_bytes c.args.words.now) c.in-Some.ensures, refl)
+returns-in-Some-clause-ok c = (
+  _ ∷ [],
+  _,
+  letter_taken _ _ (map string_bytes c.args.words.now)
+      c.in-Some.ensures,
+  refl,
+)
 
 pub returns-in-None-clause-wrong : goal.returns-in-None-clause-wrong
 returns-in-None-clause-wrong c =
-    counted string_bytes (word (target all_bases)) c.args.words.now (letter_wrong (map string_bytes c.args.words.now) c.in-None.ensures)
+    counted string_bytes (word (target all_bases)) c.args.words.now
+    (letter_wrong (map string_bytes c.args.words.now) c.in-None.ensures)

@@ -8,7 +8,8 @@ use Rattle.calc_words.proofs.word_parts.letters.Goals as goal
 
 pub returns-in_default-clause-wrong : goal.returns-in_default-clause-wrong
 returns-in_default-clause-wrong c =
-    counted string_bytes permutation_words c.args.words.now (letters_wrong (map string_bytes c.args.words.now) c.in_default.ensures)
+    counted string_bytes permutation_words c.args.words.now
+    (letters_wrong (map string_bytes c.args.words.now) c.in_default.ensures)
 
 pub returns-clause-ok : goal.returns-clause-ok
 returns-clause-ok c =
@@ -16,7 +17,8 @@ returns-clause-ok c =
     let first = c.in-Some.ensures in (
       map string_bytes list,
       map string_bytes c.numbers.result.1.now,
-      letters_taken _ _ (map string_bytes list) (map string_bytes c.numbers.result.1.now) (map string_bytes c.args.words.now) first.0 first.1
+      letters_taken _ _ (map string_bytes list) (map string_bytes c.numbers.result.1.now)
+          (map string_bytes c.args.words.now) first.0 first.1
           c.numbers.ensures.parts c.numbers.ensures.numbers c.numbers.ensures.rest,
       sym (length-map list string_bytes),
     )

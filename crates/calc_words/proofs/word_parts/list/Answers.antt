@@ -9,7 +9,8 @@ returns c =
     let list = c.numbers.result.0.now in (
       map string_bytes list,
       map string_bytes c.numbers.result.1.now,
-      numbers_taken (map string_bytes list) (map string_bytes c.numbers.result.1.now) (map string_bytes c.args.words.now) c.numbers.ensures.parts
+      numbers_taken (map string_bytes list) (map string_bytes c.numbers.result.1.now)
+          (map string_bytes c.args.words.now) c.numbers.ensures.parts
           c.numbers.ensures.numbers c.numbers.ensures.rest,
       sym (length-map list string_bytes),
     )

@@ -13,7 +13,8 @@ pub returns-in_err-rows-clause-wrong : goal.returns-in_err-rows-clause-wrong
 returns-in_err-rows-clause-wrong c =
     let p = err_from_is_err_and c.from_residual.result c.from_residual.ensures.1 in
     rw (p.1, p.2)
-    (from_stops (map string_bytes c.in-Some.more.now) (map string_bytes c.args.words.now) _ c.in-Some.ensures c.in_err-rows.ensures.wrong)
+    (from_stops (map string_bytes c.in-Some.more.now) (map string_bytes c.args.words.now) _
+    c.in-Some.ensures c.in_err-rows.ensures.wrong)
 
 pub returns-clause-ok : goal.returns-clause-ok
 returns-clause-ok c =
@@ -21,6 +22,7 @@ returns-clause-ok c =
     let n = k.3 in (
       codes "-from" ∷ k.0,
       k.1,
-      from_taken k.0 (map string_bytes c.in-Some.more.now) k.1 (map string_bytes c.args.words.now) c.in-Some.ensures k.2,
+      from_taken k.0 (map string_bytes c.in-Some.more.now) k.1 (map string_bytes c.args.words.now)
+          c.in-Some.ensures k.2,
       omega (arith, n),
     )

@@ -7,14 +7,21 @@ use Rattle.calc_words.specs.Cutting.{StopsIn}
 use Rattle.calc_words.proofs.word_parts.maybe_rows.Goals as goal
 
 pub returns-in_default-clause-ok : goal.returns-in_default-clause-ok
-returns-in_default-clause-ok c = ([], _, maybe_rows_absent (map string_bytes c.args.words.now) c.in_default.ensures, refl)
+returns-in_default-clause-ok c = (
+  [],
+  _,
+  maybe_rows_absent (map string_bytes c.args.words.now)
+      c.in_default.ensures,
+  refl,
+)
 
 pub returns-in-Some-first_number-clause-ok : goal.returns-in-Some-first_number-clause-ok
 returns-in-Some-first_number-clause-ok c =
     let number = c.in-Some-first_number.ensures in (
       codes "-r" ∷ _ ∷ [],
       _,
-      maybe_rows_taken _ _ _ (map string_bytes c.args.words.now) number.1 refl (c.in-Some.ensures ∙ ap (λ us. codes "-r" ∷ us) number.0),
+      maybe_rows_taken _ _ _ (map string_bytes c.args.words.now) number.1 refl
+          (c.in-Some.ensures ∙ ap (λ us. codes "-r" ∷ us) number.0),
       refl,
     )
 
@@ -22,4 +29,5 @@ pub returns-in-None-clause-wrong : goal.returns-in-None-clause-wrong
 returns-in-None-clause-wrong c =
     let words = map string_bytes c.args.words.now in
     subst (StopsIn (optional rows_words) words) (length-map c.in-Some.more.now string_bytes)
-    (maybe_rows_unnumbered words (map string_bytes c.in-Some.more.now) c.in-Some.ensures c.in-None.ensures)
+    (maybe_rows_unnumbered words (map string_bytes c.in-Some.more.now) c.in-Some.ensures
+    c.in-None.ensures)

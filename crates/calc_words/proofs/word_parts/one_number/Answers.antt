@@ -11,4 +11,5 @@ returns-in-Some-clause-ok c =
     (_ ∷ [], _, number_taken _ _ _ (map string_bytes c.args.words.now) number.1 refl number.0, refl)
 
 pub returns-in-None-clause-wrong : goal.returns-in-None-clause-wrong
-returns-in-None-clause-wrong c = counted string_bytes (word number) c.args.words.now (number_wrong (map string_bytes c.args.words.now) c.in-None.ensures)
+returns-in-None-clause-wrong c = counted string_bytes (word number) c.args.words.now
+    (number_wrong (map string_bytes c.args.words.now) c.in-None.ensures)

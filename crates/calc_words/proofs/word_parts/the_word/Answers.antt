@@ -7,9 +7,15 @@ use Rattle.calc_words.proofs.word_parts.the_word.Goals as goal
 
 pub returns-in-Some-clause-ok : goal.returns-in-Some-clause-ok
 returns-in-Some-clause-ok c =
-    let text = c.args.text.now in
-    (text ∷ [], _, the_taken text (text ∷ []) _ (map string_bytes c.args.words.now) refl c.in-Some.ensures, refl)
+    let text = c.args.text.now in (
+      text ∷ [],
+      _,
+      the_taken text (text ∷ []) _ (map string_bytes c.args.words.now) refl
+          c.in-Some.ensures,
+      refl,
+    )
 
 pub returns-in-None-clause-wrong : goal.returns-in-None-clause-wrong
 returns-in-None-clause-wrong c =
-    counted string_bytes (the c.args.text.now) c.args.words.now (the_wrong c.args.text.now (map string_bytes c.args.words.now) c.in-None.ensures)
+    counted string_bytes (the c.args.text.now) c.args.words.now (the_wrong c.args.text.now
+    (map string_bytes c.args.words.now) c.in-None.ensures)

@@ -11,23 +11,33 @@ use Rattle.change_from_monomials.proofs.change.to_basis.Goals as goal
 
 pub returns-in-M-clause-value : goal.returns-in-M-clause-value
 returns-in-M-clause-value c =
-    subst (λ t. IfOk c.copy_of.result (λ answer. (n : ℕ) (f : Poly) (q : ℕ) → IsExpansionOf monomials c.args.list.now n f q → IsExpansionOf (basis_of t) answer n f q)) (sym c.in-M.is) c.copy_of.ensures.value
+    subst (λ t. IfOk c.copy_of.result (λ answer. (n : ℕ) (f : Poly) (q : ℕ) →
+    IsExpansionOf monomials c.args.list.now n f q → IsExpansionOf (basis_of t) answer n f q))
+    (sym c.in-M.is) c.copy_of.ensures.value
 
 pub returns-in-E-clause-value : goal.returns-in-E-clause-value
 returns-in-E-clause-value c =
-    subst (λ t. IfOk c.by_augmented.result (λ answer. (n : ℕ) (f : Poly) (q : ℕ) → IsExpansionOf monomials c.args.list.now n f q → IsExpansionOf (basis_of t) answer n f q)) (sym c.in-E.is) c.by_augmented.ensures.value
+    subst (λ t. IfOk c.by_augmented.result (λ answer. (n : ℕ) (f : Poly) (q : ℕ) →
+    IsExpansionOf monomials c.args.list.now n f q → IsExpansionOf (basis_of t) answer n f q))
+    (sym c.in-E.is) c.by_augmented.ensures.value
 
 pub returns-in-H-clause-value : goal.returns-in-H-clause-value
 returns-in-H-clause-value c =
-    subst (λ t. IfOk c.by_augmented-in-H.result (λ answer. (n : ℕ) (f : Poly) (q : ℕ) → IsExpansionOf monomials c.args.list.now n f q → IsExpansionOf (basis_of t) answer n f q)) (sym c.in-H.is) c.by_augmented-in-H.ensures.value
+    subst (λ t. IfOk c.by_augmented-in-H.result (λ answer. (n : ℕ) (f : Poly) (q : ℕ) →
+    IsExpansionOf monomials c.args.list.now n f q → IsExpansionOf (basis_of t) answer n f q))
+    (sym c.in-H.is) c.by_augmented-in-H.ensures.value
 
 pub returns-in-P-clause-value : goal.returns-in-P-clause-value
 returns-in-P-clause-value c =
-    subst (λ t. IfOk c.by_augmented-in-P.result (λ answer. (n : ℕ) (f : Poly) (q : ℕ) → IsExpansionOf monomials c.args.list.now n f q → IsExpansionOf (basis_of t) answer n f q)) (sym c.in-P.is) c.by_augmented-in-P.ensures.value
+    subst (λ t. IfOk c.by_augmented-in-P.result (λ answer. (n : ℕ) (f : Poly) (q : ℕ) →
+    IsExpansionOf monomials c.args.list.now n f q → IsExpansionOf (basis_of t) answer n f q))
+    (sym c.in-P.is) c.by_augmented-in-P.ensures.value
 
 pub returns-in-S-clause-value : goal.returns-in-S-clause-value
 returns-in-S-clause-value c =
-    subst (λ t. IfOk c.by_arrangements.result (λ answer. (n : ℕ) (f : Poly) (q : ℕ) → IsExpansionOf monomials c.args.list.now n f q → IsExpansionOf (basis_of t) answer n f q)) (sym c.in-S.is) c.by_arrangements.ensures.value
+    subst (λ t. IfOk c.by_arrangements.result (λ answer. (n : ℕ) (f : Poly) (q : ℕ) →
+    IsExpansionOf monomials c.args.list.now n f q → IsExpansionOf (basis_of t) answer n f q))
+    (sym c.in-S.is) c.by_arrangements.ensures.value
 
 -- where the target is another, nothing is said
 nothing : {A E : Type 0} (Q : A → Type 0) (r : Result A E) → IfOk r (λ answer. ⊥ → Q answer)
@@ -36,25 +46,43 @@ nothing Q (Err e) = tt
 
 pub returns-in-M-clause-cleared : goal.returns-in-M-clause-cleared
 returns-in-M-clause-cleared c =
-    subst (λ t. IfOk c.copy_of.result (λ answer. IsMultiplied (basis_of t) → IsClearedBy (c.args.bound.den * factorial (greatest_size c.args.list.now)) (c.args.bound.num * growth (basis_of t) (greatest_size c.args.list.now)) (greatest_size c.args.list.now) answer)) (sym c.in-M.is)
+    subst (λ t. IfOk c.copy_of.result (λ answer. IsMultiplied (basis_of t) → IsClearedBy
+    (c.args.bound.den * factorial (greatest_size c.args.list.now)) (c.args.bound.num * growth
+    (basis_of t) (greatest_size c.args.list.now)) (greatest_size c.args.list.now) answer))
+    (sym c.in-M.is)
     (nothing _ c.copy_of.result)
 
 pub returns-in-E-clause-cleared : goal.returns-in-E-clause-cleared
 returns-in-E-clause-cleared c =
-    subst (λ t. IfOk c.by_augmented.result (λ answer. IsMultiplied (basis_of t) → IsClearedBy (c.args.bound.den * factorial (greatest_size c.args.list.now)) (c.args.bound.num * growth (basis_of t) (greatest_size c.args.list.now)) (greatest_size c.args.list.now) answer)) (sym c.in-E.is)
-    (if_ok_both c.by_augmented.result c.by_augmented.ensures.cleared c.by_augmented.ensures.cleared (λ answer h k m. h))
+    subst (λ t. IfOk c.by_augmented.result (λ answer. IsMultiplied (basis_of t) → IsClearedBy
+    (c.args.bound.den * factorial (greatest_size c.args.list.now)) (c.args.bound.num * growth
+    (basis_of t) (greatest_size c.args.list.now)) (greatest_size c.args.list.now) answer))
+    (sym c.in-E.is)
+    (if_ok_both c.by_augmented.result c.by_augmented.ensures.cleared c.by_augmented.ensures.cleared
+    (λ answer h k m. h))
 
 pub returns-in-H-clause-cleared : goal.returns-in-H-clause-cleared
 returns-in-H-clause-cleared c =
-    subst (λ t. IfOk c.by_augmented-in-H.result (λ answer. IsMultiplied (basis_of t) → IsClearedBy (c.args.bound.den * factorial (greatest_size c.args.list.now)) (c.args.bound.num * growth (basis_of t) (greatest_size c.args.list.now)) (greatest_size c.args.list.now) answer)) (sym c.in-H.is)
-    (if_ok_both c.by_augmented-in-H.result c.by_augmented-in-H.ensures.cleared c.by_augmented-in-H.ensures.cleared (λ answer h k m. h))
+    subst (λ t. IfOk c.by_augmented-in-H.result (λ answer. IsMultiplied (basis_of t) → IsClearedBy
+    (c.args.bound.den * factorial (greatest_size c.args.list.now)) (c.args.bound.num * growth
+    (basis_of t) (greatest_size c.args.list.now)) (greatest_size c.args.list.now) answer))
+    (sym c.in-H.is)
+    (if_ok_both c.by_augmented-in-H.result c.by_augmented-in-H.ensures.cleared
+    c.by_augmented-in-H.ensures.cleared (λ answer h k m. h))
 
 pub returns-in-P-clause-cleared : goal.returns-in-P-clause-cleared
 returns-in-P-clause-cleared c =
-    subst (λ t. IfOk c.by_augmented-in-P.result (λ answer. IsMultiplied (basis_of t) → IsClearedBy (c.args.bound.den * factorial (greatest_size c.args.list.now)) (c.args.bound.num * growth (basis_of t) (greatest_size c.args.list.now)) (greatest_size c.args.list.now) answer)) (sym c.in-P.is)
-    (if_ok_both c.by_augmented-in-P.result c.by_augmented-in-P.ensures.cleared c.by_augmented-in-P.ensures.cleared (λ answer h k m. h))
+    subst (λ t. IfOk c.by_augmented-in-P.result (λ answer. IsMultiplied (basis_of t) → IsClearedBy
+    (c.args.bound.den * factorial (greatest_size c.args.list.now)) (c.args.bound.num * growth
+    (basis_of t) (greatest_size c.args.list.now)) (greatest_size c.args.list.now) answer))
+    (sym c.in-P.is)
+    (if_ok_both c.by_augmented-in-P.result c.by_augmented-in-P.ensures.cleared
+    c.by_augmented-in-P.ensures.cleared (λ answer h k m. h))
 
 pub returns-in-S-clause-cleared : goal.returns-in-S-clause-cleared
 returns-in-S-clause-cleared c =
-    subst (λ t. IfOk c.by_arrangements.result (λ answer. IsMultiplied (basis_of t) → IsClearedBy (c.args.bound.den * factorial (greatest_size c.args.list.now)) (c.args.bound.num * growth (basis_of t) (greatest_size c.args.list.now)) (greatest_size c.args.list.now) answer)) (sym c.in-S.is)
+    subst (λ t. IfOk c.by_arrangements.result (λ answer. IsMultiplied (basis_of t) → IsClearedBy
+    (c.args.bound.den * factorial (greatest_size c.args.list.now)) (c.args.bound.num * growth
+    (basis_of t) (greatest_size c.args.list.now)) (greatest_size c.args.list.now) answer))
+    (sym c.in-S.is)
     (nothing _ c.by_arrangements.result)

@@ -1,14 +1,25 @@
-use Rattle.std.proofs.Common.{◌+◌, ◌∷◌, [], ◌++◌, map, take, drop, get_or, ℕ, ap, Err, sym, subst, arith, ℤ, neg_ℤ, inr}
-use Rattle.sparse_polys.proofs.Steps.{error_is}
+use Rattle.std.proofs.Common.{◌≡◌, ◌+◌, ◌∷◌, [], ◌++◌, take, drop, get_or, ℕ, List, ap, Err, sym}
+use Rattle.std.proofs.Common.{refl, arith, ℤ, neg_ℤ, inr}
+use Rattle.std.proofs.lemmas.List.{take_more}
 use Rattle.sym_model.specs.RaisedPart.{raise}
 use Rattle.sym_model.proofs.SortedParts.{IsPartition-raise, size-raise, has-zero_or}
-use Rattle.sym_model.proofs.Lists.{slice_get-within}
+use Rattle.linear_combinations.specs.Gains.{each_with}
+use Rattle.linear_combinations.proofs.Gains.{pairs_gain, pairs_overflow}
+use Rattle.linear_combinations.proofs.Steps.{error_is}
 use Rattle.whole_lists.proofs.PartitionTerms.{IsWithinLimits-low}
-use Rattle.change_from_monomials.specs.declared.mixed.MixedLabel.{MixedLabel}
-use Rattle.change_from_monomials.specs.Mixed.{Mixed, Added, Overflows, mixed}
-use Rattle.change_from_monomials.proofs.Tables.{Added-then, Overflows-then, Overflows-front}
-use Rattle.change_from_monomials.proofs.Walks.{map-next, map-whole, part-within, has-index}
+use Rattle.change_from_monomials.specs.AugmentedProducts.{Mixed, equal, raised}
+use Rattle.change_from_monomials.proofs.Walks.{part-within, has-index, part_split}
 use Rattle.change_from_monomials.proofs.products.take_raised.Goals as goal
+
+abbrev taken : ℤ → List ℕ → ℕ → List ℕ → List ℕ → Mixed
+taken z converted by augmented numbers = each_with z (raised converted by augmented numbers)
+
+taken-append : (z : ℤ) (converted : List ℕ) (by : ℕ) (augmented xs ys : List ℕ) →
+    taken z converted by augmented (xs ++ ys) ≡ taken z converted by augmented xs ++ taken z
+    converted by augmented ys
+taken-append z converted by augmented [] ys = refl
+taken-append z converted by augmented (b ∷ xs) ys = ap (λ (l : Mixed).
+    ((converted, raise by b augmented), z) ∷ l) (taken-append z converted by augmented xs ys)
 
 pub take_one-requires-clause-small : goal.take_one-requires-clause-small
 take_one-requires-clause-small c =
@@ -19,25 +30,30 @@ pub take_one-requires-clause-limits : goal.take_one-requires-clause-limits
 take_one-requires-clause-limits c =
     let aug = c.args.augmented.now in
     let b = get_or aug c.loop-part.part-index 0 in
-    let s = size-raise c.args.by b aug c.requires.partition (has-zero_or b aug (inr (has-index aug c.loop-part.part-index c.loop-part-test.true))) in
-    IsWithinLimits-low (raise c.args.by b aug) (IsPartition-raise c.args.by b aug c.requires.partition) (omega (arith, c.requires.small))
+    let s = size-raise c.args.by b aug c.requires.partition
+    (has-zero_or b aug (inr (has-index aug c.loop-part.part-index c.loop-part-test.true))) in
+    IsWithinLimits-low (raise c.args.by b aug)
+    (IsPartition-raise c.args.by b aug c.requires.partition) (omega (arith, c.requires.small))
 
 pub returns-in_err-take_one-clause-large : goal.returns-in_err-take_one-clause-large
 returns-in_err-take_one-clause-large c err =
-    let h : ℕ → MixedLabel × ℤ = λ b. (mixed c.args.converted.now (raise c.args.by b c.args.augmented.now), neg_ℤ c.args.c) in
-    let xs = c.args.augmented.now in
+    let z = neg_ℤ c.args.c in
+    let conv = c.args.converted.now in
+    let aug = c.args.augmented.now in
     let i = c.loop-part.part-index in
-    let x = get_or c.args.augmented.now c.loop-part.part-index 0 in
-    subst (λ (l : Mixed). Overflows l c.args.sum.now.entries) (map-whole h xs i x (slice_get-within c.args.augmented.now c.loop-part.part-index c.loop-part-test.true))
-    (Overflows-front (map h (take i xs) ++ (h x ∷ [])) (map h (drop (i + 1) xs)) c.args.sum.now.entries
-    (Overflows-then (map h (take i xs)) (h x ∷ []) c.args.sum.now.entries c.loop-part.sum.entries c.loop-part.invariant
-    (c.in_err-take_one.ensures.large (ap Err (error_is _ _ _ c.from_residual.ensures.1 err)))))
+    pairs_overflow (taken z conv c.args.by aug) (taken-append z conv c.args.by aug) (take i aug)
+    (get_or aug i 0) c.args.sum.now c.loop-part.sum c.loop-part.invariant equal
+    (drop (i + 1) aug) aug
+    (part_split aug i c.loop-part-test.true)
+    (c.in_err-take_one.ensures.large (ap Err (error_is _ _ _ c.from_residual.ensures.1 err)))
 
 pub loop-part-preserved : goal.loop-part-preserved
 loop-part-preserved c =
-    let h : ℕ → MixedLabel × ℤ = λ b. (mixed c.args.converted.now (raise c.args.by b c.args.augmented.now), neg_ℤ c.args.c) in
-    let xs = c.args.augmented.now in
+    let z = neg_ℤ c.args.c in
+    let conv = c.args.converted.now in
+    let aug = c.args.augmented.now in
     let i = c.loop-part.part-index in
-    let x = get_or c.args.augmented.now c.loop-part.part-index 0 in
-    subst (λ (l : Mixed). Added l c.args.sum.now.entries c.take_one.new.sum.entries) (sym (map-next h xs i x (slice_get-within c.args.augmented.now c.loop-part.part-index c.loop-part-test.true)))
-    (Added-then (map h (take i xs)) (h x ∷ []) c.args.sum.now.entries c.loop-part.sum.entries c.take_one.new.sum.entries c.loop-part.invariant c.in_ok-take_one.ensures.ok)
+    pairs_gain (taken z conv c.args.by aug) (taken-append z conv c.args.by aug) (take i aug)
+    (get_or aug i 0) c.args.sum.now c.loop-part.sum c.loop-part.invariant (take (i + 1) aug)
+    c.take_one.new.sum
+    (sym (take_more aug i 0 c.loop-part-test.true)) c.in_ok-take_one.ensures.gains

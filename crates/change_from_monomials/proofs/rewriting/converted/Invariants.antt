@@ -1,14 +1,16 @@
 use Rattle.std.proofs.Common.{◌≡◌, ◌≤◌, ℕ, ℤ, List, length}
-use Rattle.change_from_monomials.specs.Mixed.{weighed, weight, AreReady}
-use Rattle.change_from_monomials.specs.Factors.{product_value}
+use Rattle.linear_combinations.specs.Gains.{HaveLabels, over}
+use Rattle.whole_lists.specs.declared.family.Family.{Family}
+use Rattle.change_from_monomials.specs.AugmentedProducts.{weight, IsReady}
+use Rattle.change_from_monomials.specs.Factors.{product_value, ArePowerSums}
 use Rattle.change_from_monomials.specs.Costs.{cost}
 use Rattle.change_from_monomials.proofs.rewriting.converted.Given as goal
 
 abbrev pub invariant-loop-rows : goal.invariant-loop-rows
 invariant-loop-rows l = record {
-  value : (n : ℕ) (φ : List ℕ → ℤ) → weighed (product_value l.family n φ) l.table.entries ≡ weighed (product_value l.family n φ) l.fn.table.entries;
-  costs : weight cost l.table.entries ≤ weight cost l.fn.table.entries;
-  ready : AreReady (length l.factors) l.rows l.table.entries;
+  value : (family : Family) → ArePowerSums family l.factors → (n : ℕ) (φ : List ℕ → ℤ) → over (product_value family n φ) l.table ≡ over (product_value family n φ) l.fn.start;
+  costs : weight cost l.table ≤ weight cost l.fn.start;
+  ready : HaveLabels (IsReady (length l.factors) l.rows) l.table;
 }
 
 abbrev pub decreases-loop-rows : goal.decreases-loop-rows

@@ -1,6 +1,6 @@
 use Rattle.std.proofs.Common.{◌≡◌, [], ◌++◌, map}
 use Rattle.std.specs.Map.Iter.{deref_pair}
-use Rattle.change_from_monomials.specs.Mixed.{Added}
+use Rattle.linear_combinations.specs.Gains.{Gains}
 use Rattle.change_from_monomials.specs.KeptLists.{AreKept}
 use Rattle.change_from_monomials.specs.Straightening.{straightened_list}
 use Rattle.change_from_monomials.proofs.straightening.straightened.Given as goal
@@ -8,6 +8,6 @@ use Rattle.change_from_monomials.proofs.straightening.straightened.Given as goal
 abbrev pub invariant-loop-label : goal.invariant-loop-label
 invariant-loop-label l = record {
   kept : AreKept l.lists.entries;
-  added : Added (straightened_list l.den l.places (map deref_pair l.yielded)) [] l.sum.entries;
+  gains : Gains [] (straightened_list l.den l.places (map deref_pair l.yielded)) l.sum;
   so_far : map deref_pair l.yielded ++ l.label-iterator ≡ l.initial.label-iterator;
 }

@@ -10,9 +10,12 @@ use Rattle.double_schubert.proofs.product.act.Goals as goal
 
 pub returns-clause-value : goal.returns-clause-value
 returns-clause-value c n =
-    represents_sums (λ label. shifted_in label n) c.in_ok-sorted_terms.field-0 (times (double_schubert_in c.args.w.now n) (double_schubert_in c.args.other.now n))
+    represents_sums (λ label. shifted_in label n) c.in_ok-sorted_terms.field-0
+    (times (double_schubert_in c.args.w.now n) (double_schubert_in c.args.other.now n))
     (λ φ.
-    sym (over_same label_laws same_pair c.in_ok-sum.sum c.in_ok-sorted_terms.field-0 c.in_ok-sum.ensures.table c.in_ok-sorted_terms.ensures.combination c.in_ok-sorted_terms.ensures.same (λ label. pair (shifted_in label n) φ))
+    sym (over_same label_laws same_pair c.in_ok-sum.sum c.in_ok-sorted_terms.field-0
+    c.in_ok-sum.ensures.table c.in_ok-sorted_terms.ensures.combination
+    c.in_ok-sorted_terms.ensures.same (λ label. pair (shifted_in label n) φ))
     ∙ alone n φ c.in_ok-sum.sum
     ∙ c.in_ok-sum.ensures.value n φ
     ∙ ap₂ (λ p e. acted n φ c.args.w.now (p, e)) c.in_ok-copy.ensures.ok c.one.ensures

@@ -35,5 +35,7 @@ pub returns-else-inversions-clause-meets : goal.returns-else-inversions-clause-m
 returns-else-inversions-clause-meets c =
     if_answered c.act-else-inversions.result c.act-else-inversions.ensures.value
     (λ terms h n.
-    represents_as (λ label. shifted_in label n) (as_fractions terms) (times (double_schubert_in c.args.v.now n) (double_schubert_in c.args.u.now n)) (times (double_schubert_in c.args.u.now n) (double_schubert_in c.args.v.now n))
+    represents_as (λ label. shifted_in label n) (as_fractions terms)
+    (times (double_schubert_in c.args.v.now n) (double_schubert_in c.args.u.now n))
+    (times (double_schubert_in c.args.u.now n) (double_schubert_in c.args.v.now n))
     (times_comm (double_schubert_in c.args.v.now n) (double_schubert_in c.args.u.now n)) (h n))

@@ -1,5 +1,6 @@
 use Rattle.double_schubert_laws.proofs.DoubleDominant.{In_double, dominant_product}
-use Rattle.double_schubert_laws.proofs.DoubleVariables.{any_descent_double, any_places, identity_double, kept_in}
+use Rattle.double_schubert_laws.proofs.DoubleVariables.{any_descent_double, any_places}
+use Rattle.double_schubert_laws.proofs.DoubleVariables.{identity_double, kept_in}
 use Rattle.double_schubert_laws.proofs.double_laws.double_schubert_law.Goals as goal
 
 pub returns-clause-descent : goal.returns-clause-descent

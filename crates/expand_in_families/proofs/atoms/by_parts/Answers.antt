@@ -11,20 +11,22 @@ use Rattle.expand_in_families.specs.Nodes.{ClearsTo, IsHeavy}
 use Rattle.expression_evaluation.proofs.Making.{done, failed}
 use Rattle.expand_in_families.proofs.atoms.by_parts.Goals as goal
 
-pub returns-in_err-lists : goal.returns-in_err-lists
-returns-in_err-lists c =
-    failed (ClearsTo (polynomial_of c.args.target)) IsHeavy (atom (basis_in c.args.family) c.args.label.now) _ _ c.from_residual.ensures.0 c.from_residual.ensures.1
-    (λ large. absurd (c.in_err-lists.ensures.small (ap Err large)))
-
 pub returns-in_err-terms : goal.returns-in_err-terms
 returns-in_err-terms c =
-    failed (ClearsTo (polynomial_of c.args.target)) IsHeavy (atom (basis_in c.args.family) c.args.label.now) _ _ c.from_residual-in_err-terms.ensures.0 c.from_residual-in_err-terms.ensures.1
+    failed (ClearsTo (polynomial_of c.args.target)) IsHeavy
+    (atom (basis_in c.args.family) c.args.label.now) _ _ c.from_residual.ensures.0
+    c.from_residual.ensures.1
     (λ large.
     large-atom (basis_in c.args.family) c.args.label.now
-    (subst (λ (p : List ℕ). 2 ^ 127 ≤ growth completes (size p)) c.parts.ensures.value (c.in_err-terms.ensures.large (ap Err large))))
+    (subst (λ (p : List ℕ). 2 ^ 127 ≤ growth completes (size p)) c.parts.ensures.value
+    (c.in_err-terms.ensures.large (ap Err large))))
 
 pub returns : goal.returns
 returns c =
-    done (ClearsTo (polynomial_of c.args.target)) IsHeavy (atom (basis_in c.args.family) c.args.label.now) _
-    (family-atom (polynomial_of c.args.target) c.args.family c.args.label.now _ refl (c.in_ok-terms.ensures.size ∙ ap size c.parts.ensures.value)
-    (subst (λ (p : List ℕ). Stands (polynomial_of c.args.target) (factorial (size p)) (growth completes (size p)) (size p) (product_over (polynomial_of c.args.family) p) c.in_ok-terms.terms) c.parts.ensures.value c.in_ok-terms.ensures.value))
+    done (ClearsTo (polynomial_of c.args.target)) IsHeavy
+    (atom (basis_in c.args.family) c.args.label.now) _
+    (family-atom (polynomial_of c.args.target) c.args.family c.args.label.now _ refl
+    (c.in_ok-terms.ensures.size ∙ ap size c.parts.ensures.value)
+    (subst (λ (p : List ℕ). Stands (polynomial_of c.args.target) (factorial (size p))
+    (growth completes (size p)) (size p) (product_over (polynomial_of c.args.family) p)
+    c.in_ok-terms.terms) c.parts.ensures.value c.in_ok-terms.ensures.value))

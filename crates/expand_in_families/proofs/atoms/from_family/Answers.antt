@@ -8,4 +8,6 @@ use Rattle.expand_in_families.proofs.atoms.from_family.Goals as goal
 pub returns-then-eq : goal.returns-then-eq
 returns-then-eq c =
     let is : c.args.family ≡ c.args.target = search (rules, tests) in
-    subst (λ (f : Family). IsConverted (polynomial_of c.args.target) (atom (basis_in f) c.args.label.now) c.itself.result) (sym is) (c.itself.ensures c.args.target)
+    subst (λ (f : Family). IsConverted (polynomial_of c.args.target)
+    (atom (basis_in f) c.args.label.now) c.itself.result) (sym is)
+    (c.itself.ensures c.args.target)

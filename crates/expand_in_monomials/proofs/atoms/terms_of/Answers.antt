@@ -11,5 +11,6 @@ returns-in-M-clause-value c =
     rw c.in-M.is
     (if_answered c.single.result c.single.ensures.value
     (λ list e. list_respects ((c.args.label.now, pos 1) ∷ []) list (monomial c.args.label.now)
-    (Same_sym list ((c.args.label.now, pos 1) ∷ []) (subst (λ (parts : List ℕ). Same list ((parts, pos 1) ∷ [])) c.parts-parts.ensures.value e))
+    (Same_sym list ((c.args.label.now, pos 1) ∷ [])
+    (subst (λ (parts : List ℕ). Same list ((parts, pos 1) ∷ [])) c.parts-parts.ensures.value e))
     (list-monomial c.args.label.now)))

@@ -12,9 +12,12 @@ use Rattle.expand_in_monomials.proofs.schur.add_content.Goals as goal
 
 pub returns-then-is_zero-clause-counted : goal.returns-then-is_zero-clause-counted
 returns-then-is_zero-clause-counted c = λ left.
-    counts-end c.args.terms.now c.args.chosen.now c.in_ok-nothing.nothing left c.coefficient-ways.result c.args.list.now c.args.list.now
-    c.coefficient-ways.ensures.combination c.in_ok-nothing.ensures.ok c.coefficient-ways.ensures.value c.requires.fresh
-    (nothing-more c.args.chosen.now c.coefficient-ways.result c.args.list.now (ap (λ (q : Fraction). q.0) (c.is_zero.ensures.zero.0 c.if-is_zero.true)))
+    counts-end c.args.terms.now c.args.chosen.now c.in_ok-nothing.nothing left
+    c.coefficient-ways.result c.args.list.now c.args.list.now
+    c.coefficient-ways.ensures.combination c.in_ok-nothing.ensures.ok
+    c.coefficient-ways.ensures.value c.requires.fresh
+    (nothing-more c.args.chosen.now c.coefficient-ways.result c.args.list.now
+    (ap (λ (q : Fraction). q.0) (c.is_zero.ensures.zero.0 c.if-is_zero.true)))
 
 pub returns-clause-counted : goal.returns-clause-counted
 returns-clause-counted c = λ left.
@@ -24,14 +27,17 @@ returns-clause-counted c = λ left.
     let new = c.add_term.new.self in
     on_ok c.add_term.result c.add_term.ensures.ok
     (λ more.
-    counts-end c.args.terms.now c.args.chosen.now c.in_ok-nothing.nothing left ways old new c.coefficient-ways.ensures.combination
+    counts-end c.args.terms.now c.args.chosen.now c.in_ok-nothing.nothing left ways old new
+    c.coefficient-ways.ensures.combination
     c.in_ok-nothing.ensures.ok c.coefficient-ways.ensures.value c.requires.fresh
     (subst (λ l. Same new (old ++ (l, ways) ∷ [])) c.in_ok-label.ensures.ok
     (gains_same old ((label, ways) ∷ []) new
-    (gains_term nat_list_eq_equiv same_partition old new c.add_term.ensures.was c.add_term.ensures.combination label ways more))))
+    (gains_term nat_list_eq_equiv same_partition old new
+    c.add_term.ensures.was c.add_term.ensures.combination label ways more))))
 
 pub returns-clause-small : goal.returns-clause-small
 returns-clause-small c = λ large.
     not_refused _ c.coefficient-ways.result
-    (fresh-found c.args.chosen.now c.in_ok-label.label c.args.list.now c.add_term.ensures.was c.in_ok-label.ensures.ok c.requires.fresh)
+    (fresh-found c.args.chosen.now c.in_ok-label.label c.args.list.now
+    c.add_term.ensures.was c.in_ok-label.ensures.ok c.requires.fresh)
     (c.add_term.ensures.large.0 large)

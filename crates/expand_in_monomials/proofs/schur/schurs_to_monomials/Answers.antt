@@ -8,17 +8,21 @@ use Rattle.expand_in_monomials.proofs.ContentCounts.{limits-content, lists-count
 use Rattle.expand_in_monomials.proofs.schur.schurs_to_monomials.Goals as goal
 
 pub add_contents-requires-clause-limits : goal.add_contents-requires-clause-limits
-add_contents-requires-clause-limits c = λ rest content. limits-content c.args.cells c.args.cells rest c.requires.low content
+add_contents-requires-clause-limits c = λ rest content. limits-content c.args.cells c.args.cells
+    rest c.requires.low content
 
 pub add_contents-requires-clause-table : goal.add_contents-requires-clause-table
-add_contents-requires-clause-table c = subst IsWholeTable (sym c.new-list.ensures) (IsCombination-empty equal is_label whole)
+add_contents-requires-clause-table c = subst IsWholeTable (sym c.new-list.ensures)
+    (IsCombination-empty equal is_label whole)
 
 pub returns-in_err-add_contents-clause-large : goal.returns-in_err-add_contents-clause-large
 returns-in_err-add_contents-clause-large c = λ large.
-    c.in_err-add_contents.ensures.large (ap Err (error_is _ _ _ c.from_residual.ensures.1 large)) c.args.terms.now []
+    c.in_err-add_contents.ensures.large (ap Err (error_is _ _ _ c.from_residual.ensures.1 large))
+    c.args.terms.now []
     (leads-start c.args.terms.now)
 
 pub returns-clause-value : goal.returns-clause-value
 returns-clause-value c =
-    lists-counted c.args.cells c.args.terms.now c.new-list.result c.add_contents.new.list c.in_ok-add_contents.ensures.terms c.requires.within
+    lists-counted c.args.cells c.args.terms.now c.new-list.result c.add_contents.new.list
+    c.in_ok-add_contents.ensures.terms c.requires.within
     c.new-list.ensures c.in_ok-add_contents.ensures.counted

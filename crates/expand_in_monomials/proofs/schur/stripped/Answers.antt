@@ -9,7 +9,8 @@ use Rattle.expand_in_monomials.proofs.schur.stripped.Goals as goal
 pub returns-clause-value : goal.returns-clause-value
 returns-clause-value c =
     let added = strip_terms c.args.k c.args.terms.now in
-    gains_same [] added c.add_by.new.self (subst (λ old. Gains old added c.add_by.new.self) c.new-list.ensures c.in_ok-add_by.ensures.gains)
+    gains_same [] added c.add_by.new.self (subst (λ old. Gains old added c.add_by.new.self)
+    c.new-list.ensures c.in_ok-add_by.ensures.gains)
 
 pub returns-in_err-add_by-clause-large : goal.returns-in_err-add_by-clause-large
 returns-in_err-add_by-clause-large c = λ large.

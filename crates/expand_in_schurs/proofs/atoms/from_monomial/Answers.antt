@@ -10,12 +10,14 @@ use Rattle.expand_in_schurs.proofs.atoms.from_monomial.Goals as goal
 pub to_basis-requires-clause-bounded : goal.to_basis-requires-clause-bounded
 to_basis-requires-clause-bounded c =
     bounded_monomial c.parts.result.now c.in_ok-list.list
-    (subst (λ (x : Fraction). IsOneTerm c.parts.result.now x c.in_ok-list.list) c.one.ensures.value c.in_ok-list.ensures)
+    (subst (λ (x : Fraction). IsOneTerm c.parts.result.now x c.in_ok-list.list) c.one.ensures.value
+    c.in_ok-list.ensures)
 
 pub to_basis-requires-clause-sizes : goal.to_basis-requires-clause-sizes
 to_basis-requires-clause-sizes c t m =
     let w = within_monomial c.parts.result.now c.in_ok-list.list
-    (subst (λ (x : Fraction). IsOneTerm c.parts.result.now x c.in_ok-list.list) c.one.ensures.value c.in_ok-list.ensures) t m in
+    (subst (λ (x : Fraction). IsOneTerm c.parts.result.now x c.in_ok-list.list) c.one.ensures.value
+    c.in_ok-list.ensures) t m in
     let s = ap size c.parts.ensures.value in
     let low = c.requires in
     omega arith
@@ -26,4 +28,5 @@ returns c =
     (λ list h n. h n _ 1
     (expansion_monomial c.args.label.now c.in_ok-list.list
     (subst (λ (l : List ℕ). IsOneTerm l (whole (pos 1)) c.in_ok-list.list) c.parts.ensures.value
-    (subst (λ (x : Fraction). IsOneTerm c.parts.result.now x c.in_ok-list.list) c.one.ensures.value c.in_ok-list.ensures)) n))
+    (subst (λ (x : Fraction). IsOneTerm c.parts.result.now x c.in_ok-list.list) c.one.ensures.value
+    c.in_ok-list.ensures)) n))

@@ -10,15 +10,19 @@ use Rattle.expand_in_schurs.proofs.Factors.{product_alone}
 use Rattle.expand_in_schurs.proofs.atoms.from_parts.Goals as goal
 
 pub times_parts-requires-clause-positive : goal.times_parts-requires-clause-positive
-times_parts-requires-clause-positive c = subst ArePositive (sym c.parts.ensures.value) c.parts.ensures.limits.partition.positive
+times_parts-requires-clause-positive c = subst ArePositive (sym c.parts.ensures.value)
+    c.parts.ensures.limits.partition.positive
 
 pub times_parts-requires-clause-low : goal.times_parts-requires-clause-low
-times_parts-requires-clause-low c = let s = ap size c.parts.ensures.value in let low = c.requires in omega arith
+times_parts-requires-clause-low c = let s = ap size c.parts.ensures.value in let low = c.requires in
+    omega arith
 
 pub returns : goal.returns
 returns c =
     if_answered c.times_parts.result c.times_parts.ensures
     (λ list h n.
-    subst (λ (l : List ℕ). IsExpansionOf schurs list n (product_over (polynomial_of c.args.family) l n) 1) c.parts.ensures.value
+    subst (λ (l : List ℕ). IsExpansionOf schurs list n (product_over (polynomial_of c.args.family) l
+    n) 1) c.parts.ensures.value
     (product_alone c.args.family c.parts.result.now c.in_ok-one.one list n (h n)
-    (expansion_schur [] c.in_ok-one.one (subst (λ (x : Fraction). IsOneTerm [] x c.in_ok-one.one) c.one.ensures.value c.in_ok-one.ensures) n)))
+    (expansion_schur [] c.in_ok-one.one (subst (λ (x : Fraction). IsOneTerm [] x c.in_ok-one.one)
+    c.one.ensures.value c.in_ok-one.ensures) n)))

@@ -11,4 +11,5 @@ returns c =
     if_answered c.single.result c.single.ensures
     (λ list is.
     expansion_schur c.args.label.now list
-    (subst (λ (l : List ℕ). IsOneTerm l (whole (pos 1)) list) c.parts.ensures.value (subst (λ (x : Fraction). IsOneTerm c.parts.result.now x list) c.one.ensures.value is)))
+    (subst (λ (l : List ℕ). IsOneTerm l (whole (pos 1)) list) c.parts.ensures.value
+    (subst (λ (x : Fraction). IsOneTerm c.parts.result.now x list) c.one.ensures.value is)))

@@ -11,4 +11,6 @@ returns c =
     if_answered c.single.result c.single.ensures
     (λ list is.
     quotient-list c.args.num c.args.den list c.requires.sign c.requires.den.0
-    (subst (λ (x : Fraction). IsOneTerm [] x list) (c.quotient_of.ensures ∙ ap (λ z. lowest_terms z c.args.den) (c.new.ensures ∙ to_z-of_z c.ranges.num)) is))
+    (subst (λ (x : Fraction). IsOneTerm [] x list)
+    (c.quotient_of.ensures ∙ ap (λ z. lowest_terms z c.args.den)
+    (c.new.ensures ∙ to_z-of_z c.ranges.num)) is))

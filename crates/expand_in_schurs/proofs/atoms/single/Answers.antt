@@ -8,6 +8,8 @@ use Rattle.expand_in_schurs.proofs.atoms.single.Goals as goal
 pub returns : goal.returns
 returns c = (
   c.in_ok-add_term.ensures.combination,
-  subst (λ (old : Terms (List ℕ)). HasMoreAt (pointwise nat_eq) old c.args.parts.now c.args.c c.add_term.new.self) c.new-list.ensures
-      (subst (λ (l : List ℕ). HasMoreAt (pointwise nat_eq) c.new-list.result l c.args.c c.add_term.new.self) c.in_ok-from_valid_parts.ensures.ok c.in_ok-add_term.ensures.ok),
+  subst (λ (old : Terms (List ℕ)). HasMoreAt (pointwise nat_eq) old c.args.parts.now c.args.c
+      c.add_term.new.self) c.new-list.ensures
+      (subst (λ (l : List ℕ). HasMoreAt (pointwise nat_eq) c.new-list.result l c.args.c
+      c.add_term.new.self) c.in_ok-from_valid_parts.ensures.ok c.in_ok-add_term.ensures.ok),
 )

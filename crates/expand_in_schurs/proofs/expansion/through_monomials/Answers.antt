@@ -11,7 +11,8 @@ use Rattle.expand_in_schurs.proofs.expansion.through_monomials.Goals as goal
 pub returns-in_err-list-clause-large : goal.returns-in_err-list-clause-large
 returns-in_err-list-clause-large c =
     let p = err_from_is_err_and c.from_residual.result c.from_residual.ensures.1 in
-    rw (p.1, p.2) (λ is. heavy_for_s (tree_of c.args.formula.now.tree) (c.in_err-list.ensures.large is))
+    rw (p.1, p.2) (λ is. heavy_for_s (tree_of c.args.formula.now.tree)
+    (c.in_err-list.ensures.large is))
 
 pub returns-in_default-clause-large : goal.returns-in_default-clause-large
 returns-in_default-clause-large c = λ is.
@@ -26,4 +27,5 @@ to_basis-requires-clause-positive c =
 
 pub returns-clause-value : goal.returns-clause-value
 returns-clause-value c =
-    if_answered c.to_basis.result c.to_basis.ensures.value (λ list h n. h n _ _ (c.in_ok-list.ensures.value n))
+    if_answered c.to_basis.result c.to_basis.ensures.value
+    (λ list h n. h n _ _ (c.in_ok-list.ensures.value n))

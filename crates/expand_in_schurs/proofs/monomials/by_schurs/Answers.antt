@@ -6,5 +6,6 @@ use Rattle.expand_in_schurs.proofs.monomials.by_schurs.Goals as goal
 
 pub returns : goal.returns
 returns c =
-    let h = subst (λ e. StandsFor (tree_of e) c.in_ok-list.list) c.tree.ensures.tree c.in_ok-list.ensures in
+    let h = subst (λ e. StandsFor (tree_of e) c.in_ok-list.list) c.tree.ensures.tree
+    c.in_ok-list.ensures in
     if_answered c.in_monomials.result c.in_monomials.ensures (λ list told n. told n _ _ (h n))

@@ -1,4 +1,5 @@
-use Rattle.std.proofs.Common.{◌≡◌, ◌++◌, ◌∷◌, [], List, ℕ, map, sym, ◌∙◌, ap, subst, refl, append_assoc, arith}
+use Rattle.std.proofs.Common.{◌≡◌, ◌++◌, ◌∷◌, [], List, ℕ, map, sym, ◌∙◌, ap, subst, refl}
+use Rattle.std.proofs.Common.{append_assoc, arith}
 use Rattle.std.specs.Map.Iter.{deref_pair}
 use Rattle.std.proofs.lemmas.List.{map-append}
 use Rattle.sym_model.specs.Expansion.{Fraction, Terms}
@@ -19,15 +20,21 @@ loop-c-preserved c =
     let rest = c.next.new.self in
     let k = c.in-Some.field-0-0.now in
     let v = c.in-Some.c.now in
-    let pushed : done ++ (k, v) ∷ [] ≡ map deref_pair (c.loop-c.yielded ++ (c.in-Some.field-0-0, c.in-Some.c) ∷ []) =
+    let pushed : done ++ (k, v) ∷ [] ≡ map deref_pair (c.loop-c.yielded ++ (
+      c.in-Some.field-0-0,
+      c.in-Some.c,
+    ) ∷ []) =
     sym (map-append deref_pair c.loop-c.yielded ((c.in-Some.field-0-0, c.in-Some.c) ∷ [])) in
     let next = c.in-Some-common_denominator.ensures in
     record {
       low = next.1;
       common =
-          subst (λ (es : Terms (List ℕ)). IsCommonDenominator c.in-Some-common_denominator.common.den es) pushed
-          (common-next c.loop-c.den c.in-Some-common_denominator.common.den done k v c.denominator_of.ensures.positive
-          (next.0 ∙ ap (lcm c.loop-c.den) c.denominator_of.ensures.value) c.loop-c.invariant.common);
+          subst (λ (es : Terms (List ℕ)).
+          IsCommonDenominator c.in-Some-common_denominator.common.den es) pushed
+          (common-next c.loop-c.den c.in-Some-common_denominator.common.den done k v
+          c.denominator_of.ensures.positive
+          (next.0 ∙ ap (lcm c.loop-c.den) c.denominator_of.ensures.value)
+          c.loop-c.invariant.common);
       so_far =
           ap (λ es. es ++ rest) (sym pushed) ∙ append_assoc done ((k, v) ∷ []) rest
           ∙ ap (λ es. done ++ es) (sym c.in-Some.ensures.steps) ∙ c.loop-c.invariant.so_far;
@@ -35,7 +42,13 @@ loop-c-preserved c =
 
 pub returns : goal.returns
 returns c =
-    let entries = all_done (map deref_pair c.loop-c.yielded) c.loop-c.c-iterator _ _ c.in-None.ensures.steps.0 c.loop-c.invariant.so_far c.into_iter-c-iterator.ensures.into_iter_gives in
+    let entries = all_done (map deref_pair c.loop-c.yielded) c.loop-c.c-iterator _ _
+    c.in-None.ensures.steps.0 c.loop-c.invariant.so_far
+    c.into_iter-c-iterator.ensures.into_iter_gives in
     let all : map deref_pair c.loop-c.yielded ≡ c.args.list.now =
-    sym (itself (map deref_pair c.loop-c.yielded)) ∙ ap (terms_of (λ (r : Fraction). r)) entries ∙ c.iter-c-items.ensures.rest in
-    (c.loop-c.invariant.low, subst (λ (es : Terms (List ℕ)). IsCommonDenominator c.loop-c.den es) all c.loop-c.invariant.common)
+    sym (itself (map deref_pair c.loop-c.yielded)) ∙ ap (terms_of (λ (r : Fraction). r)) entries
+    ∙ c.iter-c-items.ensures.rest in (
+      c.loop-c.invariant.low,
+      subst (λ (es : Terms (List ℕ)). IsCommonDenominator c.loop-c.den es)
+          all c.loop-c.invariant.common,
+    )

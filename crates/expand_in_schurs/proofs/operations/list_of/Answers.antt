@@ -7,7 +7,8 @@ use Rattle.expand_in_schurs.proofs.operations.list_of.Goals as goal
 
 pub atom-requires : goal.atom-requires
 atom-requires c =
-    let is : c.requires.0 ≡ atom (basis_of c.in-Atom.basis) c.in-Atom.label = rw c.in-Atom.is at c.requires.1 in
+    let is : c.requires.0 ≡ atom (basis_of c.in-Atom.basis) c.in-Atom.label =
+    rw c.in-Atom.is at c.requires.1 in
     let size = ap degree is in
     let low = c.requires.2 in
     omega arith

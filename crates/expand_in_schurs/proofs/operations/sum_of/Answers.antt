@@ -5,4 +5,6 @@ use Rattle.sparse_polys.specs.Products.{coefficient_at}
 use Rattle.expand_in_schurs.proofs.operations.sum_of.Goals as goal
 
 pub returns-then-len-clause-sum : goal.returns-then-len-clause-sum
-returns-then-len-clause-sum c = if_answered c.add_all.result c.add_all.ensures.sum (λ both sums ν. sums ν ∙ sum_comm (coefficient_at c.args.second ν) (coefficient_at c.args.first ν))
+returns-then-len-clause-sum c = if_answered c.add_all.result c.add_all.ensures.sum
+    (λ both sums ν. sums ν ∙ sum_comm (coefficient_at c.args.second ν)
+    (coefficient_at c.args.first ν))

@@ -1,4 +1,5 @@
-use Rattle.std.proofs.Common.{◌≡◌, ℕ, ◌*◌, [], ◌∷◌, ◌++◌, List, map, sym, ◌∙◌, ap, subst, ◌*ℤ◌, refl, append_assoc}
+use Rattle.std.proofs.Common.{◌≡◌, ℕ, ◌*◌, [], ◌∷◌, ◌++◌, List, map, sym, ◌∙◌, ap, subst, ◌*ℤ◌}
+use Rattle.std.proofs.Common.{refl, append_assoc}
 use Rattle.std.specs.Map.Iter.{deref_pair}
 use Rattle.std.proofs.lemmas.List.{map-append}
 use Rattle.sym_model.specs.Expansion.{Terms, Fraction}
@@ -16,7 +17,8 @@ pub loop-label-init : goal.loop-label-init
 loop-label-init c = record {
   sums =
       λ d e left right.
-      subst (λ (l : Terms (List ℕ)). Adds (d * e) [] (λ n φ. products_at d [] e c.args.right.now n φ) l) (sym c.new-sum.ensures)
+      subst (λ (l : Terms (List ℕ)). Adds (d * e) [] (λ n φ. products_at d [] e c.args.right.now n
+      φ) l) (sym c.new-sum.ensures)
       (Adds-none (d * e) [] _ (λ n φ. refl) (AreCleared-nothing (d * e)));
   so_far = refl;
 }
@@ -29,23 +31,34 @@ loop-label-preserved c =
     let v = c.in-Some.c.now in
     let other = c.args.right.now in
     let whole =
-    list_whole (λ (r : Fraction). r) (map deref_pair c.loop-label.yielded) c.next.new.self c.loop-label.label-iterator _ _ c.in-Some.label.now c.in-Some.c.now c.args.left.now
-    c.in-Some.ensures.steps c.loop-label.invariant.so_far c.into_iter-label-iterator.ensures.into_iter_gives c.iter-label-items.ensures.rest in
-    let here = list_among (λ (r : Fraction). r) (map deref_pair c.loop-label.yielded) c.next.new.self c.in-Some.label.now c.in-Some.c.now c.args.left.now whole in
-    let pushed : done ++ (k, v) ∷ [] ≡ map deref_pair (c.loop-label.yielded ++ (c.in-Some.label, c.in-Some.c) ∷ []) =
+    list_whole (λ (r : Fraction). r) (map deref_pair c.loop-label.yielded) c.next.new.self
+    c.loop-label.label-iterator _ _ c.in-Some.label.now c.in-Some.c.now c.args.left.now
+    c.in-Some.ensures.steps c.loop-label.invariant.so_far
+    c.into_iter-label-iterator.ensures.into_iter_gives c.iter-label-items.ensures.rest in
+    let here = list_among (λ (r : Fraction). r) (map deref_pair c.loop-label.yielded)
+    c.next.new.self c.in-Some.label.now c.in-Some.c.now c.args.left.now whole in
+    let pushed : done ++ (k, v) ∷ [] ≡ map deref_pair (c.loop-label.yielded ++ (
+      c.in-Some.label,
+      c.in-Some.c,
+    ) ∷ []) =
     sym (map-append deref_pair c.loop-label.yielded ((c.in-Some.label, c.in-Some.c) ∷ [])) in
     record {
       sums =
           λ d e left right.
           let before = c.loop-label.invariant.sums d e left right in
           let terms = terms_of (λ (r : Fraction). r) (map deref_pair c.loop-label.yielded) in
-          subst (λ es. Adds (d * e) [] (λ n φ. products_at d (terms_of (λ (r : Fraction). r) es) e c.args.right.now n φ) c.add_products.new.sum) pushed
-          (subst (λ (l : Terms (List ℕ)). Adds (d * e) [] (λ n φ. products_at d l e c.args.right.now n φ) c.add_products.new.sum) (sym (terms_next (λ (r : Fraction). r) done k v))
+          subst (λ es. Adds (d * e) [] (λ n φ. products_at d (terms_of (λ (r : Fraction). r) es) e
+          c.args.right.now n φ) c.add_products.new.sum) pushed
+          (subst (λ (l : Terms (List ℕ)). Adds (d * e) [] (λ n φ. products_at d l e c.args.right.now
+          n φ) c.add_products.new.sum) (sym (terms_next (λ (r : Fraction). r) done k v))
           (Adds-then (d * e) [] c.loop-label.sum c.add_products.new.sum
-          (λ n φ. products_at d terms e c.args.right.now n φ) (λ n φ. scaled d v *ℤ row_at k e c.args.right.now n φ) (λ n φ. products_at d (terms ++ (k, v) ∷ []) e c.args.right.now n φ)
+          (λ n φ. products_at d terms e c.args.right.now n φ)
+          (λ n φ. scaled d v *ℤ row_at k e c.args.right.now n φ)
+          (λ n φ. products_at d (terms ++ (k, v) ∷ []) e c.args.right.now n φ)
           (λ n φ. products_next d terms k v e c.args.right.now n φ)
           before
-          (c.in_ok-add_products.ensures d e left.positive (left.multiple (k, v) here) right before.cleared)));
+          (c.in_ok-add_products.ensures d e left.positive (left.multiple (k, v) here) right
+          before.gains.cleared)));
       so_far =
           ap (λ es. es ++ rest) (sym pushed) ∙ append_assoc done ((k, v) ∷ []) rest
           ∙ ap (λ es. done ++ es) (sym c.in-Some.ensures.steps) ∙ c.loop-label.invariant.so_far;
@@ -58,8 +71,10 @@ returns c =
     let right = c.args.right.now in
     let is : terms_of (λ (r : Fraction). r) done ≡ c.args.left.now =
     ap (terms_of (λ (r : Fraction). r))
-    (all_done done c.loop-label.label-iterator _ _ c.in-None.ensures.steps.0 c.loop-label.invariant.so_far c.into_iter-label-iterator.ensures.into_iter_gives)
+    (all_done done c.loop-label.label-iterator _ _ c.in-None.ensures.steps.0
+    c.loop-label.invariant.so_far c.into_iter-label-iterator.ensures.into_iter_gives)
     ∙ c.iter-label-items.ensures.rest in
     product-list left right c.loop-label.sum
     (λ d e common other.
-    subst (λ (l : Terms (List ℕ)). Adds (d * e) [] (λ n φ. products_at d l e right n φ) c.loop-label.sum) is (c.loop-label.invariant.sums d e common other))
+    subst (λ (l : Terms (List ℕ)). Adds (d * e) [] (λ n φ. products_at d l e right n φ)
+    c.loop-label.sum) is (c.loop-label.invariant.sums d e common other))

@@ -8,7 +8,8 @@ use Rattle.expand_in_schurs.proofs.Factors.{times-no_parts, times-more_parts}
 use Rattle.expand_in_schurs.proofs.strips.+times_parts.Goals as goal
 
 pub returns-in_default : goal.returns-in_default
-returns-in_default t c = times-no_parts c.args.family c.args.parts.now c.args.list c.in_default.len_below
+returns-in_default t c = times-no_parts c.args.family c.args.parts.now c.args.list
+    c.in_default.len_below
 
 pub returns : goal.returns
 returns t c =
@@ -16,5 +17,7 @@ returns t c =
     let rest = take (length c.args.parts.now - 1) (drop 1 c.args.parts.now) in
     if_answered c.times_part.result c.times_part.ensures
     (λ product h n f q i is.
-    times-more_parts c.args.family k rest c.args.parts.now product (split_first c.args.parts.now c.in-len1-up.len_at_least) n f q
-    (h n (times (product_over (polynomial_of c.args.family) rest n) f) q (c.in_ok-others.ensures n f q i is)))
+    times-more_parts c.args.family k rest c.args.parts.now product
+    (split_first c.args.parts.now c.in-len1-up.len_at_least) n f q
+    (h n (times (product_over (polynomial_of c.args.family) rest n) f) q
+    (c.in_ok-others.ensures n f q i is)))

@@ -1,4 +1,5 @@
-use Rattle.std.proofs.Common.{◌≡◌, [], ◌∷◌, ◌++◌, List, ℕ, map, true, sym, ◌∙◌, ap, subst, refl, append_assoc}
+use Rattle.std.proofs.Common.{◌≡◌, [], ◌∷◌, ◌++◌, List, ℕ, map, true, sym, ◌∙◌, ap, subst, refl}
+use Rattle.std.proofs.Common.{append_assoc}
 use Rattle.std.specs.Map.Iter.{deref_pair}
 use Rattle.std.proofs.lemmas.List.{map-append}
 use Rattle.sym_model.specs.Expansion.{Fraction, Terms}
@@ -19,14 +20,20 @@ loop-label-preserved c =
     let rest = c.next.new.self in
     let k = c.in-Some.label.now in
     let v = c.in-Some.field-0-1.now in
-    let pushed : done ++ (k, v) ∷ [] ≡ map deref_pair (c.loop-label.yielded ++ (c.in-Some.label, c.in-Some.field-0-1) ∷ []) =
-    sym (map-append deref_pair c.loop-label.yielded ((c.in-Some.label, c.in-Some.field-0-1) ∷ [])) in
+    let pushed : done ++ (k, v) ∷ [] ≡ map deref_pair (c.loop-label.yielded ++ (
+      c.in-Some.label,
+      c.in-Some.field-0-1,
+    ) ∷ []) =
+    sym (map-append deref_pair c.loop-label.yielded ((c.in-Some.label, c.in-Some.field-0-1) ∷ []))
+    in
     let grows = c.can_grow.ensures.0 c.if-not-can_grow.false in
     record {
       room =
           subst (λ es. HasRoom c.args.k (terms_of (λ (r : Fraction). r) es)) pushed
-          (subst (λ (l : Terms (List ℕ)). HasRoom c.args.k l) (sym (terms_next (λ (r : Fraction). r) done k v))
-          (room_next c.args.k (terms_of (λ (r : Fraction). r) (map deref_pair c.loop-label.yielded)) k v c.loop-label.invariant.room grows.0 grows.1));
+          (subst (λ (l : Terms (List ℕ)). HasRoom c.args.k l)
+          (sym (terms_next (λ (r : Fraction). r) done k v))
+          (room_next c.args.k (terms_of (λ (r : Fraction). r) (map deref_pair c.loop-label.yielded))
+          k v c.loop-label.invariant.room grows.0 grows.1));
       so_far =
           ap (λ es. es ++ rest) (sym pushed) ∙ append_assoc done ((k, v) ∷ []) rest
           ∙ ap (λ es. done ++ es) (sym c.in-Some.ensures.steps) ∙ c.loop-label.invariant.so_far;
@@ -39,11 +46,14 @@ returns-then-not-can_grow c =
     let k = c.in-Some.label.now in
     let v = c.in-Some.field-0-1.now in
     let all : done ++ (k, v) ∷ rest ≡ c.iter-label-items.result =
-    ap (λ es. done ++ es) (sym c.in-Some.ensures.steps) ∙ c.loop-label.invariant.so_far ∙ c.into_iter-label-iterator.ensures.into_iter_gives in
+    ap (λ es. done ++ es) (sym c.in-Some.ensures.steps) ∙ c.loop-label.invariant.so_far
+    ∙ c.into_iter-label-iterator.ensures.into_iter_gives in
     let there : Among (k, v) c.args.list.now =
-    subst (Among (k, v)) (ap (terms_of (λ (r : Fraction). r)) all ∙ c.iter-label-items.ensures.rest) (among-next (λ (r : Fraction). r) done k v rest) in (
+    subst (Among (k, v)) (ap (terms_of (λ (r : Fraction). r)) all ∙ c.iter-label-items.ensures.rest)
+    (among-next (λ (r : Fraction). r) done k v rest) in (
       (λ told. absurd (cc)),
-      (λ room. let yes : c.can_grow.result ≡ true = c.can_grow.ensures.1 (room (k, v) there) in absurd (cc)),
+      (λ room. let yes : c.can_grow.result ≡ true = c.can_grow.ensures.1 (room (k, v) there) in
+          absurd (cc)),
     )
 
 pub returns : goal.returns
@@ -51,6 +61,9 @@ returns c =
     let done = map deref_pair c.loop-label.yielded in
     let is : terms_of (λ (r : Fraction). r) done ≡ c.args.list.now =
     ap (terms_of (λ (r : Fraction). r))
-    (all_done done c.loop-label.label-iterator _ _ c.in-None.ensures.steps.0 c.loop-label.invariant.so_far c.into_iter-label-iterator.ensures.into_iter_gives)
-    ∙ c.iter-label-items.ensures.rest in
-    ((λ told. subst (λ (l : Terms (List ℕ)). HasRoom c.args.k l) is c.loop-label.invariant.room), (λ room. refl))
+    (all_done done c.loop-label.label-iterator _ _ c.in-None.ensures.steps.0
+    c.loop-label.invariant.so_far c.into_iter-label-iterator.ensures.into_iter_gives)
+    ∙ c.iter-label-items.ensures.rest in (
+      (λ told. subst (λ (l : Terms (List ℕ)). HasRoom c.args.k l) is c.loop-label.invariant.room),
+      (λ room. refl),
+    )

@@ -10,5 +10,6 @@ returns g c =
     let parts = c.args.parts.now in
     Gathers-then (Gathers-as c.letter_of.ensures c.put.ensures)
     (Gathers-then c.put-2.ensures
-    (Gathers-then (Gathers-as (ap (λ ns. separated (codes ",") (map decimal ns)) (map_same parts) ∙ numbers_text-separated parts) c.put_separated.ensures)
+    (Gathers-then (Gathers-as (ap (λ ns. separated (codes ",") (map decimal ns)) (map_same parts)
+    ∙ numbers_text-separated parts) c.put_separated.ensures)
     c.put-3.ensures))

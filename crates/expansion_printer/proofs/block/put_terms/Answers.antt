@@ -1,4 +1,5 @@
-use Rattle.std.proofs.Common.{Iter, ◌≡◌, ◌<◌, List, [], ◌∷◌, ◌++◌, map, length, refl, sym, ap, ◌∙◌, subst, rules, tests, append_assoc}
+use Rattle.std.proofs.Common.{Iter, ◌≡◌, ◌<◌, List, [], ◌∷◌, ◌++◌, map, length, refl, sym, ap, ◌∙◌}
+use Rattle.std.proofs.Common.{subst, rules, tests, append_assoc}
 use Rattle.std.proofs.lemmas.List.{map-append}
 use Rattle.sym_model.specs.Expansion.{Fraction}
 use Rattle.sym_model.specs.PrintedBlock.{lines_by}
@@ -34,15 +35,20 @@ loop-label-preserved g c =
     let done : List (g.row.L.Denot × g.row.R.Denot) = map (λ item. item.now) c.loop-label.yielded in
     let p : g.row.L.Denot × g.row.R.Denot = c.in-Some.field-0.now in
     let t : g.row.L.Denot × Fraction = (p.0, value p.1) in
-    let pushed : done ++ p ∷ [] ≡ map (λ item. item.now) (c.loop-label.yielded ++ c.in-Some.field-0 ∷ []) =
+    let pushed : done ++ p ∷ [] ≡ map (λ item. item.now) (c.loop-label.yielded ++ c.in-Some.field-0
+    ∷ []) =
     sym (map-append (λ item. item.now) c.loop-label.yielded (c.in-Some.field-0 ∷ [])) in
-    let terms : terms_of value done ++ t ∷ [] ≡ terms_of value (map (λ item. item.now) (c.loop-label.yielded ++ c.in-Some.field-0 ∷ [])) =
-    sym (map-append (λ (q : g.row.L.Denot × g.row.R.Denot). (q.0, value q.1)) done (p ∷ [])) ∙ ap (terms_of value) pushed in
+    let terms : terms_of value done ++ t ∷ [] ≡ terms_of value
+    (map (λ item. item.now) (c.loop-label.yielded ++ c.in-Some.field-0 ∷ [])) =
+    sym (map-append (λ (q : g.row.L.Denot × g.row.R.Denot). (q.0, value q.1)) done (p ∷ []))
+    ∙ ap (terms_of value) pushed in
     let rest = c.next.new.self.rest.now in
     record {
-      goes = Gathers-as (lines_by-push g.L.Named.line_rules (terms_of value done) t ∙ ap (lines_by g.L.Named.line_rules) terms)
+      goes = Gathers-as (lines_by-push g.L.Named.line_rules (terms_of value done) t
+          ∙ ap (lines_by g.L.Named.line_rules) terms)
           (Gathers-then inv.goes c.put_line.ensures.goes);
-      held = subst (AreHeld value g.R.Scalar.is_held) terms (AreHeld-push value g.R.Scalar.is_held (terms_of value done) t inv.held
+      held = subst (AreHeld value g.R.Scalar.is_held) terms (AreHeld-push value g.R.Scalar.is_held
+          (terms_of value done) t inv.held
           (record { scalar = p.1; same = refl; held = c.put_line.ensures.held }));
       so_far = ap (λ t. t ++ rest) (sym pushed) ∙ append_assoc done (p ∷ []) rest
           ∙ ap (λ t. done ++ t) (sym c.in-Some.ensures.steps) ∙ inv.so_far;
@@ -53,16 +59,21 @@ returns-clause-goes g c =
     let some : 0 < length c.args.terms.now = search (rules, tests) in
     let done : List (g.row.L.Denot × g.row.R.Denot) = map (λ item. item.now) c.loop-label.yielded in
     let all : terms_of g.R.Scalar.value done ≡ c.args.terms.now =
-    ap (terms_of g.R.Scalar.value) (all_read done _ _ c.in-None.ensures.steps.0 (c.loop-label.invariant.so_far
-    ∙ ap (λ (it : Iter (g.row.L.Denot × g.row.R.Denot)). it.rest.now) c.into_iter-label-iterator.ensures.into_iter_gives))
+    ap (terms_of g.R.Scalar.value) (all_read done _ _ c.in-None.ensures.steps.0
+    (c.loop-label.invariant.so_far
+    ∙ ap (λ (it : Iter (g.row.L.Denot × g.row.R.Denot)). it.rest.now)
+    c.into_iter-label-iterator.ensures.into_iter_gives))
     ∙ c.iter-label-items.ensures.rest in
-    Gathers-as (ap (lines_by g.L.Named.line_rules) all ∙ block_by-some g.L.Named.line_rules c.args.terms.now some) c.loop-label.invariant.goes
+    Gathers-as (ap (lines_by g.L.Named.line_rules) all ∙ block_by-some g.L.Named.line_rules
+    c.args.terms.now some) c.loop-label.invariant.goes
 
 pub returns-clause-held : goal.returns-clause-held
 returns-clause-held g c =
     let done : List (g.row.L.Denot × g.row.R.Denot) = map (λ item. item.now) c.loop-label.yielded in
     let all : terms_of g.R.Scalar.value done ≡ c.args.terms.now =
-    ap (terms_of g.R.Scalar.value) (all_read done _ _ c.in-None.ensures.steps.0 (c.loop-label.invariant.so_far
-    ∙ ap (λ (it : Iter (g.row.L.Denot × g.row.R.Denot)). it.rest.now) c.into_iter-label-iterator.ensures.into_iter_gives))
+    ap (terms_of g.R.Scalar.value) (all_read done _ _ c.in-None.ensures.steps.0
+    (c.loop-label.invariant.so_far
+    ∙ ap (λ (it : Iter (g.row.L.Denot × g.row.R.Denot)). it.rest.now)
+    c.into_iter-label-iterator.ensures.into_iter_gives))
     ∙ c.iter-label-items.ensures.rest in
     subst (AreHeld g.R.Scalar.value g.R.Scalar.is_held) all c.loop-label.invariant.held

@@ -6,4 +6,5 @@ use Rattle.expansion_printer.proofs.block.put_value.Goals as goal
 pub returns-clause-goes : goal.returns-clause-goes
 returns-clause-goes g c =
     Gathers-as (number_line c.args.value)
-    (Gathers-then (Gathers-as (c.as_bytes.ensures ∙ c.digits.ensures.text) c.put.ensures) c.put-2.ensures)
+    (Gathers-then (Gathers-as (c.as_bytes.ensures ∙ c.digits.ensures.text) c.put.ensures)
+    c.put-2.ensures)

@@ -6,5 +6,6 @@ use Rattle.expansion_printer.proofs.coefficients.put_denominator.Goals as goal
 
 pub returns : goal.returns
 returns g c =
-    Gathers-as (sym (cond-false (c.args.den == 1) [] (47 ∷ decimal c.args.den) (ne_eqb c.args.den 1 c.if-den-eq1.false)))
+    Gathers-as (sym (cond-false (c.args.den == 1) [] (47 ∷ decimal c.args.den)
+    (ne_eqb c.args.den 1 c.if-den-eq1.false)))
     (Gathers-then c.put.ensures c.put_number.ensures)

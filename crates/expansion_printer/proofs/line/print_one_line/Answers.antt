@@ -11,4 +11,5 @@ returns-in-Expansion-clause-printable g c =
 pub returns-in-Product-clause-printable : goal.returns-in-Product-clause-printable
 returns-in-Product-clause-printable g c =
     let e = c.print_terms-in-Product.ensures in
-    rw c.in-Product.is (whole-printable printed_order is_label c.in-Product.terms e.held e.canonical)
+    rw c.in-Product.is (whole-printable printed_order is_label c.in-Product.terms e.held
+    e.canonical)

@@ -1,4 +1,5 @@
-use Rattle.std.proofs.Common.{Iter, ◌≡◌, ◌<◌, ℕ, List, [], ◌∷◌, ◌++◌, map, length, refl, sym, ap, ◌∙◌, subst, rules, tests, append_assoc}
+use Rattle.std.proofs.Common.{Iter, ◌≡◌, ◌<◌, ℕ, List, [], ◌∷◌, ◌++◌, map, length, refl, sym, ap}
+use Rattle.std.proofs.Common.{◌∙◌, subst, rules, tests, append_assoc}
 use Rattle.std.specs.Prelude.{codes}
 use Rattle.std.proofs.lemmas.List.{map-append}
 use Rattle.sym_model.specs.Expansion.{Fraction, Terms}
@@ -28,16 +29,21 @@ loop-label-preserved g c =
     let done : List (List ℕ × g.row.R.Denot) = map (λ item. item.now) c.loop-label.yielded in
     let p : List ℕ × g.row.R.Denot = c.in-Some.field-0.now in
     let t : List ℕ × Fraction = (p.0, value p.1) in
-    let pushed : done ++ p ∷ [] ≡ map (λ item. item.now) (c.loop-label.yielded ++ c.in-Some.field-0 ∷ []) =
+    let pushed : done ++ p ∷ [] ≡ map (λ item. item.now) (c.loop-label.yielded ++ c.in-Some.field-0
+    ∷ []) =
     sym (map-append (λ item. item.now) c.loop-label.yielded (c.in-Some.field-0 ∷ [])) in
-    let terms : terms_of value done ++ t ∷ [] ≡ terms_of value (map (λ item. item.now) (c.loop-label.yielded ++ c.in-Some.field-0 ∷ [])) =
-    sym (map-append (λ (q : List ℕ × g.row.R.Denot). (q.0, value q.1)) done (p ∷ [])) ∙ ap (terms_of value) pushed in
+    let terms : terms_of value done ++ t ∷ [] ≡ terms_of value
+    (map (λ item. item.now) (c.loop-label.yielded ++ c.in-Some.field-0 ∷ [])) =
+    sym (map-append (λ (q : List ℕ × g.row.R.Denot). (q.0, value q.1)) done (p ∷ []))
+    ∙ ap (terms_of value) pushed in
     let rest = c.next.new.self.rest.now in
     record {
-      goes = Gathers-as (signed_terms-push basis (terms_of value done) c.loop-label.is_first t inv.first ∙ ap (signed_terms basis) terms)
+      goes = Gathers-as (signed_terms-push basis (terms_of value done) c.loop-label.is_first t
+          inv.first ∙ ap (signed_terms basis) terms)
           (Gathers-then inv.goes c.put_term.ensures.goes);
       first = is_empty-push (terms_of value done) t ∙ ap is_empty terms;
-      held = subst (AreHeld value g.R.Scalar.is_held) terms (AreHeld-push value g.R.Scalar.is_held (terms_of value done) t inv.held
+      held = subst (AreHeld value g.R.Scalar.is_held) terms (AreHeld-push value g.R.Scalar.is_held
+          (terms_of value done) t inv.held
           (record { scalar = p.1; same = refl; held = c.put_term.ensures.held }));
       so_far = ap (λ t. t ++ rest) (sym pushed) ∙ append_assoc done (p ∷ []) rest
           ∙ ap (λ t. done ++ t) (sym c.in-Some.ensures.steps) ∙ inv.so_far;
@@ -49,8 +55,11 @@ returns-clause-goes g c =
     let some : 0 < length c.args.terms.now = search (rules, tests) in
     let done : List (List ℕ × g.row.R.Denot) = map (λ item. item.now) c.loop-label.yielded in
     let all : terms_of g.R.Scalar.value done ≡ c.args.terms.now =
-    ap (terms_of g.R.Scalar.value) (all_read done _ _ c.in-None.ensures.steps.0 (c.loop-label.invariant.so_far
-    ∙ ap (λ (it : Iter (List ℕ × g.row.R.Denot)). it.rest.now) c.into_iter-label-iterator.ensures.into_iter_gives))
+    ap (terms_of g.R.Scalar.value) (all_read done _ _ c.in-None.ensures.steps.0
+    (c.loop-label.invariant.so_far
+    ∙ ap (λ (it : Iter (List ℕ × g.row.R.Denot)). it.rest.now)
+    c.into_iter-label-iterator.ensures.into_iter_gives))
     ∙ c.iter-label-items.ensures.rest in
-    Gathers-as (ap (λ (ts : Terms (List ℕ)). signed_terms basis ts ++ codes "\n") all ∙ one_line-some basis c.args.terms.now some)
+    Gathers-as (ap (λ (ts : Terms (List ℕ)). signed_terms basis ts ++ codes "\n") all
+    ∙ one_line-some basis c.args.terms.now some)
     (Gathers-then c.loop-label.invariant.goes c.put-2.ensures)

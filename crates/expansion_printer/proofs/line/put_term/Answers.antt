@@ -10,6 +10,8 @@ pub returns-clause-goes : goal.returns-clause-goes
 returns-clause-goes g c =
     let num = to_z-of_z c.parts-num.ensures.fits in
     let parts = sym c.parts-num.ensures.parts in
-    Gathers-then (Gathers-as (ap (λ (z : ℤ). sign_text c.args.is_first z) num ∙ ap (λ (r : Fraction). sign_text c.args.is_first r.0) parts) c.put_sign.ensures)
-    (Gathers-then (Gathers-as (ap (λ (z : ℤ). coefficient_text (z, c.parts-num.result.1)) num ∙ ap coefficient_text parts) c.put_coefficient.ensures)
+    Gathers-then (Gathers-as (ap (λ (z : ℤ). sign_text c.args.is_first z) num
+    ∙ ap (λ (r : Fraction). sign_text c.args.is_first r.0) parts) c.put_sign.ensures)
+    (Gathers-then (Gathers-as (ap (λ (z : ℤ). coefficient_text (z, c.parts-num.result.1)) num
+    ∙ ap coefficient_text parts) c.put_coefficient.ensures)
     (Gathers-as (ap (atom_text (basis_of c.args.basis)) c.parts.ensures.value) c.put_atom.ensures))

@@ -7,5 +7,6 @@ use Rattle.expansion_printer.proofs.numbers.put_piece.Goals as goal
 pub returns : goal.returns
 returns g c =
     let text = decimal c.args.number in
-    Gathers-as (sym (cond-false (c.args.at == 0) text (c.args.separator.now ++ text) (ne_eqb c.args.at 0 c.if-at-eq0.false)))
+    Gathers-as (sym (cond-false (c.args.at == 0) text (c.args.separator.now ++ text)
+    (ne_eqb c.args.at 0 c.if-at-eq0.false)))
     (Gathers-then c.put.ensures c.put_number-2.ensures)

@@ -12,11 +12,14 @@ pub loop-at-preserved : goal.loop-at-preserved
 loop-at-preserved g c =
     let separator = c.args.separator.now in
     let item = c.index-numbers-at.result in
-    Gathers-as (ap (λ n. separated separator (map decimal (map g.N.Numeral.number (take c.loop-at.at c.args.numbers.now)))
+    Gathers-as (ap (λ n. separated separator
+    (map decimal (map g.N.Numeral.number (take c.loop-at.at c.args.numbers.now)))
     ++ cond (c.loop-at.at == 0) (decimal n) (separator ++ decimal n)) c.as_u64.ensures
-    ∙ numerals-more separator g.N.Numeral.number c.args.numbers.now c.loop-at.at item c.loop-at-test.true c.index-numbers-at.is)
+    ∙ numerals-more separator g.N.Numeral.number c.args.numbers.now c.loop-at.at item
+    c.loop-at-test.true c.index-numbers-at.is)
     (Gathers-then c.loop-at.invariant c.put_piece.ensures)
 
 pub returns : goal.returns
 returns g c =
-    Gathers-as (numerals-all c.args.separator.now g.N.Numeral.number c.args.numbers.now c.loop-at.at c.loop-at-test.false) c.loop-at.invariant
+    Gathers-as (numerals-all c.args.separator.now g.N.Numeral.number c.args.numbers.now c.loop-at.at
+    c.loop-at-test.false) c.loop-at.invariant

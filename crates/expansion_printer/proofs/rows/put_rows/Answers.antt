@@ -2,7 +2,7 @@ use Rattle.std.proofs.Common.{◌≡◌, ◌<◌, ◌+◌, ap, ◌∙◌, arith}
 use Rattle.std.specs.Prelude.{codes}
 use Rattle.expansion_printer.proofs.GatheringLaws.{Gathers-then, Gathers-as, Gathers-nothing}
 use Rattle.sym_model.specs.Partition.{rows}
-use Rattle.sym_model.specs.TableauText.{row_text}
+use Rattle.sym_model.specs.TableauText.{row_text, tableau_text}
 use Rattle.skew_shapes.specs.Rows.{row_by}
 use Rattle.expansion_printer.proofs.RowTexts.{pieces-more, tableau_text-some}
 use Rattle.expansion_printer.proofs.rows.put_rows.Goals as goal
@@ -14,14 +14,20 @@ pub loop-at-preserved : goal.loop-at-preserved
 loop-at-preserved g c =
     let filling = c.args.filling.now in
     let next : c.loop-at.at + 1 ≡ 0 + c.loop-at.at + 1 = omega arith in
-    Gathers-as (pieces-more (codes " / ") (λ row. row_text (row_by (g.E.Entries.entry filling) (g.E.Entries.outer filling) (g.E.Entries.inner filling) row)) 0 c.loop-at.at (c.loop-at.at + 1) next)
+    Gathers-as (pieces-more (codes " / ") (λ row. row_text (row_by (g.E.Entries.entry filling)
+    (g.E.Entries.outer filling) (g.E.Entries.inner filling) row)) 0 c.loop-at.at
+    (c.loop-at.at + 1) next)
     (Gathers-then c.loop-at.invariant c.put_next_row.ensures)
 
 pub returns : goal.returns
 returns g c =
     let filling = c.args.filling.now in
     let outer = g.E.Entries.outer filling in
-    let count : c.rows-rows.result ≡ rows outer = c.rows-rows.ensures.value ∙ ap rows c.outer.ensures in
-    let all : c.loop-at.at ≡ rows outer = omega (arith, c.loop-at.auto.at-end, c.loop-at-test.false) in
+    let count : c.rows-rows.result ≡ rows outer = c.rows-rows.ensures.value
+    ∙ ap rows c.outer.ensures.value in
+    let all : c.loop-at.at ≡ rows outer = omega (arith, c.loop-at.auto.at-end, c.loop-at-test.false)
+    in
     let some : 0 < c.loop-at.at = omega (arith, c.if-rows-eq0.false) in
-    Gathers-as (tableau_text-some (g.E.Entries.entry filling) outer (g.E.Entries.inner filling) c.loop-at.at all some) c.loop-at.invariant
+    Gathers-as (tableau_text-some (g.E.Entries.entry filling) outer (g.E.Entries.inner filling)
+    c.loop-at.at all some
+    ∙ ap tableau_text c.outer.ensures.rows) c.loop-at.invariant

@@ -7,5 +7,6 @@ use Rattle.expansion_printer.proofs.words.print_label.Goals as goal
 pub returns : goal.returns
 returns g c =
     Gathers-prints c.finish.result c.new-text.ensures
-    (Gathers-as (ap label_text (map_same c.parts.result.now ∙ c.parts.ensures.value)) c.put_label.ensures)
+    (Gathers-as (ap label_text (map_same c.parts.result.now ∙ c.parts.ensures.value))
+    c.put_label.ensures)
     c.finish.ensures

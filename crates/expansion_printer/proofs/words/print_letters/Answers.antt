@@ -7,5 +7,6 @@ use Rattle.expansion_printer.proofs.words.print_letters.Goals as goal
 pub returns : goal.returns
 returns g c =
     Gathers-prints c.finish.result c.new-text.ensures
-    (Gathers-then (Gathers-as (ap spaced (map_same c.args.w.now)) c.put_separated.ensures) c.put.ensures)
+    (Gathers-then (Gathers-as (ap spaced (map_same c.args.w.now)) c.put_separated.ensures)
+    c.put.ensures)
     c.finish.ensures

@@ -1,4 +1,6 @@
-use Rattle.family_list_laws.proofs.OnePartLists.{elementary-list, complete-list, power-complete-list, power-elementary-list, elementary-power-list, complete-power-list}
+use Rattle.family_list_laws.proofs.OnePartLists.{elementary-list, complete-list}
+use Rattle.family_list_laws.proofs.OnePartLists.{power-complete-list, power-elementary-list}
+use Rattle.family_list_laws.proofs.OnePartLists.{elementary-power-list, complete-power-list}
 use Rattle.family_list_laws.proofs.lists.one_part_list_law.Goals as goal
 
 pub returns-clause-elementary : goal.returns-clause-elementary

@@ -3,4 +3,5 @@ use Rattle.indexmap.proofs.CallerLemmas.{insert_entry-new}
 use Rattle.family_lists.proofs.kept.put.Goals as goal
 
 pub returns : goal.returns
-returns c = c.in_ok-insert.ensures.entries ∙ insert_entry-new _ c.args.lists.now c.args.label c.args.list c.requires
+returns g c = c.in_ok-insert.ensures.entries ∙ insert_entry-new _ c.args.lists.now c.args.label
+    c.args.list c.requires

@@ -1,6 +1,5 @@
-use Rattle.std.proofs.Common.{◌≡◌, ◌*◌, drop}
-use Rattle.basis_change_laws.specs.AugmentedMonomial.{multiplicity_factorials}
+use Rattle.family_lists.proofs.CountedPlaces.{Counted}
 use Rattle.family_lists.proofs.multiplicities.multiplicity_factorials.Given as goal
 
 abbrev pub invariant-loop-at : goal.invariant-loop-at
-invariant-loop-at l = l.product * multiplicity_factorials (drop l.at l.parts) ≡ multiplicity_factorials l.parts
+invariant-loop-at l = Counted l.parts l.product l.next l.times l.at

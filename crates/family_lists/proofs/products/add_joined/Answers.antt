@@ -16,17 +16,21 @@ term label c = (label, c) ∷ []
 
 pub returns-in_default-clause-large : goal.returns-in_default-clause-large
 returns-in_default-clause-large c err =
-    overflows_alone nat_list_eq_equiv same_partition c.args.sum.now (merged c.args.left.now c.args.label.now) (c.args.z *ℤ c.args.c) c.in_default.ensures
+    overflows_alone nat_list_eq_equiv same_partition c.args.sum.now
+    (merged c.args.left.now c.args.label.now) (c.args.z *ℤ c.args.c) c.in_default.ensures
 
 pub from_valid_parts-requires : goal.from_valid_parts-requires
 from_valid_parts-requires c =
     let is : c.as_slice.result.now ≡ merged c.args.left.now c.args.label.now =
-    c.as_slice.ensures.value ∙ c.in_ok-put_merged.ensures ∙ ap₂ merged c.parts.ensures.value c.parts-2.ensures.value in
+    c.as_slice.ensures.value ∙ c.in_ok-put_merged.ensures ∙ ap₂ merged c.parts.ensures.value
+    c.parts-2.ensures.value in
     subst (λ l. IsWithinLimits l) (sym is)
-    (limits-merged c.args.left.now c.args.label.now c.parts.ensures.limits.partition c.parts-2.ensures.limits.partition c.requires)
+    (limits-merged c.args.left.now c.args.label.now c.parts.ensures.limits.partition
+    c.parts-2.ensures.limits.partition c.requires)
 
 -- the label that is added
-joined_label : (both : List ℕ) (room left right : List ℕ) (product x : ℤ) → both ≡ room → room ≡ merged left right → product ≡ x → term both product ≡ term (merged left right) x
+joined_label : (both : List ℕ) (room left right : List ℕ) (product x : ℤ) → both ≡ room →
+    room ≡ merged left right → product ≡ x → term both product ≡ term (merged left right) x
 joined_label both room left right product x e f g = ap₂ term (e ∙ f) g
 
 pub returns-clause-gains : goal.returns-clause-gains
@@ -34,12 +38,18 @@ returns-clause-gains c =
     on_ok c.add_owned.result c.add_owned.ensures.gains
     (λ more.
     subst (λ (l : WholeTerms). Gains c.args.sum.now l c.add_owned.new.self)
-    (joined_label c.in_ok-from_valid_parts.field-0 c.as_slice.result.now c.args.left.now c.args.label.now c.in-Some.product (c.args.z *ℤ c.args.c) c.in_ok-from_valid_parts.ensures.ok
-    (c.as_slice.ensures.value ∙ c.in_ok-put_merged.ensures ∙ ap₂ merged c.parts.ensures.value c.parts-2.ensures.value) c.in-Some.ensures) more)
+    (joined_label c.in_ok-from_valid_parts.field-0 c.as_slice.result.now c.args.left.now
+    c.args.label.now c.in-Some.product (c.args.z *ℤ c.args.c)
+    c.in_ok-from_valid_parts.ensures.ok
+    (c.as_slice.ensures.value ∙ c.in_ok-put_merged.ensures ∙ ap₂ merged c.parts.ensures.value
+    c.parts-2.ensures.value) c.in-Some.ensures) more)
 
 pub returns-clause-large : goal.returns-clause-large
 returns-clause-large c err =
     subst (λ (l : WholeTerms). Overflows equal c.args.sum.now l)
-    (joined_label c.in_ok-from_valid_parts.field-0 c.as_slice.result.now c.args.left.now c.args.label.now c.in-Some.product (c.args.z *ℤ c.args.c) c.in_ok-from_valid_parts.ensures.ok
-    (c.as_slice.ensures.value ∙ c.in_ok-put_merged.ensures ∙ ap₂ merged c.parts.ensures.value c.parts-2.ensures.value) c.in-Some.ensures)
+    (joined_label c.in_ok-from_valid_parts.field-0 c.as_slice.result.now c.args.left.now
+    c.args.label.now c.in-Some.product (c.args.z *ℤ c.args.c)
+    c.in_ok-from_valid_parts.ensures.ok
+    (c.as_slice.ensures.value ∙ c.in_ok-put_merged.ensures ∙ ap₂ merged c.parts.ensures.value
+    c.parts-2.ensures.value) c.in-Some.ensures)
     (c.add_owned.ensures.large err)

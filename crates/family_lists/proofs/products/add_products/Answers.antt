@@ -12,8 +12,10 @@ add_by-requires c t m =
 pub returns-clause-value : goal.returns-clause-value
 returns-clause-value c =
     on_ok c.add_by.result c.add_by.ensures.gains
-    (λ more. products-same c.args.sum.now c.add_by.new.self c.args.c c.args.left.now c.args.right.now more)
+    (λ more. products-same c.args.sum.now c.add_by.new.self c.args.c c.args.left.now
+    c.args.right.now more)
 
 pub returns-clause-large : goal.returns-clause-large
 returns-clause-large c err m few one =
-    large-products c.args.sum.now c.args.c c.args.left.now c.args.right.now m (c.add_by.ensures.large err) few
+    large-products c.args.sum.now c.args.c c.args.left.now c.args.right.now m
+    (c.add_by.ensures.large err) few

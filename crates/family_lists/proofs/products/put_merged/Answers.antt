@@ -2,7 +2,8 @@ use Rattle.std.proofs.Common.{◌⊎◌, ◌≤◌, ◌+◌, ◌++◌, length, d
 use Rattle.basis_change_laws.specs.JoinedLists.{merged}
 use Rattle.family_lists.proofs.MergedLists.{merged-right, merged-left, merged-end, written}
 use Rattle.family_lists.proofs.products.put_merged.Goals as goal
-use Rattle.family_lists.proofs.products.put_merged.Goals.{then-loop-i-test+else-j-parts, else-loop-i-test}
+use Rattle.family_lists.proofs.products.put_merged.Goals.{then-loop-i-test+else-j-parts}
+use Rattle.family_lists.proofs.products.put_merged.Goals.{else-loop-i-test}
 
 pub loop-i-init : goal.loop-i-init
 loop-i-init c = record {
@@ -18,8 +19,11 @@ loop-i-preserved-then-more-i c =
     let l = c.if-more-i.true in
     record {
       so_far =
-          ap (λ b. b ++ merged (drop c.loop-i.i c.args.more.now) (drop (c.loop-i.j + 1) c.args.parts.now)) c.in_ok-push.ensures.items
-          ∙ merged-right (merged c.args.more.now c.args.parts.now) c.args.more.now c.args.parts.now c.loop-i.i c.loop-i.j c.requires.more c.requires.parts c.loop-i.buffer.items c.loop-i.invariant.so_far h k l;
+          ap (λ b. b ++ merged (drop c.loop-i.i c.args.more.now)
+          (drop (c.loop-i.j + 1) c.args.parts.now)) c.in_ok-push.ensures.items
+          ∙ merged-right (merged c.args.more.now c.args.parts.now) c.args.more.now c.args.parts.now
+          c.loop-i.i c.loop-i.j c.requires.more c.requires.parts c.loop-i.buffer.items
+          c.loop-i.invariant.so_far h k l;
       within = c.loop-i.invariant.within;
       within_parts = omega arith;
     }
@@ -31,15 +35,27 @@ loop-i-preserved c =
     let l = c.if-more-i.false in
     record {
       so_far =
-          ap (λ b. b ++ merged (drop (c.loop-i.i + 1) c.args.more.now) (drop c.loop-i.j c.args.parts.now)) c.in_ok-push-2.ensures.items
-          ∙ merged-left (merged c.args.more.now c.args.parts.now) c.args.more.now c.args.parts.now c.loop-i.i c.loop-i.j c.requires.more c.requires.parts c.loop-i.buffer.items c.loop-i.invariant.so_far h k (omega arith);
+          ap (λ b. b ++ merged (drop (c.loop-i.i + 1) c.args.more.now)
+          (drop c.loop-i.j c.args.parts.now)) c.in_ok-push-2.ensures.items
+          ∙ merged-left (merged c.args.more.now c.args.parts.now) c.args.more.now c.args.parts.now
+          c.loop-i.i c.loop-i.j c.requires.more c.requires.parts c.loop-i.buffer.items
+          c.loop-i.invariant.so_far h k (omega arith);
       within = omega arith;
       within_parts = c.loop-i.invariant.within_parts;
     }
 
 pub returns : goal.returns
 returns c =
-    let over : (length c.args.more.now ≤ c.loop-i.i) ⊎ (length c.args.parts.now ≤ c.loop-i.j) = elim (c.loop-i-test.branch) [ then-loop-i-test+else-j-parts w ↦ inr (let k = w.if-j-parts in omega arith) | else-loop-i-test w ↦ inl (let h = w.loop-i-test in omega arith) ] in
-    written c.extend_from_slice-2.new.self.items c.loop-i.buffer.items c.extend_from_slice.new.self.items c.args.more.now c.args.parts.now (merged c.args.more.now c.args.parts.now) c.loop-i.i c.loop-i.j
-    c.in_ok-extend_from_slice.ensures.items c.in_ok-extend_from_slice-2.ensures.items
-    (merged-end (merged c.args.more.now c.args.parts.now) c.args.more.now c.args.parts.now c.loop-i.i c.loop-i.j c.requires.more c.requires.parts c.loop-i.buffer.items c.loop-i.invariant.so_far over)
+    let over : (length c.args.more.now ≤ c.loop-i.i) ⊎ (length c.args.parts.now ≤ c.loop-i.j) =
+    elim (c.loop-i-test.branch) [
+      | then-loop-i-test+else-j-parts w ↦ inr (let k = w.if-j-parts in
+          omega arith)
+      | else-loop-i-test w ↦ inl (let h = w.loop-i-test in omega arith)
+    ] in
+    written c.put_rest-2.new.buffer.items c.loop-i.buffer.items c.put_rest.new.buffer.items
+    c.args.more.now c.args.parts.now (merged c.args.more.now c.args.parts.now) c.loop-i.i
+    c.loop-i.j
+    c.in_ok-put_rest.ensures c.in_ok-put_rest-2.ensures
+    (merged-end (merged c.args.more.now c.args.parts.now) c.args.more.now c.args.parts.now
+    c.loop-i.i c.loop-i.j c.requires.more c.requires.parts c.loop-i.buffer.items
+    c.loop-i.invariant.so_far over)

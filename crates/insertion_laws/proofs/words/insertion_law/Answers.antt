@@ -1,4 +1,5 @@
-use Rattle.insertion_laws.proofs.WordsAndPairs.{inserted_tableau, recorded_tableau, one_shape, as_many_cells}
+use Rattle.insertion_laws.proofs.WordsAndPairs.{inserted_tableau, recorded_tableau, one_shape}
+use Rattle.insertion_laws.proofs.WordsAndPairs.{as_many_cells}
 use Rattle.insertion_laws.proofs.words.insertion_law.Goals as goal
 
 pub returns-clause-tableau : goal.returns-clause-tableau

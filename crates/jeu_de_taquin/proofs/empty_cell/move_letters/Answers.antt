@@ -10,11 +10,13 @@ use Rattle.jeu_de_taquin.proofs.empty_cell.move_letters.Goals as goal
 
 pub next_letter-requires-clause-row : goal.next_letter-requires-clause-row
 next_letter-requires-clause-row c =
-    (is_at c.loop-letter.filled c.loop-letter.row c.loop-letter.column c.loop-letter.invariant.filling c.loop-letter.invariant.cell).few
+    (is_at c.loop-letter.filled c.loop-letter.row c.loop-letter.column
+    c.loop-letter.invariant.filling c.loop-letter.invariant.cell).few
 
 pub next_letter-requires-clause-column : goal.next_letter-requires-clause-column
 next_letter-requires-clause-column c =
-    (is_at c.loop-letter.filled c.loop-letter.row c.loop-letter.column c.loop-letter.invariant.filling c.loop-letter.invariant.cell).small
+    (is_at c.loop-letter.filled c.loop-letter.row c.loop-letter.column
+    c.loop-letter.invariant.filling c.loop-letter.invariant.cell).small
 
 pub set-requires : goal.set-requires
 set-requires c = c.loop-letter.invariant.cell
@@ -24,17 +26,20 @@ set-requires-in-Below c = c.loop-letter.invariant.cell
 
 pub overflow_add-column : goal.overflow_add-column
 overflow_add-column c =
-    let at = is_at c.loop-letter.filled c.loop-letter.row c.loop-letter.column c.loop-letter.invariant.filling c.loop-letter.invariant.cell in
+    let at = is_at c.loop-letter.filled c.loop-letter.row c.loop-letter.column
+    c.loop-letter.invariant.filling c.loop-letter.invariant.cell in
     omega (arith, at.small)
 
 pub loop-letter-smaller-in-Right : goal.loop-letter-smaller-in-Right
 loop-letter-smaller-in-Right c =
-    let at = is_at c.loop-letter.filled c.loop-letter.row c.loop-letter.column c.loop-letter.invariant.filling c.loop-letter.invariant.cell in
+    let at = is_at c.loop-letter.filled c.loop-letter.row c.loop-letter.column
+    c.loop-letter.invariant.filling c.loop-letter.invariant.cell in
     omega (arith, at.few, at.small)
 
 pub loop-letter-smaller : goal.loop-letter-smaller
 loop-letter-smaller c =
-    let at = is_at c.loop-letter.filled c.loop-letter.row c.loop-letter.column c.loop-letter.invariant.filling c.loop-letter.invariant.cell in
+    let at = is_at c.loop-letter.filled c.loop-letter.row c.loop-letter.column
+    c.loop-letter.invariant.filling c.loop-letter.invariant.cell in
     omega (arith, at.few, at.small)
 
 pub loop-letter-preserved-in-Right : goal.loop-letter-preserved-in-Right
@@ -49,7 +54,8 @@ loop-letter-preserved-in-Right c =
     record {
       outer = ap (λ (s : SkewFilling). s.outer) e ∙ i.outer;
       inner = ap (λ (s : SkewFilling). s.inner) e ∙ i.inner;
-      filling = subst IsFilling (sym e) (IsFilling-with_entry t row column c.in-Right.letter i.filling);
+      filling = subst IsFilling (sym e) (IsFilling-with_entry t row column c.in-Right.letter
+          i.filling);
       cell = subst (λ (s : SkewFilling). IsCell s.outer s.inner row (column + 1)) (sym e) g.cell;
       rows = i.rows ∙ g.rows ∙ ap (λ (s : SkewFilling). slid_from s row (column + 1)) (sym e);
     }
@@ -65,7 +71,8 @@ loop-letter-preserved c =
     record {
       outer = ap (λ (s : SkewFilling). s.outer) e ∙ i.outer;
       inner = ap (λ (s : SkewFilling). s.inner) e ∙ i.inner;
-      filling = subst IsFilling (sym e) (IsFilling-with_entry t row column c.in-Below.letter i.filling);
+      filling = subst IsFilling (sym e) (IsFilling-with_entry t row column c.in-Below.letter
+          i.filling);
       cell = subst (λ (s : SkewFilling). IsCell s.outer s.inner (row + 1) column) (sym e) g.cell;
       rows = i.rows ∙ g.rows ∙ ap (λ (s : SkewFilling). slid_from s (row + 1) column) (sym e);
     }
@@ -73,17 +80,25 @@ loop-letter-preserved c =
 pub returns-in-Nobody-clause-corner : goal.returns-in-Nobody-clause-corner
 returns-in-Nobody-clause-corner c =
     let i = c.loop-letter.invariant in
-    let s = stops c.loop-letter.filled c.loop-letter.row c.loop-letter.column i.filling i.cell c.in-Nobody.ensures in
+    let s = stops c.loop-letter.filled c.loop-letter.row c.loop-letter.column i.filling i.cell
+    c.in-Nobody.ensures in
     subst (HasInnerCorner c.loop-letter.row) i.outer s.corner
 
 pub returns-in-Nobody-clause-cell : goal.returns-in-Nobody-clause-cell
 returns-in-Nobody-clause-cell c =
     let i = c.loop-letter.invariant in
-    let s = stops c.loop-letter.filled c.loop-letter.row c.loop-letter.column i.filling i.cell c.in-Nobody.ensures in
-    omega (arith, s.cell, ap (λ w. part w c.loop-letter.row) i.outer, ap (λ w. part w c.loop-letter.row) i.inner)
+    let s = stops c.loop-letter.filled c.loop-letter.row c.loop-letter.column i.filling i.cell
+    c.in-Nobody.ensures in
+    omega (
+      arith,
+      s.cell,
+      ap (λ w. part w c.loop-letter.row) i.outer,
+      ap (λ w. part w c.loop-letter.row) i.inner,
+    )
 
 pub returns-in-Nobody-clause-rows : goal.returns-in-Nobody-clause-rows
 returns-in-Nobody-clause-rows c =
     let i = c.loop-letter.invariant in
-    let s = stops c.loop-letter.filled c.loop-letter.row c.loop-letter.column i.filling i.cell c.in-Nobody.ensures in
+    let s = stops c.loop-letter.filled c.loop-letter.row c.loop-letter.column i.filling i.cell
+    c.in-Nobody.ensures in
     i.rows ∙ s.rows

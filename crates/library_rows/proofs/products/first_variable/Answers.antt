@@ -10,5 +10,7 @@ times_var-requires-clause-room c = let e = ap size c.one.ensures in omega arith
 
 pub returns : goal.returns
 returns c t m =
-    only_label is_monomial_label _ _ _ _ c.new-sum.ensures c.in_ok-add_term.ensures.was c.in_ok-add_term.ensures.combination c.in_ok-add_term.ensures.ok t m
+    only_label is_monomial_label _ _ _ _ c.new-sum.ensures
+    c.in_ok-add_term.ensures.was c.in_ok-add_term.ensures.combination
+    c.in_ok-add_term.ensures.ok t m
     ∙ c.in_ok-times_var.ensures ∙ ap (raised 1) c.one.ensures

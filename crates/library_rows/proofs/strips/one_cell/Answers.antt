@@ -13,6 +13,11 @@ Fits label = (size label + 2 ≤ 4096) × (rows label + 2 ≤ 512)
 pub returns : goal.returns
 returns c t m =
     let one = subst Fits (sym c.in_ok-from_parts.ensures.ok) (omega arith, omega arith) in
-    labels_gained nat_list_eq_equiv same_partition _ _ c.add_at_label.new.self c.in_ok-add_at_label.ensures.table c.in_ok-add_at_label.ensures.gains Fits
+    labels_gained nat_list_eq_equiv same_partition _ _ c.add_at_label.new.self
+    c.in_ok-add_at_label.ensures.table c.in_ok-add_at_label.ensures.gains Fits
     (subst (HaveLabels Fits) (sym c.new-list.ensures) (λ u n. absurd n))
-    (λ u n. elim n [ inl e ↦ subst Fits (sym (ap (λ (x : List ℕ × ℤ). x.0) e)) one | inr x ↦ absurd x ]) t m
+    (λ u n. elim n [
+      | inl e ↦ subst Fits (sym (ap (λ (x : List ℕ × ℤ). x.0) e)) one
+      | inr x ↦
+          absurd x
+    ]) t m

@@ -15,10 +15,12 @@ returns-in-Ok-clause-value c =
     let label = c.args.label.now in
     let x = c.index-terms-at.result in
     let e : xs ≡ c.args.list.now = c.as_slice-terms.ensures.value ∙ c.iter-terms.ensures.rest in
-    let equal = c.in-Ok.ensures.position (to_label label) (always_returns_same _ _ _ (λ a r f k. search (rules, of_calls))) x in
+    let equal = c.in-Ok.ensures.position (to_label label) (always_returns_same _ _ _
+    (λ a r f k. search (rules, of_calls))) x in
     sym (ap (λ (y : List ℕ × ℤ). y.1) c.index-terms-at.is)
     ∙ sym (subst (λ (l : WholeTerms). coefficient l label ≡ x.1) e
-    (found xs label c.in-Ok.at x (subst (IsCanonicalList printed_order is_label whole) (sym e) c.iter-terms.ensures.canonical) c.requires
+    (found xs label c.in-Ok.at x (subst (IsCanonicalList printed_order is_label whole)
+    (sym e) c.iter-terms.ensures.canonical) c.requires
     c.in-Ok.ensures.bound c.index-terms-at.is (ap (to_label label) c.index-terms-at.is ∙ equal)))
 
 pub returns-in-Err-clause-value : goal.returns-in-Err-clause-value
@@ -28,5 +30,7 @@ returns-in-Err-clause-value c =
     let e : xs ≡ c.args.list.now = c.as_slice-terms.ensures.value ∙ c.iter-terms.ensures.rest in
     c.new.ensures
     ∙ sym (subst (λ (l : WholeTerms). coefficient l label ≡ pos 0) e
-    (not_found xs label c.in-Err.field-0 (subst (IsCanonicalList printed_order is_label whole) (sym e) c.iter-terms.ensures.canonical)
-    (c.in-Err.ensures.position (to_label label) (always_returns_same _ _ _ (λ a r f k. search (rules, of_calls))))))
+    (not_found xs label c.in-Err.field-0 (subst (IsCanonicalList printed_order is_label whole)
+    (sym e) c.iter-terms.ensures.canonical)
+    (c.in-Err.ensures.position (to_label label) (always_returns_same _ _ _
+    (λ a r f k. search (rules, of_calls))))))

@@ -7,5 +7,8 @@ use Rattle.lr_coproduct.proofs.inner_shapes.count_above.Goals as goal
 
 pub returns : goal.returns
 returns c =
-    counted_above c.args.inners.now c.args.cells c.partition_point.result c.partition_point.ensures.bound
-    (c.partition_point.ensures.partitioned (λ (inner : List ℕ). nat_lt c.args.cells (size inner)) (always_returns_same _ _ _ (λ a r f k. search (rules, of_calls))) (parted c.args.inners.now c.args.cells c.requires))
+    counted_above c.args.inners.now c.args.cells c.partition_point.result
+    c.partition_point.ensures.bound
+    (c.partition_point.ensures.partitioned (λ (inner : List ℕ). nat_lt c.args.cells (size inner))
+    (always_returns_same _ _ _ (λ a r f k. search (rules, of_calls)))
+    (parted c.args.inners.now c.args.cells c.requires))

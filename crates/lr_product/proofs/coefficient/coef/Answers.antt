@@ -8,11 +8,17 @@ use Rattle.lr_product.proofs.coefficient.coef.Goals as goal
 pub returns-clause-meets : goal.returns-clause-meets
 returns-clause-meets c =
     if_answered c.count_in.result c.count_in.ensures.value
-    (λ z is terms e. coef_meets c.args.outer.now c.args.left.now c.args.right.now terms c.count_in.ensures.factors.0 c.count_in.ensures.factors.1 c.count_in.ensures.factors.2 (e ∙ is))
+    (λ z is terms e. coef_meets c.args.outer.now c.args.left.now c.args.right.now terms
+    c.count_in.ensures.factors.0 c.count_in.ensures.factors.1 c.count_in.ensures.factors.2
+    (e ∙ is))
 
 pub returns-clause-large : goal.returns-clause-large
-returns-clause-large c = λ e. coef_past c.args.outer.now c.args.left.now c.args.right.now c.count_in.ensures.factors.0 c.count_in.ensures.factors.1 c.count_in.ensures.factors.2 (c.count_in.ensures.large e)
+returns-clause-large c = λ e. coef_past c.args.outer.now c.args.left.now c.args.right.now
+    c.count_in.ensures.factors.0 c.count_in.ensures.factors.1 c.count_in.ensures.factors.2
+    (c.count_in.ensures.large e)
 
 pub returns-clause-fits : goal.returns-clause-fits
 returns-clause-fits c =
-    on_ok c.count_in.result c.count_in.ensures.fits (coef_fits c.args.outer.now c.args.left.now c.args.right.now c.count_in.ensures.factors.0 c.count_in.ensures.factors.1 c.count_in.ensures.factors.2)
+    on_ok c.count_in.result c.count_in.ensures.fits (coef_fits c.args.outer.now c.args.left.now
+    c.args.right.now c.count_in.ensures.factors.0 c.count_in.ensures.factors.1
+    c.count_in.ensures.factors.2)

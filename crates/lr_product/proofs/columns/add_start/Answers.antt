@@ -1,4 +1,4 @@
-use Rattle.std.proofs.Common.{◌≡◌, ◌+◌, ◌*◌, [], ap, ◌∙◌}
+use Rattle.std.proofs.Common.{◌≡◌, ◌+◌, ◌*◌, [], length, sym, ap, ◌∙◌}
 use Rattle.sym_model.specs.Polynomial.{resize}
 use Rattle.sym_model.proofs.Exponents.{length-resize}
 use Rattle.linear_combinations.proofs.Steps.{on_ok}
@@ -7,11 +7,19 @@ use Rattle.lr_product.proofs.Agreeing.{agree_same, agree_then}
 use Rattle.lr_product.proofs.Rounds.{at_whole}
 use Rattle.lr_product.proofs.columns.add_start.Goals as goal
 
-pub returns : goal.returns
-returns c =
+pub add-requires-clause-width : goal.add-requires-clause-width
+add-requires-clause-width c =
+    ap length (c.deref.ensures.value ∙ c.in_ok-state.ensures) ∙ length-resize c.args.letters
+    c.args.start.now ∙ sym c.requires.width
+
+pub returns-clause-adds : goal.returns-clause-adds
+returns-clause-adds c =
     let n = c.args.letters in
     let start = c.args.start.now in
-    on_ok c.add.result c.add.ensures
+    on_ok c.add.result c.add.ensures.adds
     (λ adds f.
-    let x : at_state n f c.in_ok-state.state ≡ f (resize n start) [] = ap (at_state n f) c.in_ok-state.ensures ∙ at_whole n f (resize n start) (length-resize n start) in
-    agree_then _ _ _ (adds n f) (agree_same _ _ (ap (λ y. weighed n f c.args.table.now.entries + c.args.count * y) x)))
+    let x : at_state n f c.deref.result.now ≡ f (resize n start) [] = ap (at_state n f)
+    (c.deref.ensures.value ∙ c.in_ok-state.ensures) ∙ at_whole n f (resize n start)
+    (length-resize n start) in
+    agree_then _ _ _ (adds n f)
+    (agree_same _ _ (ap (λ y. weighed n f c.args.table.now.entries + c.args.count * y) x)))

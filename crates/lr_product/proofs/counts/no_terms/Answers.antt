@@ -7,4 +7,7 @@ use Rattle.lr_product.proofs.counts.no_terms.Goals as goal
 
 pub returns-clause-none : goal.returns-clause-none
 returns-clause-none c =
-    same_as_none c.in_ok-sorted_terms.field-0 c.in_ok-sorted_terms.ensures.combination (subst (λ old. HasSameCoefficients (pointwise nat_eq) (pos 0) old c.in_ok-sorted_terms.field-0) c.new-terms.ensures c.in_ok-sorted_terms.ensures.same)
+    same_as_none c.in_ok-sorted_terms.field-0 c.in_ok-sorted_terms.ensures.combination
+    (subst (λ old. HasSameCoefficients (pointwise nat_eq)
+    (pos 0) old c.in_ok-sorted_terms.field-0) c.new-terms.ensures
+    c.in_ok-sorted_terms.ensures.same)

@@ -4,6 +4,6 @@ use Rattle.lr_product.proofs.counts.terms_of_table.Given as goal
 
 abbrev pub invariant-loop-at : goal.invariant-loop-at
 invariant-loop-at l = record {
-  end : l.at-end ≡ length l.table.entries;
-  finds : Finds (counted l.letters l.table.entries l.at) l.terms;
+  end : l.at-end ≡ length l.fn.table.entries;
+  finds : Finds (counted l.letters l.fn.table.entries l.at) l.terms;
 }

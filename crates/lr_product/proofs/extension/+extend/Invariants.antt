@@ -10,17 +10,18 @@ decreases-extend l = length l.line.now
 
 abbrev pub invariant-loop-letter : goal.invariant-loop-letter
 invariant-loop-letter l = record {
-  same : l.state ≡ l.initial.state;
+  same : l.state.items ≡ l.initial.state.items;
+  width : l.table.width ≡ l.initial.table.width;
   adds :
       (f : List ℕ → List ℕ → ℕ)
       → VanishesOutside l.bound f
       → Agree (weighed l.column.letters f l.table.entries
-      + l.column.ways * sum_over (λ b. extended l.column.is_kept l.column.letters l.rest (drop 1 l.right) b f (raised b l.initial.state ++ mark l.column.is_kept b)) (numbers_from l.letter (l.end - l.letter)))
+      + l.column.ways * sum_over (λ b. extended l.column.is_kept l.column.letters l.rest (drop 1 l.right) b f (raised b l.initial.state.items ++ mark l.column.is_kept b)) (numbers_from l.letter (l.end - l.letter)))
       (weighed l.column.letters f l.initial.table.entries
-      + l.column.ways * sum_over (λ b. extended l.column.is_kept l.column.letters l.rest (drop 1 l.right) b f (raised b l.initial.state ++ mark l.column.is_kept b)) (numbers_from l.low (l.end - l.low)));
+      + l.column.ways * sum_over (λ b. extended l.column.is_kept l.column.letters l.rest (drop 1 l.right) b f (raised b l.initial.state.items ++ mark l.column.is_kept b)) (numbers_from l.low (l.end - l.low)));
   reached :
       (m : ℕ)
-      → size (take l.column.letters l.initial.state) + (length l.rest + 1) ≤ m
+      → size (take l.column.letters l.initial.state.items) + (length l.rest + 1) ≤ m
       → weighed l.column.letters (unreached l.column.letters m) l.initial.table.entries ≡ 0
       → weighed l.column.letters (unreached l.column.letters m) l.table.entries ≡ 0;
 }

@@ -10,26 +10,39 @@ use Rattle.lr_product.proofs.factor_product.mult_all.Goals as goal
 
 pub returns-then-has_longer-clause-meets : goal.returns-then-has_longer-clause-meets
 returns-then-has_longer-clause-meets c =
-    let e : c.unwrap_or-variables.result ≡ unwrap_or c.args.rows (max (size (map rows c.args.factors.now)) 1) =
-    c.unwrap_or-variables.ensures ∙ ap (unwrap_or c.args.rows) (c.max.ensures ∙ ap (λ n. max n 1) c.rows.ensures.value) in
+    let e : c.unwrap_or-variables.result ≡ unwrap_or c.args.rows
+    (max (size (map rows c.args.factors.now)) 1) =
+    c.unwrap_or-variables.ensures ∙ ap (unwrap_or c.args.rows)
+    (c.max.ensures ∙ ap (λ n. max n 1) c.rows.ensures.value) in
     if_answered c.no_terms.result c.no_terms.ensures.none
-    (λ terms none. nothing_meets c.args.rows c.unwrap_or-variables.result c.args.factors.now terms e c.rows.ensures.limits.small.partitions (c.has_longer.ensures.0 c.if-has_longer.true) none)
+    (λ terms none. nothing_meets c.args.rows c.unwrap_or-variables.result c.args.factors.now terms e
+    c.rows.ensures.limits.small.partitions (c.has_longer.ensures.0 c.if-has_longer.true) none)
 
 pub returns-then-has_longer-clause-fits : goal.returns-then-has_longer-clause-fits
 returns-then-has_longer-clause-fits c =
-    let e : c.unwrap_or-variables.result ≡ unwrap_or c.args.rows (max (size (map rows c.args.factors.now)) 1) =
-    c.unwrap_or-variables.ensures ∙ ap (unwrap_or c.args.rows) (c.max.ensures ∙ ap (λ n. max n 1) c.rows.ensures.value) in
+    let e : c.unwrap_or-variables.result ≡ unwrap_or c.args.rows
+    (max (size (map rows c.args.factors.now)) 1) =
+    c.unwrap_or-variables.ensures ∙ ap (unwrap_or c.args.rows)
+    (c.max.ensures ∙ ap (λ n. max n 1) c.rows.ensures.value) in
     on_any c.no_terms.result
-    (nothing_fits c.args.rows c.unwrap_or-variables.result c.args.factors.now e c.rows.ensures.limits.small.partitions (c.has_longer.ensures.0 c.if-has_longer.true))
+    (nothing_fits c.args.rows c.unwrap_or-variables.result c.args.factors.now e
+    c.rows.ensures.limits.small.partitions (c.has_longer.ensures.0 c.if-has_longer.true))
 
 pub returns-clause-large : goal.returns-clause-large
 returns-clause-large c = λ err.
-    let e : c.unwrap_or-variables.result ≡ unwrap_or c.args.rows (max (size (map rows c.args.factors.now)) 1) =
-    c.unwrap_or-variables.ensures ∙ ap (unwrap_or c.args.rows) (c.max.ensures ∙ ap (λ n. max n 1) c.rows.ensures.value) in
-    past_factors c.args.rows c.unwrap_or-variables.result c.args.factors.now c.rows.ensures.limits e (c.product_in.ensures.large err)
+    let e : c.unwrap_or-variables.result ≡ unwrap_or c.args.rows
+    (max (size (map rows c.args.factors.now)) 1) =
+    c.unwrap_or-variables.ensures ∙ ap (unwrap_or c.args.rows)
+    (c.max.ensures ∙ ap (λ n. max n 1) c.rows.ensures.value) in
+    past_factors c.args.rows c.unwrap_or-variables.result c.args.factors.now c.rows.ensures.limits e
+    (c.product_in.ensures.large err)
 
 pub returns-clause-fits : goal.returns-clause-fits
 returns-clause-fits c =
-    let e : c.unwrap_or-variables.result ≡ unwrap_or c.args.rows (max (size (map rows c.args.factors.now)) 1) =
-    c.unwrap_or-variables.ensures ∙ ap (unwrap_or c.args.rows) (c.max.ensures ∙ ap (λ n. max n 1) c.rows.ensures.value) in
-    on_ok c.product_in.result c.product_in.ensures.small (small_factors c.args.rows c.unwrap_or-variables.result c.args.factors.now c.rows.ensures.limits e)
+    let e : c.unwrap_or-variables.result ≡ unwrap_or c.args.rows
+    (max (size (map rows c.args.factors.now)) 1) =
+    c.unwrap_or-variables.ensures ∙ ap (unwrap_or c.args.rows)
+    (c.max.ensures ∙ ap (λ n. max n 1) c.rows.ensures.value) in
+    on_ok c.product_in.result c.product_in.ensures.small
+    (small_factors c.args.rows c.unwrap_or-variables.result c.args.factors.now
+    c.rows.ensures.limits e)

@@ -1,4 +1,5 @@
-use Rattle.std.proofs.Common.{Iter, ◌≡◌, ℕ, ◌≤◌, ◌⊎◌, inl, inr, ℤ, List, [], ◌∷◌, ◌++◌, map, refl, sym, ap, subst, ◌∙◌, arith}
+use Rattle.std.proofs.Common.{Iter, ◌≡◌, ℕ, ◌≤◌, ◌⊎◌, inl, inr, ℤ, List, [], ◌∷◌, ◌++◌, map, refl}
+use Rattle.std.proofs.Common.{sym, ap, subst, ◌∙◌, arith}
 use Rattle.std.proofs.lemmas.List.{map-append}
 use Rattle.sym_model.specs.Sum.{Among}
 use Rattle.sym_model.specs.Partition.{rows}
@@ -15,17 +16,31 @@ loop-label-preserved c =
     let done : List (List ℕ × ℤ) = map (λ item. item.now) c.loop-label.yielded in
     let p : List ℕ × ℤ = c.in-Some.field-0.now in
     let rest = c.next.new.self.rest.now in
-    let pushed : done ++ p ∷ [] ≡ map (λ item. item.now) (c.loop-label.yielded ++ c.in-Some.field-0 ∷ []) =
+    let pushed : done ++ p ∷ [] ≡ map (λ item. item.now) (c.loop-label.yielded ++ c.in-Some.field-0
+    ∷ []) =
     sym (map-append (λ item. item.now) c.loop-label.yielded (c.in-Some.field-0 ∷ [])) in
-    let here : rows p.0 ≤ c.max-most.result = omega (arith, c.max-most.ensures, c.rows.ensures.value) in
+    let here : rows p.0 ≤ c.max-most.result = omega (
+      arith,
+      c.max-most.ensures,
+      c.rows.ensures.value,
+    ) in
     let longer : c.loop-label.most ≤ c.max-most.result = omega (arith, c.max-most.ensures) in
     record {
-      most = λ t m. among done p c.loop-label.most c.max-most.result c.loop-label.invariant.most here longer t (subst (λ l. Among t l) (sym pushed) m);
-      within = omega (arith, c.max-most.ensures, c.rows.ensures.value, c.rows.ensures.limits.few, c.loop-label.invariant.within);
-      so_far = so_far_next done rest c.loop-label.label-iterator.rest.now _ _ p pushed c.in-Some.ensures.steps c.loop-label.invariant.so_far;
+      most = λ t m. among done p c.loop-label.most c.max-most.result c.loop-label.invariant.most
+          here longer t (subst (λ l. Among t l) (sym pushed) m);
+      within = omega (
+        arith,
+        c.max-most.ensures,
+        c.rows.ensures.value,
+        c.rows.ensures.limits.few,
+        c.loop-label.invariant.within,
+      );
+      so_far = so_far_next done rest c.loop-label.label-iterator.rest.now _ _ p pushed
+          c.in-Some.ensures.steps c.loop-label.invariant.so_far;
     }
   where
-    among : (done : List (List ℕ × ℤ)) (p : List ℕ × ℤ) (old new : ℕ) → ((t : List ℕ × ℤ) → Among t done → rows t.0 ≤ old) → rows p.0 ≤ new → old ≤ new
+    among : (done : List (List ℕ × ℤ)) (p : List ℕ × ℤ) (old new : ℕ) →
+        ((t : List ℕ × ℤ) → Among t done → rows t.0 ≤ old) → rows p.0 ≤ new → old ≤ new
         → (t : List ℕ × ℤ) → Among t (done ++ p ∷ []) → rows t.0 ≤ new
     among done p old new before here longer t m = by (Among_from_append t done (p ∷ []) m)
       where
@@ -37,5 +52,8 @@ loop-label-preserved c =
 pub returns-clause-most : goal.returns-clause-most
 returns-clause-most c =
     subst (λ (l : List (List ℕ × ℤ)). (t : List ℕ × ℤ) → Among t l → rows t.0 ≤ c.loop-label.most)
-    (all_read (map (λ item. item.now) c.loop-label.yielded) c.loop-label.label-iterator.rest.now _ c.in-None.ensures.steps.0 (c.loop-label.invariant.so_far ∙ (ap (λ (it : Iter (List ℕ × ℤ)). it.rest.now) c.into_iter-label-iterator.ensures.into_iter_gives) ∙ c.iter-label-items.ensures.rest))
+    (all_read (map (λ item. item.now) c.loop-label.yielded) c.loop-label.label-iterator.rest.now _
+    c.in-None.ensures.steps.0 (c.loop-label.invariant.so_far
+    ∙ (ap (λ (it : Iter (List ℕ × ℤ)). it.rest.now)
+    c.into_iter-label-iterator.ensures.into_iter_gives) ∙ c.iter-label-items.ensures.rest))
     c.loop-label.invariant.most

@@ -1,4 +1,5 @@
-use Rattle.std.proofs.Common.{Iter, ◌≡◌, ◌≤◌, ℕ, ℤ, List, [], ◌∷◌, ◌++◌, ◌+◌, ◌*◌, nat_abs, map, refl, sym, ap, ap₂, subst, ◌∙◌, arith, to_z-of_z}
+use Rattle.std.proofs.Common.{Iter, ◌≡◌, ◌≤◌, ℕ, ℤ, List, [], ◌∷◌, ◌++◌, ◌+◌, ◌*◌, nat_abs, map}
+use Rattle.std.proofs.Common.{refl, sym, ap, ap₂, subst, ◌∙◌, arith, to_z-of_z}
 use Rattle.std.specs.Int.{w128}
 use Rattle.std.proofs.lemmas.List.{map-append}
 use Rattle.sym_model.specs.Sum.{Among}
@@ -7,6 +8,7 @@ use Rattle.sym_model.specs.Polynomial.{resize}
 use Rattle.sym_model.proofs.Lists.{all_read}
 use Rattle.linear_combinations.proofs.Gains.{all_pairs, so_far_next, next_among}
 use Rattle.lr_product.specs.Capped.{Agree}
+use Rattle.lr_product.specs.StateCounts.{StateCounts}
 use Rattle.lr_product.specs.WeighedSum.{started, weighed}
 use Rattle.lr_product.proofs.Agreeing.{agree_same, agree_then, agree_sum}
 use Rattle.lr_product.proofs.ManyStarts.{started-push}
@@ -14,7 +16,8 @@ use Rattle.lr_product.proofs.next_factor.starts_of.Goals as goal
 
 pub loop-label-init : goal.loop-label-init
 loop-label-init c = record {
-  counts = λ f. agree_same _ _ (ap (weighed c.args.letters f) c.new-table.ensures.empty);
+  width = c.in_ok-table.ensures.width ∙ c.from.ensures;
+  counts = λ f. agree_same _ _ (ap (weighed c.args.letters f) c.in_ok-table.ensures.none);
   so_far = refl;
 }
 
@@ -23,8 +26,15 @@ add_start-requires-clause-rows c =
     let done : List (List ℕ × ℤ) = map (λ item. item.now) c.loop-label.yielded in
     let p : List ℕ × ℤ = c.in-Some.field-0.now in
     let rest = c.next.new.self.rest.now in
-    let all = all_pairs done rest c.loop-label.label-iterator.rest.now _ _ c.args.product.now p c.in-Some.ensures.steps c.loop-label.invariant.so_far (ap (λ (it : Iter (List ℕ × ℤ)). it.rest.now) c.into_iter-label-iterator.ensures.into_iter_gives) c.iter-label-items.ensures.rest in
-    subst (λ l. rows l ≤ c.args.letters) (sym c.parts.ensures.value) (c.requires.rows p (subst (λ l. Among p l) all (next_among done p rest)))
+    let all = all_pairs done rest c.loop-label.label-iterator.rest.now _ _ c.args.product.now p
+    c.in-Some.ensures.steps c.loop-label.invariant.so_far
+    (ap (λ (it : Iter (List ℕ × ℤ)). it.rest.now)
+    c.into_iter-label-iterator.ensures.into_iter_gives) c.iter-label-items.ensures.rest in
+    subst (λ l. rows l ≤ c.args.letters) (sym c.parts.ensures.value)
+    (c.requires.rows p (subst (λ l. Among p l) all (next_among done p rest)))
+
+pub add_start-requires-clause-width : goal.add_start-requires-clause-width
+add_start-requires-clause-width c = c.loop-label.invariant.width
 
 pub add_start-requires-clause-count : goal.add_start-requires-clause-count
 add_start-requires-clause-count c = omega (arith, c.unsigned_abs.ensures.bound)
@@ -35,20 +45,34 @@ loop-label-preserved c =
     let done : List (List ℕ × ℤ) = map (λ item. item.now) c.loop-label.yielded in
     let p : List ℕ × ℤ = c.in-Some.field-0.now in
     let rest = c.next.new.self.rest.now in
-    let pushed : done ++ p ∷ [] ≡ map (λ item. item.now) (c.loop-label.yielded ++ c.in-Some.field-0 ∷ []) =
+    let pushed : done ++ p ∷ [] ≡ map (λ item. item.now) (c.loop-label.yielded ++ c.in-Some.field-0
+    ∷ []) =
     sym (map-append (λ item. item.now) c.loop-label.yielded (c.in-Some.field-0 ∷ [])) in
-    let count : c.unsigned_abs.result ≡ nat_abs p.1 = c.unsigned_abs.ensures.value ∙ ap nat_abs (to_z-of_z {w = w128} {z = c.get.result} (record { sfits = c.get.type_inv }) ∙ c.get.ensures) in
+    let count : c.unsigned_abs.result ≡ nat_abs p.1 = c.unsigned_abs.ensures.value ∙ ap nat_abs
+    (to_z-of_z {w = w128} {z = c.get.result} (record { sfits = c.get.type_inv })
+    ∙ c.get.ensures) in
     record {
+      width = c.in_ok-add_start.ensures.width ∙ c.loop-label.invariant.width;
       counts = λ f.
-          let here : f (resize n c.parts.result.now) [] ≡ f (resize n p.0) [] = ap (λ l. f (resize n l) []) c.parts.ensures.value in
-          agree_then _ _ _ (c.in_ok-add_start.ensures f) (agree_then _ _ _
-          (agree_sum _ _ (c.unsigned_abs.result * f (resize n c.parts.result.now) []) (c.loop-label.invariant.counts f))
-          (agree_same _ _ (ap (λ x. started n f done + x) (ap₂ ◌*◌ count here) ∙ started-push n f done p ∙ ap (started n f) pushed)));
-      so_far = so_far_next done rest c.loop-label.label-iterator.rest.now _ _ p pushed c.in-Some.ensures.steps c.loop-label.invariant.so_far;
+          let here : f (resize n c.parts.result.now) [] ≡ f (resize n p.0) [] =
+          ap (λ l. f (resize n l) []) c.parts.ensures.value in
+          agree_then _ _ _ (c.in_ok-add_start.ensures.adds f) (agree_then _ _ _
+          (agree_sum _ _ (c.unsigned_abs.result * f (resize n c.parts.result.now) [])
+          (c.loop-label.invariant.counts f))
+          (agree_same _ _ (ap (λ x. started n f done + x) (ap₂ ◌*◌ count here) ∙ started-push n f
+          done p ∙ ap (started n f) pushed)));
+      so_far = so_far_next done rest c.loop-label.label-iterator.rest.now _ _ p pushed
+          c.in-Some.ensures.steps c.loop-label.invariant.so_far;
     }
 
 pub returns : goal.returns
-returns c =
-    subst (λ (l : List (List ℕ × ℤ)). (f : List ℕ → List ℕ → ℕ) → Agree (weighed c.args.letters f c.loop-label.table.entries) (started c.args.letters f l))
-    (all_read (map (λ item. item.now) c.loop-label.yielded) c.loop-label.label-iterator.rest.now _ c.in-None.ensures.steps.0 (c.loop-label.invariant.so_far ∙ (ap (λ (it : Iter (List ℕ × ℤ)). it.rest.now) c.into_iter-label-iterator.ensures.into_iter_gives) ∙ c.iter-label-items.ensures.rest))
-    c.loop-label.invariant.counts
+returns c f =
+    agree_then _ _ _ (agree_same _ _ (ap (λ (t : StateCounts). weighed c.args.letters f t.entries)
+    c.into_states.ensures))
+    (subst (λ (l : List (List ℕ × ℤ)). (f : List ℕ → List ℕ → ℕ) →
+    Agree (weighed c.args.letters f c.loop-label.table.entries) (started c.args.letters f l))
+    (all_read (map (λ item. item.now) c.loop-label.yielded) c.loop-label.label-iterator.rest.now _
+    c.in-None.ensures.steps.0 (c.loop-label.invariant.so_far
+    ∙ (ap (λ (it : Iter (List ℕ × ℤ)). it.rest.now)
+    c.into_iter-label-iterator.ensures.into_iter_gives) ∙ c.iter-label-items.ensures.rest))
+    c.loop-label.invariant.counts f)

@@ -6,6 +6,7 @@ use Rattle.lr_product.proofs.next_factor.starts_of.Given as goal
 -- the table has the labels so far
 abbrev pub invariant-loop-label : goal.invariant-loop-label
 invariant-loop-label l = record {
+  width : l.table.width ≡ l.letters;
   counts :
       (f : List ℕ → List ℕ → ℕ)
       → Agree (weighed l.letters f l.table.entries) (started l.letters f (map (λ item. item.now) l.yielded));

@@ -13,9 +13,12 @@ use Rattle.lr_product.proofs.Rounds.{agree_zero}
 use Rattle.lr_product.proofs.next_factor.times_factor.Goals as goal
 
 -- the letters are enough for each label
-enough : (n k : ℕ) (m : ℕ) (next : List ℕ) (product : List (List ℕ × ℤ)) → n ≡ min k (m + rows next) → AllMayMeet k next product
-    → ((t : List ℕ × ℤ) → Among t product → rows t.0 ≤ m) → (t : List ℕ × ℤ) → Among t product → (rows t.0 ≤ n) × (min k (rows t.0 + rows next) ≤ n)
-enough n k m next product is may most t a = let f = (may t a).few in let b = most t a in (omega arith, omega arith)
+enough : (n k : ℕ) (m : ℕ) (next : List ℕ) (product : List (List ℕ × ℤ)) → n ≡ min k (m + rows next)
+    → AllMayMeet k next product
+    → ((t : List ℕ × ℤ) → Among t product → rows t.0 ≤ m) → (t : List ℕ × ℤ) → Among t product →
+    (rows t.0 ≤ n) × (min k (rows t.0 + rows next) ≤ n)
+enough n k m next product is may most t a = let f = (may t a).few in let b = most t a in
+    (omega arith, omega arith)
 
 pub starts_of-requires-clause-rows : goal.starts_of-requires-clause-rows
 starts_of-requires-clause-rows c = λ t m.
@@ -37,10 +40,13 @@ with_columns-requires-clause-reached c =
     let n = c.min-letters.result in
     let m = 4096 - size c.args.next.now in
     let small = c.rows.ensures.limits.small in
-    let is : n ≡ min c.args.variables (c.most_rows.result + rows c.args.next.now) = omega (arith, c.min-letters.ensures, c.rows.ensures.value) in
+    let is : n ≡ min c.args.variables (c.most_rows.result + rows c.args.next.now) =
+    omega (arith, c.min-letters.ensures, c.rows.ensures.value) in
     agree_zero _ _ (c.in_ok-starts.ensures (unreached n m))
-    (starts_within n c.args.variables c.args.next.now c.args.product.now c.requires.factor c.requires.terms (omega arith)
-    (enough n c.args.variables c.most_rows.result c.args.next.now c.args.product.now is c.requires.terms c.most_rows.ensures.most) m (omega arith) (omega arith))
+    (starts_within n c.args.variables c.args.next.now c.args.product.now c.requires.factor
+    c.requires.terms (omega arith)
+    (enough n c.args.variables c.most_rows.result c.args.next.now c.args.product.now is
+    c.requires.terms c.most_rows.ensures.most) m (omega arith) (omega arith))
 
 pub returns-clause-product : goal.returns-clause-product
 returns-clause-product c =
@@ -48,14 +54,22 @@ returns-clause-product c =
     let k = c.args.variables in
     let next = c.args.next.now in
     let product = c.args.product.now in
-    let is : n ≡ min k (c.most_rows.result + rows next) = omega (arith, c.min-letters.ensures, c.rows.ensures.value) in
-    is_product n k next product c.in_ok-table.table.entries c.requires.factor c.requires.terms (omega arith)
+    let is : n ≡ min k (c.most_rows.result + rows next) = omega (
+      arith,
+      c.min-letters.ensures,
+      c.rows.ensures.value,
+    ) in
+    is_product n k next product c.in_ok-table.table.entries c.requires.factor c.requires.terms
+    (omega arith)
     (enough n k c.most_rows.result next product is c.requires.terms c.most_rows.ensures.most)
-    (λ ν. agree_then _ _ _ (c.in_ok-table.ensures.ways (λ μ. comes_to ν μ []) (no_bound (comes_to ν))) (c.in_ok-starts.ensures (over_states n (column_lines next []) (comes_to ν))))
+    (λ ν. agree_then _ _ _ (c.in_ok-table.ensures.ways (λ μ. comes_to ν μ [])
+    (no_bound (comes_to ν))) (c.in_ok-starts.ensures (over_states n (column_lines next [])
+    (comes_to ν))))
     c.terms_of_table.result c.terms_of_table.ensures.fits c.terms_of_table.ensures.counts
 
 pub returns-clause-table : goal.returns-clause-table
-returns-clause-table c = if_answered c.terms_of_table.result c.terms_of_table.ensures.counts (λ terms l. l.table)
+returns-clause-table c = if_answered c.terms_of_table.result c.terms_of_table.ensures.counts
+    (λ terms l. l.table)
 
 pub returns-clause-small : goal.returns-clause-small
 returns-clause-small c =
@@ -63,10 +77,17 @@ returns-clause-small c =
     let k = c.args.variables in
     let next = c.args.next.now in
     let product = c.args.product.now in
-    let is : n ≡ min k (c.most_rows.result + rows next) = omega (arith, c.min-letters.ensures, c.rows.ensures.value) in
-    product_small n k next product c.in_ok-table.table.entries c.requires.factor c.requires.terms (omega arith)
+    let is : n ≡ min k (c.most_rows.result + rows next) = omega (
+      arith,
+      c.min-letters.ensures,
+      c.rows.ensures.value,
+    ) in
+    product_small n k next product c.in_ok-table.table.entries c.requires.factor c.requires.terms
+    (omega arith)
     (enough n k c.most_rows.result next product is c.requires.terms c.most_rows.ensures.most)
-    (λ ν. agree_then _ _ _ (c.in_ok-table.ensures.ways (λ μ. comes_to ν μ []) (no_bound (comes_to ν))) (c.in_ok-starts.ensures (over_states n (column_lines next []) (comes_to ν))))
+    (λ ν. agree_then _ _ _ (c.in_ok-table.ensures.ways (λ μ. comes_to ν μ [])
+    (no_bound (comes_to ν))) (c.in_ok-starts.ensures (over_states n (column_lines next [])
+    (comes_to ν))))
     c.terms_of_table.result c.terms_of_table.ensures.fits
 
 pub returns-clause-large : goal.returns-clause-large
@@ -75,8 +96,15 @@ returns-clause-large c = λ e.
     let k = c.args.variables in
     let next = c.args.next.now in
     let product = c.args.product.now in
-    let is : n ≡ min k (c.most_rows.result + rows next) = omega (arith, c.min-letters.ensures, c.rows.ensures.value) in
-    product_past n k next product c.in_ok-table.table.entries c.requires.factor c.requires.terms (omega arith)
+    let is : n ≡ min k (c.most_rows.result + rows next) = omega (
+      arith,
+      c.min-letters.ensures,
+      c.rows.ensures.value,
+    ) in
+    product_past n k next product c.in_ok-table.table.entries c.requires.factor c.requires.terms
+    (omega arith)
     (enough n k c.most_rows.result next product is c.requires.terms c.most_rows.ensures.most)
-    (λ ν. agree_then _ _ _ (c.in_ok-table.ensures.ways (λ μ. comes_to ν μ []) (no_bound (comes_to ν))) (c.in_ok-starts.ensures (over_states n (column_lines next []) (comes_to ν))))
+    (λ ν. agree_then _ _ _ (c.in_ok-table.ensures.ways (λ μ. comes_to ν μ [])
+    (no_bound (comes_to ν))) (c.in_ok-starts.ensures (over_states n (column_lines next [])
+    (comes_to ν))))
     (c.terms_of_table.ensures.large e)

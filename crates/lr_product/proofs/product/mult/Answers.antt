@@ -3,35 +3,58 @@ use Rattle.std.specs.Option.{unwrap_or}
 use Rattle.sym_model.specs.Partition.{rows}
 use Rattle.linear_combinations.proofs.Steps.{if_answered}
 use Rattle.linear_combinations.proofs.Steps.{on_ok}
-use Rattle.lr_product.proofs.GoodCounts.{mult_counts, mult_answers, mult_past, mult_fits, classical_if, heavy_if}
+use Rattle.lr_product.proofs.GoodCounts.{mult_counts, mult_answers, mult_past, mult_fits}
+use Rattle.lr_product.proofs.GoodCounts.{classical_if, heavy_if}
 use Rattle.lr_product.proofs.product.mult.Goals as goal
 
 pub returns-clause-meets : goal.returns-clause-meets
 returns-clause-meets c =
-    let m : c.unwrap_or-variables.result ≡ unwrap_or c.args.rows (rows c.args.left.now + rows c.args.right.now) = c.unwrap_or-variables.ensures ∙ ap (unwrap_or c.args.rows) (ap₂ ◌+◌ c.rows.ensures.value c.rows-2.ensures.value) in
-    if_answered c.counts_in.result c.counts_in.ensures.counts (λ terms l. mult_answers c.args.rows c.unwrap_or-variables.result c.args.left.now c.args.right.now terms m c.counts_in.ensures.factors.0 c.counts_in.ensures.factors.1 l)
+    let m : c.unwrap_or-variables.result ≡ unwrap_or c.args.rows
+    (rows c.args.left.now + rows c.args.right.now) = c.unwrap_or-variables.ensures
+    ∙ ap (unwrap_or c.args.rows) (ap₂ ◌+◌ c.rows.ensures.value c.rows-2.ensures.value) in
+    if_answered c.counts_in.result c.counts_in.ensures.counts
+    (λ terms l. mult_answers c.args.rows c.unwrap_or-variables.result c.args.left.now
+    c.args.right.now terms m c.counts_in.ensures.factors.0 c.counts_in.ensures.factors.1 l)
 
 pub returns-clause-counts : goal.returns-clause-counts
 returns-clause-counts c =
-    let m : c.unwrap_or-variables.result ≡ unwrap_or c.args.rows (rows c.args.left.now + rows c.args.right.now) = c.unwrap_or-variables.ensures ∙ ap (unwrap_or c.args.rows) (ap₂ ◌+◌ c.rows.ensures.value c.rows-2.ensures.value) in
-    if_answered c.counts_in.result c.counts_in.ensures.counts (λ terms l. mult_counts c.args.rows c.unwrap_or-variables.result c.args.left.now c.args.right.now terms m l)
+    let m : c.unwrap_or-variables.result ≡ unwrap_or c.args.rows
+    (rows c.args.left.now + rows c.args.right.now) = c.unwrap_or-variables.ensures
+    ∙ ap (unwrap_or c.args.rows) (ap₂ ◌+◌ c.rows.ensures.value c.rows-2.ensures.value) in
+    if_answered c.counts_in.result c.counts_in.ensures.counts
+    (λ terms l. mult_counts c.args.rows c.unwrap_or-variables.result c.args.left.now
+    c.args.right.now terms m l)
 
 pub returns-clause-large : goal.returns-clause-large
 returns-clause-large c = λ e.
-    let m : c.unwrap_or-variables.result ≡ unwrap_or c.args.rows (rows c.args.left.now + rows c.args.right.now) = c.unwrap_or-variables.ensures ∙ ap (unwrap_or c.args.rows) (ap₂ ◌+◌ c.rows.ensures.value c.rows-2.ensures.value) in
-    mult_past c.args.rows c.unwrap_or-variables.result c.args.left.now c.args.right.now m c.counts_in.ensures.factors.0 c.counts_in.ensures.factors.1 (c.counts_in.ensures.large e)
+    let m : c.unwrap_or-variables.result ≡ unwrap_or c.args.rows
+    (rows c.args.left.now + rows c.args.right.now) = c.unwrap_or-variables.ensures
+    ∙ ap (unwrap_or c.args.rows) (ap₂ ◌+◌ c.rows.ensures.value c.rows-2.ensures.value) in
+    mult_past c.args.rows c.unwrap_or-variables.result c.args.left.now c.args.right.now m
+    c.counts_in.ensures.factors.0 c.counts_in.ensures.factors.1 (c.counts_in.ensures.large e)
 
 pub returns-clause-fits : goal.returns-clause-fits
 returns-clause-fits c =
-    let m : c.unwrap_or-variables.result ≡ unwrap_or c.args.rows (rows c.args.left.now + rows c.args.right.now) = c.unwrap_or-variables.ensures ∙ ap (unwrap_or c.args.rows) (ap₂ ◌+◌ c.rows.ensures.value c.rows-2.ensures.value) in
-    on_ok c.counts_in.result c.counts_in.ensures.fits (mult_fits c.args.rows c.unwrap_or-variables.result c.args.left.now c.args.right.now m c.counts_in.ensures.factors.0 c.counts_in.ensures.factors.1)
+    let m : c.unwrap_or-variables.result ≡ unwrap_or c.args.rows
+    (rows c.args.left.now + rows c.args.right.now) = c.unwrap_or-variables.ensures
+    ∙ ap (unwrap_or c.args.rows) (ap₂ ◌+◌ c.rows.ensures.value c.rows-2.ensures.value) in
+    on_ok c.counts_in.result c.counts_in.ensures.fits
+    (mult_fits c.args.rows c.unwrap_or-variables.result c.args.left.now c.args.right.now m
+    c.counts_in.ensures.factors.0 c.counts_in.ensures.factors.1)
 
 pub returns-clause-classical : goal.returns-clause-classical
 returns-clause-classical c =
-    let m : c.unwrap_or-variables.result ≡ unwrap_or c.args.rows (rows c.args.left.now + rows c.args.right.now) = c.unwrap_or-variables.ensures ∙ ap (unwrap_or c.args.rows) (ap₂ ◌+◌ c.rows.ensures.value c.rows-2.ensures.value) in
-    if_answered c.counts_in.result c.counts_in.ensures.counts (λ terms l. classical_if c.args.rows c.unwrap_or-variables.result c.args.left.now c.args.right.now terms m c.counts_in.ensures.factors.0 c.counts_in.ensures.factors.1 l)
+    let m : c.unwrap_or-variables.result ≡ unwrap_or c.args.rows
+    (rows c.args.left.now + rows c.args.right.now) = c.unwrap_or-variables.ensures
+    ∙ ap (unwrap_or c.args.rows) (ap₂ ◌+◌ c.rows.ensures.value c.rows-2.ensures.value) in
+    if_answered c.counts_in.result c.counts_in.ensures.counts
+    (λ terms l. classical_if c.args.rows c.unwrap_or-variables.result c.args.left.now
+    c.args.right.now terms m c.counts_in.ensures.factors.0 c.counts_in.ensures.factors.1 l)
 
 pub returns-clause-heavy : goal.returns-clause-heavy
 returns-clause-heavy c = λ e.
-    let m : c.unwrap_or-variables.result ≡ unwrap_or c.args.rows (rows c.args.left.now + rows c.args.right.now) = c.unwrap_or-variables.ensures ∙ ap (unwrap_or c.args.rows) (ap₂ ◌+◌ c.rows.ensures.value c.rows-2.ensures.value) in
-    heavy_if c.args.rows c.unwrap_or-variables.result c.args.left.now c.args.right.now m c.counts_in.ensures.factors.0 c.counts_in.ensures.factors.1 (c.counts_in.ensures.large e)
+    let m : c.unwrap_or-variables.result ≡ unwrap_or c.args.rows
+    (rows c.args.left.now + rows c.args.right.now) = c.unwrap_or-variables.ensures
+    ∙ ap (unwrap_or c.args.rows) (ap₂ ◌+◌ c.rows.ensures.value c.rows-2.ensures.value) in
+    heavy_if c.args.rows c.unwrap_or-variables.result c.args.left.now c.args.right.now m
+    c.counts_in.ensures.factors.0 c.counts_in.ensures.factors.1 (c.counts_in.ensures.large e)

@@ -1,4 +1,4 @@
-use Rattle.std.proofs.Common.{◌≡◌, ℕ, ◌+◌, ◌*◌, List, length, take, drop, sym, ap, ap₂, ◌∙◌}
+use Rattle.std.proofs.Common.{◌≡◌, ℕ, ◌+◌, ◌*◌, List, ◌++◌, length, take, drop, sym, ap, ap₂, ◌∙◌}
 use Rattle.linear_combinations.proofs.Steps.{on_ok}
 use Rattle.lr_product.specs.WeighedSum.{weighed}
 use Rattle.lr_product.specs.Extension.{extended}
@@ -11,9 +11,15 @@ returns-clause-adds c =
     let n = c.args.column.letters in
     let kept = c.args.column.is_kept in
     let s = c.args.state.now in
-    let front : c.in_ok-reached.reached ≡ take n s = c.in_ok-reached.ensures ∙ c.split_at.ensures.front ∙ ap₂ (λ k (l : List ℕ). take k l) c.from.ensures c.numbers.ensures in
-    let back : c.split_at.result.1.now ≡ drop n s = c.split_at.ensures.back ∙ ap₂ (λ k (l : List ℕ). drop k l) c.from.ensures c.numbers.ensures in
-    let long : length (take n s) ≡ n = ap length (sym front) ∙ ap length c.in_ok-reached.ensures ∙ c.split_at.ensures.front_len ∙ c.from.ensures in
+    let front : c.extend_from_slice.new.self.items ≡ take n s =
+    c.in_ok-extend_from_slice.ensures.items ∙ ap (λ l. l ++ c.split_at.result.0.now)
+    c.clear.ensures.items ∙ c.split_at.ensures.front ∙ ap (λ k. take k s) c.from.ensures in
+    let back : c.split_at.result.1.now ≡ drop n s = c.split_at.ensures.back ∙ ap (λ k. drop k s)
+    c.from.ensures in
+    let long : length (take n s) ≡ n =
+    ap length (sym (c.split_at.ensures.front ∙ ap (λ k. take k s) c.from.ensures))
+    ∙ c.split_at.ensures.front_len ∙ c.from.ensures in
     on_ok c.extend.result c.extend.ensures.adds (λ adds f v. agree_then _ _ _ (adds f v)
     (agree_same _ _ (ap (λ x. weighed n f c.args.next.now.entries + c.args.column.ways * x)
-    (ap₂ (λ (r t : List ℕ). extended kept n c.args.line.now r 0 f t) back front ∙ extended-seen kept n c.args.line.now (drop n s) f (take n s) long))))
+    (ap₂ (λ (r t : List ℕ). extended kept n c.args.line.now r 0 f t) back front ∙ extended-seen kept
+    n c.args.line.now (drop n s) f (take n s) long))))

@@ -6,6 +6,7 @@ use Rattle.lr_product.proofs.step.with_column.Given as goal
 abbrev pub invariant-loop-at : goal.invariant-loop-at
 invariant-loop-at l = record {
   end : l.at-end ≡ length l.table.entries;
+  width : l.next.width ≡ l.width;
   counts :
       (f : List ℕ → List ℕ → ℕ)
       → VanishesOutside l.bound f

@@ -10,5 +10,7 @@ pub returns-else-inversions-clause-meets : goal.returns-else-inversions-clause-m
 returns-else-inversions-clause-meets c =
     if_answered c.act-else-inversions.result c.act-else-inversions.ensures.value
     (λ terms h n.
-    represents_as (λ x. schubert_in x n) (as_fractions terms) (times (schubert_in c.args.v.now n) (schubert_in c.args.u.now n)) (times (schubert_in c.args.u.now n) (schubert_in c.args.v.now n))
+    represents_as (λ x. schubert_in x n) (as_fractions terms) (times (schubert_in c.args.v.now n)
+    (schubert_in c.args.u.now n)) (times (schubert_in c.args.u.now n)
+    (schubert_in c.args.v.now n))
     (times_comm (schubert_in c.args.v.now n) (schubert_in c.args.u.now n)) (h n))

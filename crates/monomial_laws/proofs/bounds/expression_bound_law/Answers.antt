@@ -7,7 +7,9 @@ pub returns-clause-bounded : goal.returns-clause-bounded
 returns-clause-bounded c = bounded_value
 
 pub returns-clause-coefficients : goal.returns-clause-coefficients
-returns-clause-coefficients c e n α long = coefficient_bound (numerator e) (degree e) n (cleared_value e n) (bounded_value e n) α long
+returns-clause-coefficients c e n α long = coefficient_bound (numerator e) (degree e) n
+    (cleared_value e n) (bounded_value e n) α long
 
 pub returns-clause-no_higher : goal.returns-clause-no_higher
-returns-clause-no_higher c e n α long high = coefficient-higher (numerator e) (degree e) n (cleared_value e n) (bounded_value e n) α long high
+returns-clause-no_higher c e n α long high = coefficient-higher (numerator e) (degree e) n
+    (cleared_value e n) (bounded_value e n) α long high

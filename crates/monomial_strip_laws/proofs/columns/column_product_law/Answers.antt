@@ -1,5 +1,6 @@
 use Rattle.std.proofs.Common.{refl}
-use Rattle.monomial_strip_laws.proofs.ColumnArrangements.{column-strips, column-kept, column-raised, column-lists}
+use Rattle.monomial_strip_laws.proofs.ColumnArrangements.{column-strips, column-kept, column-raised}
+use Rattle.monomial_strip_laws.proofs.ColumnArrangements.{column-lists}
 use Rattle.monomial_strip_laws.proofs.ShapeLists.{column-shapes}
 use Rattle.monomial_strip_laws.proofs.columns.column_product_law.Goals as goal
 

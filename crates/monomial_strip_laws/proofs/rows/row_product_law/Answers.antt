@@ -1,5 +1,6 @@
 use Rattle.std.proofs.Common.{refl}
-use Rattle.monomial_strip_laws.proofs.Placings.{placings-hold, placings-first, placings-next, placings-lists}
+use Rattle.monomial_strip_laws.proofs.Placings.{placings-hold, placings-first, placings-next}
+use Rattle.monomial_strip_laws.proofs.Placings.{placings-lists}
 use Rattle.monomial_strip_laws.proofs.ShapeLists.{row-shapes}
 use Rattle.monomial_strip_laws.proofs.rows.row_product_law.Goals as goal
 

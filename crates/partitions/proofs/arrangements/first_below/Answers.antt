@@ -8,7 +8,8 @@ loop-at-preserved c =
     let at = c.loop-at.at in
     record {
       start = omega (arith, c.loop-at.invariant.start);
-      within = not_last c.args.numbers.now at c.args.bound c.loop-at.invariant.within c.requires.last c.loop-at-test.true;
+      within = not_last c.args.numbers.now at c.args.bound c.loop-at.invariant.within
+          c.requires.last c.loop-at-test.true;
       before = λ k h l.
           elim (cases_lt k c.loop-at.at) [
             | inl m ↦ c.loop-at.invariant.before k h m

@@ -5,8 +5,10 @@ use Rattle.partitions.proofs.beta.less_the_later.Goals as goal
 pub loop-entry-preserved : goal.loop-entry-preserved
 loop-entry-preserved c = record {
   numbers =
-      less-more c.args.entries.now c.loop-entry.numbers.items c.push.new.self.items c.loop-entry.entry-index c.loop-entry.later
-      c.saturating_sub.result (omega arith) c.loop-entry.invariant.numbers c.loop-entry.invariant.left c.saturating_sub.ensures
+      less-more c.args.entries.now c.loop-entry.numbers.items c.push.new.self.items
+      c.loop-entry.entry-index c.loop-entry.later
+      c.saturating_sub.result (omega arith) c.loop-entry.invariant.numbers
+      c.loop-entry.invariant.left c.saturating_sub.ensures
       c.in_ok-push.ensures.ok;
   left = omega (arith, c.loop-entry.invariant.left);
 }

@@ -14,7 +14,11 @@ loop-j-init c = record {
 
 pub rows_reaching-rows-requires-clause-enough : goal.rows_reaching-rows-requires-clause-enough
 rows_reaching-rows-requires-clause-enough c =
-    omega (arith, count_from-falls c.args.parts.now c.loop-j.j (c.loop-j.j + 1) (omega arith), c.loop-j.invariant.enough)
+    omega (
+      arith,
+      count_from-falls c.args.parts.now c.loop-j.j (c.loop-j.j + 1) (omega arith),
+      c.loop-j.invariant.enough,
+    )
 
 pub overflow_cast-rows : goal.overflow_cast-rows
 overflow_cast-rows c =
@@ -23,10 +27,20 @@ overflow_cast-rows c =
 pub loop-j-preserved : goal.loop-j-preserved
 loop-j-preserved c = record {
   lengths =
-      counts-more c.args.parts.now c.loop-j.lengths.items c.push_reserved.new.self.items c.loop-j.j c.rows_reaching-rows.result
+      counts-more c.args.parts.now c.loop-j.lengths.items c.push_reserved.new.self.items c.loop-j.j
+      c.rows_reaching-rows.result
       c.loop-j.invariant.lengths c.rows_reaching-rows.ensures c.push_reserved.ensures.items;
-  count = ap length c.push_reserved.ensures.items ∙ omega (arith, length-append c.loop-j.lengths.items (c.rows_reaching-rows.result ∷ []), c.loop-j.invariant.count);
+  count = ap length c.push_reserved.ensures.items ∙ omega (
+    arith,
+    length-append c.loop-j.lengths.items (c.rows_reaching-rows.result ∷ []),
+    c.loop-j.invariant.count,
+  );
   room = omega (arith, c.push_reserved.ensures.capacity, c.loop-j.invariant.room);
-  within = omega (arith, c.rows_reaching-rows.ensures, count_from-bound (c.loop-j.j + 1) c.args.parts.now);
+  within = omega (
+    arith,
+    c.rows_reaching-rows.ensures,
+    count_from-bound (c.loop-j.j + 1)
+        c.args.parts.now,
+  );
   enough = omega (arith, c.rows_reaching-rows.ensures);
 }

@@ -18,7 +18,8 @@ loop-left-preserved c =
     let fits : p ≤ left = omega (arith, c.min-part.ensures, min-le_right part left) in (
       omega (arith, length-set xs c.loop-left.at p),
       λ _. positive,
-      fill-step xs c.loop-left.at left part p (omega arith) some c.min-part.ensures ∙ c.loop-left.invariant.2,
+      fill-step xs c.loop-left.at left part p (omega arith) some c.min-part.ensures
+          ∙ c.loop-left.invariant.2,
     )
 
 pub returns-clause-parts : goal.returns-clause-parts

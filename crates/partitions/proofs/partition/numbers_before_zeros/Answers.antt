@@ -2,7 +2,8 @@ use Rattle.std.proofs.Common.{◌≡◌, ◌+◌, ◌-◌, ◌<◌, length, take
 use Rattle.sym_model.specs.Partition.{without_last_zeros}
 use Rattle.partitions.proofs.Parts.{cut-zero, cut-positive}
 use Rattle.partitions.proofs.partition.numbers_before_zeros.Goals as goal
-use Rattle.partitions.proofs.partition.numbers_before_zeros.Goals.{then-loop-len-test+else-numbers-len-eq0, else-loop-len-test}
+use Rattle.partitions.proofs.partition.numbers_before_zeros.Goals.{then-loop-len-test+else-numbers-len-eq0}
+use Rattle.partitions.proofs.partition.numbers_before_zeros.Goals.{else-loop-len-test}
 
 pub loop-len-preserved : goal.loop-len-preserved
 loop-len-preserved c =
@@ -23,8 +24,10 @@ returns c =
           let last : n - 1 < length xs = omega arith in
           let positive : 0 < get_or xs (n - 1) 0 = omega (arith, w.if-numbers-len-eq0.false) in
           let positive_cut = cut-positive xs (n - 1) last positive in
-          sym (subst (λ k. without_last_zeros (take k xs) ≡ take k xs) e positive_cut) ∙ c.loop-len.invariant.1
+          sym (subst (λ k. without_last_zeros (take k xs) ≡ take k xs) e positive_cut)
+          ∙ c.loop-len.invariant.1
       | else-loop-len-test w ↦
           let e : n ≡ 0 = omega arith in
-          ap (λ k. take k xs) e ∙ sym (ap (λ k. without_last_zeros (take k xs)) e) ∙ c.loop-len.invariant.1
+          ap (λ k. take k xs) e ∙ sym (ap (λ k. without_last_zeros (take k xs)) e)
+          ∙ c.loop-len.invariant.1
     ]

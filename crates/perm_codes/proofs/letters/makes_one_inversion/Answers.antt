@@ -5,8 +5,10 @@ use Rattle.perm_codes.proofs.letters.makes_one_inversion.Goals as goal
 pub returns-then-low-high : goal.returns-then-low-high
 returns-then-low-high c =
     ap not c.has_between.ensures
-    ∙ rising_test c.args.first c.args.second c.args.letters.now c.requires.order c.requires.inside c.requires.once c.if-low-high.true
+    ∙ rising_test c.args.first c.args.second c.args.letters.now c.requires.order c.requires.inside
+    c.requires.once c.if-low-high.true
 
 pub returns-else-low-high : goal.returns-else-low-high
 returns-else-low-high c =
-    falling_test c.args.first c.args.second c.args.letters.now c.requires.order c.requires.inside c.requires.once c.if-low-high.false
+    falling_test c.args.first c.args.second c.args.letters.now c.requires.order c.requires.inside
+    c.requires.once c.if-low-high.false

@@ -7,4 +7,6 @@ use Rattle.plain_programs.proofs.bases.sorts_to.Goals as goal
 
 pub returns : goal.returns
 returns c =
-    c.eq.ensures ∙ (ap (λ xs. pointwise nat_eq xs c.args.parts.now) (c.as_slice.ensures.value ∙ c.in_ok-sorted.ensures) ∙ sym (same-pointwise (sorted_parts c.args.exponents.now) c.args.parts.now))
+    c.eq.ensures ∙ (ap (λ xs. pointwise nat_eq xs c.args.parts.now) (c.as_slice.ensures.value
+    ∙ c.in_ok-sorted.ensures) ∙ sym (same-pointwise (sorted_parts c.args.exponents.now)
+    c.args.parts.now))

@@ -9,5 +9,7 @@ loop-row-preserved c =
     let rest = fillings_in c.args.rest.now in
     let within : c.loop-row.row-index < length c.args.rows.now = omega arith in
     c.in_ok-push_stacked.ensures
-    ∙ ap₂ ◌++◌ c.loop-row.invariant (ap (λ letters. map (λ filling. letters ∷ filling) rest) c.deref.ensures.value)
-    ∙ sym (each_take-more (λ letters. map (λ filling. letters ∷ filling) rest) (λ word. word.items) c.args.rows.now c.loop-row.row-index row within c.row-item.is)
+    ∙ ap₂ ◌++◌ c.loop-row.invariant (ap (λ letters. map (λ filling. letters ∷ filling) rest)
+    c.deref.ensures.value)
+    ∙ sym (each_take-more (λ letters. map (λ filling. letters ∷ filling) rest) (λ word. word.items)
+    c.args.rows.now c.loop-row.row-index row within c.row-item.is)

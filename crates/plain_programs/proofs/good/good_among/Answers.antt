@@ -11,5 +11,7 @@ loop-tableau-preserved c =
     let within : c.loop-tableau.tableau-index < length c.args.tableaux.now = omega arith in
     let kept = ap (λ w. test (words_of w)) c.deref.ensures.value in
     c.in_ok-push_if.ensures
-    ∙ ap₂ ◌++◌ c.loop-tableau.invariant (ap₂ (λ b w. cond b (w ∷ []) []) (c.in_ok-good.ensures ∙ kept) (ap words_of c.deref-in-loop-tableau.ensures.value))
-    ∙ sym (select_take-more test (λ filling. words_of filling.items) c.args.tableaux.now c.loop-tableau.tableau-index c.tableau-item.result within c.tableau-item.is)
+    ∙ ap₂ ◌++◌ c.loop-tableau.invariant (ap₂ (λ b w. cond b (w ∷ []) [])
+    (c.in_ok-good.ensures ∙ kept) (ap words_of c.deref-in-loop-tableau.ensures.value))
+    ∙ sym (select_take-more test (λ filling. words_of filling.items) c.args.tableaux.now
+    c.loop-tableau.tableau-index c.tableau-item.result within c.tableau-item.is)

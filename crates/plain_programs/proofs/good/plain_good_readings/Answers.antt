@@ -12,10 +12,14 @@ returns c =
     let readings =
     ap words_of c.deref-3.ensures.value
     ∙ c.in_ok-readings.ensures
-    ∙ ap (map (column_reading outer inner)) (ap fillings_in c.deref.ensures.value ∙ c.in_ok-good.ensures) in
-    let all = ap words_of c.deref-2.ensures.value ∙ c.in_ok-words.ensures ∙ ap (words c.args.k) c.count_cells.ensures in
+    ∙ ap (map (column_reading outer inner)) (ap fillings_in c.deref.ensures.value
+    ∙ c.in_ok-good.ensures) in
+    let all = ap words_of c.deref-2.ensures.value ∙ c.in_ok-words.ensures ∙ ap (words c.args.k)
+    c.count_cells.ensures in
     IfOk-weaker c.those_among.result
-    (λ list. words_of list.items ≡ filter (λ w. is_among w (words_of c.deref-3.result.now)) (words_of c.deref-2.result.now))
+    (λ list. words_of list.items ≡ filter (λ w. is_among w (words_of c.deref-3.result.now))
+    (words_of c.deref-2.result.now))
     (λ list. words_of list.items ≡ good_readings c.args.k c.args.start.now outer inner)
-    (λ list e. e ∙ ap₂ (λ (among ws : List (List ℕ)). filter (λ w. is_among w among) ws) readings all)
+    (λ list e. e ∙ ap₂ (λ (among ws : List (List ℕ)). filter (λ w. is_among w among) ws) readings
+    all)
     c.those_among.ensures

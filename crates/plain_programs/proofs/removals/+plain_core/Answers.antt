@@ -21,7 +21,13 @@ plain_core-requires t c =
     let sizes = ap size left in
     let lengths = ap length left in (
       omega (arith, smaller, sizes),
-      (c.requires.positive, (subst IsPartition (sym left) found.0.partition, (omega (arith, fewer, lengths), omega (arith, smaller, sizes)))),
+      (
+        c.requires.positive,
+        (
+          subst IsPartition (sym left) found.0.partition,
+          (omega (arith, fewer, lengths), omega (arith, smaller, sizes)),
+        ),
+      ),
     )
 
 pub returns-clause-end : goal.returns-clause-end
@@ -32,9 +38,12 @@ returns-clause-end t c =
     let removal = c.in-Some.removal in
     let core = c.in_ok-core.core in
     let found = subst (IsFound n shape) c.in-Some.is c.in_ok-removal.ensures in
-    goes_on k n shape removal.left.items core.shape.items (sign_of core.is_negative) (sign_of c.is_one_odd-is_negative.result) core.power removal.height
+    goes_on k n shape removal.left.items core.shape.items (sign_of core.is_negative)
+    (sign_of c.is_one_odd-is_negative.result) core.power removal.height
     c.requires.rows
     found.0
     found.1
-    (subst (λ l. GoesTo k n l core.shape.items (sign_of core.is_negative) core.power) c.deref.ensures.value c.in_ok-core.ensures.end)
-    (c.is_one_odd-is_negative.ensures ∙ ap (λ s. s *ℤ sign_of core.is_negative) (sign_of_parity c.saturating_sub.result ∙ ap minus_one_to c.saturating_sub.ensures))
+    (subst (λ l. GoesTo k n l core.shape.items (sign_of core.is_negative) core.power)
+    c.deref.ensures.value c.in_ok-core.ensures.end)
+    (c.is_one_odd-is_negative.ensures ∙ ap (λ s. s *ℤ sign_of core.is_negative)
+    (sign_of_parity c.saturating_sub.result ∙ ap minus_one_to c.saturating_sub.ensures))

@@ -3,7 +3,8 @@ use Rattle.sym_model.specs.Partition.{without_last_zeros}
 use Rattle.plain_programs.specs.Removed.{left_part}
 use Rattle.plain_programs.proofs.Removing.{Fits, IsLeft, removal_found, none_in_rows}
 use Rattle.plain_programs.proofs.removals.removal_between.Goals as goal
-use Rattle.plain_programs.proofs.removals.removal_between.Goals.{then-top-least-via-then-top-least, then-top-least-via-else-top-least+then-bound-top}
+use Rattle.plain_programs.proofs.removals.removal_between.Goals.{then-top-least-via-then-top-least}
+use Rattle.plain_programs.proofs.removals.removal_between.Goals.{then-top-least-via-else-top-least+then-bound-top}
 
 pub returns-then-top-least : goal.returns-then-top-least
 returns-then-top-least c =
@@ -34,6 +35,8 @@ returns c =
     ∙ sym c.count_up_to_last_positive-rows.ensures.kept
     ∙ ap (take c.count_up_to_last_positive-rows.result) c.deref.ensures.value
     ∙ sym c.truncate.ensures.items in
-    let found = removal_found n shape numbers first last rest fits (λ i. c.in_ok-left.ensures i ∙ ap (λ r. left_part shape first last r i) (omega arith)) in
-    let moved : IsLeft n shape c.truncate.new.self.items first last = subst (λ l. IsLeft n shape l first last) same found in
+    let found = removal_found n shape numbers first last rest fits (λ i. c.in_ok-left.ensures i
+    ∙ ap (λ r. left_part shape first last r i) (omega arith)) in
+    let moved : IsLeft n shape c.truncate.new.self.items first last =
+    subst (λ l. IsLeft n shape l first last) same found in
     (moved.removal, moved.height)

@@ -20,17 +20,25 @@ use Rattle.plethysm.proofs.composition.plethysm.Goals as goal
 
 pub finished_number-requires : goal.finished_number-requires
 finished_number-requires c =
-    let a = greatest_is c.greatest_size-a.result c.args.outer.now c.greatest_size-a.ensures.within c.greatest_size-a.ensures.least in
-    let b = greatest_is c.greatest_size-b.result c.args.inner.now c.greatest_size-b.ensures.within c.greatest_size-b.ensures.least in
-    (c.requires.positive.0, c.requires.positive.2, omega (arith, c.requires.sizes.0), omega (arith, c.requires.sizes.1))
+    let a = greatest_is c.greatest_size-a.result c.args.outer.now c.greatest_size-a.ensures.within
+    c.greatest_size-a.ensures.least in
+    let b = greatest_is c.greatest_size-b.result c.args.inner.now c.greatest_size-b.ensures.within
+    c.greatest_size-b.ensures.least in (
+      c.requires.positive.0,
+      c.requires.positive.2,
+      omega (arith, c.requires.sizes.0),
+      omega (arith, c.requires.sizes.1),
+    )
 
 pub returns-in_default-clause-large : goal.returns-in_default-clause-large
 returns-in_default-clause-large c err a b v w =
     let number =
-    weight-number c.args.outer_bound.num c.args.outer_bound.den c.greatest_size-a.result c.args.inner_bound.num c.greatest_size-b.result
+    weight-number c.args.outer_bound.num c.args.outer_bound.den c.greatest_size-a.result
+    c.args.inner_bound.num c.greatest_size-b.result
     c.requires.positive.0 c.requires.positive.1 c.requires.positive.2 in
     let more =
-    weight-rises c.args.outer_bound.num c.args.outer_bound.den c.greatest_size-a.result a c.args.inner_bound.num c.greatest_size-b.result b c.requires.positive.2
+    weight-rises c.args.outer_bound.num c.args.outer_bound.den c.greatest_size-a.result a
+    c.args.inner_bound.num c.greatest_size-b.result b c.requires.positive.2
     (c.greatest_size-a.ensures.least a v) (c.greatest_size-b.ensures.least b w) in
     omega (arith, c.in_default.ensures)
 
@@ -45,57 +53,84 @@ returns-in_err-finished-clause-large c err a b v w =
     let x = greatest_size c.args.outer.now in
     let y = greatest_size c.args.inner.now in
     let h =
-    bounded_sum c.args.inner_bound.num y c.args.inner.now c.requires.positive.2 c.greatest_size-b.ensures.table c.requires.natural (λ t m. greatest_size-among c.args.inner.now t m)
-    (subst (λ d. IsBounded c.args.inner_bound.num d c.args.inner.now) c.requires.whole c.requires.inner) in
-    let l = c.in_err-finished.ensures.large (ap Err (error_is _ _ _ c.from_residual.ensures.1 err)) c.args.inner_bound.num y c.requires.positive.2 h in
+    bounded_sum c.args.inner_bound.num y c.args.inner.now c.requires.positive.2
+    c.greatest_size-b.ensures.table c.requires.natural
+    (λ t m. greatest_size-among c.args.inner.now t m)
+    (subst (λ d. IsBounded c.args.inner_bound.num d c.args.inner.now) c.requires.whole
+    c.requires.inner) in
+    let l = c.in_err-finished.ensures.large (ap Err (error_is _ _ _ c.from_residual.ensures.1 err))
+    c.args.inner_bound.num y c.requires.positive.2 h in
     let more =
-    weight-rises c.args.outer_bound.num c.args.outer_bound.den x a c.args.inner_bound.num y b c.requires.positive.2
+    weight-rises c.args.outer_bound.num c.args.outer_bound.den x a c.args.inner_bound.num y b
+    c.requires.positive.2
     (greatest-within a c.args.outer.now v) (greatest-within b c.args.inner.now w) in
     omega arith
 
 pub to_basis-requires-clause-bounded : goal.to_basis-requires-clause-bounded
 to_basis-requires-clause-bounded c =
-    let a = greatest_is c.greatest_size-a.result c.args.outer.now c.greatest_size-a.ensures.within c.greatest_size-a.ensures.least in
-    let b = greatest_is c.greatest_size-b.result c.args.inner.now c.greatest_size-b.ensures.within c.greatest_size-b.ensures.least in
+    let a = greatest_is c.greatest_size-a.result c.args.outer.now c.greatest_size-a.ensures.within
+    c.greatest_size-a.ensures.least in
+    let b = greatest_is c.greatest_size-b.result c.args.inner.now c.greatest_size-b.ensures.within
+    c.greatest_size-b.ensures.least in
     let y = greatest_size c.args.inner.now in
     let h =
-    bounded_sum c.args.inner_bound.num y c.args.inner.now c.requires.positive.2 c.greatest_size-b.ensures.table c.requires.natural (λ t m. greatest_size-among c.args.inner.now t m)
-    (subst (λ d. IsBounded c.args.inner_bound.num d c.args.inner.now) c.requires.whole c.requires.inner) in
+    bounded_sum c.args.inner_bound.num y c.args.inner.now c.requires.positive.2
+    c.greatest_size-b.ensures.table c.requires.natural
+    (λ t m. greatest_size-among c.args.inner.now t m)
+    (subst (λ d. IsBounded c.args.inner_bound.num d c.args.inner.now) c.requires.whole
+    c.requires.inner) in
     subst (λ k. IsBounded k c.args.outer_bound.den c.in_ok-finished.finished)
-    (sym (c.in-Some.ensures ∙ finished_as c.args.outer_bound.num c.args.inner_bound.num c.greatest_size-a.result (greatest_size c.args.outer.now) c.greatest_size-b.result (greatest_size c.args.inner.now) a b))
+    (sym (c.in-Some.ensures ∙ finished_as c.args.outer_bound.num c.args.inner_bound.num
+    c.greatest_size-a.result (greatest_size c.args.outer.now) c.greatest_size-b.result
+    (greatest_size c.args.inner.now) a b))
     (c.in_ok-finished.ensures.bounded (c.args.inner_bound.num * (y + 1)) y h).0
 
 pub to_basis-requires-clause-positive : goal.to_basis-requires-clause-positive
 to_basis-requires-clause-positive c =
-    let p = positive-bound c.args.outer_bound.num c.greatest_size-a.result c.args.inner_bound.num c.greatest_size-b.result c.requires.positive.0 c.requires.positive.2 in
+    let p = positive-bound c.args.outer_bound.num c.greatest_size-a.result c.args.inner_bound.num
+    c.greatest_size-b.result c.requires.positive.0 c.requires.positive.2 in
     (omega (arith, c.in-Some.ensures), c.requires.positive.1)
 
 pub to_basis-requires-clause-sizes : goal.to_basis-requires-clause-sizes
 to_basis-requires-clause-sizes c t m =
     let y = greatest_size c.args.inner.now in
     let h =
-    bounded_sum c.args.inner_bound.num y c.args.inner.now c.requires.positive.2 c.greatest_size-b.ensures.table c.requires.natural (λ t m. greatest_size-among c.args.inner.now t m)
-    (subst (λ d. IsBounded c.args.inner_bound.num d c.args.inner.now) c.requires.whole c.requires.inner) in
+    bounded_sum c.args.inner_bound.num y c.args.inner.now c.requires.positive.2
+    c.greatest_size-b.ensures.table c.requires.natural
+    (λ t m. greatest_size-among c.args.inner.now t m)
+    (subst (λ d. IsBounded c.args.inner_bound.num d c.args.inner.now) c.requires.whole
+    c.requires.inner) in
     let s = (c.in_ok-finished.ensures.bounded (c.args.inner_bound.num * (y + 1)) y h).1 t m in
     let ten = most_cells-ten (basis_of c.args.target) in
     omega (arith, c.requires.sizes.2)
 
 pub returns-clause-large : goal.returns-clause-large
 returns-clause-large c err a b v w =
-    let i = greatest_is c.greatest_size-a.result c.args.outer.now c.greatest_size-a.ensures.within c.greatest_size-a.ensures.least in
-    let j = greatest_is c.greatest_size-b.result c.args.inner.now c.greatest_size-b.ensures.within c.greatest_size-b.ensures.least in
+    let i = greatest_is c.greatest_size-a.result c.args.outer.now c.greatest_size-a.ensures.within
+    c.greatest_size-a.ensures.least in
+    let j = greatest_is c.greatest_size-b.result c.args.inner.now c.greatest_size-b.ensures.within
+    c.greatest_size-b.ensures.least in
     let x = greatest_size c.args.outer.now in
     let y = greatest_size c.args.inner.now in
     let h =
-    bounded_sum c.args.inner_bound.num y c.args.inner.now c.requires.positive.2 c.greatest_size-b.ensures.table c.requires.natural (λ t m. greatest_size-among c.args.inner.now t m)
-    (subst (λ d. IsBounded c.args.inner_bound.num d c.args.inner.now) c.requires.whole c.requires.inner) in
+    bounded_sum c.args.inner_bound.num y c.args.inner.now c.requires.positive.2
+    c.greatest_size-b.ensures.table c.requires.natural
+    (λ t m. greatest_size-among c.args.inner.now t m)
+    (subst (λ d. IsBounded c.args.inner_bound.num d c.args.inner.now) c.requires.whole
+    c.requires.inner) in
     let e =
-    c.in-Some.ensures ∙ finished_as c.args.outer_bound.num c.args.inner_bound.num c.greatest_size-a.result (greatest_size c.args.outer.now) c.greatest_size-b.result (greatest_size c.args.inner.now) i j in
-    let l = c.to_basis.ensures.large err (x * y) (c.in_ok-finished.ensures.bounded (c.args.inner_bound.num * (y + 1)) y h).1 in
+    c.in-Some.ensures ∙ finished_as c.args.outer_bound.num c.args.inner_bound.num
+    c.greatest_size-a.result (greatest_size c.args.outer.now) c.greatest_size-b.result
+    (greatest_size c.args.inner.now) i j in
+    let l = c.to_basis.ensures.large err (x * y) (c.in_ok-finished.ensures.bounded
+    (c.args.inner_bound.num * (y + 1)) y h).1 in
     let finished =
-    weight-finished c.args.outer_bound.num c.args.outer_bound.den x c.args.inner_bound.num y c.requires.positive.0 c.requires.positive.1 c.requires.positive.2 (basis_of c.args.target) in
+    weight-finished c.args.outer_bound.num c.args.outer_bound.den x c.args.inner_bound.num y
+    c.requires.positive.0 c.requires.positive.1 c.requires.positive.2 (basis_of c.args.target)
+    in
     let more =
-    weight-rises c.args.outer_bound.num c.args.outer_bound.den x a c.args.inner_bound.num y b c.requires.positive.2
+    weight-rises c.args.outer_bound.num c.args.outer_bound.den x a c.args.inner_bound.num y b
+    c.requires.positive.2
     (greatest-within a c.args.outer.now v) (greatest-within b c.args.inner.now w) in
     omega (arith, rw e at l)
 
@@ -104,9 +139,12 @@ returns-clause-value c =
     if_answered c.to_basis.result c.to_basis.ensures.value
     (λ answer changed b w n f g q x y.
     let h =
-    bounded_sum c.args.inner_bound.num b c.args.inner.now c.requires.positive.2 c.greatest_size-b.ensures.table c.requires.natural w
-    (subst (λ d. IsBounded c.args.inner_bound.num d c.args.inner.now) c.requires.whole c.requires.inner) in
-    changed n (plethysm f b n g) q (c.in_ok-finished.ensures.value (c.args.inner_bound.num * (b + 1)) b h n f g q x y))
+    bounded_sum c.args.inner_bound.num b c.args.inner.now c.requires.positive.2
+    c.greatest_size-b.ensures.table c.requires.natural w
+    (subst (λ d. IsBounded c.args.inner_bound.num d c.args.inner.now) c.requires.whole
+    c.requires.inner) in
+    changed n (plethysm f b n g) q (c.in_ok-finished.ensures.value
+    (c.args.inner_bound.num * (b + 1)) b h n f g q x y))
 
 pub returns-clause-constant : goal.returns-clause-constant
 returns-clause-constant c =
@@ -114,10 +152,15 @@ returns-clause-constant c =
     (λ answer changed none n b q f g x.
     let d = greatest_size c.args.inner.now in
     let h =
-    bounded_sum c.args.inner_bound.num d c.args.inner.now c.requires.positive.2 c.greatest_size-b.ensures.table c.requires.natural (λ t m. greatest_size-among c.args.inner.now t m)
-    (subst (λ d. IsBounded c.args.inner_bound.num d c.args.inner.now) c.requires.whole c.requires.inner) in
+    bounded_sum c.args.inner_bound.num d c.args.inner.now c.requires.positive.2
+    c.greatest_size-b.ensures.table c.requires.natural
+    (λ t m. greatest_size-among c.args.inner.now t m)
+    (subst (λ d. IsBounded c.args.inner_bound.num d c.args.inner.now) c.requires.whole
+    c.requires.inner) in
     let own = in_monomials (numerators c.args.inner.now) n in
     changed n (plethysm f b n g) q
-    (constant-expansion c.args.outer.now f q c.greatest_size-a.ensures.table none x Basis.monomials c.in_ok-finished.finished n (repeated_monomials d n own) (repeated_monomials b n g)
+    (constant-expansion c.args.outer.now f q c.greatest_size-a.ensures.table none x Basis.monomials
+    c.in_ok-finished.finished n (repeated_monomials d n own) (repeated_monomials b n g)
     (repeated-places d n own) (repeated-places b n g)
-    (c.in_ok-finished.ensures.value (c.args.inner_bound.num * (d + 1)) d h n f own q x (inner-expansion c.args.inner.now n (λ t m. (c.requires.natural t m).0)))))
+    (c.in_ok-finished.ensures.value (c.args.inner_bound.num * (d + 1)) d h n f own q x
+    (inner-expansion c.args.inner.now n (λ t m. (c.requires.natural t m).0)))))

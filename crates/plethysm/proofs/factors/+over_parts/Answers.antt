@@ -1,4 +1,5 @@
-use Rattle.std.proofs.Common.{◌≡◌, ◌+◌, ◌-◌, ◌*◌, ◌<◌, ◌≤◌, List, ℕ, length, get_or, take, drop, sym, subst, ap, arith, Err}
+use Rattle.std.proofs.Common.{◌≡◌, ◌+◌, ◌-◌, ◌*◌, ◌<◌, ◌≤◌, List, ℕ, length, get_or, take, drop}
+use Rattle.std.proofs.Common.{sym, subst, ap, arith, Err}
 use Rattle.sym_model.specs.Partition.{ArePositive, size}
 use Rattle.sym_model.specs.WholeTerms.{numerators}
 use Rattle.sym_model.proofs.Parts.{split_first}
@@ -8,38 +9,53 @@ use Rattle.linear_combinations.proofs.Steps.{error_is}
 use Rattle.whole_lists.proofs.Bounds.{greatest-within}
 use Rattle.whole_lists.proofs.WholeLists.{Once-labels}
 use Rattle.plethysm.specs.PathSums.{IsProductPast}
-use Rattle.plethysm.proofs.FactorLists.{list-dilated, list-none, list-more, within-product, within-dilated, large-factor, large-later}
+use Rattle.plethysm.proofs.FactorLists.{list-dilated, list-none, list-more, within-product}
+use Rattle.plethysm.proofs.FactorLists.{within-dilated, large-factor, large-later}
 use Rattle.plethysm.proofs.factors.+over_parts.Goals as goal
 
 -- the parts taken apart
-split_positive : (parts : List ℕ) → 1 ≤ length parts → ArePositive parts → (0 < get_or parts 0 0) × ArePositive (take (length parts - 1) (drop 1 parts))
+split_positive : (parts : List ℕ) → 1 ≤ length parts → ArePositive parts → (0 < get_or parts 0 0)
+    × ArePositive (take (length parts - 1) (drop 1 parts))
 split_positive parts h p = subst ArePositive (sym (split_first parts h)) p
 
-split_size : (parts : List ℕ) (b : ℕ) → 1 ≤ length parts → get_or parts 0 0 * b + size (take (length parts - 1) (drop 1 parts)) * b ≡ size parts * b
+split_size : (parts : List ℕ) (b : ℕ) → 1 ≤ length parts →
+    get_or parts 0 0 * b + size (take (length parts - 1) (drop 1 parts)) * b ≡ size parts * b
 split_size parts b h =
     let e = ap (λ (p : List ℕ). size p * b) (split_first parts h) in
     omega (arith, e)
 
 pub returns-in_default-clause-value : goal.returns-in_default-clause-value
 returns-in_default-clause-value t c =
-    if_answered c.single.result c.single.ensures.value (λ list e. list-none (numerators c.args.inner.now) list c.args.parts.now c.in_default.len_below e)
+    if_answered c.single.result c.single.ensures.value
+    (λ list e. list-none (numerators c.args.inner.now) list c.args.parts.now
+    c.in_default.len_below e)
 
 pub returns-in_default-clause-labels : goal.returns-in_default-clause-labels
 returns-in_default-clause-labels t c =
-    if_answered c.single.result c.single.ensures.labels (λ list w t m. let s = w t m in omega (arith, s))
+    if_answered c.single.result c.single.ensures.labels (λ list w t m. let s = w t m in
+    omega (arith, s))
 
 pub over_parts-requires : goal.over_parts-requires
 over_parts-requires t c =
-    let sizes = split_size c.args.parts.now (greatest_size c.args.inner.now) c.in-len1-up.len_at_least in
-    let shorter = ap length (split_first c.args.parts.now c.in-len1-up.len_at_least) in
-    (omega arith, ((split_positive c.args.parts.now c.in-len1-up.len_at_least c.requires.positive).1, omega (arith, c.requires.low)))
+    let sizes = split_size c.args.parts.now (greatest_size c.args.inner.now)
+    c.in-len1-up.len_at_least in
+    let shorter = ap length (split_first c.args.parts.now c.in-len1-up.len_at_least) in (
+      omega arith,
+      (
+        (split_positive c.args.parts.now c.in-len1-up.len_at_least
+            c.requires.positive).1,
+        omega (arith, c.requires.low),
+      ),
+    )
 
 pub dilated-requires-clause-positive : goal.dilated-requires-clause-positive
-dilated-requires-clause-positive t c = (split_positive c.args.parts.now c.in-len1-up.len_at_least c.requires.positive).0
+dilated-requires-clause-positive t c =
+    (split_positive c.args.parts.now c.in-len1-up.len_at_least c.requires.positive).0
 
 pub dilated-requires-clause-low : goal.dilated-requires-clause-low
 dilated-requires-clause-low t c =
-    let sizes = split_size c.args.parts.now (greatest_size c.args.inner.now) c.in-len1-up.len_at_least in
+    let sizes = split_size c.args.parts.now (greatest_size c.args.inner.now)
+    c.in-len1-up.len_at_least in
     omega (arith, c.requires.low)
 
 pub returns-in_err-others-clause-large : goal.returns-in_err-others-clause-large
@@ -55,19 +71,26 @@ times_whole_in_m-requires t c =
     let rest = take (length c.args.parts.now - 1) (drop 1 c.args.parts.now) in
     let first =
     greatest-within (k * greatest_size c.args.inner.now) c.in_ok-first.first
-    (within-dilated k c.args.inner.now c.in_ok-first.first c.in_ok-first.ensures.table c.in_ok-first.ensures.value) in
-    let others = greatest-within (size rest * greatest_size c.args.inner.now) c.in_ok-others.others c.in_ok-others.ensures.labels in
-    let sizes = split_size c.args.parts.now (greatest_size c.args.inner.now) c.in-len1-up.len_at_least in
+    (within-dilated k c.args.inner.now c.in_ok-first.first c.in_ok-first.ensures.table
+    c.in_ok-first.ensures.value) in
+    let others = greatest-within (size rest * greatest_size c.args.inner.now) c.in_ok-others.others
+    c.in_ok-others.ensures.labels in
+    let sizes = split_size c.args.parts.now (greatest_size c.args.inner.now)
+    c.in-len1-up.len_at_least in
     omega (arith, c.requires.low)
 
 pub returns-clause-labels : goal.returns-clause-labels
 returns-clause-labels t c =
     let k = get_or c.args.parts.now 0 0 in
     let rest = take (length c.args.parts.now - 1) (drop 1 c.args.parts.now) in
-    let sizes = split_size c.args.parts.now (greatest_size c.args.inner.now) c.in-len1-up.len_at_least in
+    let sizes = split_size c.args.parts.now (greatest_size c.args.inner.now)
+    c.in-len1-up.len_at_least in
     if_answered c.times_whole_in_m.result c.times_whole_in_m.ensures.labels
-    (λ list s. within-product c.in_ok-first.first c.in_ok-others.others list (k * greatest_size c.args.inner.now) (size rest * greatest_size c.args.inner.now) (size c.args.parts.now * greatest_size c.args.inner.now)
-    (within-dilated k c.args.inner.now c.in_ok-first.first c.in_ok-first.ensures.table c.in_ok-first.ensures.value) c.in_ok-others.ensures.labels (omega arith) s)
+    (λ list s. within-product c.in_ok-first.first c.in_ok-others.others list
+    (k * greatest_size c.args.inner.now) (size rest * greatest_size c.args.inner.now)
+    (size c.args.parts.now * greatest_size c.args.inner.now)
+    (within-dilated k c.args.inner.now c.in_ok-first.first c.in_ok-first.ensures.table
+    c.in_ok-first.ensures.value) c.in_ok-others.ensures.labels (omega arith) s)
 
 pub returns-clause-value : goal.returns-clause-value
 returns-clause-value t c =
@@ -77,7 +100,9 @@ returns-clause-value t c =
     let p = split_positive c.args.parts.now c.in-len1-up.len_at_least c.requires.positive in
     if_answered c.times_whole_in_m.result c.times_whole_in_m.ensures.coefficients
     (λ list e. list-more W k rest c.args.parts.now c.in_ok-first.first c.in_ok-others.others list
-    (split_first c.args.parts.now c.in-len1-up.len_at_least) (list-dilated k W c.in_ok-first.first p.0 c.in_ok-first.ensures.value) c.in_ok-others.ensures.value e)
+    (split_first c.args.parts.now c.in-len1-up.len_at_least)
+    (list-dilated k W c.in_ok-first.first p.0 c.in_ok-first.ensures.value)
+    c.in_ok-others.ensures.value e)
 
 pub returns-clause-large : goal.returns-clause-large
 returns-clause-large t c = λ large K b h.
@@ -87,5 +112,7 @@ returns-clause-large t c = λ large K b h.
     let p = split_positive c.args.parts.now c.in-len1-up.len_at_least c.requires.positive in
     subst (IsProductPast K b) (split_first c.args.parts.now c.in-len1-up.len_at_least)
     (large-factor W K b h k rest c.in_ok-first.first c.in_ok-others.others p.0 p.1
-    (Once-labels c.in_ok-first.first c.in_ok-first.ensures.table) (Once-labels c.in_ok-others.others c.in_ok-others.ensures.table)
-    (list-dilated k W c.in_ok-first.first p.0 c.in_ok-first.ensures.value) c.in_ok-others.ensures.value (c.times_whole_in_m.ensures.large large))
+    (Once-labels c.in_ok-first.first c.in_ok-first.ensures.table)
+    (Once-labels c.in_ok-others.others c.in_ok-others.ensures.table)
+    (list-dilated k W c.in_ok-first.first p.0 c.in_ok-first.ensures.value)
+    c.in_ok-others.ensures.value (c.times_whole_in_m.ensures.large large))

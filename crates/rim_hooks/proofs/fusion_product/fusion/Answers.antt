@@ -13,31 +13,41 @@ pub returns-then-has_long-clause-steps : goal.returns-then-has_long-clause-steps
 returns-then-has_long-clause-steps c =
     let l = c.has_long.ensures.limits in
     if_answered c.no_terms.result c.no_terms.ensures.none
-    (λ terms none. subst (IsReflectedInSteps c.args.rows (c.args.rows + c.args.level) c.args.factors.now) (sym none)
-    (fusion_none c.args.rows (c.args.rows + c.args.level) c.args.factors.now l.least l.small.partitions (c.has_long.ensures.long c.if-has_long.true)))
+    (λ terms none. subst (IsReflectedInSteps c.args.rows (c.args.rows + c.args.level)
+    c.args.factors.now) (sym none)
+    (fusion_none c.args.rows (c.args.rows + c.args.level) c.args.factors.now l.least
+    l.small.partitions (c.has_long.ensures.long c.if-has_long.true)))
 
 pub product_in_steps-requires-clause-few : goal.product_in_steps-requires-clause-few
 product_in_steps-requires-clause-few c = c.has_long.ensures.few c.if-has_long.false
 
 pub returns-clause-steps : goal.returns-clause-steps
 returns-clause-steps c =
-    if_answered c.product_in_steps.result c.product_in_steps.ensures.steps (λ terms led. fusion_led c.args.rows (c.args.rows + c.args.level) c.args.factors.now terms led)
+    if_answered c.product_in_steps.result c.product_in_steps.ensures.steps
+    (λ terms led. fusion_led c.args.rows (c.args.rows + c.args.level) c.args.factors.now terms
+    led)
 
 pub returns-clause-meets : goal.returns-clause-meets
 returns-clause-meets c =
     let some = c.requires.variables.0 in
     let l = c.has_long.ensures.limits in
     if_answered c.product_in_steps.result c.product_in_steps.ensures.steps
-    (λ terms led. fusion_meets c.args.rows (c.args.rows + c.args.level) c.args.factors.now terms (omega arith) l.least l.small.partitions (fusion_led c.args.rows (c.args.rows + c.args.level) c.args.factors.now terms led))
+    (λ terms led. fusion_meets c.args.rows (c.args.rows + c.args.level) c.args.factors.now terms
+    (omega arith) l.least l.small.partitions
+    (fusion_led c.args.rows (c.args.rows + c.args.level) c.args.factors.now terms led))
 
 pub returns-clause-large : goal.returns-clause-large
-returns-clause-large c err = fusion_heavy c.args.rows (c.args.rows + c.args.level) c.args.factors.now (c.product_in_steps.ensures.large err)
+returns-clause-large c err = fusion_heavy c.args.rows (c.args.rows + c.args.level)
+    c.args.factors.now (c.product_in_steps.ensures.large err)
 
 pub returns-then-has_long-clause-meets : goal.returns-then-has_long-clause-meets
 returns-then-has_long-clause-meets c =
     let some = c.requires.variables.0 in
     let l = c.has_long.ensures.limits in
     if_answered c.no_terms.result c.no_terms.ensures.none
-    (λ terms none. subst (λ ts. Meets (fusion c.args.rows c.args.level c.args.factors.now) (answer product (as_fractions ts))) (sym none)
-    (fusion_meets c.args.rows (c.args.rows + c.args.level) c.args.factors.now _ (omega arith) l.least l.small.partitions
-    (fusion_none c.args.rows (c.args.rows + c.args.level) c.args.factors.now l.least l.small.partitions (c.has_long.ensures.long c.if-has_long.true))))
+    (λ terms none. subst (λ ts. Meets (fusion c.args.rows c.args.level c.args.factors.now)
+    (answer product (as_fractions ts))) (sym none)
+    (fusion_meets c.args.rows (c.args.rows + c.args.level) c.args.factors.now _ (omega arith)
+    l.least l.small.partitions
+    (fusion_none c.args.rows (c.args.rows + c.args.level) c.args.factors.now l.least
+    l.small.partitions (c.has_long.ensures.long c.if-has_long.true))))

@@ -17,34 +17,44 @@ returns-then-has_long-clause-steps c =
     let some = c.requires.variables.0 in
     let l = c.has_long.ensures.limits in
     if_answered c.no_terms.result c.no_terms.ensures.none
-    (λ terms none. subst (IsReducedInSteps c.args.rows (c.args.rows + c.args.cols) c.args.factors.now) (sym none)
-    (quantum_none c.args.rows (c.args.rows + c.args.cols) c.args.factors.now (omega arith) l.least l.small.partitions (c.has_long.ensures.long c.if-has_long.true)))
+    (λ terms none. subst (IsReducedInSteps c.args.rows (c.args.rows + c.args.cols)
+    c.args.factors.now) (sym none)
+    (quantum_none c.args.rows (c.args.rows + c.args.cols) c.args.factors.now (omega arith) l.least
+    l.small.partitions (c.has_long.ensures.long c.if-has_long.true)))
 
 pub returns-then-has_long-clause-meets : goal.returns-then-has_long-clause-meets
 returns-then-has_long-clause-meets c =
     let some = c.requires.variables.0 in
     let l = c.has_long.ensures.limits in
     if_answered c.no_terms.result c.no_terms.ensures.none
-    (λ terms none. subst (λ ts. Meets (quantum c.args.rows c.args.cols c.args.factors.now) (answer powers (as_fractions ts))) (sym none)
-    (quantum_meets c.args.rows (c.args.rows + c.args.cols) c.args.factors.now _ (omega arith) l.least l.small.partitions
-    (quantum_none c.args.rows (c.args.rows + c.args.cols) c.args.factors.now (omega arith) l.least l.small.partitions (c.has_long.ensures.long c.if-has_long.true))))
+    (λ terms none. subst (λ ts. Meets (quantum c.args.rows c.args.cols c.args.factors.now)
+    (answer powers (as_fractions ts))) (sym none)
+    (quantum_meets c.args.rows (c.args.rows + c.args.cols) c.args.factors.now _ (omega arith)
+    l.least l.small.partitions
+    (quantum_none c.args.rows (c.args.rows + c.args.cols) c.args.factors.now (omega arith) l.least
+    l.small.partitions (c.has_long.ensures.long c.if-has_long.true))))
 
 pub product_in_steps-requires-clause-few : goal.product_in_steps-requires-clause-few
 product_in_steps-requires-clause-few c = c.has_long.ensures.few c.if-has_long.false
 
 pub returns-clause-steps : goal.returns-clause-steps
 returns-clause-steps c =
-    if_answered c.product_in_steps.result c.product_in_steps.ensures.steps (λ terms led. quantum_led c.args.rows (c.args.rows + c.args.cols) c.args.factors.now terms led)
+    if_answered c.product_in_steps.result c.product_in_steps.ensures.steps
+    (λ terms led. quantum_led c.args.rows (c.args.rows + c.args.cols) c.args.factors.now terms
+    led)
 
 pub returns-clause-meets : goal.returns-clause-meets
 returns-clause-meets c =
     let some = c.requires.variables.0 in
     let l = c.has_long.ensures.limits in
     if_answered c.product_in_steps.result c.product_in_steps.ensures.steps
-    (λ terms led. quantum_meets c.args.rows (c.args.rows + c.args.cols) c.args.factors.now terms (omega arith) l.least l.small.partitions (quantum_led c.args.rows (c.args.rows + c.args.cols) c.args.factors.now terms led))
+    (λ terms led. quantum_meets c.args.rows (c.args.rows + c.args.cols) c.args.factors.now terms
+    (omega arith) l.least l.small.partitions
+    (quantum_led c.args.rows (c.args.rows + c.args.cols) c.args.factors.now terms led))
 
 pub returns-clause-large : goal.returns-clause-large
-returns-clause-large c err = quantum_heavy c.args.rows (c.args.rows + c.args.cols) c.args.factors.now (c.product_in_steps.ensures.large err)
+returns-clause-large c err = quantum_heavy c.args.rows (c.args.rows + c.args.cols)
+    c.args.factors.now (c.product_in_steps.ensures.large err)
 
 -- the sums of every other list of reductions
 pub returns-then-has_long-clause-only : goal.returns-then-has_long-clause-only
@@ -52,13 +62,17 @@ returns-then-has_long-clause-only c =
     let some = c.requires.variables.0 in
     if_answered c.no_terms.result (returns-then-has_long-clause-meets c)
     (λ terms meets reductions reduce.
-    subst (λ ts. HaveSameSums ts (reduced_terms (classical_product c.args.rows c.args.factors.now) reductions)) (numerators-as_fractions terms)
-    (any_reductions c.args.rows (c.args.rows + c.args.cols) c.args.factors.now (as_fractions terms) reductions (omega arith) reduce meets))
+    subst (λ ts. HaveSameSums ts (reduced_terms (classical_product c.args.rows c.args.factors.now)
+    reductions)) (numerators-as_fractions terms)
+    (any_reductions c.args.rows (c.args.rows + c.args.cols) c.args.factors.now (as_fractions terms)
+    reductions (omega arith) reduce meets))
 
 pub returns-clause-only : goal.returns-clause-only
 returns-clause-only c =
     let some = c.requires.variables.0 in
     if_answered c.product_in_steps.result (returns-clause-meets c)
     (λ terms meets reductions reduce.
-    subst (λ ts. HaveSameSums ts (reduced_terms (classical_product c.args.rows c.args.factors.now) reductions)) (numerators-as_fractions terms)
-    (any_reductions c.args.rows (c.args.rows + c.args.cols) c.args.factors.now (as_fractions terms) reductions (omega arith) reduce meets))
+    subst (λ ts. HaveSameSums ts (reduced_terms (classical_product c.args.rows c.args.factors.now)
+    reductions)) (numerators-as_fractions terms)
+    (any_reductions c.args.rows (c.args.rows + c.args.cols) c.args.factors.now (as_fractions terms)
+    reductions (omega arith) reduce meets))

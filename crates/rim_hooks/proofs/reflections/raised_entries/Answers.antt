@@ -3,13 +3,16 @@ use Rattle.rim_hooks.proofs.AlcoveFacts.{raised_start, raised_step, raised_end}
 use Rattle.rim_hooks.proofs.reflections.raised_entries.Goals as goal
 
 pub loop-at-init : goal.loop-at-init
-loop-at-init c = raised_start c.args.n c.args.start c.args.entries.now c.new-sorted.result _ refl c.new-sorted.ensures
+loop-at-init c = raised_start c.args.n c.args.start c.args.entries.now c.new-sorted.result _ refl
+    c.new-sorted.ensures
 
 pub loop-at-preserved : goal.loop-at-preserved
 loop-at-preserved c =
-    raised_step c.args.n c.args.start c.args.entries.now c.loop-at.sorted c.put.new.self c.loop-at.at c.raised.result c.loop-at-test.true c.loop-at.auto.at c.raised.ensures
+    raised_step c.args.n c.args.start c.args.entries.now c.loop-at.sorted c.put.new.self
+    c.loop-at.at c.raised.result c.loop-at-test.true c.loop-at.auto.at c.raised.ensures
     c.in_ok-put.ensures
     c.loop-at.invariant
 
 pub returns : goal.returns
-returns c = raised_end c.args.n c.args.start c.args.entries.now c.loop-at.sorted c.loop-at.at (let h = c.loop-at-test.false in omega arith) c.loop-at.invariant
+returns c = raised_end c.args.n c.args.start c.args.entries.now c.loop-at.sorted c.loop-at.at
+    (let h = c.loop-at-test.false in omega arith) c.loop-at.invariant

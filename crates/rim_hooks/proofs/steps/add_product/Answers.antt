@@ -7,7 +7,8 @@ use Rattle.sym_model.specs.Target.{classical_product}
 use Rattle.linear_combinations.specs.Gains.{HaveLabels}
 use Rattle.linear_combinations.proofs.Steps.{error_is, on_ok}
 use Rattle.rim_hooks.proofs.ClassicalLists.{weight_within}
-use Rattle.rim_hooks.proofs.ReducedProducts.{seen, rows_listed, gains_classical, overflow_list, overflow_taken}
+use Rattle.rim_hooks.proofs.ReducedProducts.{seen, rows_listed, gains_classical, overflow_list}
+use Rattle.rim_hooks.proofs.ReducedProducts.{overflow_taken}
 use Rattle.rim_hooks.proofs.steps.add_product.Goals as goal
 
 pub mult-requires-clause-sizes : goal.mult-requires-clause-sizes
@@ -38,9 +39,12 @@ mult-requires-clause-variables g c = λ x same.
 
 pub returns-in_err-classical-clause-large : goal.returns-in_err-classical-clause-large
 returns-in_err-classical-clause-large g c err =
-    overflow_taken g.met.L.Eq.laws g.met.L.Label.same_label c.args.sums.now c.args.label.now (nat_abs c.args.c)
-    (classical_weight (g.R.Reduction.variables c.args.rule.now) (g.R.Reduction.shape c.args.label.now ∷ c.args.factor.now ∷ [])) c.requires.nonzero
-    (seen (λ k s. 2 ^ 127 ≤ classical_weight k (s ∷ c.args.factor.now ∷ [])) _ _ _ _ c.variables.ensures c.shape.ensures
+    overflow_taken g.met.L.Eq.laws g.met.L.Label.same_label c.args.sums.now c.args.label.now
+    (nat_abs c.args.c)
+    (classical_weight (g.R.Reduction.variables c.args.rule.now)
+    (g.R.Reduction.shape c.args.label.now ∷ c.args.factor.now ∷ [])) c.requires.nonzero
+    (seen (λ k s. 2 ^ 127 ≤ classical_weight k (s ∷ c.args.factor.now ∷ [])) _ _ _ _
+    c.variables.ensures c.shape.ensures
     (c.in_err-classical.ensures.heavy (ap Err (error_is _ _ _ c.from_residual.ensures.1 err))))
 
 pub add_reductions-requires-clause-rows : goal.add_reductions-requires-clause-rows
@@ -55,16 +59,25 @@ pub returns-clause-gains : goal.returns-clause-gains
 returns-clause-gains g c =
     let k = g.R.Reduction.variables c.args.rule.now in
     let s = g.R.Reduction.shape c.args.label.now in
-    let same = seen (λ n x. Same c.in_ok-classical.classical (classical_product n (x ∷ c.args.factor.now ∷ []))) _ _ _ _ c.variables.ensures c.shape.ensures c.in_ok-classical.ensures.classical in
+    let same = seen (λ n x. Same c.in_ok-classical.classical
+    (classical_product n (x ∷ c.args.factor.now ∷ []))) _ _ _ _ c.variables.ensures
+    c.shape.ensures c.in_ok-classical.ensures.classical in
     on_ok c.add_reductions.result c.add_reductions.ensures.gains
-    (gains_classical k g.R.Reduction.shape (g.R.Reduction.reduced c.args.rule.now) (g.met.R.Reduction.light c.args.rule.now) c.args.sums.now c.add_reductions.new.sums c.args.label.now c.args.c c.args.factor.now
+    (gains_classical k g.R.Reduction.shape (g.R.Reduction.reduced c.args.rule.now)
+    (g.met.R.Reduction.light c.args.rule.now) c.args.sums.now c.add_reductions.new.sums
+    c.args.label.now c.args.c c.args.factor.now
     c.in_ok-classical.classical same)
 
 pub returns-clause-large : goal.returns-clause-large
 returns-clause-large g c err =
     let k = g.R.Reduction.variables c.args.rule.now in
     let s = g.R.Reduction.shape c.args.label.now in
-    let same = seen (λ n x. Same c.in_ok-classical.classical (classical_product n (x ∷ c.args.factor.now ∷ []))) _ _ _ _ c.variables.ensures c.shape.ensures c.in_ok-classical.ensures.classical in
-    overflow_list k g.R.Reduction.shape (g.R.Reduction.reduced c.args.rule.now) (g.met.R.Reduction.light c.args.rule.now) g.L.PartialEq.eq c.args.sums.now c.args.label.now c.args.c c.in_ok-classical.classical
-    (classical_weight k (s ∷ c.args.factor.now ∷ [])) (weight_within k (s ∷ c.args.factor.now ∷ []) c.in_ok-classical.classical c.add_reductions.ensures.canonical same)
+    let same = seen (λ n x. Same c.in_ok-classical.classical
+    (classical_product n (x ∷ c.args.factor.now ∷ []))) _ _ _ _ c.variables.ensures
+    c.shape.ensures c.in_ok-classical.ensures.classical in
+    overflow_list k g.R.Reduction.shape (g.R.Reduction.reduced c.args.rule.now)
+    (g.met.R.Reduction.light c.args.rule.now) g.L.PartialEq.eq c.args.sums.now c.args.label.now
+    c.args.c c.in_ok-classical.classical
+    (classical_weight k (s ∷ c.args.factor.now ∷ [])) (weight_within k (s ∷ c.args.factor.now ∷ [])
+    c.in_ok-classical.classical c.add_reductions.ensures.canonical same)
     (c.add_reductions.ensures.large err)

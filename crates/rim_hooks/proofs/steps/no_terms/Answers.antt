@@ -12,6 +12,9 @@ no_length (x ∷ xs) h = absurd (omega arith)
 pub returns-clause-none : goal.returns-clause-none
 returns-clause-none g c =
     let eq = g.L.PartialEq.eq in
-    let same = subst (λ old. HasSameCoefficients eq (pos 0) old c.in_ok-sorted_terms.field-0) c.new-terms.ensures c.in_ok-sorted_terms.ensures.same in
+    let same = subst (λ old. HasSameCoefficients eq (pos 0) old c.in_ok-sorted_terms.field-0)
+    c.new-terms.ensures c.in_ok-sorted_terms.ensures.same in
     no_length c.in_ok-sorted_terms.field-0
-    (length_same g.met.L.Eq.laws g.met.L.Label.same_label (pos 0) whole refl c.in_ok-sorted_terms.field-0 [] c.in_ok-sorted_terms.ensures.combination (IsCombination-empty eq g.L.Label.is_label whole) (λ label. sym (same label)))
+    (length_same g.met.L.Eq.laws g.met.L.Label.same_label (pos 0) whole refl
+    c.in_ok-sorted_terms.field-0 [] c.in_ok-sorted_terms.ensures.combination
+    (IsCombination-empty eq g.L.Label.is_label whole) (λ label. sym (same label)))

@@ -6,7 +6,8 @@ use Rattle.coeff_rings.specs.Fractions.{whole}
 use Rattle.sym_model.specs.Sum.{Among}
 use Rattle.linear_combinations.specs.Entries.{IsCombination}
 use Rattle.linear_combinations.specs.Gains.{Gains, scaled}
-use Rattle.linear_combinations.proofs.Gains.{gains_none, pairs_gain, all_pairs, so_far_next, next_among, replaced_append}
+use Rattle.linear_combinations.proofs.Gains.{gains_none, pairs_gain, all_pairs, so_far_next}
+use Rattle.linear_combinations.proofs.Gains.{next_among, replaced_append}
 use Rattle.linear_combinations.proofs.Steps.{error_is, all_done, IsCombination-empty}
 use Rattle.rim_hooks.specs.Reductions.{products, multiplied}
 use Rattle.rim_hooks.proofs.ReducedProducts.{counted, heavy_step}
@@ -15,52 +16,84 @@ use Rattle.rim_hooks.proofs.steps.times_factor.Goals as goal
 pub loop-label-init : goal.loop-label-init
 loop-label-init g c = record {
   gains = subst (Gains [] []) (sym c.new-sums.ensures) (gains_none []);
-  table = subst (IsCombination g.L.PartialEq.eq g.L.Label.is_label whole) (sym c.new-sums.ensures) (IsCombination-empty g.L.PartialEq.eq g.L.Label.is_label whole);
+  table = subst (IsCombination g.L.PartialEq.eq g.L.Label.is_label whole) (sym c.new-sums.ensures)
+      (IsCombination-empty g.L.PartialEq.eq g.L.Label.is_label whole);
   so_far = refl;
 }
 
 pub add_product-requires-clause-cells : goal.add_product-requires-clause-cells
 add_product-requires-clause-cells g c =
     let done = map deref_pair c.loop-label.yielded in
-    let all = all_pairs done c.next.new.self c.loop-label.label-iterator _ _ c.args.terms.now (c.in-Some.label.now, c.in-Some.c.now) c.in-Some.ensures.steps c.loop-label.invariant.so_far c.into_iter-label-iterator.ensures.into_iter_gives c.iter-label-items.ensures.rest in
-    (c.requires.room (c.in-Some.label.now, c.in-Some.c.now) (subst (λ l. Among (c.in-Some.label.now, c.in-Some.c.now) l) all (next_among done (c.in-Some.label.now, c.in-Some.c.now) c.next.new.self))).1
+    let all = all_pairs done c.next.new.self c.loop-label.label-iterator _ _ c.args.terms.now
+    (c.in-Some.label.now, c.in-Some.c.now) c.in-Some.ensures.steps c.loop-label.invariant.so_far
+    c.into_iter-label-iterator.ensures.into_iter_gives c.iter-label-items.ensures.rest in
+    (c.requires.room (c.in-Some.label.now, c.in-Some.c.now)
+    (subst (λ l. Among (c.in-Some.label.now, c.in-Some.c.now) l) all
+    (next_among done (c.in-Some.label.now, c.in-Some.c.now) c.next.new.self))).1
 
 pub add_product-requires-clause-few : goal.add_product-requires-clause-few
 add_product-requires-clause-few g c =
     let done = map deref_pair c.loop-label.yielded in
-    let all = all_pairs done c.next.new.self c.loop-label.label-iterator _ _ c.args.terms.now (c.in-Some.label.now, c.in-Some.c.now) c.in-Some.ensures.steps c.loop-label.invariant.so_far c.into_iter-label-iterator.ensures.into_iter_gives c.iter-label-items.ensures.rest in
-    ((c.requires.room (c.in-Some.label.now, c.in-Some.c.now) (subst (λ l. Among (c.in-Some.label.now, c.in-Some.c.now) l) all (next_among done (c.in-Some.label.now, c.in-Some.c.now) c.next.new.self))).0, c.requires.few)
+    let all = all_pairs done c.next.new.self c.loop-label.label-iterator _ _ c.args.terms.now
+    (c.in-Some.label.now, c.in-Some.c.now) c.in-Some.ensures.steps c.loop-label.invariant.so_far
+    c.into_iter-label-iterator.ensures.into_iter_gives c.iter-label-items.ensures.rest in (
+      (c.requires.room (c.in-Some.label.now, c.in-Some.c.now)
+          (subst (λ l. Among (c.in-Some.label.now, c.in-Some.c.now) l) all
+          (next_among done (c.in-Some.label.now, c.in-Some.c.now) c.next.new.self))).0,
+      c.requires.few,
+    )
 
 pub add_product-requires-clause-nonzero : goal.add_product-requires-clause-nonzero
 add_product-requires-clause-nonzero g c =
     let done = map deref_pair c.loop-label.yielded in
-    let all = all_pairs done c.next.new.self c.loop-label.label-iterator _ _ c.args.terms.now (c.in-Some.label.now, c.in-Some.c.now) c.in-Some.ensures.steps c.loop-label.invariant.so_far c.into_iter-label-iterator.ensures.into_iter_gives c.iter-label-items.ensures.rest in
-    counted g.L.PartialEq.eq g.L.Label.is_label c.args.terms.now c.iter-label-items.ensures.combination (c.in-Some.label.now, c.in-Some.c.now)
-    (subst (λ l. Among (c.in-Some.label.now, c.in-Some.c.now) l) all (next_among done (c.in-Some.label.now, c.in-Some.c.now) c.next.new.self))
+    let all = all_pairs done c.next.new.self c.loop-label.label-iterator _ _ c.args.terms.now
+    (c.in-Some.label.now, c.in-Some.c.now) c.in-Some.ensures.steps c.loop-label.invariant.so_far
+    c.into_iter-label-iterator.ensures.into_iter_gives c.iter-label-items.ensures.rest in
+    counted g.L.PartialEq.eq g.L.Label.is_label c.args.terms.now
+    c.iter-label-items.ensures.combination (c.in-Some.label.now, c.in-Some.c.now)
+    (subst (λ l. Among (c.in-Some.label.now, c.in-Some.c.now) l) all
+    (next_among done (c.in-Some.label.now, c.in-Some.c.now) c.next.new.self))
 
 pub loop-label-preserved : goal.loop-label-preserved
 loop-label-preserved g c =
     let done = map deref_pair c.loop-label.yielded in
-    let pushed : done ++ (c.in-Some.label.now, c.in-Some.c.now) ∷ [] ≡ map deref_pair (c.loop-label.yielded ++ (c.in-Some.label, c.in-Some.c) ∷ []) =
+    let pushed : done ++ (c.in-Some.label.now, c.in-Some.c.now) ∷ [] ≡ map deref_pair
+    (c.loop-label.yielded ++ (c.in-Some.label, c.in-Some.c) ∷ []) =
     sym (map-append deref_pair c.loop-label.yielded ((c.in-Some.label, c.in-Some.c) ∷ [])) in
-    let image = products (g.R.Reduction.variables c.args.rule.now) g.R.Reduction.shape (g.R.Reduction.reduced c.args.rule.now) c.args.factor.now in
+    let image = products (g.R.Reduction.variables c.args.rule.now) g.R.Reduction.shape
+    (g.R.Reduction.reduced c.args.rule.now) c.args.factor.now in
     record {
-      gains = pairs_gain (multiplied (g.R.Reduction.variables c.args.rule.now) g.R.Reduction.shape (g.R.Reduction.reduced c.args.rule.now) c.args.factor.now) (replaced_append image)
-          done (c.in-Some.label.now, c.in-Some.c.now) [] c.loop-label.sums c.loop-label.invariant.gains _ c.add_product.new.sums pushed
-          (subst (λ l. Gains c.loop-label.sums l c.add_product.new.sums) (sym (append-nil (scaled c.in-Some.c.now (image c.in-Some.label.now)))) c.in_ok-add_product.ensures.gains);
+      gains = pairs_gain (multiplied (g.R.Reduction.variables c.args.rule.now) g.R.Reduction.shape
+          (g.R.Reduction.reduced c.args.rule.now) c.args.factor.now) (replaced_append image)
+          done (c.in-Some.label.now, c.in-Some.c.now) [] c.loop-label.sums
+          c.loop-label.invariant.gains _ c.add_product.new.sums pushed
+          (subst (λ l. Gains c.loop-label.sums l c.add_product.new.sums)
+          (sym (append-nil (scaled c.in-Some.c.now (image c.in-Some.label.now))))
+          c.in_ok-add_product.ensures.gains);
       table = c.in_ok-add_product.ensures.table;
-      so_far = so_far_next done c.next.new.self c.loop-label.label-iterator _ _ (c.in-Some.label.now, c.in-Some.c.now) pushed c.in-Some.ensures.steps c.loop-label.invariant.so_far;
+      so_far = so_far_next done c.next.new.self c.loop-label.label-iterator _ _
+          (c.in-Some.label.now, c.in-Some.c.now) pushed c.in-Some.ensures.steps
+          c.loop-label.invariant.so_far;
     }
 
 pub returns-in_err-add_product-clause-large : goal.returns-in_err-add_product-clause-large
 returns-in_err-add_product-clause-large g c err =
     let done = map deref_pair c.loop-label.yielded in
-    let all = all_pairs done c.next.new.self c.loop-label.label-iterator _ _ c.args.terms.now (c.in-Some.label.now, c.in-Some.c.now) c.in-Some.ensures.steps c.loop-label.invariant.so_far c.into_iter-label-iterator.ensures.into_iter_gives c.iter-label-items.ensures.rest in
-    heavy_step (g.R.Reduction.variables c.args.rule.now) g.R.Reduction.shape (g.R.Reduction.reduced c.args.rule.now) (g.met.R.Reduction.light c.args.rule.now) g.L.PartialEq.eq c.args.factor.now done
-    (c.in-Some.label.now, c.in-Some.c.now) c.next.new.self c.args.terms.now c.loop-label.sums all c.loop-label.invariant.gains
+    let all = all_pairs done c.next.new.self c.loop-label.label-iterator _ _ c.args.terms.now
+    (c.in-Some.label.now, c.in-Some.c.now) c.in-Some.ensures.steps c.loop-label.invariant.so_far
+    c.into_iter-label-iterator.ensures.into_iter_gives c.iter-label-items.ensures.rest in
+    heavy_step (g.R.Reduction.variables c.args.rule.now) g.R.Reduction.shape
+    (g.R.Reduction.reduced c.args.rule.now) (g.met.R.Reduction.light c.args.rule.now)
+    g.L.PartialEq.eq c.args.factor.now done
+    (c.in-Some.label.now, c.in-Some.c.now) c.next.new.self c.args.terms.now c.loop-label.sums all
+    c.loop-label.invariant.gains
     (c.in_err-add_product.ensures.large (ap Err (error_is _ _ _ c.from_residual.ensures.1 err)))
 
 pub returns-clause-gains : goal.returns-clause-gains
 returns-clause-gains g c =
-    subst (λ l. Gains [] (multiplied (g.R.Reduction.variables c.args.rule.now) g.R.Reduction.shape (g.R.Reduction.reduced c.args.rule.now) c.args.factor.now l) c.loop-label.sums)
-    (all_done (map deref_pair c.loop-label.yielded) c.loop-label.label-iterator _ _ c.in-None.ensures.steps.0 c.loop-label.invariant.so_far (c.into_iter-label-iterator.ensures.into_iter_gives ∙ c.iter-label-items.ensures.rest)) c.loop-label.invariant.gains
+    subst (λ l. Gains [] (multiplied (g.R.Reduction.variables c.args.rule.now) g.R.Reduction.shape
+    (g.R.Reduction.reduced c.args.rule.now) c.args.factor.now l) c.loop-label.sums)
+    (all_done (map deref_pair c.loop-label.yielded) c.loop-label.label-iterator _ _
+    c.in-None.ensures.steps.0 c.loop-label.invariant.so_far
+    (c.into_iter-label-iterator.ensures.into_iter_gives ∙ c.iter-label-items.ensures.rest))
+    c.loop-label.invariant.gains

@@ -6,13 +6,15 @@ pub returns-then-row-place-clause-row : goal.returns-then-row-place-clause-row
 returns-then-row-place-clause-row c =
     let e : c.loop-place.place ≡ c.loop-place.place - 1 + 1 = omega arith in
     let next = subst (λ n. c.args.letter ≤ get_or c.args.row.now n 0) e c.if-row-place.true in
-    (back_at c.args.letter (c.loop-place.place - 1) c.args.row.now (omega arith) (λ k m n. c.loop-place.invariant k m (omega arith)) (inr next)).0
+    (back_at c.args.letter (c.loop-place.place - 1) c.args.row.now (omega arith)
+    (λ k m n. c.loop-place.invariant k m (omega arith)) (inr next)).0
 
 pub returns-then-row-place-clause-other : goal.returns-then-row-place-clause-other
 returns-then-row-place-clause-other c =
     let e : c.loop-place.place ≡ c.loop-place.place - 1 + 1 = omega arith in
     let next = subst (λ n. c.args.letter ≤ get_or c.args.row.now n 0) e c.if-row-place.true in
-    (back_at c.args.letter (c.loop-place.place - 1) c.args.row.now (omega arith) (λ k m n. c.loop-place.invariant k m (omega arith)) (inr next)).1
+    (back_at c.args.letter (c.loop-place.place - 1) c.args.row.now (omega arith)
+    (λ k m n. c.loop-place.invariant k m (omega arith)) (inr next)).1
 
 pub returns-clause-row : goal.returns-clause-row
 returns-clause-row c =

@@ -10,4 +10,5 @@ returns-clause-row c =
 pub returns-clause-number : goal.returns-clause-number
 returns-clause-number c =
     let e : vec_len c.args.row.now ≡ length c.args.row.now.items = omega arith in
-    c.unwrap_or.ensures ∙ popped c.args.row.now.items (vec_len c.args.row.now) c.pop.result e c.pop.ensures.value c.pop.ensures.variant.0
+    c.unwrap_or.ensures ∙ popped c.args.row.now.items (vec_len c.args.row.now) c.pop.result e
+    c.pop.ensures.value c.pop.ensures.variant.0

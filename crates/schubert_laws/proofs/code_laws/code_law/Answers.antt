@@ -1,4 +1,6 @@
-use Rattle.schubert_laws.proofs.Codes.{inversions-code, code_is_code, one_line_letters, code_of_letters, one_line_from_code, code_from_code, from_code-code}
+use Rattle.schubert_laws.proofs.Codes.{inversions-code, code_is_code, one_line_letters}
+use Rattle.schubert_laws.proofs.Codes.{code_of_letters, one_line_from_code, code_from_code}
+use Rattle.schubert_laws.proofs.Codes.{from_code-code}
 use Rattle.schubert_laws.proofs.code_laws.code_law.Goals as goal
 
 pub returns-clause-inversions : goal.returns-clause-inversions

@@ -1,4 +1,6 @@
-use Rattle.schubert_laws.proofs.DifferencesFromOne.{divided_respects, divided-plus, divided-scale, divided_square, divided_commute, divided_braid, In_divided, divided-times, divided_quotient}
+use Rattle.schubert_laws.proofs.DifferencesFromOne.{divided_respects, divided-plus, divided-scale}
+use Rattle.schubert_laws.proofs.DifferencesFromOne.{divided_square, divided_commute, divided_braid}
+use Rattle.schubert_laws.proofs.DifferencesFromOne.{In_divided, divided-times, divided_quotient}
 use Rattle.schubert_laws.proofs.difference_laws.divided_difference_law.Goals as goal
 
 pub returns-clause-variables : goal.returns-clause-variables

@@ -13,11 +13,14 @@ product_of-requires c limits =
 
 pub returns-clause-is : goal.returns-clause-is
 returns-clause-is c =
-    final c.args.w.now c.one-one.result c.product_of.result c.product_of.ensures.limits.kept.one_line c.one-one.ensures
-    c.product_of.ensures.value c.product_of.ensures.table c.product_of.ensures.held c.product_of.ensures.shares
+    final c.args.w.now c.one-one.result c.product_of.result
+    c.product_of.ensures.limits.kept.one_line c.one-one.ensures
+    c.product_of.ensures.value c.product_of.ensures.table c.product_of.ensures.held
+    c.product_of.ensures.shares
 
 pub returns-clause-large : goal.returns-clause-large
-returns-clause-large c err = overflow_past c.args.w.now c.one-one.result c.product_of.ensures.limits.kept.one_line c.one-one.ensures (c.product_of.ensures.overflow err)
+returns-clause-large c err = overflow_past c.args.w.now c.one-one.result
+    c.product_of.ensures.limits.kept.one_line c.one-one.ensures (c.product_of.ensures.overflow err)
 
 pub returns-clause-fits : goal.returns-clause-fits
 returns-clause-fits c = fits_of c.args.w.now c.product_of.result (returns-clause-is c)

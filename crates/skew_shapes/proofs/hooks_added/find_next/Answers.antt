@@ -5,21 +5,30 @@ use Rattle.skew_shapes.proofs.hooks_added.find_next.Goals as goal
 
 pub first_passed-hook-requires-clause-begins : goal.first_passed-hook-requires-clause-begins
 first_passed-hook-requires-clause-begins c =
-    begins_next c.args.k c.args.inner.now c.loop-hook.hook.first c.loop-hook.hook.last c.requires.falls c.loop-hook.invariant.0
+    begins_next c.args.k c.args.inner.now c.loop-hook.hook.first c.loop-hook.hook.last
+    c.requires.falls c.loop-hook.invariant.0
 
 pub returns-then-can_be_added-clause-found : goal.returns-then-can_be_added-clause-found
 returns-then-can_be_added-clause-found c =
-    c.loop-hook.invariant.2 ∙ ending_next c.args.k c.args.inner.now c.loop-hook.hook.last (omega arith)
-    ∙ ap (λ (l : List (List ℕ)). l ++ hooks_ending_after c.args.k c.args.inner.now (c.loop-hook.hook.last + 1))
-    (ending_one c.args.k c.args.inner.now c.first_passed-hook.result (c.loop-hook.hook.last + 1) c.requires.falls c.first_passed-hook.ensures.begins.counts c.first_passed-hook.ensures.within
+    c.loop-hook.invariant.2 ∙ ending_next c.args.k c.args.inner.now c.loop-hook.hook.last
+    (omega arith)
+    ∙ ap (λ (l : List (List ℕ)). l ++ hooks_ending_after c.args.k c.args.inner.now
+    (c.loop-hook.hook.last + 1))
+    (ending_one c.args.k c.args.inner.now c.first_passed-hook.result (c.loop-hook.hook.last + 1)
+    c.requires.falls c.first_passed-hook.ensures.begins.counts
+    c.first_passed-hook.ensures.within
     (sym c.can_be_added.ensures ∙ c.if-can_be_added.true))
 
 pub loop-hook-preserved : goal.loop-hook-preserved
 loop-hook-preserved c = (
   c.first_passed-hook.ensures.begins,
   omega arith,
-  c.loop-hook.invariant.2 ∙ ending_next c.args.k c.args.inner.now c.loop-hook.hook.last (omega arith)
-      ∙ ap (λ (l : List (List ℕ)). l ++ hooks_ending_after c.args.k c.args.inner.now (c.loop-hook.hook.last + 1))
-      (ending_none c.args.k c.args.inner.now c.first_passed-hook.result (c.loop-hook.hook.last + 1) c.requires.falls c.first_passed-hook.ensures.begins c.first_passed-hook.ensures.within c.first_passed-hook.ensures.longer
+  c.loop-hook.invariant.2 ∙ ending_next c.args.k c.args.inner.now c.loop-hook.hook.last
+      (omega arith)
+      ∙ ap (λ (l : List (List ℕ)). l ++ hooks_ending_after c.args.k c.args.inner.now
+      (c.loop-hook.hook.last + 1))
+      (ending_none c.args.k c.args.inner.now c.first_passed-hook.result (c.loop-hook.hook.last + 1)
+      c.requires.falls c.first_passed-hook.ensures.begins c.first_passed-hook.ensures.within
+      c.first_passed-hook.ensures.longer
       (sym c.can_be_added.ensures ∙ c.if-can_be_added.false)),
 )

@@ -13,7 +13,9 @@ overflow_add-result c =
 
 pub overflow_sub-result-2 : goal.overflow_sub-result-2
 overflow_sub-result-2 c =
-    let t = can_remove-tells c.args.k c.args.outer.now c.args.hook.first c.args.hook.last c.requires.fits in
+    let t = can_remove-tells c.args.k c.args.outer.now c.args.hook.first c.args.hook.last
+    c.requires.fits in
     let p = (last_within c.args.k c.args.outer.now c.args.hook.first c.args.hook.last t).0 in
-    let f = falls_far c.args.outer.now c.requires.limits.partition.falls (c.args.row + 1) c.args.hook.last (omega arith) (omega arith) in
+    let f = falls_far c.args.outer.now c.requires.limits.partition.falls (c.args.row + 1)
+    c.args.hook.last (omega arith) (omega arith) in
     omega arith

@@ -9,14 +9,18 @@ use Rattle.skew_shapes.proofs.horizontal_strips.with_horizontal_strip.Goals as g
 pub add_strips-requires-clause-falls : goal.add_strips-requires-clause-falls
 add_strips-requires-clause-falls c =
     subst (λ n. Falls ((n + c.args.k) ∷ c.parts.result.now)) (sym c.part.ensures.value)
-    (subst (λ l. Falls ((part c.args.inner.now 1 + c.args.k) ∷ l)) (sym c.parts.ensures.value) (most_falls c.args.inner.now c.args.k c.parts.ensures.limits.partition))
+    (subst (λ l. Falls ((part c.args.inner.now 1 + c.args.k) ∷ l)) (sym c.parts.ensures.value)
+    (most_falls c.args.inner.now c.args.k c.parts.ensures.limits.partition))
 
 pub add_strips-requires-clause-limits : goal.add_strips-requires-clause-limits
 add_strips-requires-clause-limits c rest m =
     subst (λ (above : List ℕ). IsWithinLimits (above ++ rest)) (sym c.in_ok-above.ensures.items)
-    (grown_limits c.args.inner.now c.args.k c.parts.ensures.limits.partition c.requires.cells c.requires.rows rest
-    (subst (λ n. Among rest (strips_on (n + c.args.k) c.args.k c.args.inner.now)) c.part.ensures.value
-    (subst (λ l. Among rest (strips_on (c.part.result + c.args.k) c.args.k l)) c.parts.ensures.value m)))
+    (grown_limits c.args.inner.now c.args.k c.parts.ensures.limits.partition c.requires.cells
+    c.requires.rows rest
+    (subst (λ n. Among rest (strips_on (n + c.args.k) c.args.k c.args.inner.now))
+    c.part.ensures.value
+    (subst (λ l. Among rest (strips_on (c.part.result + c.args.k) c.args.k l)) c.parts.ensures.value
+    m)))
 
 pub returns : goal.returns
 returns c =
@@ -24,7 +28,10 @@ returns c =
     let list = strips_on (c.part.result + c.args.k) c.args.k c.parts.result.now in
     let is : c.add_strips.new.shapes.items ≡ strips_on (part inner 1 + c.args.k) c.args.k inner =
     c.in_ok-add_strips.ensures.shapes
-    ∙ ap₂ (λ (x : List (List ℕ)) (above : List ℕ). x ++ map (λ rest. above ++ rest) list) c.new-shapes.ensures.items c.in_ok-above.ensures.items
+    ∙ ap₂ (λ (x : List (List ℕ)) (above : List ℕ). x ++ map (λ rest. above ++ rest) list)
+    c.new-shapes.ensures.items c.in_ok-above.ensures.items
     ∙ map_rest list
-    ∙ ap₂ (λ (n : ℕ) (l : List ℕ). strips_on (n + c.args.k) c.args.k l) c.part.ensures.value c.parts.ensures.value in
-    subst (AreHorizontalStrips inner c.args.k) (sym is) (horizontal_strips inner c.args.k c.parts.ensures.limits.partition)
+    ∙ ap₂ (λ (n : ℕ) (l : List ℕ). strips_on (n + c.args.k) c.args.k l) c.part.ensures.value
+    c.parts.ensures.value in
+    subst (AreHorizontalStrips inner c.args.k) (sym is)
+    (horizontal_strips inner c.args.k c.parts.ensures.limits.partition)

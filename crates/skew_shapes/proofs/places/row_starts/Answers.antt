@@ -1,4 +1,5 @@
-use Rattle.std.proofs.Common.{◌≡◌, [], ◌∷◌, ◌++◌, length, take, get_or, ap, ◌∙◌, inl, inr, arith, length-append}
+use Rattle.std.proofs.Common.{◌≡◌, [], ◌∷◌, ◌++◌, length, take, get_or, ap, ◌∙◌, inl, inr, arith}
+use Rattle.std.proofs.Common.{length-append}
 use Rattle.std.proofs.lemmas.Bool.{cases_lt}
 use Rattle.std.proofs.Math.Seq.{get_or-append_seam}
 use Rattle.std.proofs.Math.ListN.{get_or-append}
@@ -9,7 +10,12 @@ use Rattle.skew_shapes.proofs.places.row_starts.Goals as goal
 
 pub overflow_add-start : goal.overflow_add-start
 overflow_add-start c =
-    omega (arith, size-take-within c.args.lengths.now c.loop-length.length-index (omega arith), c.loop-length.invariant.sum, c.requires)
+    omega (
+      arith,
+      size-take-within c.args.lengths.now c.loop-length.length-index (omega arith),
+      c.loop-length.invariant.sum,
+      c.requires,
+    )
 
 pub loop-length-preserved : goal.loop-length-preserved
 loop-length-preserved c =
@@ -21,21 +27,34 @@ loop-length-preserved c =
           elim (cases_lt k c.loop-length.length-index) [
             | inl l ↦
                 ap (λ xs. get_or xs k 0) pushed
-                ∙ get_or-append old (c.loop-length.start ∷ []) 0 k (omega (arith, c.loop-length.invariant.count))
+                ∙ get_or-append old (c.loop-length.start ∷ []) 0 k
+                (omega (arith, c.loop-length.invariant.count))
                 ∙ c.loop-length.invariant.starts k l
             | inr l ↦
-                let here : k ≡ length c.loop-length.starts.items = omega (arith, c.loop-length.invariant.count) in
+                let here : k ≡ length c.loop-length.starts.items =
+                omega (arith, c.loop-length.invariant.count) in
                 let same : c.loop-length.length-index ≡ k = omega arith in
-                ap (λ xs. get_or xs k 0) pushed ∙ ap (λ n. get_or (old ++ c.loop-length.start ∷ []) n 0) here
+                ap (λ xs. get_or xs k 0) pushed ∙ ap (λ n. get_or (old ++ c.loop-length.start ∷ [])
+                n 0) here
                 ∙ get_or-append_seam old c.loop-length.start [] 0 ∙ c.loop-length.invariant.sum
                 ∙ ap (λ n. size (take n c.args.lengths.now)) same
           ];
-      count = ap length pushed ∙ omega (arith, length-append old (c.loop-length.start ∷ []), c.loop-length.invariant.count);
-      sum = omega (arith, c.loop-length.invariant.sum, size-take_more c.args.lengths.now i c.loop-length-test.true);
+      count = ap length pushed ∙ omega (
+        arith,
+        length-append old (c.loop-length.start ∷ []),
+        c.loop-length.invariant.count,
+      );
+      sum = omega (
+        arith,
+        c.loop-length.invariant.sum,
+        size-take_more c.args.lengths.now i
+            c.loop-length-test.true,
+      );
     }
 
 pub returns : goal.returns
 returns c =
     let count : c.loop-length.length-index ≡ length c.args.lengths.now = omega arith in
-    places-from c.loop-length.starts.items c.args.lengths.now (c.loop-length.invariant.count ∙ count)
+    places-from c.loop-length.starts.items c.args.lengths.now (c.loop-length.invariant.count
+    ∙ count)
     (λ k h. c.loop-length.invariant.starts k (omega arith))

@@ -15,16 +15,20 @@ returns-then-times-ne1 c =
     let place : 0 + c.loop-number.number + 1 ≡ c.loop-number.number + 1 = omega arith in
     let all = straight-letters t c.shape.ensures.tableau c.requires in
     let cells : c.cells-number-end.result + size c.args.t.now.inner ≡ size c.args.t.now.outer =
-    subst (λ (s : List ℕ × List ℕ). c.cells-number-end.result + size s.1 ≡ size s.0) c.shape.ensures.value c.cells-number-end.ensures.sizes in
-    sym (every_after-fails test 0 (length w) c.loop-number.number (omega (arith, ap size c.requires))
-    (ap test place ∙ ap (λ n. n == 1) (sym c.times.ensures) ∙ ne_eqb c.times.result 1 c.if-times-ne1.true))
+    subst (λ (s : List ℕ × List ℕ). c.cells-number-end.result + size s.1 ≡ size s.0)
+    c.shape.ensures.value c.cells-number-end.ensures.sizes in
+    sym (every_after-fails test 0 (length w) c.loop-number.number
+    (omega (arith, ap size c.requires))
+    (ap test place ∙ ap (λ n. n == 1) (sym c.times.ensures) ∙ ne_eqb c.times.result 1
+    c.if-times-ne1.true))
 
 pub loop-number-preserved : goal.loop-number-preserved
 loop-number-preserved c =
     let test = λ (k : ℕ). times_in k (letters_of c.args.t.now.rows) == 1 in
     let place : 0 + c.loop-number.number + 1 ≡ c.loop-number.number + 1 = omega arith in
     every_after-more test 0 c.loop-number.number c.loop-number.invariant
-    (ap test place ∙ ap (λ n. n == 1) (sym c.times.ensures) ∙ eq-eqb c.times.result 1 c.if-times-ne1.false)
+    (ap test place ∙ ap (λ n. n == 1) (sym c.times.ensures) ∙ eq-eqb c.times.result 1
+    c.if-times-ne1.false)
 
 pub returns : goal.returns
 returns c =
@@ -32,6 +36,8 @@ returns c =
     let test = λ (k : ℕ). times_in k (letters_of c.args.t.now.rows) == 1 in
     let all = straight-letters t c.shape.ensures.tableau c.requires in
     let cells : c.cells-number-end.result + size c.args.t.now.inner ≡ size c.args.t.now.outer =
-    subst (λ (s : List ℕ × List ℕ). c.cells-number-end.result + size s.1 ≡ size s.0) c.shape.ensures.value c.cells-number-end.ensures.sizes in
-    let whole : c.loop-number.number ≡ length (letters_of c.args.t.now.rows) = omega (arith, ap size c.requires) in
+    subst (λ (s : List ℕ × List ℕ). c.cells-number-end.result + size s.1 ≡ size s.0)
+    c.shape.ensures.value c.cells-number-end.ensures.sizes in
+    let whole : c.loop-number.number ≡ length (letters_of c.args.t.now.rows) =
+    omega (arith, ap size c.requires) in
     sym (ap (λ n. every test (after 0 n)) (sym whole) ∙ c.loop-number.invariant)

@@ -1,4 +1,6 @@
-use Rattle.std.proofs.Common.{◌≡◌, ◌+◌, ◌-◌, ◌≤◌, ◌++◌, [], ◌∷◌, List, ℕ, get_or, take, drop, length, map, subst, sym, ap, ◌∙◌, arith, append_assoc, append-nil, refl, flat_map}
+use Rattle.std.proofs.Common.{◌≡◌, ◌+◌, ◌-◌, ◌≤◌, ◌++◌, [], ◌∷◌, List, ℕ, get_or, take, drop}
+use Rattle.std.proofs.Common.{length, map, subst, sym, ap, ◌∙◌, arith, append_assoc, append-nil}
+use Rattle.std.proofs.Common.{refl, flat_map}
 use Rattle.std.proofs.lemmas.List.{take_at}
 use Rattle.sym_model.specs.Partition.{Falls}
 use Rattle.sym_model.specs.Sum.{Among}
@@ -10,8 +12,10 @@ use Rattle.skew_shapes.specs.VerticalStrips.{vertical_on}
 use Rattle.skew_shapes.proofs.ShapeLists.{widened_all, listed_further}
 use Rattle.skew_shapes.proofs.vertical_strips.+add_strips.Goals as goal
 
-falls_rows : (a b c : ℕ) (below inner : List ℕ) → b ∷ below ≡ inner → Falls (a ∷ inner) → b ≤ c → (b ≤ a) × Falls (c ∷ below)
-falls_rows a b c below inner e f l = let g : Falls (a ∷ b ∷ below) = subst (λ l. Falls (a ∷ l)) (sym e) f in (g.0, more b c below l g.1)
+falls_rows : (a b c : ℕ) (below inner : List ℕ) → b ∷ below ≡ inner → Falls (a ∷ inner) → b ≤ c →
+    (b ≤ a) × Falls (c ∷ below)
+falls_rows a b c below inner e f l = let g : Falls (a ∷ b ∷ below) = subst (λ l. Falls (a ∷ l))
+    (sym e) f in (g.0, more b c below l g.1)
   where
     more : (b c : ℕ) (below : List ℕ) → b ≤ c → Falls (b ∷ below) → Falls (c ∷ below)
     more b c [] l f = tt
@@ -28,19 +32,24 @@ add_strips-requires t c =
     let split = split_first c.args.inner.now c.in-len1-up.len_at_least in
     let shorter = ap length split in
     let row = c.min-longest.result - c.loop-shorter.shorter in
-    let first = (falls_rows c.args.most a a below c.args.inner.now split c.requires.falls (omega arith)).0 in
-    let falls = falls_rows c.args.most a row below c.args.inner.now split c.requires.falls (omega arith) in
-    let longer = c.in_ok-push.ensures.items ∙ ap (λ (l : List ℕ). l ++ (row ∷ [])) c.loop-shorter.invariant.same in (
+    let first = (falls_rows c.args.most a a below c.args.inner.now split c.requires.falls
+    (omega arith)).0 in
+    let falls = falls_rows c.args.most a row below c.args.inner.now split c.requires.falls
+    (omega arith) in
+    let longer = c.in_ok-push.ensures.items ∙ ap (λ (l : List ℕ). l ++ (row ∷ []))
+    c.loop-shorter.invariant.same in (
       omega arith,
       (
         falls.1,
         (
           omega arith,
           λ rest m.
-              subst IsWithinLimits (sym (append_assoc above (row ∷ []) rest) ∙ ap (λ (l : List ℕ). l ++ rest) (sym longer))
+              subst IsWithinLimits (sym (append_assoc above (row ∷ []) rest) ∙ ap (λ (l : List ℕ).
+              l ++ rest) (sym longer))
               (c.requires.limits (row ∷ rest)
               (subst (λ l. Among (row ∷ rest) (vertical_on c.args.most c.args.left l)) split
-              (listed_further c.args.most c.args.left a row c.loop-shorter.shorter below rest (omega arith) (omega arith) m))),
+              (listed_further c.args.most c.args.left a row c.loop-shorter.shorter below rest
+              (omega arith) (omega arith) m))),
         ),
       ),
     )
@@ -51,14 +60,18 @@ loop-shorter-preserved t c =
     let below = take (length c.args.inner.now - 1) (drop 1 c.args.inner.now) in
     let above = c.args.above.now.items in
     let row = c.min-longest.result - c.loop-shorter.shorter in
-    let longer = c.in_ok-push.ensures.items ∙ ap (λ (l : List ℕ). l ++ (row ∷ [])) c.loop-shorter.invariant.same in
+    let longer = c.in_ok-push.ensures.items ∙ ap (λ (l : List ℕ). l ++ (row ∷ []))
+    c.loop-shorter.invariant.same in
     record {
       same =
-          c.truncate.ensures.items ∙ ap (take c.len-len.result) (c.in_ok-add_strips.ensures.same ∙ longer)
+          c.truncate.ensures.items ∙ ap (take c.len-len.result) (c.in_ok-add_strips.ensures.same
+          ∙ longer)
           ∙ take_at above (row ∷ []) c.len-len.result (omega arith);
       listed =
-          each-next (λ row. vertical_on row (c.args.left + a - row) below) c.min-longest.result c.loop-shorter.shorter
-          above c.push.new.self.items c.args.shapes.now.items c.loop-shorter.shapes.items c.add_strips.new.shapes.items
+          each-next (λ row. vertical_on row (c.args.left + a - row) below) c.min-longest.result
+          c.loop-shorter.shorter
+          above c.push.new.self.items c.args.shapes.now.items c.loop-shorter.shapes.items
+          c.add_strips.new.shapes.items
           c.loop-shorter.invariant.listed longer c.in_ok-add_strips.ensures.shapes;
     }
 
@@ -74,5 +87,7 @@ returns-clause-shapes t c =
     widened_all c.args.most c.args.left a c.loop-shorter.shorter below above c.args.inner.now
     c.args.shapes.now.items c.loop-shorter.shapes.items split (let m = c.min.ensures in omega arith)
     (c.loop-shorter.invariant.listed
-    ∙ ap (λ n. c.args.shapes.now.items ++ map (λ rest. above ++ rest) (flat_map (λ row. map (λ rest. row ∷ rest) (vertical_on row (c.args.left + a - row) below)) (counting_down n c.loop-shorter.shorter)))
+    ∙ ap (λ n. c.args.shapes.now.items ++ map (λ rest. above ++ rest)
+    (flat_map (λ row. map (λ rest. row ∷ rest) (vertical_on row (c.args.left + a - row) below))
+    (counting_down n c.loop-shorter.shorter)))
     (let m = c.min.ensures in omega arith))

@@ -10,12 +10,14 @@ use Rattle.skew_shapes.proofs.vertical_strips.with_vertical_strip.Goals as goal
 pub add_strips-requires-clause-falls : goal.add_strips-requires-clause-falls
 add_strips-requires-clause-falls c =
     subst (λ n. Falls ((n + 1) ∷ c.parts.result.now)) (sym c.part.ensures.value)
-    (subst (λ l. Falls ((part c.args.inner.now 1 + 1) ∷ l)) (sym c.parts.ensures.value) (first_falls c.args.inner.now c.parts.ensures.limits.partition))
+    (subst (λ l. Falls ((part c.args.inner.now 1 + 1) ∷ l)) (sym c.parts.ensures.value)
+    (first_falls c.args.inner.now c.parts.ensures.limits.partition))
 
 pub add_strips-requires-clause-limits : goal.add_strips-requires-clause-limits
 add_strips-requires-clause-limits c rest m =
     subst (λ (above : List ℕ). IsWithinLimits (above ++ rest)) (sym c.in_ok-above.ensures.items)
-    (widened_limits c.args.inner.now c.args.k c.parts.ensures.limits.partition c.requires.cells c.requires.rows rest
+    (widened_limits c.args.inner.now c.args.k c.parts.ensures.limits.partition c.requires.cells
+    c.requires.rows rest
     (subst (λ n. Among rest (vertical_on (n + 1) c.args.k c.args.inner.now)) c.part.ensures.value
     (subst (λ l. Among rest (vertical_on (c.part.result + 1) c.args.k l)) c.parts.ensures.value m)))
 
@@ -25,7 +27,10 @@ returns c =
     let list = vertical_on (c.part.result + 1) c.args.k c.parts.result.now in
     let is : c.add_strips.new.shapes.items ≡ vertical_on (part inner 1 + 1) c.args.k inner =
     c.in_ok-add_strips.ensures.shapes
-    ∙ ap₂ (λ (x : List (List ℕ)) (above : List ℕ). x ++ map (λ rest. above ++ rest) list) c.new-shapes.ensures.items c.in_ok-above.ensures.items
+    ∙ ap₂ (λ (x : List (List ℕ)) (above : List ℕ). x ++ map (λ rest. above ++ rest) list)
+    c.new-shapes.ensures.items c.in_ok-above.ensures.items
     ∙ map_rest list
-    ∙ ap₂ (λ (n : ℕ) (l : List ℕ). vertical_on (n + 1) c.args.k l) c.part.ensures.value c.parts.ensures.value in
-    subst (AreVerticalStrips inner c.args.k) (sym is) (vertical_strips inner c.args.k c.parts.ensures.limits.partition)
+    ∙ ap₂ (λ (n : ℕ) (l : List ℕ). vertical_on (n + 1) c.args.k l) c.part.ensures.value
+    c.parts.ensures.value in
+    subst (AreVerticalStrips inner c.args.k) (sym is)
+    (vertical_strips inner c.args.k c.parts.ensures.limits.partition)

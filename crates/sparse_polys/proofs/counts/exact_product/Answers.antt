@@ -7,12 +7,16 @@ use Rattle.sparse_polys.proofs.counts.exact_product.Goals as goal
 
 pub returns-then-too_large-clause-large : goal.returns-then-too_large-clause-large
 returns-then-too_large-clause-large c e =
-    large_ways c.args.left.now c.args.right.now (size c.args.left.now + size c.args.right.now) c.in_ok-terms.terms.items
+    large_ways c.args.left.now c.args.right.now (size c.args.left.now + size c.args.right.now)
+    c.in_ok-terms.terms.items
     c.in_ok-terms.ensures.each c.in_ok-terms.ensures.labels
-    (subst (λ (l : List Counted). HasLarge l) c.as_slice.ensures.value (c.too_large.ensures.large c.if-too_large.true))
+    (subst (λ (l : List Counted). HasLarge l) c.as_slice.ensures.value
+    (c.too_large.ensures.large c.if-too_large.true))
 
 pub returns-clause-counts : goal.returns-clause-counts
 returns-clause-counts c ν p =
-    exact_counts c.args.left.now c.args.right.now c.in_ok-terms.terms.items ν c.in_ok-terms.ensures.each
-    (subst (λ (l : List Counted). AreSmall l) c.as_slice.ensures.value (c.too_large.ensures.small c.if-too_large.false))
+    exact_counts c.args.left.now c.args.right.now c.in_ok-terms.terms.items ν
+    c.in_ok-terms.ensures.each
+    (subst (λ (l : List Counted). AreSmall l) c.as_slice.ensures.value
+    (c.too_large.ensures.small c.if-too_large.false))
     (c.in_ok-terms.ensures.counts ν p)

@@ -9,25 +9,33 @@ use Rattle.sparse_polys.proofs.expansion_products.times_count.Goals as goal
 
 pub returns-in_err-product-clause-none : goal.returns-in_err-product-clause-none
 returns-in_err-product-clause-none g c none d e h small some =
-    refused-first g.R.Scalar.value c.args.left c.args.right d e c.args.count c.in_err-product.ensures.answer h small some
+    refused-first g.R.Scalar.value c.args.left c.args.right d e c.args.count
+    c.in_err-product.ensures.answer h small some
 
 pub returns-clause-value : goal.returns-clause-value
 returns-clause-value g c =
     let lowest = g.met.R.Scalar.lowest in
-    let is : g.R.Scalar.value c.from_whole.result ≡ whole (pos c.args.count) = c.from_whole.ensures.value ∙ ap whole (to_z_pos w128 c.args.count c.requires) in
+    let is : g.R.Scalar.value c.from_whole.result ≡ whole (pos c.args.count) =
+    c.from_whole.ensures.value ∙ ap whole (to_z_pos w128 c.args.count c.requires) in
     if_some c.mul-2.result
     (λ w v d e h.
-    product-value d e (g.R.Scalar.value c.args.left) (g.R.Scalar.value c.args.right) (g.R.Scalar.value c.in_ok-product.product) (g.R.Scalar.value w) c.args.count
-    (lowest c.args.left c.mul.ensures.held.0) (lowest c.args.right c.mul.ensures.held.1) (lowest c.in_ok-product.product c.mul-2.ensures.held.0)
-    c.in_ok-product.ensures.answer.value (v ∙ ap (fraction_product (g.R.Scalar.value c.in_ok-product.product)) is) h)
+    product-value d e (g.R.Scalar.value c.args.left) (g.R.Scalar.value c.args.right)
+    (g.R.Scalar.value c.in_ok-product.product) (g.R.Scalar.value w) c.args.count
+    (lowest c.args.left c.mul.ensures.held.0) (lowest c.args.right c.mul.ensures.held.1)
+    (lowest c.in_ok-product.product c.mul-2.ensures.held.0)
+    c.in_ok-product.ensures.answer.value
+    (v ∙ ap (fraction_product (g.R.Scalar.value c.in_ok-product.product)) is) h)
     c.mul-2.ensures.answer.value
 
 pub returns-clause-none : goal.returns-clause-none
 returns-clause-none g c none d e h small some =
     let lowest = g.met.R.Scalar.lowest in
-    let is : g.R.Scalar.value c.from_whole.result ≡ whole (pos c.args.count) = c.from_whole.ensures.value ∙ ap whole (to_z_pos w128 c.args.count c.requires) in
-    refused-second g.R.Scalar.value c.args.left c.args.right c.in_ok-product.product c.from_whole.result d e c.args.count
+    let is : g.R.Scalar.value c.from_whole.result ≡ whole (pos c.args.count) =
+    c.from_whole.ensures.value ∙ ap whole (to_z_pos w128 c.args.count c.requires) in
+    refused-second g.R.Scalar.value c.args.left c.args.right c.in_ok-product.product
+    c.from_whole.result d e c.args.count
     (lowest c.args.left c.mul.ensures.held.0) (lowest c.args.right c.mul.ensures.held.1)
     c.in_ok-product.ensures.answer.value is
-    (subst (λ (o : Option g.row.R.Denot). AnswersProduct g.R.Scalar.value c.in_ok-product.product c.from_whole.result o) none c.mul-2.ensures.answer)
+    (subst (λ (o : Option g.row.R.Denot). AnswersProduct g.R.Scalar.value c.in_ok-product.product
+    c.from_whole.result o) none c.mul-2.ensures.answer)
     h small

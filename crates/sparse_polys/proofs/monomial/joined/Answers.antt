@@ -13,10 +13,12 @@ overflow_add-number_at c =
 
 pub loop-at-preserved : goal.loop-at-preserved
 loop-at-preserved c =
-    c.in_ok-push.ensures.ok ∙ ap₂ (λ xs n. xs ++ n ∷ []) c.loop-at.invariant (ap₂ ◌+◌ c.number_at.ensures c.number_at-in-loop-at.ensures)
+    c.in_ok-push.ensures.ok ∙ ap₂ (λ xs n. xs ++ n ∷ []) c.loop-at.invariant
+    (ap₂ ◌+◌ c.number_at.ensures c.number_at-in-loop-at.ensures)
     ∙ sym (take-join c.args.first.now c.args.second.now c.loop-at.at (omega arith))
 
 pub returns : goal.returns
 returns c =
     let l = length-join c.args.first.now c.args.second.now in
-    c.loop-at.invariant ∙ take_all c.loop-at.at (join c.args.first.now c.args.second.now) (omega arith)
+    c.loop-at.invariant ∙ take_all c.loop-at.at (join c.args.first.now c.args.second.now)
+    (omega arith)

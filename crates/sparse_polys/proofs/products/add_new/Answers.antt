@@ -5,7 +5,5 @@ use Rattle.sparse_polys.proofs.products.add_new.Goals as goal
 
 pub unreachable-requires : goal.unreachable-requires
 unreachable-requires g c =
-    fits-zero_left g.met.R.Scalar.sum_answers _ _ c.requires (c.add_term.ensures.large.0 (c.in-Err-Large.is ∙ ap Err c.in-Err-Large.field-0-is))
-
-pub returns-in-Err-NoMemory-clause-lowest : goal.returns-in-Err-NoMemory-clause-lowest
-returns-in-Err-NoMemory-clause-lowest g c = g.met.R.Scalar.lowest c.args.c c.is_zero.ensures.held
+    fits-zero_left g.met.R.Scalar.sum_answers _ _ c.requires (c.add_term.ensures.large.0
+    (c.in-Err-Large.is ∙ ap Err c.in-Err-Large.field-0-is))

@@ -1,20 +1,22 @@
-use Rattle.std.proofs.Common.{◌≡◌, ℕ, ◌+◌, [], ◌∷◌, ◌++◌, List, map, sym, ◌∙◌, ap, subst, arith, ◌*ℤ◌, pos, refl}
+use Rattle.std.proofs.Common.{◌≡◌, ℕ, [], ◌∷◌, ◌++◌, List, map, sym, ◌∙◌, ap, subst, arith, refl}
 use Rattle.std.specs.Prelude.{nat_eq}
 use Rattle.std.specs.Cmp.Lexicographic.{pointwise}
 use Rattle.std.specs.Map.Iter.{deref_pair}
 use Rattle.std.proofs.lemmas.List.{map-append}
 use Rattle.sym_model.specs.DividedDifference.{variable_in}
 use Rattle.sym_model.specs.Expansion.{Terms, denominators}
-use Rattle.sym_model.specs.Polynomial.{times}
+use Rattle.sym_model.specs.LabelLimits.{is_monomial_label}
+use Rattle.sym_model.specs.Polynomial.{pair, times}
+use Rattle.monomial_laws.specs.ExpressionTerms.{over}
 use Rattle.coeff_rings.specs.Fractions.{scaled}
-use Rattle.coeff_rings.specs.Room.{magnitude}
 use Rattle.sparse_polys.specs.Combination.{terms_of, HasMoreAt}
-use Rattle.sparse_polys.proofs.Steps.{all_done}
-use Rattle.sparse_polys.specs.Products.{value_in, coefficient_at, cleared_sum, AreRaised, Adds}
+use Rattle.sparse_polys.proofs.Steps.{IsCombination-empty, all_done}
+use Rattle.sparse_polys.specs.Products.{value_in, coefficient_at, times_variable, AreRaised}
+use Rattle.sparse_polys.specs.Products.{GainsCleared}
 use Rattle.sparse_polys.specs.Raised.{raised}
-use Rattle.sparse_polys.proofs.ClearedSums.{Adds-none, Adds-then, Adds-term, AreCleared-nothing}
-use Rattle.sparse_polys.proofs.ListSteps.{sum_next, list_whole, list_among, so_far_next}
-use Rattle.sparse_polys.proofs.NewTerms.{new_label, labels_next}
+use Rattle.sparse_polys.proofs.ClearedSums.{Gains-none, Gains-next, Gains-term, AreCleared-nothing}
+use Rattle.sparse_polys.proofs.ListSteps.{raised_pieces, list_whole, list_among, so_far_next}
+use Rattle.sparse_polys.proofs.NewTerms.{lowest_among, new_label, labels_next}
 use Rattle.sparse_polys.proofs.Raising.{size-raised}
 use Rattle.sparse_polys.proofs.PolynomialValues.{represents, variable_value, common-denominators}
 use Rattle.sym_model.proofs.PolynomialLaws.{restricted_test}
@@ -23,22 +25,23 @@ use lib.IntN.{+ℤ_idl}
 
 pub loop-monomial-init : goal.loop-monomial-init
 loop-monomial-init g c = record {
-  sums =
-      λ q common. (
-        0,
-        subst (λ (l : Terms (List ℕ)). Adds q [] (λ φ. pos 0) 0 l) (sym c.new-product.ensures)
-            (Adds-none q [] _ _ (λ φ. refl) (AreCleared-nothing q)),
-      );
-  labels = subst (λ (l : Terms (List ℕ)). AreRaised c.args.r [] l) (sym c.new-product.ensures) (λ t m. absurd m);
+  gains = λ q common. subst (λ (l : Terms (List ℕ)). GainsCleared is_monomial_label q [] [] l)
+      (sym c.new-product.ensures) (Gains-none q [] (AreCleared-nothing q));
+  labels = subst (λ (l : Terms (List ℕ)). AreRaised c.args.r [] l) (sym c.new-product.ensures)
+      (λ t m. absurd m);
   so_far = refl;
 }
 
 pub times_var-requires-clause-room : goal.times_var-requires-clause-room
 times_var-requires-clause-room g c =
     let whole =
-    list_whole g.R.Scalar.value (map deref_pair c.loop-monomial.yielded) c.next.new.self c.loop-monomial.monomial-iterator _ _ c.in-Some.monomial.now c.in-Some.c.now c.args.list
-    c.in-Some.ensures.steps c.loop-monomial.invariant.so_far c.into_iter-monomial-iterator.ensures.into_iter_gives c.iter-monomial-items.ensures.rest in
-    let room = c.requires.room _ (list_among g.R.Scalar.value (map deref_pair c.loop-monomial.yielded) c.next.new.self c.in-Some.monomial.now c.in-Some.c.now c.args.list whole) in
+    list_whole g.R.Scalar.value (map deref_pair c.loop-monomial.yielded) c.next.new.self
+    c.loop-monomial.monomial-iterator _ _ c.in-Some.monomial.now c.in-Some.c.now c.args.list
+    c.in-Some.ensures.steps c.loop-monomial.invariant.so_far
+    c.into_iter-monomial-iterator.ensures.into_iter_gives c.iter-monomial-items.ensures.rest in
+    let room = c.requires.room _ (list_among g.R.Scalar.value
+    (map deref_pair c.loop-monomial.yielded) c.next.new.self c.in-Some.monomial.now
+    c.in-Some.c.now c.args.list whole) in
     let small = room.small in
     let s = size-raised c.args.r c.in-Some.monomial.now in
     omega arith
@@ -52,9 +55,11 @@ add_new-requires g c =
     let v = c.in-Some.c.now in
     let whole =
     list_whole value done rest c.loop-monomial.monomial-iterator _ _ k v c.args.list
-    c.in-Some.ensures.steps c.loop-monomial.invariant.so_far c.into_iter-monomial-iterator.ensures.into_iter_gives c.iter-monomial-items.ensures.rest in
+    c.in-Some.ensures.steps c.loop-monomial.invariant.so_far
+    c.into_iter-monomial-iterator.ensures.into_iter_gives c.iter-monomial-items.ensures.rest in
     ap (coefficient_at c.loop-monomial.product) c.in_ok-times_var.ensures
-    ∙ new_label value c.args.r done rest k v c.args.list c.loop-monomial.product c.iter-monomial-items.ensures.combination whole c.loop-monomial.invariant.labels
+    ∙ new_label value c.args.r done rest k v c.args.list c.loop-monomial.product
+    c.iter-monomial-items.ensures.combination whole c.loop-monomial.invariant.labels
 
 pub loop-monomial-preserved : goal.loop-monomial-preserved
 loop-monomial-preserved g c =
@@ -69,28 +74,34 @@ loop-monomial-preserved g c =
     let table = c.iter-monomial-items.ensures.combination in
     let whole =
     list_whole value done rest c.loop-monomial.monomial-iterator _ _ k v c.args.list
-    c.in-Some.ensures.steps c.loop-monomial.invariant.so_far c.into_iter-monomial-iterator.ensures.into_iter_gives c.iter-monomial-items.ensures.rest in
+    c.in-Some.ensures.steps c.loop-monomial.invariant.so_far
+    c.into_iter-monomial-iterator.ensures.into_iter_gives c.iter-monomial-items.ensures.rest in
     let here = list_among value done rest k v c.args.list whole in
-    let pushed : done ++ (k, v) ∷ [] ≡ map deref_pair (c.loop-monomial.yielded ++ (c.in-Some.monomial, c.in-Some.c) ∷ []) =
+    let pushed : done ++ (k, v) ∷ [] ≡ map deref_pair
+    (c.loop-monomial.yielded ++ (c.in-Some.monomial, c.in-Some.c) ∷ []) =
     sym (map-append deref_pair c.loop-monomial.yielded ((c.in-Some.monomial, c.in-Some.c) ∷ [])) in
     let more : HasMoreAt (pointwise nat_eq) cur (raised r k) (value v) new =
-    subst (λ (l : List ℕ). HasMoreAt (pointwise nat_eq) cur l (value v) new) c.in_ok-times_var.ensures c.in_ok-add_new.ensures.more in
+    subst (λ (l : List ℕ). HasMoreAt (pointwise nat_eq) cur l (value v) new)
+    c.in_ok-times_var.ensures c.in_ok-add_new.ensures.more in
     record {
-      sums =
+      gains =
           λ q common.
-          let before = c.loop-monomial.invariant.sums q common in (
-            before.0 + magnitude q (value v),
-            subst (λ es. Adds q [] (λ φ. cleared_sum q (λ e. φ (raised r e)) (terms_of value es)) (before.0 + magnitude q (value v)) new) pushed
-                (Adds-then q [] cur new (λ φ. cleared_sum q (λ e. φ (raised r e)) (terms_of value done)) (λ φ. scaled q (value v) *ℤ φ (raised r k))
-                (λ φ. cleared_sum q (λ e. φ (raised r e)) (terms_of value (done ++ (k, v) ∷ [])))
-                before.0 (magnitude q (value v)) (before.0 + magnitude q (value v))
-                (λ φ. sym (sum_next value q (λ e. φ (raised r e)) done k v)) (omega arith) before.1
-                (Adds-term q cur new (raised r k) (value v) c.in_ok-add_new.ensures.was c.in_ok-add_new.ensures.combination c.in_ok-add_new.ensures.lowest
-                common.positive (common.multiple (k, value v) here) before.1.cleared more (scaled q (value v)) (magnitude q (value v)) refl refl)),
-          );
+          let before = c.loop-monomial.invariant.gains q common in
+          subst (λ es. GainsCleared is_monomial_label q []
+          (times_variable r (over q (terms_of value es))) new) pushed
+          (Gains-next (λ es. times_variable r (over q (terms_of value es)))
+          (raised_pieces value r q) q done (k, v) [] cur before (done ++ (k, v) ∷ []) new refl
+          (Gains-term q cur new (raised r k)
+          (value v) c.in_ok-add_new.ensures.was c.in_ok-add_new.ensures.combination
+          (lowest_among c.args.list table (k, value v) here)
+          common.positive (common.multiple (k, value v) here) before.cleared more
+          (scaled q (value v)) refl));
       labels = subst (λ es. AreRaised r (terms_of value es) new) pushed
-          (labels_next value r done rest k v c.args.list cur table whole c.loop-monomial.invariant.labels new c.in_ok-add_new.ensures.was c.in_ok-add_new.ensures.combination more);
-      so_far = so_far_next done rest c.loop-monomial.monomial-iterator _ _ (k, v) pushed c.in-Some.ensures.steps c.loop-monomial.invariant.so_far;
+          (labels_next value r done rest k v c.args.list cur table whole
+          c.loop-monomial.invariant.labels new
+          c.in_ok-add_new.ensures.was c.in_ok-add_new.ensures.combination more);
+      so_far = so_far_next done rest c.loop-monomial.monomial-iterator _ _ (k, v) pushed
+          c.in-Some.ensures.steps c.loop-monomial.invariant.so_far;
     }
 
 pub returns : goal.returns
@@ -102,12 +113,15 @@ returns g c n =
     let done = map deref_pair c.loop-monomial.yielded in
     let is : terms_of value done ≡ list =
     ap (terms_of value)
-    (all_done done c.loop-monomial.monomial-iterator _ _ c.in-None.ensures.steps.0 c.loop-monomial.invariant.so_far c.into_iter-monomial-iterator.ensures.into_iter_gives)
+    (all_done done c.loop-monomial.monomial-iterator _ _ c.in-None.ensures.steps.0
+    c.loop-monomial.invariant.so_far c.into_iter-monomial-iterator.ensures.into_iter_gives)
     ∙ c.iter-monomial-items.ensures.rest in
-    let all = (c.loop-monomial.invariant.sums d (common-denominators list c.iter-monomial-items.ensures.combination)).1 in
-    represents c.loop-monomial.product d n (times (variable_in r n) (value_in list n)) c.is_table.ensures all.cleared
+    let all = c.loop-monomial.invariant.gains d
+    (common-denominators list c.iter-monomial-items.ensures.combination) in
+    represents c.loop-monomial.product d n (times (variable_in r n) (value_in list n))
+    (all.table (IsCombination-empty (pointwise nat_eq) is_monomial_label)) all.cleared
     (λ φ.
-    all.sums (restricted_test n φ)
-    ∙ +ℤ_idl (cleared_sum d (λ e. restricted_test n φ (raised r e)) (terms_of value done))
-    ∙ ap (λ (l : Terms (List ℕ)). cleared_sum d (λ e. restricted_test n φ (raised r e)) l) is
+    all.gains.sums (restricted_test n φ)
+    ∙ +ℤ_idl (pair (times_variable r (over d (terms_of value done))) (restricted_test n φ))
+    ∙ ap (λ (l : Terms (List ℕ)). pair (times_variable r (over d l)) (restricted_test n φ)) is
     ∙ variable_value n r list φ)

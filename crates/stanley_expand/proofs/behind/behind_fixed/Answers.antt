@@ -15,7 +15,15 @@ from_valid_letters-requires c =
     let some = limits.kept.some in
     let l = length-behind c.args.fixed c.args.w.now in
     let whole : take c.loop-letter.letter-index c.letters-letter-items.result.now ≡ c.args.w.now =
-    take_all c.loop-letter.letter-index c.letters-letter-items.result.now c.loop-letter-test.false ∙ c.letters-letter-items.ensures.value in
+    take_all c.loop-letter.letter-index c.letters-letter-items.result.now c.loop-letter-test.false
+    ∙ c.letters-letter-items.ensures.value in
     let is : c.as_slice.result.now ≡ behind c.args.fixed c.args.w.now =
-    c.as_slice.ensures.value ∙ c.loop-letter.invariant ∙ ap (λ (v : List ℕ). after 0 c.args.fixed ++ map (λ a. a + c.args.fixed) v) whole in
-    subst IsShortPermutation (sym is) (record { one_line = one_line_behind c.args.fixed c.args.w.now o; some = omega arith; few = omega arith })
+    c.as_slice.ensures.value ∙ c.loop-letter.invariant ∙ ap (λ (v : List ℕ).
+    after 0 c.args.fixed ++ map (λ a. a + c.args.fixed) v) whole in
+    subst IsShortPermutation (sym is)
+    (record {
+      one_line = one_line_behind c.args.fixed c.args.w.now o;
+      some = omega arith;
+      few =
+          omega arith;
+    })

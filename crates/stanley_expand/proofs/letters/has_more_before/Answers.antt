@@ -8,4 +8,8 @@ returns-then-count_greater-most c _ =
     let count = c.count_greater.ensures in
     let more = c.if-count_greater-most.true in
     subst (HasMoreBefore c.args.most) c.letters-letters.ensures.value
-    (to_letters c.args.most c.letters-letters.result.now (c.loop-at.at, c.loop-at-test.true, omega arith))
+    (to_letters c.args.most c.letters-letters.result.now (
+      c.loop-at.at,
+      c.loop-at-test.true,
+      omega arith,
+    ))

@@ -3,22 +3,27 @@ use Rattle.schubert_laws.proofs.Members.{place_within}
 use Rattle.stanley_expand.proofs.walk.expand.Goals as goal
 
 pub times_swap-requires-clause-first : goal.times_swap-requires-clause-first
-times_swap-requires-clause-first c = (place_within c.args.perm.now c.args.r c.args.s c.requires.short.one_line c.requires.places).0
+times_swap-requires-clause-first c =
+    (place_within c.args.perm.now c.args.r c.args.s c.requires.short.one_line c.requires.places).0
 
 pub times_swap-requires-clause-order : goal.times_swap-requires-clause-order
-times_swap-requires-clause-order c = (place_within c.args.perm.now c.args.r c.args.s c.requires.short.one_line c.requires.places).2
+times_swap-requires-clause-order c =
+    (place_within c.args.perm.now c.args.r c.args.s c.requires.short.one_line c.requires.places).2
 
 pub times_swap-requires-clause-second : goal.times_swap-requires-clause-second
 times_swap-requires-clause-second c =
-    let p = (place_within c.args.perm.now c.args.r c.args.s c.requires.short.one_line c.requires.places).3 in
+    let p = (place_within c.args.perm.now c.args.r c.args.s c.requires.short.one_line
+    c.requires.places).3 in
     let few = c.requires.short.few in
     omega arith
 
 pub covers_down-requires-clause-place : goal.covers_down-requires-clause-place
-covers_down-requires-clause-place c = (place_within c.args.perm.now c.args.r c.args.s c.requires.short.one_line c.requires.places).0
+covers_down-requires-clause-place c =
+    (place_within c.args.perm.now c.args.r c.args.s c.requires.short.one_line c.requires.places).0
 
 pub covers_down-requires-clause-last : goal.covers_down-requires-clause-last
 covers_down-requires-clause-last c =
-    let p = (place_within c.args.perm.now c.args.r c.args.s c.requires.short.one_line c.requires.places).1 in
+    let p = (place_within c.args.perm.now c.args.r c.args.s c.requires.short.one_line
+    c.requires.places).1 in
     let few = c.requires.short.few in
     omega arith

@@ -17,4 +17,5 @@ returns-then-has_more_before-clause-value c φ =
     omega (arith, ints)
 
 pub returns-then-has_more_before-clause-weight : goal.returns-then-has_more_before-clause-weight
-returns-then-has_more_before-clause-weight c = let p = weight_positive c.args.perm.now in omega arith
+returns-then-has_more_before-clause-weight c = let p = weight_positive c.args.perm.now in
+    omega arith

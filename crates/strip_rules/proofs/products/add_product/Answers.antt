@@ -10,43 +10,58 @@ add_each_hook-requires-clause-limits g c ν m =
     let k = c.args.k in
     let label = c.args.label.now in
     let each = hook_list k label _ c.in_ok-hooks-in-PowerSum.ensures.hooks in
-    shape_limits k label ν c.requires.partition c.requires.cells c.requires.rows (hook_around k label _ each ν m)
+    shape_limits k label ν c.requires.partition c.requires.cells c.requires.rows
+    (hook_around k label _ each ν m)
 
 pub add_each_hook-requires-clause-heights : goal.add_each_hook-requires-clause-heights
 add_each_hook-requires-clause-heights g c ν m =
     let k = c.args.k in
     let label = c.args.label.now in
     subst (λ b. 1 ≤ height ν b) (sym c.in_ok-hooks-in-PowerSum.ensures.base)
-    (height_positive k label _ c.requires.partition (hook_list k label _ c.in_ok-hooks-in-PowerSum.ensures.hooks) ν m)
+    (height_positive k label _ c.requires.partition
+    (hook_list k label _ c.in_ok-hooks-in-PowerSum.ensures.hooks) ν m)
 
-pub returns-in_ok-with_vertical_strip-in-Elementary-clause-ok : goal.returns-in_ok-with_vertical_strip-in-Elementary-clause-ok
+pub returns-in_ok-with_vertical_strip-in-Elementary-clause-ok
+    : goal.returns-in_ok-with_vertical_strip-in-Elementary-clause-ok
 returns-in_ok-with_vertical_strip-in-Elementary-clause-ok g c =
-    let strips = vertical_product c.args.k c.args.label.now _ c.requires.partition c.in_ok-with_vertical_strip-in-Elementary.ensures in
-    rw c.in-Elementary.is (on_ok c.add_each.result c.add_each.ensures.ok (λ adds. (_, strips, adds)))
+    let strips = vertical_product c.args.k c.args.label.now _ c.requires.partition
+    c.in_ok-with_vertical_strip-in-Elementary.ensures in
+    rw c.in-Elementary.is (on_ok c.add_each.result c.add_each.ensures.ok (λ adds.
+    (_, strips, adds)))
 
-pub returns-in_ok-with_vertical_strip-in-Elementary-clause-large : goal.returns-in_ok-with_vertical_strip-in-Elementary-clause-large
+pub returns-in_ok-with_vertical_strip-in-Elementary-clause-large
+    : goal.returns-in_ok-with_vertical_strip-in-Elementary-clause-large
 returns-in_ok-with_vertical_strip-in-Elementary-clause-large g c err =
-    let strips = vertical_product c.args.k c.args.label.now _ c.requires.partition c.in_ok-with_vertical_strip-in-Elementary.ensures in
+    let strips = vertical_product c.args.k c.args.label.now _ c.requires.partition
+    c.in_ok-with_vertical_strip-in-Elementary.ensures in
     rw c.in-Elementary.is (_, strips, c.add_each.ensures.large err)
 
-pub returns-in_ok-with_horizontal_strip-in-Complete-clause-ok : goal.returns-in_ok-with_horizontal_strip-in-Complete-clause-ok
+pub returns-in_ok-with_horizontal_strip-in-Complete-clause-ok
+    : goal.returns-in_ok-with_horizontal_strip-in-Complete-clause-ok
 returns-in_ok-with_horizontal_strip-in-Complete-clause-ok g c =
-    let strips = horizontal_product c.args.k c.args.label.now _ c.requires.partition c.in_ok-with_horizontal_strip-in-Complete.ensures in
-    rw c.in-Complete.is (on_ok c.add_each-in-Complete.result c.add_each-in-Complete.ensures.ok (λ adds. (_, strips, adds)))
+    let strips = horizontal_product c.args.k c.args.label.now _ c.requires.partition
+    c.in_ok-with_horizontal_strip-in-Complete.ensures in
+    rw c.in-Complete.is (on_ok c.add_each-in-Complete.result c.add_each-in-Complete.ensures.ok
+    (λ adds. (_, strips, adds)))
 
-pub returns-in_ok-with_horizontal_strip-in-Complete-clause-large : goal.returns-in_ok-with_horizontal_strip-in-Complete-clause-large
+pub returns-in_ok-with_horizontal_strip-in-Complete-clause-large
+    : goal.returns-in_ok-with_horizontal_strip-in-Complete-clause-large
 returns-in_ok-with_horizontal_strip-in-Complete-clause-large g c err =
-    let strips = horizontal_product c.args.k c.args.label.now _ c.requires.partition c.in_ok-with_horizontal_strip-in-Complete.ensures in
+    let strips = horizontal_product c.args.k c.args.label.now _ c.requires.partition
+    c.in_ok-with_horizontal_strip-in-Complete.ensures in
     rw c.in-Complete.is (_, strips, c.add_each-in-Complete.ensures.large err)
 
 pub returns-in_ok-hooks-in-PowerSum-clause-ok : goal.returns-in_ok-hooks-in-PowerSum-clause-ok
 returns-in_ok-hooks-in-PowerSum-clause-ok g c =
     let hooks = c.in_ok-hooks-in-PowerSum.ensures in
-    let made = hooks_product c.args.k c.args.label.now _ _ (c.requires.positive c.in-PowerSum.is) c.requires.partition hooks.base hooks.hooks in
-    rw c.in-PowerSum.is (on_ok c.add_each_hook.result c.add_each_hook.ensures.ok (λ adds. (_, made, adds)))
+    let made = hooks_product c.args.k c.args.label.now _ _ (c.requires.positive c.in-PowerSum.is)
+    c.requires.partition hooks.base hooks.hooks in
+    rw c.in-PowerSum.is (on_ok c.add_each_hook.result c.add_each_hook.ensures.ok (λ adds.
+    (_, made, adds)))
 
 pub returns-in_ok-hooks-in-PowerSum-clause-large : goal.returns-in_ok-hooks-in-PowerSum-clause-large
 returns-in_ok-hooks-in-PowerSum-clause-large g c err =
     let hooks = c.in_ok-hooks-in-PowerSum.ensures in
-    let made = hooks_product c.args.k c.args.label.now _ _ (c.requires.positive c.in-PowerSum.is) c.requires.partition hooks.base hooks.hooks in
+    let made = hooks_product c.args.k c.args.label.now _ _ (c.requires.positive c.in-PowerSum.is)
+    c.requires.partition hooks.base hooks.hooks in
     rw c.in-PowerSum.is (_, made, c.add_each_hook.ensures.large err)

@@ -3,7 +3,6 @@ use Rattle.std.specs.Map.Iter.{deref_pair}
 use Rattle.sparse_polys.specs.Combination.{terms_of}
 use Rattle.sparse_polys.specs.Products.{IsCommonDenominator}
 use Rattle.whole_lists.specs.Families.{polynomial_of}
-use Rattle.whole_lists.specs.Tables.{IsTable}
 use Rattle.strip_rules.proofs.ListProducts.{AddsList}
 use Rattle.strip_rules.proofs.products.times_family.Given as goal
 
@@ -12,7 +11,6 @@ abbrev pub invariant-loop-label : goal.invariant-loop-label
 invariant-loop-label g l =
     let value = g.R.Scalar.value in
     record {
-      table : IsTable (terms_of value l.sum);
       sums :
           (q : ℕ) → IsCommonDenominator q (terms_of value l.list)
           → AddsList (polynomial_of l.family l.k) l.k q (terms_of value l.list) (terms_of value (map deref_pair l.yielded)) (terms_of value l.sum);

@@ -6,10 +6,12 @@ use Rattle.sym_model.specs.Strip.{height}
 use Rattle.linear_combinations.specs.Entries.{coefficient, HasMoreAt, IsRefused}
 use Rattle.linear_combinations.proofs.Steps.{error_is, all_done}
 use Rattle.sparse_polys.specs.Combination.{terms_of}
+use Rattle.sparse_polys.proofs.ClearedSums.{Gains-none}
 use Rattle.strip_rules.specs.Adding.{IsSigned, with_signs, Adds}
 use Rattle.strip_rules.proofs.ShapeLists.{among_next, next_on, so_far_on}
 use Rattle.strip_rules.proofs.Signs.{height_here}
-use Rattle.strip_rules.proofs.TermsAdded.{Adds-none, Adds-shape, Exceeds-shape, Adds-entry, Exceeds-entry, Exceeds-size}
+use Rattle.strip_rules.proofs.TermsAdded.{Adds-shape, Exceeds-shape, Adds-entry, Exceeds-entry}
+use Rattle.strip_rules.proofs.TermsAdded.{Exceeds-size}
 use Rattle.sym_model.proofs.Integers.{sign_size}
 use Rattle.strip_rules.proofs.shapes.add_each_hook.Goals as goal
 
@@ -19,7 +21,7 @@ loop-alloc-init g c = (
   record {
     so_far = refl;
     base = refl;
-    adds = Adds-none (g.R.Scalar.value c.args.c) (terms_of g.R.Scalar.value c.args.sum.now) c.requires.table;
+    adds = λ q d cleared. Gains-none q (terms_of g.R.Scalar.value c.args.sum.now) cleared;
   },
 )
 
@@ -28,14 +30,16 @@ from_valid_parts-requires g c =
     let inv = c.loop-alloc.invariant in
     let label = c.current.result.now in
     c.requires.limits label
-    (among_next inv.0 _ _ label (next_on inv.0 _ _ _ _ label inv.1.so_far c.advance.ensures.next c.current.ensures))
+    (among_next inv.0 _ _ label (next_on inv.0 _ _ _ _ label inv.1.so_far c.advance.ensures.next
+    c.current.ensures))
 
 pub signed-requires-clause-height : goal.signed-requires-clause-height
 signed-requires-clause-height g c =
     let inv = c.loop-alloc.invariant in
     let label = c.current.result.now in
     let on = next_on inv.0 _ _ _ _ label inv.1.so_far c.advance.ensures.next c.current.ensures in
-    let high = height_here _ _ c.args.hooks.now.base label c.height.result c.height.ensures c.current.ensures (c.advance.ensures.base ∙ inv.1.base) in
+    let high = height_here _ _ c.args.hooks.now.base label c.height.result c.height.ensures
+    c.current.ensures (c.advance.ensures.base ∙ inv.1.base) in
     let some = c.requires.heights label (among_next inv.0 _ _ label on) in
     omega arith
 
@@ -51,19 +55,25 @@ loop-alloc-preserved g c =
     let v = c.in_ok-signed.field-0 in
     let on = next_on inv.0 _ _ _ _ label inv.1.so_far c.advance.ensures.next c.current.ensures in
     let same_base = c.advance.ensures.base ∙ inv.1.base in
-    let high = height_here _ _ base label c.height.result c.height.ensures c.current.ensures same_base in
+    let high = height_here _ _ base label c.height.result c.height.ensures c.current.ensures
+    same_base in
     let is : IsSigned (value c.args.c) (sign label) (value v) =
-    subst (λ h. IsSigned (value c.args.c) (minus_one_to (h - 1)) (value v)) high c.in_ok-signed.ensures.value in
+    subst (λ h. IsSigned (value c.args.c) (minus_one_to (h - 1)) (value v)) high
+    c.in_ok-signed.ensures.value in
     let more : HasMoreAt (pointwise nat_eq) g.R.Scalar.zero g.R.Scalar.sum cur label v new =
-    subst (λ l. HasMoreAt (pointwise nat_eq) g.R.Scalar.zero g.R.Scalar.sum cur l v new) c.in_ok-shape.ensures.ok c.in_ok-add_term.ensures.ok in (
+    subst (λ l. HasMoreAt (pointwise nat_eq) g.R.Scalar.zero g.R.Scalar.sum cur l v new)
+    c.in_ok-shape.ensures.ok c.in_ok-add_term.ensures.ok in (
       inv.0 ++ label ∷ [],
       record {
         so_far = so_far_on inv.0 _ _ label on;
         base = same_base;
         adds =
-            Adds-shape (value c.args.c) sign inv.0 label (terms_of value c.args.sum.now) (terms_of value cur) inv.1.adds (terms_of value new)
-            (Adds-entry value g.R.Scalar.zero g.met.R.Scalar.zero_value.0 (value c.args.c) (sign label) label v cur is inv.1.adds.table
-            g.R.Scalar.sum g.met.R.Scalar.sum_value new c.in_ok-signed.ensures.lowest c.in_ok-add_term.ensures.combination more);
+            Adds-shape (value c.args.c) sign inv.0 label (terms_of value c.args.sum.now)
+            (terms_of value cur) inv.1.adds (terms_of value new)
+            (Adds-entry value g.R.Scalar.zero g.met.R.Scalar.zero_value.0 (value c.args.c)
+            (sign label) label v cur is c.add_term-in-loop-alloc.ensures.was
+            g.R.Scalar.sum g.met.R.Scalar.sum_value new c.in_ok-signed.ensures.lowest
+            c.in_ok-add_term.ensures.combination more);
       },
     )
 
@@ -77,14 +87,20 @@ returns-in_err-add_term-clause-large g c large =
     let cur = c.loop-alloc.sum in
     let v = c.in_ok-signed.field-0 in
     let on = next_on inv.0 _ _ _ _ label inv.1.so_far c.advance.ensures.next c.current.ensures in
-    let high = height_here _ _ base label c.height.result c.height.ensures c.current.ensures (c.advance.ensures.base ∙ inv.1.base) in
+    let high = height_here _ _ base label c.height.result c.height.ensures c.current.ensures
+    (c.advance.ensures.base ∙ inv.1.base) in
     let is : IsSigned (value c.args.c) (sign label) (value v) =
-    subst (λ h. IsSigned (value c.args.c) (minus_one_to (h - 1)) (value v)) high c.in_ok-signed.ensures.value in
-    let refused = c.in_err-add_term.ensures.large.0 (ap Err (error_is _ _ _ c.from_residual-in_err-add_term.ensures.1 large)) in
-    Exceeds-shape (value c.args.c) sign inv.0 label (terms_of value c.args.sum.now) (terms_of value cur) inv.1.adds _ _ on
-    (Exceeds-entry value g.R.Scalar.zero g.met.R.Scalar.zero_value.0 (value c.args.c) (sign label) label v cur is inv.1.adds.table
-    g.R.Scalar.is_held g.R.Scalar.checked_sum g.met.R.Scalar.sum_answers (c.requires.limits label (among_next inv.0 _ _ label on)).partition
-    (subst (λ l. IsRefused g.R.Scalar.is_held g.R.Scalar.checked_sum (coefficient (pointwise nat_eq) g.R.Scalar.zero cur l) v) c.in_ok-shape.ensures.ok refused))
+    subst (λ h. IsSigned (value c.args.c) (minus_one_to (h - 1)) (value v)) high
+    c.in_ok-signed.ensures.value in
+    let refused = c.in_err-add_term.ensures.large.0
+    (ap Err (error_is _ _ _ c.from_residual-in_err-add_term.ensures.1 large)) in
+    Exceeds-shape (value c.args.c) sign inv.0 label (terms_of value c.args.sum.now)
+    (terms_of value cur) inv.1.adds _ _ on
+    (Exceeds-entry value g.R.Scalar.zero g.met.R.Scalar.zero_value.0 (value c.args.c) (sign label)
+    label v cur is c.add_term-in-loop-alloc.ensures.was
+    g.R.Scalar.is_held g.R.Scalar.checked_sum g.met.R.Scalar.sum_answers
+    (subst (λ l. IsRefused g.R.Scalar.is_held g.R.Scalar.checked_sum
+    (coefficient (pointwise nat_eq) g.R.Scalar.zero cur l) v) c.in_ok-shape.ensures.ok refused))
 
 pub returns-in_err-signed-clause-large : goal.returns-in_err-signed-clause-large
 returns-in_err-signed-clause-large g c large =
@@ -95,13 +111,17 @@ returns-in_err-signed-clause-large g c large =
     let sign : List ℕ → ℤ = λ ν. minus_one_to (height ν base - 1) in
     let cur = terms_of value c.loop-alloc.sum in
     let on = next_on inv.0 _ _ _ _ label inv.1.so_far c.advance.ensures.next c.current.ensures in
-    Exceeds-shape (value c.args.c) sign inv.0 label (terms_of value c.args.sum.now) cur inv.1.adds _ _ on
+    Exceeds-shape (value c.args.c) sign inv.0 label (terms_of value c.args.sum.now) cur inv.1.adds _
+    _ on
     (Exceeds-size (value c.args.c) (sign label) label cur (sign_size (height label base - 1))
-    (c.in_err-signed.ensures.large (ap Err (error_is _ _ _ c.from_residual-in_err-signed.ensures.1 large))))
+    (c.in_err-signed.ensures.large (ap Err (error_is _ _ _ c.from_residual-in_err-signed.ensures.1
+    large))))
 
 pub returns-clause-ok : goal.returns-clause-ok
 returns-clause-ok g c =
     let value = g.R.Scalar.value in
     let inv = c.loop-alloc.invariant in
-    subst (λ l. Adds (value c.args.c) (with_signs (λ ν. minus_one_to (height ν c.args.hooks.now.base - 1)) l) (terms_of value c.args.sum.now) (terms_of value c.loop-alloc.sum))
+    subst (λ l. Adds (value c.args.c)
+    (with_signs (λ ν. minus_one_to (height ν c.args.hooks.now.base - 1)) l)
+    (terms_of value c.args.sum.now) (terms_of value c.loop-alloc.sum))
     (all_done inv.0 _ _ _ c.loop-alloc-test.ensures.ended inv.1.so_far refl) inv.1.adds

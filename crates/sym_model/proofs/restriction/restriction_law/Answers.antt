@@ -1,4 +1,5 @@
-use Rattle.sym_model.proofs.Restrictions.{restrict-monomial, restrict-elementary, restrict-complete, restrict-power_sum, monomial_few_variables}
+use Rattle.sym_model.proofs.Restrictions.{restrict-monomial, restrict-elementary, restrict-complete}
+use Rattle.sym_model.proofs.Restrictions.{restrict-power_sum, monomial_few_variables}
 use Rattle.sym_model.proofs.restriction.restriction_law.Goals as goal
 
 pub returns-clause-monomial : goal.returns-clause-monomial

@@ -1,5 +1,8 @@
-use Rattle.sym_model.proofs.Polynomials.{plus_respects, times_respects, scale_respects, restrict_respects, In_one, In_plus, In_times, In_negate}
-use Rattle.sym_model.proofs.PolynomialLaws.{plus_comm, plus-negate, times_comm, times_assoc, one-times, times-plus, scale-times, restrict-times, restrict-one}
+use Rattle.sym_model.proofs.Polynomials.{plus_respects, times_respects, scale_respects}
+use Rattle.sym_model.proofs.Polynomials.{restrict_respects, In_one, In_plus, In_times, In_negate}
+use Rattle.sym_model.proofs.PolynomialLaws.{plus_comm, plus-negate, times_comm, times_assoc}
+use Rattle.sym_model.proofs.PolynomialLaws.{one-times, times-plus, scale-times, restrict-times}
+use Rattle.sym_model.proofs.PolynomialLaws.{restrict-one}
 use Rattle.sym_model.proofs.ring_laws.poly_ring_law.Goals as goal
 
 pub returns-clause-plus_commutative : goal.returns-clause-plus_commutative

@@ -8,7 +8,9 @@ use Rattle.tableau_iter.proofs.lattice_words.is_listed.Goals as goal
 pub returns-then-not-branch : goal.returns-then-not-branch
 returns-then-not-branch c =
     let skew = c.cells.ensures.limits in
-    sym (none_disordered c.args.shape.0 c.args.shape.1 c.args.reading.now skew.outside.partition.falls skew.holds (sym c.in_ok-is_semistandard.ensures ∙ c.if-not-branch.true))
+    sym (none_disordered c.args.shape.0 c.args.shape.1 c.args.reading.now
+    skew.outside.partition.falls skew.holds (sym c.in_ok-is_semistandard.ensures
+    ∙ c.if-not-branch.true))
 
 told : (r : Result Bool NoMemory) (a b : Bool) → a ≡ b → IfOk r (λ x. x ≡ a) → IfOk r (λ x. x ≡ b)
 told (Ok x) a b e h = h ∙ e
@@ -18,7 +20,9 @@ pub returns : goal.returns
 returns c =
     let skew = c.cells.ensures.limits in
     told c.is_lattice.result _ _
-    (ap (λ k. is_lattice_word k c.args.reading.now) (c.rows-letters.ensures.value ∙ ap length c.outer.ensures.value)
-    ∙ lattice_listed c.args.shape.0 c.args.shape.1 c.args.reading.now skew.outside.partition.falls skew.inside.partition.falls skew.holds c.requires
+    (ap (λ k. is_lattice_word k c.args.reading.now) (c.rows-letters.ensures.value
+    ∙ ap length c.outer.ensures.value)
+    ∙ lattice_listed c.args.shape.0 c.args.shape.1 c.args.reading.now skew.outside.partition.falls
+    skew.inside.partition.falls skew.holds c.requires
     (sym c.in_ok-is_semistandard.ensures ∙ c.if-not-branch.false))
     c.is_lattice.ensures

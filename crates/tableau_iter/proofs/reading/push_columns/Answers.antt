@@ -15,15 +15,19 @@ further :
 further f outer inner given letters new j h l e push =
     let right = cells_right_of outer inner j in
     push ∙ ap (λ xs. xs ++ map (λ (c : ℕ × ℕ). f c.0 c.1) (column_cells outer inner j)) e
-    ∙ append_assoc given (map (λ (c : ℕ × ℕ). f c.0 c.1) right) (map (λ (c : ℕ × ℕ). f c.0 c.1) (column_cells outer inner j))
-    ∙ ap (λ xs. given ++ xs) (sym (map-append (λ (c : ℕ × ℕ). f c.0 c.1) right (column_cells outer inner j)))
+    ∙ append_assoc given (map (λ (c : ℕ × ℕ). f c.0 c.1) right) (map (λ (c : ℕ × ℕ). f c.0 c.1)
+    (column_cells outer inner j))
+    ∙ ap (λ xs. given ++ xs)
+    (sym (map-append (λ (c : ℕ × ℕ). f c.0 c.1) right (column_cells outer inner j)))
     ∙ ap (λ xs. given ++ map (λ (c : ℕ × ℕ). f c.0 c.1) xs) (sym (right-more outer inner j h l))
 
 pub loop-column-preserved : goal.loop-column-preserved
 loop-column-preserved c = record {
   within = omega (arith, c.loop-column.invariant.within);
   letters =
-      further (letter_in_rows c.args.inner.now (map (λ r. r.items) c.args.rows.now)) c.args.outer.now c.args.inner.now c.args.letters.now.items
-      c.loop-column.letters.items c.push_column.new.letters.items c.loop-column.column (omega arith) c.loop-column.invariant.within
+      further (letter_in_rows c.args.inner.now (map (λ r. r.items) c.args.rows.now))
+      c.args.outer.now c.args.inner.now c.args.letters.now.items
+      c.loop-column.letters.items c.push_column.new.letters.items c.loop-column.column (omega arith)
+      c.loop-column.invariant.within
       c.loop-column.invariant.letters c.in_ok-push_column.ensures;
 }

@@ -14,7 +14,8 @@ returns-then-not-admits-clause-fits c =
     (λ e.
     true≢false
     (sym (all_fit-at (fits_in old.setting) [] word place e c.loop-place-test.true)
-    ∙ sym (ap₂ (λ (s : Setting) v. fits_in s v (get_or word place 0)) c.loop-place.invariant.same.setting c.loop-place.invariant.front)
+    ∙ sym (ap₂ (λ (s : Setting) v. fits_in s v (get_or word place 0))
+    c.loop-place.invariant.same.setting c.loop-place.invariant.front)
     ∙ sym c.admits.ensures ∙ c.if-not-admits.true))
   where
     never : (b : Bool) → (b ≡ true → ⊥) → false ≡ b

@@ -1,6 +1,7 @@
 use Rattle.std.proofs.Common.{refl}
 use Rattle.tableau_laws.proofs.ColumnSums.{over_columns-last}
-use Rattle.tableau_laws.proofs.ColumnCounts.{total_readings_by_columns, product_count-columns, skew_count-columns}
+use Rattle.tableau_laws.proofs.ColumnCounts.{total_readings_by_columns, product_count-columns}
+use Rattle.tableau_laws.proofs.ColumnCounts.{skew_count-columns}
 use Rattle.tableau_laws.proofs.by_columns.column_counting_law.Goals as goal
 
 pub returns-clause-readings : goal.returns-clause-readings

@@ -6,4 +6,5 @@ use Rattle.tableau_words.proofs.cells.front.Goals as goal
 
 pub returns : goal.returns
 returns c =
-    ap (map decimal_value) (map_take string_bytes c.args.words.now c.args.count) ∙ map_take decimal_value (map string_bytes c.args.words.now) c.args.count
+    ap (map decimal_value) (map_take string_bytes c.args.words.now c.args.count)
+    ∙ map_take decimal_value (map string_bytes c.args.words.now) c.args.count

@@ -18,8 +18,14 @@ returns-in-Some c =
     let k = counted string_bytes decimal_value row in
     let l : i < length ns = omega (arith, k, c.loop-place-test.true) in
     let a = get_or ns i 0 in
-    let kind = c.ordered_kind.ensures a refl ∙ ap (λ x. kind_by (is_wide a) (is_outside greatest_letter a || is_too_much c.args.bounds.counted i) (is_too_long c.args.bounds.most i || x)) (sym (disordered_there c.args.columns.above (numbers (map string_bytes c.args.above.now)) c.args.columns.here ns i a l)) in
-    sym (c.loop-place.invariant ∙ next_place c.args.bounds.counted c.args.bounds.most (is_disordered c.args.columns.above (numbers (map string_bytes c.args.above.now)) c.args.columns.here) c.args.at ns i (Some c.in-Some.kind) l (sym c.in-Some.is ∙ kind))
+    let kind = c.ordered_kind.ensures a refl ∙ ap (λ x. kind_by (is_wide a)
+    (is_outside greatest_letter a || is_too_much c.args.bounds.counted i)
+    (is_too_long c.args.bounds.most i || x))
+    (sym (disordered_there c.args.columns.above (numbers (map string_bytes c.args.above.now))
+    c.args.columns.here ns i a l)) in
+    sym (c.loop-place.invariant ∙ next_place c.args.bounds.counted c.args.bounds.most
+    (is_disordered c.args.columns.above (numbers (map string_bytes c.args.above.now))
+    c.args.columns.here) c.args.at ns i (Some c.in-Some.kind) l (sym c.in-Some.is ∙ kind))
 
 pub loop-place-preserved : goal.loop-place-preserved
 loop-place-preserved c =
@@ -29,5 +35,11 @@ loop-place-preserved c =
     let k = counted string_bytes decimal_value row in
     let l : i < length ns = omega (arith, k, c.loop-place-test.true) in
     let a = get_or ns i 0 in
-    let kind = c.ordered_kind.ensures a refl ∙ ap (λ x. kind_by (is_wide a) (is_outside greatest_letter a || is_too_much c.args.bounds.counted i) (is_too_long c.args.bounds.most i || x)) (sym (disordered_there c.args.columns.above (numbers (map string_bytes c.args.above.now)) c.args.columns.here ns i a l)) in
-    c.loop-place.invariant ∙ next_place c.args.bounds.counted c.args.bounds.most (is_disordered c.args.columns.above (numbers (map string_bytes c.args.above.now)) c.args.columns.here) c.args.at ns i None l (sym c.in_default.is ∙ kind)
+    let kind = c.ordered_kind.ensures a refl ∙ ap (λ x. kind_by (is_wide a)
+    (is_outside greatest_letter a || is_too_much c.args.bounds.counted i)
+    (is_too_long c.args.bounds.most i || x))
+    (sym (disordered_there c.args.columns.above (numbers (map string_bytes c.args.above.now))
+    c.args.columns.here ns i a l)) in
+    c.loop-place.invariant ∙ next_place c.args.bounds.counted c.args.bounds.most
+    (is_disordered c.args.columns.above (numbers (map string_bytes c.args.above.now))
+    c.args.columns.here) c.args.at ns i None l (sym c.in_default.is ∙ kind)

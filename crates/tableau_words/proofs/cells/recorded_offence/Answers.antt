@@ -1,4 +1,5 @@
-use Rattle.std.proofs.Common.{◌<◌, ◌||◌, map, length, get_or, [], refl, sym, ap, ◌∙◌, arith, Some, None}
+use Rattle.std.proofs.Common.{◌<◌, ◌||◌, map, length, get_or, [], refl, sym, ap, ◌∙◌, arith, Some}
+use Rattle.std.proofs.Common.{None}
 use Rattle.std.specs.Prelude.{string_bytes}
 use Rattle.sym_model.specs.ExpressionOffence.{is_wide}
 use Rattle.sym_model.specs.PrintedBlock.{decimal_value}
@@ -18,8 +19,15 @@ returns-in-Some c =
     let k = counted string_bytes decimal_value row in
     let l : i < length ns = omega (arith, k, c.loop-place-test.true) in
     let a = get_or ns i 0 in
-    let kind = c.recorded_kind.ensures a refl ∙ ap (λ x. kind_by (is_wide a) (is_outside greatest_letter a || is_too_much (Some c.args.count) i) (x)) (sym (no_record_there c.args.cells (gathered [] (map (λ r. numbers (map string_bytes r.now)) c.args.earlier.now)) (numbers (map string_bytes c.args.above.now)) ns i a l)) in
-    sym (c.loop-place.invariant ∙ next_place (Some c.args.count) None (is_no_record c.args.cells (gathered [] (map (λ r. numbers (map string_bytes r.now)) c.args.earlier.now)) (numbers (map string_bytes c.args.above.now))) c.args.at ns i (Some c.in-Some.kind) l (sym c.in-Some.is ∙ kind))
+    let kind = c.recorded_kind.ensures a refl ∙ ap (λ x. kind_by (is_wide a)
+    (is_outside greatest_letter a || is_too_much (Some c.args.count) i) (x))
+    (sym (no_record_there c.args.cells
+    (gathered [] (map (λ r. numbers (map string_bytes r.now)) c.args.earlier.now))
+    (numbers (map string_bytes c.args.above.now)) ns i a l)) in
+    sym (c.loop-place.invariant ∙ next_place (Some c.args.count) None (is_no_record c.args.cells
+    (gathered [] (map (λ r. numbers (map string_bytes r.now)) c.args.earlier.now))
+    (numbers (map string_bytes c.args.above.now))) c.args.at ns i (Some c.in-Some.kind) l
+    (sym c.in-Some.is ∙ kind))
 
 pub loop-place-preserved : goal.loop-place-preserved
 loop-place-preserved c =
@@ -29,5 +37,12 @@ loop-place-preserved c =
     let k = counted string_bytes decimal_value row in
     let l : i < length ns = omega (arith, k, c.loop-place-test.true) in
     let a = get_or ns i 0 in
-    let kind = c.recorded_kind.ensures a refl ∙ ap (λ x. kind_by (is_wide a) (is_outside greatest_letter a || is_too_much (Some c.args.count) i) (x)) (sym (no_record_there c.args.cells (gathered [] (map (λ r. numbers (map string_bytes r.now)) c.args.earlier.now)) (numbers (map string_bytes c.args.above.now)) ns i a l)) in
-    c.loop-place.invariant ∙ next_place (Some c.args.count) None (is_no_record c.args.cells (gathered [] (map (λ r. numbers (map string_bytes r.now)) c.args.earlier.now)) (numbers (map string_bytes c.args.above.now))) c.args.at ns i None l (sym c.in_default.is ∙ kind)
+    let kind = c.recorded_kind.ensures a refl ∙ ap (λ x. kind_by (is_wide a)
+    (is_outside greatest_letter a || is_too_much (Some c.args.count) i) (x))
+    (sym (no_record_there c.args.cells
+    (gathered [] (map (λ r. numbers (map string_bytes r.now)) c.args.earlier.now))
+    (numbers (map string_bytes c.args.above.now)) ns i a l)) in
+    c.loop-place.invariant ∙ next_place (Some c.args.count) None (is_no_record c.args.cells
+    (gathered [] (map (λ r. numbers (map string_bytes r.now)) c.args.earlier.now))
+    (numbers (map string_bytes c.args.above.now))) c.args.at ns i None l
+    (sym c.in_default.is ∙ kind)

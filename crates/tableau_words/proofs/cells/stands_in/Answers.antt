@@ -13,8 +13,10 @@ returns-then-is_value c =
     let k = counted string_bytes decimal_value words in
     sym
     (c.loop-word.invariant
-    ∙ stands_first c.args.value (numbers (map string_bytes words)) i (decimal_value (string_bytes c.word-item.result)) (omega (arith, k, c.loop-word-test.true))
-    (number_at string_bytes decimal_value words i c.word-item.result c.loop-word-test.true c.word-item.is) (sym c.is_value.ensures ∙ c.if-is_value.true))
+    ∙ stands_first c.args.value (numbers (map string_bytes words)) i
+    (decimal_value (string_bytes c.word-item.result)) (omega (arith, k, c.loop-word-test.true))
+    (number_at string_bytes decimal_value words i c.word-item.result c.loop-word-test.true
+    c.word-item.is) (sym c.is_value.ensures ∙ c.if-is_value.true))
 
 pub loop-word-preserved : goal.loop-word-preserved
 loop-word-preserved c =
@@ -22,5 +24,7 @@ loop-word-preserved c =
     let i = c.loop-word.word-index in
     let k = counted string_bytes decimal_value words in
     c.loop-word.invariant
-    ∙ stands_later c.args.value (numbers (map string_bytes words)) i (decimal_value (string_bytes c.word-item.result)) (omega (arith, k, c.loop-word-test.true))
-    (number_at string_bytes decimal_value words i c.word-item.result c.loop-word-test.true c.word-item.is) (sym c.is_value.ensures ∙ c.if-is_value.false)
+    ∙ stands_later c.args.value (numbers (map string_bytes words)) i
+    (decimal_value (string_bytes c.word-item.result)) (omega (arith, k, c.loop-word-test.true))
+    (number_at string_bytes decimal_value words i c.word-item.result c.loop-word-test.true
+    c.word-item.is) (sym c.is_value.ensures ∙ c.if-is_value.false)

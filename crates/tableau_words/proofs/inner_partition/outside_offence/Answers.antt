@@ -14,8 +14,10 @@ returns-then-exceeds c =
     let i = c.loop-place.place in
     let k = counted string_bytes decimal_value words in
     let l : i < length ns = omega (arith, k, c.loop-place-test.true) in
-    let e = ap (nat_lt (part c.args.outer.now (i + 1))) (number_at string_bytes decimal_value words i c.index-words-place.result c.loop-place-test.true c.index-words-place.is) in
-    sym (c.loop-place.invariant ∙ inside_next c.args.outer.now c.args.at ns i true l (e ∙ sym c.exceeds.ensures ∙ c.if-exceeds.true))
+    let e = ap (nat_lt (part c.args.outer.now (i + 1))) (number_at string_bytes decimal_value words
+    i c.index-words-place.result c.loop-place-test.true c.index-words-place.is) in
+    sym (c.loop-place.invariant ∙ inside_next c.args.outer.now c.args.at ns i true l
+    (e ∙ sym c.exceeds.ensures ∙ c.if-exceeds.true))
 
 pub loop-place-preserved : goal.loop-place-preserved
 loop-place-preserved c =
@@ -24,5 +26,7 @@ loop-place-preserved c =
     let i = c.loop-place.place in
     let k = counted string_bytes decimal_value words in
     let l : i < length ns = omega (arith, k, c.loop-place-test.true) in
-    let e = ap (nat_lt (part c.args.outer.now (i + 1))) (number_at string_bytes decimal_value words i c.index-words-place.result c.loop-place-test.true c.index-words-place.is) in
-    c.loop-place.invariant ∙ inside_next c.args.outer.now c.args.at ns i false l (e ∙ sym c.exceeds.ensures ∙ c.if-exceeds.false)
+    let e = ap (nat_lt (part c.args.outer.now (i + 1))) (number_at string_bytes decimal_value words
+    i c.index-words-place.result c.loop-place-test.true c.index-words-place.is) in
+    c.loop-place.invariant ∙ inside_next c.args.outer.now c.args.at ns i false l
+    (e ∙ sym c.exceeds.ensures ∙ c.if-exceeds.false)

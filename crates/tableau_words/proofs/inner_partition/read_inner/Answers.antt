@@ -17,7 +17,8 @@ returns-in-Err-clause-judged c =
     let parts = part_offences c.args.at ns in
     let inside = offences_by (inside_rule c.args.outer.now) c.args.at ns in
     subst (λ o. IsFirst o c.earlier_refusal.result)
-    (ap (earlier (first_offence parts)) c.outside_offence-outside.ensures ∙ sym (first_of_both parts inside))
+    (ap (earlier (first_offence parts)) c.outside_offence-outside.ensures
+    ∙ sym (first_of_both parts inside))
     (c.earlier_refusal.ensures (first_offence parts) c.in-Err.ensures)
 
 pub returns-in-Some-clause-judged : goal.returns-in-Some-clause-judged
@@ -26,7 +27,8 @@ returns-in-Some-clause-judged c =
     let parts = part_offences c.args.at ns in
     let inside = offences_by (inside_rule c.args.outer.now) c.args.at ns in
     found_judged (first_offence (parts ++ inside)) c.in-Some.found c.offence.result
-    (first_of_both parts inside ∙ ap (λ o. earlier o (first_offence inside)) c.in-Ok.ensures.1 ∙ sym c.outside_offence-outside.ensures ∙ ap found_of c.in-Some.is)
+    (first_of_both parts inside ∙ ap (λ o. earlier o (first_offence inside)) c.in-Ok.ensures.1
+    ∙ sym c.outside_offence-outside.ensures ∙ ap found_of c.in-Some.is)
     c.offence.ensures
 
 pub returns-in-None-clause-judged : goal.returns-in-None-clause-judged
@@ -35,11 +37,13 @@ returns-in-None-clause-judged c =
     let parts = part_offences c.args.at ns in
     let inside = offences_by (inside_rule c.args.outer.now) c.args.at ns in (
       c.in-Ok.ensures.0,
-      first_of_both parts inside ∙ ap (λ o. earlier o (first_offence inside)) c.in-Ok.ensures.1 ∙ sym c.outside_offence-outside.ensures ∙ ap found_of c.in-None.is,
+      first_of_both parts inside ∙ ap (λ o. earlier o (first_offence inside)) c.in-Ok.ensures.1
+          ∙ sym c.outside_offence-outside.ensures ∙ ap found_of c.in-None.is,
     )
 
 pub returns-in-None-clause-inside : goal.returns-in-None-clause-inside
 returns-in-None-clause-inside c =
     let ns = numbers (map string_bytes c.args.words.now) in
     subst (λ q. contains c.args.outer.now q ≡ true) (sym c.in-Ok.ensures.0)
-    (inside_contains c.args.outer.now c.args.at ns (sym c.outside_offence-outside.ensures ∙ ap found_of c.in-None.is))
+    (inside_contains c.args.outer.now c.args.at ns (sym c.outside_offence-outside.ensures
+    ∙ ap found_of c.in-None.is))

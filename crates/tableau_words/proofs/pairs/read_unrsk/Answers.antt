@@ -10,7 +10,9 @@ returns c =
     let f1 = c.as_slice.result.now in
     let s1 = c.as_slice-2.result.now in
     pair_read_rows (λ r. map string_bytes r.now) words f1 s1 c.read_tableaux.result
-    (subst (λ v. AreTwoTableaux (map (λ r. map string_bytes r.now) v) (map (λ r. map string_bytes r.now) s1) words) (sym c.as_slice.ensures.value)
-    (subst (λ v. AreTwoTableaux (map (λ r. map string_bytes r.now) c.in_ok-first.first.items) (map (λ r. map string_bytes r.now) v) words) (sym c.as_slice-2.ensures.value)
+    (subst (λ v. AreTwoTableaux (map (λ r. map string_bytes r.now) v)
+    (map (λ r. map string_bytes r.now) s1) words) (sym c.as_slice.ensures.value)
+    (subst (λ v. AreTwoTableaux (map (λ r. map string_bytes r.now) c.in_ok-first.first.items)
+    (map (λ r. map string_bytes r.now) v) words) (sym c.as_slice-2.ensures.value)
     c.in_ok-first.ensures.ok))
     c.read_tableaux.ensures

@@ -13,6 +13,8 @@ returns c =
     let ws = map (λ r. map string_bytes r.now) c.args.rows.now in
     let rows = rows_at c.args.at ws in
     c.earlier.ensures
-    ∙ ap (λ o. earlier o (found_of c.left_shape.result)) (c.recorded_number.ensures ∙ ap (λ n. first_offence (recorded n 0 [] [] rows)) c.total.ensures)
-    ∙ ap (earlier (first_offence (recorded (size c.args.lengths.now) 0 [] [] rows))) c.left_shape.ensures
+    ∙ ap (λ o. earlier o (found_of c.left_shape.result)) (c.recorded_number.ensures
+    ∙ ap (λ n. first_offence (recorded n 0 [] [] rows)) c.total.ensures)
+    ∙ ap (earlier (first_offence (recorded (size c.args.lengths.now) 0 [] [] rows)))
+    c.left_shape.ensures
     ∙ sym (recording_first (size c.args.lengths.now) rows (left_at c.args.at c.args.lengths.now ws))

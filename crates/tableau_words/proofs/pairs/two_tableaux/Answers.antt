@@ -17,5 +17,7 @@ returns-clause-ok c =
     let x = k.parts.0 in
     let y = k.parts.3.3.0 in
     pair_cut (map string_bytes c.args.words.now) c.in_ok-places.places k _ _
-    (c.in_ok-first.ensures (written_rows x) (some_row x) (rows_numbers x k.parts.1) ((c.piece_at-insertion.ensures.is _ _ k.parts.2).1 ∙ rows_spelled x))
-    (c.in_ok-second.ensures (written_rows y) (some_row y) (rows_numbers y k.parts.3.3.1) ((c.piece_at-recording.ensures.is _ _ k.parts.3.3.2).1 ∙ rows_spelled y))
+    (c.in_ok-first.ensures (written_rows x) (some_row x) (rows_numbers x k.parts.1)
+    ((c.piece_at-insertion.ensures.is _ _ k.parts.2).1 ∙ rows_spelled x))
+    (c.in_ok-second.ensures (written_rows y) (some_row y) (rows_numbers y k.parts.3.3.1)
+    ((c.piece_at-recording.ensures.is _ _ k.parts.3.3.2).1 ∙ rows_spelled y))

@@ -27,9 +27,11 @@ returns-then-is_empty c =
     let row = c.row-item.result.now in
     let ws = map (λ r. map string_bytes r.now) rows in
     let rest = drop (i + 1) ws in
-    let next = rows_next (λ r. map string_bytes r.now) rows i c.row-item.result c.loop-row-test.true c.row-item.is in
+    let next = rows_next (λ r. map string_bytes r.now) rows i c.row-item.result c.loop-row-test.true
+    c.row-item.is in
     let place = c.loop-row.place in
-    let none : map string_bytes row ≡ [] = no_more string_bytes row (sym c.is_empty.ensures ∙ c.if-is_empty.true) in
+    let none : map string_bytes row ≡ [] = no_more string_bytes row
+    (sym c.is_empty.ensures ∙ c.if-is_empty.true) in
     sym
     (c.loop-row.invariant.0
     ∙ ap (λ ds. first_offence (empties (rows_at place ds))) (next ∙ ap (λ w. w ∷ rest) none)
@@ -42,9 +44,11 @@ overflow_add-place-in-loop-row c =
     let row = c.row-item.result.now in
     let ws = map (λ r. map string_bytes r.now) rows in
     let rest = drop (i + 1) ws in
-    let next = rows_next (λ r. map string_bytes r.now) rows i c.row-item.result c.loop-row-test.true c.row-item.is in
+    let next = rows_next (λ r. map string_bytes r.now) rows i c.row-item.result c.loop-row-test.true
+    c.row-item.is in
     let place = c.loop-row.place in
-    let room = room_next place (drop i ws) rest (map string_bytes row) next c.loop-row.invariant.1 in
+    let room = room_next place (drop i ws) rest (map string_bytes row) next c.loop-row.invariant.1
+    in
     omega (arith, room, c.width.ensures)
 
 pub loop-row-preserved : goal.loop-row-preserved
@@ -54,12 +58,14 @@ loop-row-preserved c =
     let row = c.row-item.result.now in
     let ws = map (λ r. map string_bytes r.now) rows in
     let rest = drop (i + 1) ws in
-    let next = rows_next (λ r. map string_bytes r.now) rows i c.row-item.result c.loop-row-test.true c.row-item.is in
+    let next = rows_next (λ r. map string_bytes r.now) rows i c.row-item.result c.loop-row-test.true
+    c.row-item.is in
     let place = c.loop-row.place in
     let w = map string_bytes row in
     let room = room_next place (drop i ws) rest w next c.loop-row.invariant.1 in
     let wide = c.width.ensures in
-    let here : place + length (row_text w) + 1 ≡ place + (c.width.result + 1) = omega (arith, wide) in
+    let here : place + length (row_text w) + 1 ≡ place + (c.width.result + 1) =
+    omega (arith, wide) in
     let some = some_more string_bytes row (sym c.is_empty.ensures ∙ c.if-is_empty.false) in (
       c.loop-row.invariant.0
           ∙ ap (λ ds. first_offence (empties (rows_at place ds))) next

@@ -18,9 +18,11 @@ ordered_offence-requires-clause-room c =
     let row = c.row-item.result.now in
     let ws = map (λ r. map string_bytes r.now) rows in
     let rest = drop (i + 1) ws in
-    let next = rows_next (λ r. map string_bytes r.now) rows i c.row-item.result c.loop-row-test.true c.row-item.is in
+    let next = rows_next (λ r. map string_bytes r.now) rows i c.row-item.result c.loop-row-test.true
+    c.row-item.is in
     let place = c.loop-row.place in
-    let room = room_next place (drop i ws) rest (map string_bytes row) next c.loop-row.invariant.1 in
+    let room = room_next place (drop i ws) rest (map string_bytes row) next c.loop-row.invariant.1
+    in
     let long = row_width (map string_bytes row) in
     let l = length-map row string_bytes in
     omega (arith, room, long, l)
@@ -32,12 +34,16 @@ returns-in-Some c =
     let row = c.row-item.result.now in
     let ws = map (λ r. map string_bytes r.now) rows in
     let rest = drop (i + 1) ws in
-    let next = rows_next (λ r. map string_bytes r.now) rows i c.row-item.result c.loop-row-test.true c.row-item.is in
+    let next = rows_next (λ r. map string_bytes r.now) rows i c.row-item.result c.loop-row-test.true
+    c.row-item.is in
     let place = c.loop-row.place in
     sym
     (c.loop-row.invariant.0
-    ∙ ap (λ ds. first_offence (inserted c.loop-row.count c.loop-row.most (numbers (map string_bytes c.loop-row.above.now)) (rows_at place ds))) next
-    ∙ inserted_next c.loop-row.count c.loop-row.most (numbers (map string_bytes c.loop-row.above.now)) place (map string_bytes row) rest (Some c.in-Some.found)
+    ∙ ap (λ ds. first_offence (inserted c.loop-row.count c.loop-row.most
+    (numbers (map string_bytes c.loop-row.above.now)) (rows_at place ds))) next
+    ∙ inserted_next c.loop-row.count c.loop-row.most
+    (numbers (map string_bytes c.loop-row.above.now)) place (map string_bytes row) rest
+    (Some c.in-Some.found)
     (ap found_of (sym c.in-Some.is) ∙ c.ordered_offence.ensures))
 
 pub overflow_add-place-in-loop-row : goal.overflow_add-place-in-loop-row
@@ -47,9 +53,11 @@ overflow_add-place-in-loop-row c =
     let row = c.row-item.result.now in
     let ws = map (λ r. map string_bytes r.now) rows in
     let rest = drop (i + 1) ws in
-    let next = rows_next (λ r. map string_bytes r.now) rows i c.row-item.result c.loop-row-test.true c.row-item.is in
+    let next = rows_next (λ r. map string_bytes r.now) rows i c.row-item.result c.loop-row-test.true
+    c.row-item.is in
     let place = c.loop-row.place in
-    let room = room_next place (drop i ws) rest (map string_bytes row) next c.loop-row.invariant.1 in
+    let room = room_next place (drop i ws) rest (map string_bytes row) next c.loop-row.invariant.1
+    in
     omega (arith, room, c.width.ensures)
 
 pub overflow_add-count : goal.overflow_add-count
@@ -59,9 +67,11 @@ overflow_add-count c =
     let row = c.row-item.result.now in
     let ws = map (λ r. map string_bytes r.now) rows in
     let rest = drop (i + 1) ws in
-    let next = rows_next (λ r. map string_bytes r.now) rows i c.row-item.result c.loop-row-test.true c.row-item.is in
+    let next = rows_next (λ r. map string_bytes r.now) rows i c.row-item.result c.loop-row-test.true
+    c.row-item.is in
     let place = c.loop-row.place in
-    let room = room_next place (drop i ws) rest (map string_bytes row) next c.loop-row.invariant.1 in
+    let room = room_next place (drop i ws) rest (map string_bytes row) next c.loop-row.invariant.1
+    in
     let long = row_width (map string_bytes row) in
     let l = length-map row string_bytes in
     omega (arith, room, long, l, c.loop-row.invariant.2)
@@ -73,20 +83,27 @@ loop-row-preserved c =
     let row = c.row-item.result.now in
     let ws = map (λ r. map string_bytes r.now) rows in
     let rest = drop (i + 1) ws in
-    let next = rows_next (λ r. map string_bytes r.now) rows i c.row-item.result c.loop-row-test.true c.row-item.is in
+    let next = rows_next (λ r. map string_bytes r.now) rows i c.row-item.result c.loop-row-test.true
+    c.row-item.is in
     let place = c.loop-row.place in
     let w = map string_bytes row in
     let room = room_next place (drop i ws) rest w next c.loop-row.invariant.1 in
     let long = row_width w in
     let l = length-map row string_bytes in
     let wide = c.width.ensures in
-    let here : place + length (row_text w) + 1 ≡ place + (c.width.result + 1) = omega (arith, wide) in (
+    let here : place + length (row_text w) + 1 ≡ place + (c.width.result + 1) =
+    omega (arith, wide) in (
       c.loop-row.invariant.0
-          ∙ ap (λ ds. first_offence (inserted c.loop-row.count c.loop-row.most (numbers (map string_bytes c.loop-row.above.now)) (rows_at place ds))) next
-          ∙ inserted_next c.loop-row.count c.loop-row.most (numbers (map string_bytes c.loop-row.above.now)) place w rest None
+          ∙ ap (λ ds. first_offence (inserted c.loop-row.count c.loop-row.most
+          (numbers (map string_bytes c.loop-row.above.now)) (rows_at place ds))) next
+          ∙ inserted_next c.loop-row.count c.loop-row.most
+          (numbers (map string_bytes c.loop-row.above.now)) place w rest None
           (ap found_of (sym c.in_default.is) ∙ c.ordered_offence.ensures)
-          ∙ ap (λ n. first_offence (inserted (c.loop-row.count + n) (Some n) (numbers w) (rows_at (place + length (row_text w) + 1) rest))) (counted string_bytes decimal_value row)
-          ∙ ap (λ p. first_offence (inserted (c.loop-row.count + length row) (Some (length row)) (numbers w) (rows_at p rest))) here,
+          ∙ ap (λ n. first_offence (inserted (c.loop-row.count + n) (Some n) (numbers w)
+          (rows_at (place + length (row_text w) + 1) rest)))
+          (counted string_bytes decimal_value row)
+          ∙ ap (λ p. first_offence (inserted (c.loop-row.count + length row) (Some (length row))
+          (numbers w) (rows_at p rest))) here,
       omega (arith, room, wide),
       omega (arith, long, l, wide, c.loop-row.invariant.2),
     )

@@ -1,4 +1,5 @@
-use Rattle.std.proofs.Common.{◌≡◌, ◌+◌, ◌-◌, map, length, take, drop, get_or, ◌∷◌, sym, ap, ◌∙◌, arith, Some, None}
+use Rattle.std.proofs.Common.{◌≡◌, ◌+◌, ◌-◌, map, length, take, drop, get_or, ◌∷◌, sym, ap, ◌∙◌}
+use Rattle.std.proofs.Common.{arith, Some, None}
 use Rattle.std.specs.Prelude.{string_bytes}
 use Rattle.std.proofs.lemmas.List.{length-map}
 use Rattle.sym_model.specs.CommandOffence.{first_offence}
@@ -8,7 +9,8 @@ use Rattle.std.proofs.Common.{min}
 use Rattle.std.proofs.Common.{cond, ◌==◌}
 use Rattle.std.proofs.lemmas.Bool.{eqb-true, eqb-false}
 use Rattle.sym_model.specs.ExpressionOffence.{shape}
-use Rattle.tableau_words.proofs.RowJudging.{left_last, rows_left, left_misses, left_fewer, left_on, left_none, split_first}
+use Rattle.tableau_words.proofs.RowJudging.{left_last, rows_left, left_misses, left_fewer, left_on}
+use Rattle.tableau_words.proofs.RowJudging.{left_none, split_first}
 use Rattle.tableau_words.proofs.row_offences.left_shape.Goals as goal
 
 pub overflow_add-place : goal.overflow_add-place
@@ -18,7 +20,8 @@ overflow_add-place c =
     let row = c.index-rows-i.result.now in
     let ws = map (λ r. map string_bytes r.now) rows in
     let rest = drop (i + 1) ws in
-    let next = rows_next (λ r. map string_bytes r.now) rows i c.index-rows-i.result c.loop-i-test.true c.index-rows-i.is in
+    let next = rows_next (λ r. map string_bytes r.now) rows i c.index-rows-i.result
+    c.loop-i-test.true c.index-rows-i.is in
     let place = c.loop-i.place in
     let w = map string_bytes row in
     let left = c.loop-i.left.now in
@@ -26,7 +29,8 @@ overflow_add-place c =
     let later = take (length left - 1) (drop 1 left) in
     let cut = split_first left c.in-len1-up.len_at_least in
     let room = room_next place (drop i ws) rest w next c.loop-i.invariant.1 in
-    let here = c.loop-i.invariant.0 ∙ ap (λ ds. first_offence (left_at place left ds)) next ∙ ap (λ ls. first_offence (left_at place ls (w ∷ rest))) cut in
+    let here = c.loop-i.invariant.0 ∙ ap (λ ds. first_offence (left_at place left ds)) next
+    ∙ ap (λ ls. first_offence (left_at place ls (w ∷ rest))) cut in
     let l = length-map row string_bytes in
     let long = row_width w in
     let least = c.min.ensures in
@@ -39,7 +43,8 @@ returns-then-row-length c =
     let row = c.index-rows-i.result.now in
     let ws = map (λ r. map string_bytes r.now) rows in
     let rest = drop (i + 1) ws in
-    let next = rows_next (λ r. map string_bytes r.now) rows i c.index-rows-i.result c.loop-i-test.true c.index-rows-i.is in
+    let next = rows_next (λ r. map string_bytes r.now) rows i c.index-rows-i.result
+    c.loop-i-test.true c.index-rows-i.is in
     let place = c.loop-i.place in
     let w = map string_bytes row in
     let left = c.loop-i.left.now in
@@ -47,14 +52,16 @@ returns-then-row-length c =
     let later = take (length left - 1) (drop 1 left) in
     let cut = split_first left c.in-len1-up.len_at_least in
     let room = room_next place (drop i ws) rest w next c.loop-i.invariant.1 in
-    let here = c.loop-i.invariant.0 ∙ ap (λ ds. first_offence (left_at place left ds)) next ∙ ap (λ ls. first_offence (left_at place ls (w ∷ rest))) cut in
+    let here = c.loop-i.invariant.0 ∙ ap (λ ds. first_offence (left_at place left ds)) next
+    ∙ ap (λ ls. first_offence (left_at place ls (w ∷ rest))) cut in
     let l = length-map row string_bytes in
     let least = c.min.ensures in
     let other = c.if-row-length.true in
     c.shape_unless.ensures
     ∙ sym
     (here ∙ left_misses place n later w rest (λ e. other (omega (arith, e, l)))
-    ∙ (let z : place + min n (length w) ≡ place + c.min.result = omega (arith, least, l) in ap (λ p. Some (p, 0, shape)) z))
+    ∙ (let z : place + min n (length w) ≡ place + c.min.result = omega (arith, least, l) in
+    ap (λ p. Some (p, 0, shape)) z))
 
 pub overflow_add-place-in-loop-i : goal.overflow_add-place-in-loop-i
 overflow_add-place-in-loop-i c =
@@ -63,7 +70,8 @@ overflow_add-place-in-loop-i c =
     let row = c.index-rows-i.result.now in
     let ws = map (λ r. map string_bytes r.now) rows in
     let rest = drop (i + 1) ws in
-    let next = rows_next (λ r. map string_bytes r.now) rows i c.index-rows-i.result c.loop-i-test.true c.index-rows-i.is in
+    let next = rows_next (λ r. map string_bytes r.now) rows i c.index-rows-i.result
+    c.loop-i-test.true c.index-rows-i.is in
     let place = c.loop-i.place in
     let w = map string_bytes row in
     let left = c.loop-i.left.now in
@@ -71,7 +79,8 @@ overflow_add-place-in-loop-i c =
     let later = take (length left - 1) (drop 1 left) in
     let cut = split_first left c.in-len1-up.len_at_least in
     let room = room_next place (drop i ws) rest w next c.loop-i.invariant.1 in
-    let here = c.loop-i.invariant.0 ∙ ap (λ ds. first_offence (left_at place left ds)) next ∙ ap (λ ls. first_offence (left_at place ls (w ∷ rest))) cut in
+    let here = c.loop-i.invariant.0 ∙ ap (λ ds. first_offence (left_at place left ds)) next
+    ∙ ap (λ ls. first_offence (left_at place ls (w ∷ rest))) cut in
     let l = length-map row string_bytes in
     omega (arith, room, c.width-place.ensures)
 
@@ -82,7 +91,8 @@ returns-then-is_empty c =
     let row = c.index-rows-i.result.now in
     let ws = map (λ r. map string_bytes r.now) rows in
     let rest = drop (i + 1) ws in
-    let next = rows_next (λ r. map string_bytes r.now) rows i c.index-rows-i.result c.loop-i-test.true c.index-rows-i.is in
+    let next = rows_next (λ r. map string_bytes r.now) rows i c.index-rows-i.result
+    c.loop-i-test.true c.index-rows-i.is in
     let place = c.loop-i.place in
     let w = map string_bytes row in
     let left = c.loop-i.left.now in
@@ -90,7 +100,8 @@ returns-then-is_empty c =
     let later = take (length left - 1) (drop 1 left) in
     let cut = split_first left c.in-len1-up.len_at_least in
     let room = room_next place (drop i ws) rest w next c.loop-i.invariant.1 in
-    let here = c.loop-i.invariant.0 ∙ ap (λ ds. first_offence (left_at place left ds)) next ∙ ap (λ ls. first_offence (left_at place ls (w ∷ rest))) cut in
+    let here = c.loop-i.invariant.0 ∙ ap (λ ds. first_offence (left_at place left ds)) next
+    ∙ ap (λ ls. first_offence (left_at place ls (w ∷ rest))) cut in
     let l = length-map row string_bytes in
     let same = c.if-row-length.false in
     let none = eqb-true (length later) 0 (sym c.is_empty.ensures ∙ c.if-is_empty.true) in
@@ -101,8 +112,10 @@ returns-then-is_empty c =
     (here
     ∙ left_last place n later w rest (i + 1 == length rows) (omega (arith, same, l)) none
     (λ e. let z = eqb-true (i + 1) (length rows) e in omega (arith, z, more))
-    (λ e. let z = eqb-false (i + 1) (length rows) e in let y = c.loop-i-test.true in omega (arith, z, more, y))
-    ∙ (let z : place + length (row_text w) ≡ place + c.width-place.result = omega (arith, wide) in ap (λ p. cond (i + 1 == length rows) None (Some (p, 0, shape))) z))
+    (λ e. let z = eqb-false (i + 1) (length rows) e in let y = c.loop-i-test.true in
+    omega (arith, z, more, y))
+    ∙ (let z : place + length (row_text w) ≡ place + c.width-place.result = omega (arith, wide) in
+    ap (λ p. cond (i + 1 == length rows) None (Some (p, 0, shape))) z))
 
 pub returns-then-is_last_row : goal.returns-then-is_last_row
 returns-then-is_last_row c =
@@ -111,7 +124,8 @@ returns-then-is_last_row c =
     let row = c.index-rows-i.result.now in
     let ws = map (λ r. map string_bytes r.now) rows in
     let rest = drop (i + 1) ws in
-    let next = rows_next (λ r. map string_bytes r.now) rows i c.index-rows-i.result c.loop-i-test.true c.index-rows-i.is in
+    let next = rows_next (λ r. map string_bytes r.now) rows i c.index-rows-i.result
+    c.loop-i-test.true c.index-rows-i.is in
     let place = c.loop-i.place in
     let w = map string_bytes row in
     let left = c.loop-i.left.now in
@@ -119,7 +133,8 @@ returns-then-is_last_row c =
     let later = take (length left - 1) (drop 1 left) in
     let cut = split_first left c.in-len1-up.len_at_least in
     let room = room_next place (drop i ws) rest w next c.loop-i.invariant.1 in
-    let here = c.loop-i.invariant.0 ∙ ap (λ ds. first_offence (left_at place left ds)) next ∙ ap (λ ls. first_offence (left_at place ls (w ∷ rest))) cut in
+    let here = c.loop-i.invariant.0 ∙ ap (λ ds. first_offence (left_at place left ds)) next
+    ∙ ap (λ ls. first_offence (left_at place ls (w ∷ rest))) cut in
     let l = length-map row string_bytes in
     let same = c.if-row-length.false in
     let some = eqb-false (length later) 0 (sym c.is_empty.ensures ∙ c.if-is_empty.false) in
@@ -129,8 +144,10 @@ returns-then-is_last_row c =
     c.shape_unless-then-is_last_row.ensures
     ∙ sym
     (here
-    ∙ left_fewer place n later w rest (omega (arith, same, l)) (omega (arith, some)) (omega (arith, last, more))
-    ∙ (let z : place + length (row_text w) ≡ place + c.width-place.result = omega (arith, wide) in ap (λ p. Some (p, 0, shape)) z))
+    ∙ left_fewer place n later w rest (omega (arith, same, l)) (omega (arith, some))
+    (omega (arith, last, more))
+    ∙ (let z : place + length (row_text w) ≡ place + c.width-place.result = omega (arith, wide) in
+    ap (λ p. Some (p, 0, shape)) z))
 
 pub overflow_add-place-in-loop-i-2 : goal.overflow_add-place-in-loop-i-2
 overflow_add-place-in-loop-i-2 c =
@@ -139,7 +156,8 @@ overflow_add-place-in-loop-i-2 c =
     let row = c.index-rows-i.result.now in
     let ws = map (λ r. map string_bytes r.now) rows in
     let rest = drop (i + 1) ws in
-    let next = rows_next (λ r. map string_bytes r.now) rows i c.index-rows-i.result c.loop-i-test.true c.index-rows-i.is in
+    let next = rows_next (λ r. map string_bytes r.now) rows i c.index-rows-i.result
+    c.loop-i-test.true c.index-rows-i.is in
     let place = c.loop-i.place in
     let w = map string_bytes row in
     let left = c.loop-i.left.now in
@@ -147,7 +165,8 @@ overflow_add-place-in-loop-i-2 c =
     let later = take (length left - 1) (drop 1 left) in
     let cut = split_first left c.in-len1-up.len_at_least in
     let room = room_next place (drop i ws) rest w next c.loop-i.invariant.1 in
-    let here = c.loop-i.invariant.0 ∙ ap (λ ds. first_offence (left_at place left ds)) next ∙ ap (λ ls. first_offence (left_at place ls (w ∷ rest))) cut in
+    let here = c.loop-i.invariant.0 ∙ ap (λ ds. first_offence (left_at place left ds)) next
+    ∙ ap (λ ls. first_offence (left_at place ls (w ∷ rest))) cut in
     let l = length-map row string_bytes in
     omega (arith, room, c.width-place.ensures)
 
@@ -158,7 +177,8 @@ loop-i-preserved c =
     let row = c.index-rows-i.result.now in
     let ws = map (λ r. map string_bytes r.now) rows in
     let rest = drop (i + 1) ws in
-    let next = rows_next (λ r. map string_bytes r.now) rows i c.index-rows-i.result c.loop-i-test.true c.index-rows-i.is in
+    let next = rows_next (λ r. map string_bytes r.now) rows i c.index-rows-i.result
+    c.loop-i-test.true c.index-rows-i.is in
     let place = c.loop-i.place in
     let w = map string_bytes row in
     let left = c.loop-i.left.now in
@@ -166,7 +186,8 @@ loop-i-preserved c =
     let later = take (length left - 1) (drop 1 left) in
     let cut = split_first left c.in-len1-up.len_at_least in
     let room = room_next place (drop i ws) rest w next c.loop-i.invariant.1 in
-    let here = c.loop-i.invariant.0 ∙ ap (λ ds. first_offence (left_at place left ds)) next ∙ ap (λ ls. first_offence (left_at place ls (w ∷ rest))) cut in
+    let here = c.loop-i.invariant.0 ∙ ap (λ ds. first_offence (left_at place left ds)) next
+    ∙ ap (λ ls. first_offence (left_at place ls (w ∷ rest))) cut in
     let l = length-map row string_bytes in
     let same = c.if-row-length.false in
     let some = eqb-false (length later) 0 (sym c.is_empty.ensures ∙ c.if-is_empty.false) in
@@ -175,13 +196,16 @@ loop-i-preserved c =
     let last = c.if-is_last_row.false in
     let y = c.loop-i-test.true in (
       here
-          ∙ ap first_offence (left_on place n later w rest (omega (arith, same, l)) (omega (arith, some)) (omega (arith, last, more, y)))
-          ∙ (let z : place + length (row_text w) + 1 ≡ place + c.width-place.result + 1 = omega (arith, wide) in ap (λ p. first_offence (left_at p later rest)) z),
+          ∙ ap first_offence (left_on place n later w rest (omega (arith, same, l))
+          (omega (arith, some)) (omega (arith, last, more, y)))
+          ∙ (let z : place + length (row_text w) + 1 ≡ place + c.width-place.result + 1 =
+          omega (arith, wide) in ap (λ p. first_offence (left_at p later rest)) z),
       omega (arith, room, wide),
       omega (arith, some),
     )
 
 pub returns : goal.returns
 returns c =
-    sym (c.loop-i.invariant.0 ∙ ap (λ ds. first_offence (left_at c.loop-i.place c.loop-i.left.now ds)) (no_rows (λ r. map string_bytes r.now) c.args.rows.now c.loop-i.i c.loop-i-test.false)
+    sym (c.loop-i.invariant.0 ∙ ap (λ ds. first_offence (left_at c.loop-i.place c.loop-i.left.now
+    ds)) (no_rows (λ r. map string_bytes r.now) c.args.rows.now c.loop-i.i c.loop-i-test.false)
     ∙ left_none c.loop-i.place c.loop-i.left.now)

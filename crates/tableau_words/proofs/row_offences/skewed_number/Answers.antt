@@ -16,7 +16,8 @@ ordered_offence-requires-clause-room c =
     let row = c.index-rows-i.result.now in
     let ws = map (λ r. map string_bytes r.now) rows in
     let rest = drop (i + 1) ws in
-    let next = rows_next (λ r. map string_bytes r.now) rows i c.index-rows-i.result c.loop-i-test.true c.index-rows-i.is in
+    let next = rows_next (λ r. map string_bytes r.now) rows i c.index-rows-i.result
+    c.loop-i-test.true c.index-rows-i.is in
     let place = c.loop-i.place in
     let room = room_next place (drop i ws) rest (map string_bytes row) next c.loop-i.invariant.1 in
     let long = row_width (map string_bytes row) in
@@ -30,17 +31,23 @@ returns-in-Some c =
     let row = c.index-rows-i.result.now in
     let ws = map (λ r. map string_bytes r.now) rows in
     let rest = drop (i + 1) ws in
-    let next = rows_next (λ r. map string_bytes r.now) rows i c.index-rows-i.result c.loop-i-test.true c.index-rows-i.is in
+    let next = rows_next (λ r. map string_bytes r.now) rows i c.index-rows-i.result
+    c.loop-i-test.true c.index-rows-i.is in
     let place = c.loop-i.place in
     let w = map string_bytes row in
     let upper = numbers (map string_bytes c.loop-i.above.now) in
     let inner = c.args.inner.now in
     let at = c.part_at.ensures.value in
-    let found = c.ordered_offence.ensures ∙ ap (λ d. first_offence (offences_by (cell_rule None None (is_disordered c.loop-i.columns.here upper d)) place (numbers w))) at in
+    let found = c.ordered_offence.ensures
+    ∙ ap (λ d. first_offence
+    (offences_by (cell_rule None None (is_disordered c.loop-i.columns.here upper d)) place
+    (numbers w))) at in
     sym
     (c.loop-i.invariant.0
-    ∙ ap (λ ds. first_offence (skewed c.loop-i.columns.here upper (drop i inner) (rows_at place ds))) next
-    ∙ skewed_next c.loop-i.columns.here upper (drop i inner) place w rest (Some c.in-Some.found) (ap found_of (sym c.in-Some.is) ∙ found))
+    ∙ ap (λ ds. first_offence (skewed c.loop-i.columns.here upper (drop i inner)
+    (rows_at place ds))) next
+    ∙ skewed_next c.loop-i.columns.here upper (drop i inner) place w rest (Some c.in-Some.found)
+    (ap found_of (sym c.in-Some.is) ∙ found))
 
 pub overflow_add-place-in-loop-i : goal.overflow_add-place-in-loop-i
 overflow_add-place-in-loop-i c =
@@ -49,7 +56,8 @@ overflow_add-place-in-loop-i c =
     let row = c.index-rows-i.result.now in
     let ws = map (λ r. map string_bytes r.now) rows in
     let rest = drop (i + 1) ws in
-    let next = rows_next (λ r. map string_bytes r.now) rows i c.index-rows-i.result c.loop-i-test.true c.index-rows-i.is in
+    let next = rows_next (λ r. map string_bytes r.now) rows i c.index-rows-i.result
+    c.loop-i-test.true c.index-rows-i.is in
     let place = c.loop-i.place in
     let room = room_next place (drop i ws) rest (map string_bytes row) next c.loop-i.invariant.1 in
     omega (arith, room, c.width.ensures)
@@ -61,21 +69,31 @@ loop-i-preserved c =
     let row = c.index-rows-i.result.now in
     let ws = map (λ r. map string_bytes r.now) rows in
     let rest = drop (i + 1) ws in
-    let next = rows_next (λ r. map string_bytes r.now) rows i c.index-rows-i.result c.loop-i-test.true c.index-rows-i.is in
+    let next = rows_next (λ r. map string_bytes r.now) rows i c.index-rows-i.result
+    c.loop-i-test.true c.index-rows-i.is in
     let place = c.loop-i.place in
     let w = map string_bytes row in
     let upper = numbers (map string_bytes c.loop-i.above.now) in
     let inner = c.args.inner.now in
     let at = c.part_at.ensures.value in
-    let found = c.ordered_offence.ensures ∙ ap (λ d. first_offence (offences_by (cell_rule None None (is_disordered c.loop-i.columns.here upper d)) place (numbers w))) at in
+    let found = c.ordered_offence.ensures
+    ∙ ap (λ d. first_offence
+    (offences_by (cell_rule None None (is_disordered c.loop-i.columns.here upper d)) place
+    (numbers w))) at in
     let room = room_next place (drop i ws) rest w next c.loop-i.invariant.1 in
     let wide = c.width.ensures in
-    let here : place + length (row_text w) + 1 ≡ place + (c.width.result + 1) = omega (arith, wide) in (
+    let here : place + length (row_text w) + 1 ≡ place + (c.width.result + 1) =
+    omega (arith, wide) in (
       c.loop-i.invariant.0
-          ∙ ap (λ ds. first_offence (skewed c.loop-i.columns.here upper (drop i inner) (rows_at place ds))) next
-          ∙ skewed_next c.loop-i.columns.here upper (drop i inner) place w rest None (ap found_of (sym c.in_default.is) ∙ found)
-          ∙ ap (λ d. first_offence (skewed d (numbers w) (drop 1 (drop i inner)) (rows_at (place + length (row_text w) + 1) rest))) (sym at)
-          ∙ ap (λ xs. first_offence (skewed c.part_at.result (numbers w) xs (rows_at (place + length (row_text w) + 1) rest))) (drop_next inner i)
-          ∙ ap (λ p. first_offence (skewed c.part_at.result (numbers w) (drop (i + 1) inner) (rows_at p rest))) here,
+          ∙ ap (λ ds. first_offence (skewed c.loop-i.columns.here upper (drop i inner)
+          (rows_at place ds))) next
+          ∙ skewed_next c.loop-i.columns.here upper (drop i inner) place w rest None
+          (ap found_of (sym c.in_default.is) ∙ found)
+          ∙ ap (λ d. first_offence (skewed d (numbers w) (drop 1 (drop i inner))
+          (rows_at (place + length (row_text w) + 1) rest))) (sym at)
+          ∙ ap (λ xs. first_offence (skewed c.part_at.result (numbers w) xs
+          (rows_at (place + length (row_text w) + 1) rest))) (drop_next inner i)
+          ∙ ap (λ p. first_offence (skewed c.part_at.result (numbers w) (drop (i + 1) inner)
+          (rows_at p rest))) here,
       omega (arith, room, wide),
     )

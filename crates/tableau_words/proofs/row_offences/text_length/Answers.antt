@@ -9,7 +9,8 @@ overflow_add-words-in-loop-row c =
     let rows = c.args.rows.now in
     let i = c.loop-row.row-index in
     let ws = map (λ r. map string_bytes r.now) rows in
-    let next = ap (λ ds. length (further_text ds)) (rows_next (λ r. map string_bytes r.now) rows i c.row-item.result c.loop-row-test.true c.row-item.is)
+    let next = ap (λ ds. length (further_text ds)) (rows_next (λ r. map string_bytes r.now) rows i
+    c.row-item.result c.loop-row-test.true c.row-item.is)
     ∙ further_length (map string_bytes c.row-item.result.now) (drop (i + 1) ws) in
     omega (arith, next, c.width.ensures, c.loop-row.invariant, c.requires)
 
@@ -18,7 +19,8 @@ loop-row-preserved c =
     let rows = c.args.rows.now in
     let i = c.loop-row.row-index in
     let ws = map (λ r. map string_bytes r.now) rows in
-    let next = ap (λ ds. length (further_text ds)) (rows_next (λ r. map string_bytes r.now) rows i c.row-item.result c.loop-row-test.true c.row-item.is)
+    let next = ap (λ ds. length (further_text ds)) (rows_next (λ r. map string_bytes r.now) rows i
+    c.row-item.result c.loop-row-test.true c.row-item.is)
     ∙ further_length (map string_bytes c.row-item.result.now) (drop (i + 1) ws) in
     let h = c.loop-row.invariant in
     omega (arith, next, c.width.ensures, h)

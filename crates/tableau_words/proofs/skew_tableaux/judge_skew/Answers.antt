@@ -18,7 +18,9 @@ returns-in_err-outer_shape-clause-judged c =
     let rows = map (λ r. map string_bytes r.now) c.args.rows.now in
     let p = err_from_is_err_and c.from_residual.result c.from_residual.ensures.1 in
     rw (p.1, p.2)
-    (judged_on (first_offence (part_offences 1 (numbers outer))) (first_offence (all_skew_offences outer inner rows)) _ (outer_first outer inner rows) c.in_err-outer_shape.ensures)
+    (judged_on (first_offence (part_offences 1 (numbers outer)))
+    (first_offence (all_skew_offences outer inner rows)) _ (outer_first outer inner rows)
+    c.in_err-outer_shape.ensures)
 
 pub returns-in_err-inner_shape-clause-judged : goal.returns-in_err-inner_shape-clause-judged
 returns-in_err-inner_shape-clause-judged c =
@@ -27,10 +29,13 @@ returns-in_err-inner_shape-clause-judged c =
     let rows = map (λ r. map string_bytes r.now) c.args.rows.now in
     let parts = c.parts.result.now in
     let same = ap (λ n. 2 + n) (sym (length-map c.args.outer.now string_bytes)) in
-    let p = err_from_is_err_and c.from_residual-in_err-inner_shape.result c.from_residual-in_err-inner_shape.ensures.1 in
+    let p = err_from_is_err_and c.from_residual-in_err-inner_shape.result
+    c.from_residual-in_err-inner_shape.ensures.1 in
     rw (p.1, p.2)
-    (judged_on (first_offence (inner_alone (2 + length c.args.outer.now) parts inner)) (first_offence (all_skew_offences outer inner rows)) _
-    (λ o h. inner_first outer inner rows parts o (c.parts.ensures.value ∙ c.in_ok-outer_shape.ensures.0) c.in_ok-outer_shape.ensures.1
+    (judged_on (first_offence (inner_alone (2 + length c.args.outer.now) parts inner))
+    (first_offence (all_skew_offences outer inner rows)) _
+    (λ o h. inner_first outer inner rows parts o
+    (c.parts.ensures.value ∙ c.in_ok-outer_shape.ensures.0) c.in_ok-outer_shape.ensures.1
     (subst (λ m. first_offence (inner_alone m parts inner) ≡ Some o) same h))
     c.in_err-inner_shape.ensures.judged)
 
@@ -44,17 +49,25 @@ returns-clause-judged c =
     let r = c.judge_rows.result in
     let lo = length-map c.args.outer.now string_bytes in
     let li = length-map c.args.inner.now string_bytes in
-    let place : 3 + length c.args.outer.now + length c.args.inner.now ≡ 3 + length outer + length inner = omega (arith, lo, li) in
+    let place : 3 + length c.args.outer.now + length c.args.inner.now ≡ 3 + length outer
+    + length inner = omega (arith, lo, li) in
     let same = ap (λ n. 2 + n) (sym (length-map c.args.outer.now string_bytes)) in
-    let none = subst (λ m. first_offence (inner_alone m parts inner) ≡ None) same c.in_ok-inner_shape.ensures.judged.1 in
-    subst (λ x. IsJudged (AreSkewRows (partition outer) (partition inner) (rows_in (partition outer) nss)) x r)
-    (neither_first outer inner rows parts (c.parts.ensures.value ∙ c.in_ok-outer_shape.ensures.0) c.in_ok-outer_shape.ensures.1 none)
-    (subst (λ k. IsJudged (AreSkewRows (partition outer) (partition inner) (rows_in (partition outer) nss)) (first_offence (skew_offences k (partition outer) (partition inner) rows)) r) place
+    let none = subst (λ m. first_offence (inner_alone m parts inner) ≡ None) same
+    c.in_ok-inner_shape.ensures.judged.1 in
+    subst (λ x. IsJudged (AreSkewRows (partition outer) (partition inner) (rows_in
+    (partition outer) nss)) x r)
+    (neither_first outer inner rows parts (c.parts.ensures.value ∙ c.in_ok-outer_shape.ensures.0)
+    c.in_ok-outer_shape.ensures.1 none)
+    (subst (λ k. IsJudged (AreSkewRows (partition outer) (partition inner) (rows_in
+    (partition outer) nss)) (first_offence (skew_offences k (partition outer) (partition inner)
+    rows)) r) place
     (subst
     (λ i. IsJudged (AreSkewRows (partition outer) i (rows_in (partition outer) nss))
-    (first_offence (skew_offences (3 + length c.args.outer.now + length c.args.inner.now) (partition outer) i rows)) r)
+    (first_offence (skew_offences (3 + length c.args.outer.now + length c.args.inner.now)
+    (partition outer) i rows)) r)
     c.in_ok-inner_shape.ensures.judged.0
     (subst
     (λ o. IsJudged (AreSkewRows o c.in_ok-inner_shape.inner_shape (rows_in o nss))
-    (first_offence (skew_offences (3 + length c.args.outer.now + length c.args.inner.now) o c.in_ok-inner_shape.inner_shape rows)) r)
+    (first_offence (skew_offences (3 + length c.args.outer.now + length c.args.inner.now) o
+    c.in_ok-inner_shape.inner_shape rows)) r)
     c.in_ok-outer_shape.ensures.0 c.judge_rows.ensures.judged)))

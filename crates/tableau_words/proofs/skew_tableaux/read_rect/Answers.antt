@@ -9,6 +9,8 @@ returns c =
     let words = map string_bytes c.args.words.now in
     let outer = map string_bytes c.in_ok-outer.outer.now in
     let inner = map string_bytes c.in_ok-outer.inner.now in
-    skew_read_rows (λ r. map string_bytes r.now) words outer inner c.as_slice.result.now c.read_skew_tableau.result
-    (subst (λ v. AreSkewWords outer inner (map (λ r. map string_bytes r.now) v) words) (sym c.as_slice.ensures.value) c.in_ok-outer.ensures.ok)
+    skew_read_rows (λ r. map string_bytes r.now) words outer inner c.as_slice.result.now
+    c.read_skew_tableau.result
+    (subst (λ v. AreSkewWords outer inner (map (λ r. map string_bytes r.now) v) words)
+    (sym c.as_slice.ensures.value) c.in_ok-outer.ensures.ok)
     c.read_skew_tableau.ensures

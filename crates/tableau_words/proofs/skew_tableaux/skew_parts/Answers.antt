@@ -15,6 +15,8 @@ pub returns-clause-ok : goal.returns-clause-ok
 returns-clause-ok c =
     let k = c.in_ok-places.ensures.cut in
     let x = k.parts.3.3.3.3.0 in
-    skew_cut (map string_bytes c.args.words.now) c.in_ok-places.places k _ _ _ (c.piece_at-outer.ensures.is _ _ k.parts.2).1
+    skew_cut (map string_bytes c.args.words.now) c.in_ok-places.places k _ _ _
+    (c.piece_at-outer.ensures.is _ _ k.parts.2).1
     (c.piece_at-inner.ensures.is _ _ k.parts.3.3.2).1
-    (c.in_ok-rows.ensures (written_rows x) (some_row x) (rows_numbers x k.parts.3.3.3.3.1) ((c.piece_at-tableau.ensures.is _ _ k.parts.3.3.3.3.2).1 ∙ rows_spelled x))
+    (c.in_ok-rows.ensures (written_rows x) (some_row x) (rows_numbers x k.parts.3.3.3.3.1)
+    ((c.piece_at-tableau.ensures.is _ _ k.parts.3.3.3.3.2).1 ∙ rows_spelled x))

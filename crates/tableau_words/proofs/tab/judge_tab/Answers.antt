@@ -8,4 +8,5 @@ pub returns-in_err-outer : goal.returns-in_err-outer
 returns-in_err-outer c =
     let p = err_from_is_err_and c.from_residual.result c.from_residual.ensures.1 in
     rw (p.1, p.2)
-    (shapes_faulty (map string_bytes c.args.outer.now) (map string_bytes c.args.inner.now) (map (λ r. map string_bytes r.now) c.args.rows.now) _ c.in_err-outer.ensures)
+    (shapes_faulty (map string_bytes c.args.outer.now) (map string_bytes c.args.inner.now)
+    (map (λ r. map string_bytes r.now) c.args.rows.now) _ c.in_err-outer.ensures)

@@ -21,15 +21,18 @@ returns-clause-sums g c φ =
 pub returns-clause-few : goal.returns-clause-few
 returns-clause-few g c = record {
   one = λ f.
-      let a = gains_weighed g.met.L.Label.same_label g.met.L.Eq.laws c.new-list.result ((c.args.label.now, c.one.result) ∷ []) c.add_at_label.new.self
+      let a = gains_weighed g.met.L.Label.same_label g.met.L.Eq.laws c.new-list.result
+      ((c.args.label.now, c.one.result) ∷ []) c.add_at_label.new.self
       c.in_ok-add_at_label.ensures.table c.in_ok-add_at_label.ensures.gains f in
       let b = ap (weighed f) c.new-list.ensures in
       let d = ap (λ z. nat_abs z * f c.args.label.now) c.one.ensures.one in
       omega arith;
   labels =
-      labels_gained g.met.L.Eq.laws g.met.L.Label.same_label c.new-list.result ((c.args.label.now, c.one.result) ∷ []) c.add_at_label.new.self
+      labels_gained g.met.L.Eq.laws g.met.L.Label.same_label c.new-list.result
+      ((c.args.label.now, c.one.result) ∷ []) c.add_at_label.new.self
       c.in_ok-add_at_label.ensures.table c.in_ok-add_at_label.ensures.gains
-      (λ x. x ≡ c.args.label.now) (no_labels (λ x. x ≡ c.args.label.now) c.new-list.result c.new-list.ensures)
+      (λ x. x ≡ c.args.label.now) (no_labels (λ x. x ≡ c.args.label.now) c.new-list.result
+      c.new-list.ensures)
       (λ t m. elim m [ inl e ↦ ap (λ u. u.0) e | inr k ↦ absurd k ]);
 }
 

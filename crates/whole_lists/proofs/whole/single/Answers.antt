@@ -9,17 +9,21 @@ use Rattle.whole_lists.proofs.whole.single.Goals.{In_ok-add_term}
 is_single : (c : In_ok-add_term) → Same c.add_term.new.self ((c.args.parts.now, c.args.c) ∷ [])
 is_single c =
     Same-single c.add_term.new.self c.args.parts.now c.args.c c.in_ok-add_term.ensures.combination
-    (more_as c.new-list.result [] c.add_term.new.self c.in_ok-from_valid_parts.field-0 c.args.parts.now c.new.result c.args.c
-    c.new-list.ensures c.in_ok-from_valid_parts.ensures.ok (rw (to_z-of_z c.ranges.c) at c.new.ensures) c.in_ok-add_term.ensures.ok)
+    (more_as c.new-list.result [] c.add_term.new.self c.in_ok-from_valid_parts.field-0
+    c.args.parts.now c.new.result c.args.c
+    c.new-list.ensures c.in_ok-from_valid_parts.ensures.ok
+    (rw (to_z-of_z c.ranges.c) at c.new.ensures) c.in_ok-add_term.ensures.ok)
 
 pub returns-clause-value : goal.returns-clause-value
 returns-clause-value c = is_single c
 
-one_label : (parts : List ℕ) (c : ℤ) (t : List ℕ × ℤ) → Among t ((parts, c) ∷ []) → size t.0 ≤ size parts
+one_label : (parts : List ℕ) (c : ℤ) (t : List ℕ × ℤ) → Among t ((parts, c) ∷ []) →
+    size t.0 ≤ size parts
 one_label parts c t (inl e) = let s = ap (λ (u : List ℕ × ℤ). size u.0) e in omega arith
 one_label parts c t (inr m) = absurd m
 
 pub returns-clause-labels : goal.returns-clause-labels
 returns-clause-labels c =
-    labels-same (λ (label : List ℕ). size label ≤ size c.args.parts.now) c.add_term.new.self ((c.args.parts.now, c.args.c) ∷ [])
+    labels-same (λ (label : List ℕ). size label ≤ size c.args.parts.now) c.add_term.new.self
+    ((c.args.parts.now, c.args.c) ∷ [])
     c.in_ok-add_term.ensures.combination (is_single c) (one_label c.args.parts.now c.args.c)

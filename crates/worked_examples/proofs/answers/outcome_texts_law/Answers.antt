@@ -24,14 +24,22 @@ returns-clause-insertion_of_nothing c = (refl, refl)
 
 pub returns-clause-word_of_pair : goal.returns-clause-word_of_pair
 unfolding digits
-returns-clause-word_of_pair c = (record { word = 3 ∷ 1 ∷ 2 ∷ []; inserts = refl; printed = refl }, refl)
+returns-clause-word_of_pair c = (
+  record { word = 3 ∷ 1 ∷ 2 ∷ []; inserts = refl; printed = refl },
+  refl,
+)
 
 pub returns-clause-rectified : goal.returns-clause-rectified
 unfolding digits
 returns-clause-rectified c = (
   record {
     straight = record { outer = 2 ∷ 1 ∷ []; inner = []; rows = (1 ∷ 1 ∷ []) ∷ (2 ∷ []) ∷ [] };
-    reached = record { chosen = 1 ∷ []; slides = ((omega arith, omega arith), refl); straight = refl };
+    reached = record {
+      chosen = 1 ∷ [];
+      slides = ((omega arith, omega arith), refl);
+      straight =
+          refl;
+    };
     printed = refl;
   },
   refl,
@@ -68,8 +76,19 @@ returns-clause-empty_batch c = record { blocks = []; are_blocks = tt; joined = r
 
 pub returns-clause-only_passed_over : goal.returns-clause-only_passed_over
 unfolding digits
-returns-clause-only_passed_over c = record { blocks = []; are_blocks = tt; joined = refl; ends = refl }
+returns-clause-only_passed_over c = record {
+  blocks = [];
+  are_blocks = tt;
+  joined = refl;
+  ends =
+      refl;
+}
 
 pub returns-clause-long_line : goal.returns-clause-long_line
 unfolding digits
-returns-clause-long_line c = record { blocks = _ ∷ []; are_blocks = (refl, tt); joined = refl; ends = refl }
+returns-clause-long_line c = record {
+  blocks = _ ∷ [];
+  are_blocks = (refl, tt);
+  joined = refl;
+  ends = refl;
+}

@@ -5,7 +5,8 @@ use Rattle.worked_examples.proofs.expressions.expression_examples_law.Goals as g
 
 pub returns-clause-grouping : goal.returns-clause-grouping
 returns-clause-grouping c = (
-  operation plus (operation minus (minus_first (numeral (codes "1"))) (numeral (codes "2"))) (numeral (codes "3")),
+  operation plus (operation minus (minus_first (numeral (codes "1"))) (numeral (codes "2")))
+      (numeral (codes "3")),
   record { allowed = search rules; spelled = refl },
   refl,
 )

@@ -2,7 +2,8 @@ use Rattle.std.proofs.Common.{[], ◌∷◌, Some, refl, arith, pos}
 use Rattle.std.proofs.lemmas.Int.{ints}
 use Rattle.sym_model.specs.PartitionList.{partitions_within}
 use Rattle.sym_model.specs.RimHookReduction.{IsRemoval}
-use Rattle.worked_examples.proofs.ClosedShapes.{removal_closed, no_removal_of_all, no_removal_from_less}
+use Rattle.worked_examples.proofs.ClosedShapes.{removal_closed, no_removal_of_all}
+use Rattle.worked_examples.proofs.ClosedShapes.{no_removal_from_less}
 use Rattle.worked_examples.proofs.strips.removal_examples_law.Goals as goal
 
 all_of_three_one : IsRemoval 4 (3 ∷ 1 ∷ []) []
@@ -19,10 +20,23 @@ all_of_three_one =
     }) tt tt refl
 
 pub returns-clause-one_hook : goal.returns-clause-one_hook
-returns-clause-one_hook c = (omega arith, [], pos 1, all_of_three_one, (omega arith, no_removal_from_less 4 [] (omega arith), refl, refl), refl)
+returns-clause-one_hook c = (
+  omega arith,
+  [],
+  pos 1,
+  all_of_three_one,
+  (omega arith, no_removal_from_less 4 [] (omega arith), refl, refl),
+  refl,
+)
 
 pub returns-clause-stays : goal.returns-clause-stays
-returns-clause-stays c = (omega arith, no_removal_of_all 4 (2 ∷ 2 ∷ []) refl (omega arith) (omega arith), refl, refl)
+returns-clause-stays c = (
+  omega arith,
+  no_removal_of_all 4 (2 ∷ 2 ∷ []) refl (omega arith)
+      (omega arith),
+  refl,
+  refl,
+)
 
 pub returns-clause-two_hooks : goal.returns-clause-two_hooks
 returns-clause-two_hooks c = (
@@ -98,8 +112,19 @@ returns-clause-hook_of_six c = (
 )
 
 pub returns-clause-too_wide : goal.returns-clause-too_wide
-returns-clause-too_wide c =
-    (4 ∷ 2 ∷ [], pos 1, 0, (omega arith, no_removal_of_all 6 (4 ∷ 2 ∷ []) refl (omega arith) (omega arith), refl, refl), omega arith)
+returns-clause-too_wide c = (
+  4 ∷ 2 ∷ [],
+  pos 1,
+  0,
+  (
+    omega arith,
+    no_removal_of_all 6 (4 ∷ 2 ∷ []) refl (omega arith)
+        (omega arith),
+    refl,
+    refl,
+  ),
+  omega arith,
+)
 
 pub returns-clause-empty : goal.returns-clause-empty
 returns-clause-empty c = no_removal_from_less 3 [] (omega arith)

@@ -8,7 +8,15 @@ returns-clause-first c =
       three = 2 ∷ 3 ∷ 1 ∷ [];
       changed = 2 ∷ 1 ∷ 3 ∷ [];
       back = [];
-      related = inl (inl (record { x = 1; y = 2; z = 3; below = omega arith; within = omega arith; before = refl; after = refl }));
+      related = inl (inl (record {
+        x = 1;
+        y = 2;
+        z = 3;
+        below = omega arith;
+        within = omega arith;
+        before = refl;
+        after = refl;
+      }));
       from = refl;
       to = refl;
     }
@@ -20,7 +28,15 @@ returns-clause-first_back c =
       three = 2 ∷ 1 ∷ 3 ∷ [];
       changed = 2 ∷ 3 ∷ 1 ∷ [];
       back = [];
-      related = inl (inr (record { x = 1; y = 2; z = 3; below = omega arith; within = omega arith; before = refl; after = refl }));
+      related = inl (inr (record {
+        x = 1;
+        y = 2;
+        z = 3;
+        below = omega arith;
+        within = omega arith;
+        before = refl;
+        after = refl;
+      }));
       from = refl;
       to = refl;
     }
@@ -32,7 +48,15 @@ returns-clause-second c =
       three = 1 ∷ 3 ∷ 2 ∷ [];
       changed = 3 ∷ 1 ∷ 2 ∷ [];
       back = [];
-      related = inr (inl (record { x = 1; y = 2; z = 3; within = omega arith; below = omega arith; before = refl; after = refl }));
+      related = inr (inl (record {
+        x = 1;
+        y = 2;
+        z = 3;
+        within = omega arith;
+        below = omega arith;
+        before = refl;
+        after = refl;
+      }));
       from = refl;
       to = refl;
     }
@@ -44,7 +68,15 @@ returns-clause-first_equal c =
       three = 2 ∷ 2 ∷ 1 ∷ [];
       changed = 2 ∷ 1 ∷ 2 ∷ [];
       back = [];
-      related = inl (inl (record { x = 1; y = 2; z = 2; below = omega arith; within = omega arith; before = refl; after = refl }));
+      related = inl (inl (record {
+        x = 1;
+        y = 2;
+        z = 2;
+        below = omega arith;
+        within = omega arith;
+        before = refl;
+        after = refl;
+      }));
       from = refl;
       to = refl;
     }
@@ -56,7 +88,15 @@ returns-clause-second_equal c =
       three = 1 ∷ 2 ∷ 1 ∷ [];
       changed = 2 ∷ 1 ∷ 1 ∷ [];
       back = [];
-      related = inr (inl (record { x = 1; y = 1; z = 2; within = omega arith; below = omega arith; before = refl; after = refl }));
+      related = inr (inl (record {
+        x = 1;
+        y = 1;
+        z = 2;
+        within = omega arith;
+        below = omega arith;
+        before = refl;
+        after = refl;
+      }));
       from = refl;
       to = refl;
     }
@@ -68,7 +108,15 @@ returns-clause-inside c =
       three = 1 ∷ 3 ∷ 2 ∷ [];
       changed = 3 ∷ 1 ∷ 2 ∷ [];
       back = 5 ∷ [];
-      related = inr (inl (record { x = 1; y = 2; z = 3; within = omega arith; below = omega arith; before = refl; after = refl }));
+      related = inr (inl (record {
+        x = 1;
+        y = 2;
+        z = 3;
+        within = omega arith;
+        below = omega arith;
+        before = refl;
+        after = refl;
+      }));
       from = refl;
       to = refl;
     }
@@ -83,7 +131,16 @@ returns-clause-joined c =
           three = 3 ∷ 4 ∷ 2 ∷ [];
           changed = 3 ∷ 2 ∷ 4 ∷ [];
           back = [];
-          related = inl (inl (record { x = 2; y = 3; z = 4; below = omega arith; within = omega arith; before = refl; after = refl }));
+          related = inl (inl (record {
+            x = 2;
+            y = 3;
+            z = 4;
+            below = omega arith;
+            within =
+                omega arith;
+            before = refl;
+            after = refl;
+          }));
           from = refl;
           to = refl;
         },
@@ -93,7 +150,16 @@ returns-clause-joined c =
             three = 1 ∷ 3 ∷ 2 ∷ [];
             changed = 3 ∷ 1 ∷ 2 ∷ [];
             back = 4 ∷ [];
-            related = inr (inl (record { x = 1; y = 2; z = 3; within = omega arith; below = omega arith; before = refl; after = refl }));
+            related = inr (inl (record {
+              x = 1;
+              y = 2;
+              z = 3;
+              within = omega arith;
+              below =
+                  omega arith;
+              before = refl;
+              after = refl;
+            }));
             from = refl;
             to = refl;
           },

@@ -10,7 +10,10 @@ returns-clause-ok c =
     ap (λ (s : Supply). s.rest) c.self.view_is in
     let copied : c.copy_from_slice.new.self ≡ take c.min-count.result c.args.self.now.rest =
     grind (arith, common_steps) in
-    let later : drop (c.self.inside.at + c.min-count.result) c.self.inside.bytes.items ≡ drop c.min-count.result c.args.self.now.rest =
+    let later : drop (c.self.inside.at + c.min-count.result) c.self.inside.bytes.items
+    ≡ drop c.min-count.result c.args.self.now.rest =
     grind (arith, common_steps) in
-    Takes-front c.args.self.now.rest _ c.copy_from_slice.new.self (drop c.min-count.result c.args.buf.now) _
-    c.self.inside.piece c.min-count.result copied later refl (grind (arith, common_steps)) (grind (arith, common_steps)) (grind (arith, common_steps))
+    Takes-front c.args.self.now.rest _ c.copy_from_slice.new.self
+    (drop c.min-count.result c.args.buf.now) _
+    c.self.inside.piece c.min-count.result copied later refl (grind (arith, common_steps))
+    (grind (arith, common_steps)) (grind (arith, common_steps))

@@ -8,28 +8,41 @@ use Rattle.expression_evaluation.proofs.Making.{failed, done, refused}
 use Rattle.whole_lists.specs.Families.{polynomial_of}
 use Rattle.whole_lists.proofs.Families.{In-family}
 use Rattle.expand_in_families.specs.Nodes.{ClearsTo, IsHeavy}
-use Rattle.expand_in_families.proofs.Nodes.{node-greatest, clears-product, large-product, large-product_denominator}
+use Rattle.expand_in_families.proofs.Nodes.{node-greatest, clears-product, large-product}
+use Rattle.expand_in_families.proofs.Nodes.{large-product_denominator}
 use Rattle.expand_in_families.proofs.operations.InFamilyTarget.multiplied.Goals as goal
 
 pub returns-in_default : goal.returns-in_default
 returns-in_default c e f t h k =
-    refused (ClearsTo (polynomial_of c.args.self.now.family)) IsHeavy (product e f) (large-product_denominator (polynomial_of c.args.self.now.family) e f c.args.left c.args.right t.plain.0 t.plain.1 h k (let not_below : c.args.left.den * c.args.right.den < 2 ^ 127 → ⊥ = c.in_default.ensures in omega arith))
+    refused (ClearsTo (polynomial_of c.args.self.now.family)) IsHeavy (product e f)
+    (large-product_denominator (polynomial_of c.args.self.now.family) e f c.args.left
+    c.args.right t.plain.0 t.plain.1 h k (let not_below : c.args.left.den * c.args.right.den < 2
+    ^ 127 → ⊥ = c.in_default.ensures in omega arith))
 
 pub returns-in_err-add_products : goal.returns-in_err-add_products
 returns-in_err-add_products c e f t h k =
-    failed (ClearsTo (polynomial_of c.args.self.now.family)) IsHeavy (product e f) _ _ c.from_residual.ensures.0 c.from_residual.ensures.1
+    failed (ClearsTo (polynomial_of c.args.self.now.family)) IsHeavy (product e f) _ _
+    c.from_residual.ensures.0 c.from_residual.ensures.1
     (λ large.
-    large-product (polynomial_of c.args.self.now.family) e f c.args.left c.args.right c.binomial.result c.whole_of-ways.result t.plain.0 t.plain.1 c.whole_of-ways.ensures c.binomial.ensures.value h k
+    large-product (polynomial_of c.args.self.now.family) e f c.args.left c.args.right
+    c.binomial.result c.whole_of-ways.result t.plain.0 t.plain.1 c.whole_of-ways.ensures
+    c.binomial.ensures.value h k
     (λ m l o.
-    subst (λ (ts : WholeTerms). 2 ^ 127 ≤ absolute_total ts + nat_abs c.whole_of-ways.result * absolute_total c.args.left.terms * m) c.new-terms.ensures
+    subst (λ (ts : WholeTerms). 2 ^ 127 ≤ absolute_total ts + nat_abs c.whole_of-ways.result
+    * absolute_total c.args.left.terms * m) c.new-terms.ensures
     (c.in_err-add_products.ensures.large (ap Err large) m l o)))
 
 pub returns : goal.returns
 returns c e f t h k =
     done (ClearsTo (polynomial_of c.args.self.now.family)) IsHeavy (product e f) _
-    (clears-product (polynomial_of c.args.self.now.family) (In-family c.args.self.now.family) e f c.args.left c.args.right _ c.binomial.result c.in-Some.ensures.1 refl c.binomial.ensures.value
-    (subst (λ z. Same c.add_products.new.sum (joined (scale z c.args.left.terms) c.args.right.terms)) c.whole_of-ways.ensures
-    (subst (λ (ts : WholeTerms). Same c.add_products.new.sum (ts ++ joined (scale c.whole_of-ways.result c.args.left.terms) c.args.right.terms)) c.new-terms.ensures
+    (clears-product (polynomial_of c.args.self.now.family) (In-family c.args.self.now.family) e f
+    c.args.left c.args.right _ c.binomial.result c.in-Some.ensures.1 refl
+    c.binomial.ensures.value
+    (subst (λ z. Same c.add_products.new.sum
+    (joined (scale z c.args.left.terms) c.args.right.terms)) c.whole_of-ways.ensures
+    (subst (λ (ts : WholeTerms). Same c.add_products.new.sum
+    (ts ++ joined (scale c.whole_of-ways.result c.args.left.terms) c.args.right.terms))
+    c.new-terms.ensures
     c.in_ok-add_products.ensures.value))
     h k)
 
@@ -42,7 +55,9 @@ binomial-requires c =
 
 pub add_products-requires : goal.add_products-requires
 add_products-requires c =
-    let x = node-greatest (polynomial_of c.args.self.now.family) c.requires.0 c.args.left c.requires.3 in
-    let y = node-greatest (polynomial_of c.args.self.now.family) c.requires.1 c.args.right c.requires.4 in
+    let x = node-greatest (polynomial_of c.args.self.now.family) c.requires.0 c.args.left
+    c.requires.3 in
+    let y = node-greatest (polynomial_of c.args.self.now.family) c.requires.1 c.args.right
+    c.requires.4 in
     let low = c.requires.2.low in
     omega arith

@@ -11,7 +11,8 @@ use Rattle.expand_in_families.proofs.operations.InFamilyTarget.negated.Goals as 
 
 pub returns-in_err-terms : goal.returns-in_err-terms
 returns-in_err-terms c e t h =
-    failed (ClearsTo (polynomial_of c.args.self.now.family)) IsHeavy (negation e) _ _ c.from_residual.ensures.0 c.from_residual.ensures.1
+    failed (ClearsTo (polynomial_of c.args.self.now.family)) IsHeavy (negation e) _ _
+    c.from_residual.ensures.0 c.from_residual.ensures.1
     (λ large.
     let refused = c.in_err-terms.ensures.large.0 (ap Err large) in
     let q : c.new.result ≡ negsuc 0 = c.new.ensures in
@@ -25,5 +26,6 @@ returns c e t h =
     done (ClearsTo (polynomial_of c.args.self.now.family)) IsHeavy (negation e) _
     (clears-negation (polynomial_of c.args.self.now.family) e c.args.inner _ refl refl
     (subst (λ z. Same c.in_ok-terms.terms (scale z c.args.inner.terms)) q
-    (Same-multiple c.args.inner.terms c.in_ok-terms.terms c.new.result c.args.inner.table c.in_ok-terms.ensures.combination c.in_ok-terms.ensures.product))
+    (Same-multiple c.args.inner.terms c.in_ok-terms.terms c.new.result c.args.inner.table
+    c.in_ok-terms.ensures.combination c.in_ok-terms.ensures.product))
     h)

@@ -16,9 +16,15 @@ numeral z = ([], z) ∷ []
 pub returns-clause-number : goal.returns-clause-number
 returns-clause-number c one =
     let size : c.args.num ≡ pos (nat_abs c.args.num) = omega (arith, ints, c.requires.sign) in
-    done (ClearsTo (polynomial_of c.args.self.now.family)) IsHeavy _ _ (clears-number (polynomial_of c.args.self.now.family) (nat_abs c.args.num) _ one refl (subst (λ z. Same c.in_ok-terms.terms (numeral z)) (to_z-of_z c.ranges.num ∙ size) c.in_ok-terms.ensures.value))
+    done (ClearsTo (polynomial_of c.args.self.now.family)) IsHeavy _ _
+    (clears-number (polynomial_of c.args.self.now.family) (nat_abs c.args.num) _ one refl
+    (subst (λ z. Same c.in_ok-terms.terms (numeral z)) (to_z-of_z c.ranges.num ∙ size)
+    c.in_ok-terms.ensures.value))
 
 pub returns-clause-fraction : goal.returns-clause-fraction
 returns-clause-fraction c =
     let size : c.args.num ≡ pos (nat_abs c.args.num) = omega (arith, ints, c.requires.sign) in
-    done (ClearsTo (polynomial_of c.args.self.now.family)) IsHeavy _ _ (clears-fraction (polynomial_of c.args.self.now.family) (nat_abs c.args.num) c.args.den _ refl refl (subst (λ z. Same c.in_ok-terms.terms (numeral z)) (to_z-of_z c.ranges.num ∙ size) c.in_ok-terms.ensures.value))
+    done (ClearsTo (polynomial_of c.args.self.now.family)) IsHeavy _ _
+    (clears-fraction (polynomial_of c.args.self.now.family) (nat_abs c.args.num) c.args.den _
+    refl refl (subst (λ z. Same c.in_ok-terms.terms (numeral z)) (to_z-of_z c.ranges.num ∙ size)
+    c.in_ok-terms.ensures.value))

@@ -5,30 +5,38 @@ use Rattle.whole_lists.proofs.Bounds.{greatest-within}
 use Rattle.whole_lists.proofs.WholeLists.{Once-labels}
 use Rattle.expression_evaluation.proofs.Making.{failed, done, refused}
 use Rattle.expand_in_monomials.specs.Clearing.{ClearsTo, IsHeavy}
-use Rattle.expand_in_monomials.proofs.Conversions.{converted-product, large-product, large-product_denominator}
+use Rattle.expand_in_monomials.proofs.Conversions.{converted-product, large-product}
+use Rattle.expand_in_monomials.proofs.Conversions.{large-product_denominator}
 use Rattle.expand_in_monomials.proofs.operations.MonomialsTarget.multiplied.Goals as goal
 
 pub returns-in_default : goal.returns-in_default
-returns-in_default c e f t h k = refused ClearsTo IsHeavy (product e f) (large-product_denominator e f c.args.left c.args.right t.plain.0 t.plain.1 h k (let not_below : c.args.left.den * c.args.right.den < 2 ^ 127 → ⊥ = c.in_default.ensures in omega arith))
+returns-in_default c e f t h k = refused ClearsTo IsHeavy (product e f)
+    (large-product_denominator e f c.args.left c.args.right t.plain.0 t.plain.1 h k
+    (let not_below : c.args.left.den * c.args.right.den < 2 ^ 127 → ⊥ = c.in_default.ensures in
+    omega arith))
 
 pub returns-in_err-terms : goal.returns-in_err-terms
 returns-in_err-terms c e f t h k =
     failed ClearsTo IsHeavy (product e f) _ _ c.from_residual.ensures.0 c.from_residual.ensures.1
     (λ large.
     large-product e f _ _ t.plain.0 t.plain.1
-    (Once-labels c.args.left.terms c.args.left.table) (Once-labels c.args.right.terms c.args.right.table) h.value k.value
+    (Once-labels c.args.left.terms c.args.left.table)
+    (Once-labels c.args.right.terms c.args.right.table) h.value k.value
     (c.in_err-terms.ensures.large (ap Err large)))
 
 pub returns : goal.returns
 returns c e f t h k =
-    done ClearsTo IsHeavy (product e f) _ (converted-product e f c.args.left c.args.right _ c.in-Some.ensures.1 c.in_ok-terms.ensures.coefficients h k)
+    done ClearsTo IsHeavy (product e f) _ (converted-product e f c.args.left c.args.right _
+    c.in-Some.ensures.1 c.in_ok-terms.ensures.coefficients h k)
 
 pub times_whole_in_m-requires : goal.times_whole_in_m-requires
 times_whole_in_m-requires c =
     let e = c.requires.0 in
     let f = c.requires.1 in
     let t = c.requires.2 in
-    let left = greatest-within (degree e) c.args.left.terms (AreWithin-cleared e c.args.left.terms c.args.left.table c.requires.3.value) in
-    let right = greatest-within (degree f) c.args.right.terms (AreWithin-cleared f c.args.right.terms c.args.right.table c.requires.4.value) in
+    let left = greatest-within (degree e) c.args.left.terms (AreWithin-cleared e c.args.left.terms
+    c.args.left.table c.requires.3.value) in
+    let right = greatest-within (degree f) c.args.right.terms
+    (AreWithin-cleared f c.args.right.terms c.args.right.table c.requires.4.value) in
     let low = t.low in
     omega arith

@@ -24,5 +24,6 @@ returns c e t h =
     done ClearsTo IsHeavy (negation e) _
     (converted-negation e c.args.inner _ refl
     (subst (λ z. Same c.in_ok-terms.terms (scale z c.args.inner.terms)) q
-    (Same-multiple c.args.inner.terms c.in_ok-terms.terms c.new.result c.args.inner.table c.in_ok-terms.ensures.combination c.in_ok-terms.ensures.product))
+    (Same-multiple c.args.inner.terms c.in_ok-terms.terms c.new.result c.args.inner.table
+    c.in_ok-terms.ensures.combination c.in_ok-terms.ensures.product))
     h)

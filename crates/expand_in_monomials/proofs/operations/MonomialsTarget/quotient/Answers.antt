@@ -15,9 +15,13 @@ numeral z = ([], z) ∷ []
 pub returns-clause-number : goal.returns-clause-number
 returns-clause-number c one =
     let size : c.args.num ≡ pos (nat_abs c.args.num) = omega (arith, ints, c.requires.sign) in
-    done ClearsTo IsHeavy _ _ (converted-number (nat_abs c.args.num) _ one (subst (λ z. Same c.in_ok-terms.terms (numeral z)) (to_z-of_z c.ranges.num ∙ size) c.in_ok-terms.ensures.value))
+    done ClearsTo IsHeavy _ _ (converted-number (nat_abs c.args.num) _ one
+    (subst (λ z. Same c.in_ok-terms.terms (numeral z)) (to_z-of_z c.ranges.num ∙ size)
+    c.in_ok-terms.ensures.value))
 
 pub returns-clause-fraction : goal.returns-clause-fraction
 returns-clause-fraction c =
     let size : c.args.num ≡ pos (nat_abs c.args.num) = omega (arith, ints, c.requires.sign) in
-    done ClearsTo IsHeavy _ _ (converted-fraction (nat_abs c.args.num) c.args.den _ refl (subst (λ z. Same c.in_ok-terms.terms (numeral z)) (to_z-of_z c.ranges.num ∙ size) c.in_ok-terms.ensures.value))
+    done ClearsTo IsHeavy _ _ (converted-fraction (nat_abs c.args.num) c.args.den _ refl
+    (subst (λ z. Same c.in_ok-terms.terms (numeral z)) (to_z-of_z c.ranges.num ∙ size)
+    c.in_ok-terms.ensures.value))

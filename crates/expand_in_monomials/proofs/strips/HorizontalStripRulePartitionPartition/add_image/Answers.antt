@@ -8,20 +8,24 @@ use Rattle.expand_in_monomials.proofs.StripTables.{scaled-strips}
 use Rattle.expand_in_monomials.proofs.strips.HorizontalStripRulePartitionPartition.add_image.Goals as goal
 
 -- what is added is what is left of the shape
-left_of : (c : ℤ) (k : ℕ) (shape rows : List ℕ) (left : List (List ℕ)) → rows ≡ shape → left ≡ strips_off k rows
+left_of : (c : ℤ) (k : ℕ) (shape rows : List ℕ) (left : List (List ℕ)) → rows ≡ shape →
+    left ≡ strips_off k rows
     → each_with c left ≡ scaled c (strips k shape)
-left_of c k shape rows left r e = ap (each_with c) (e ∙ ap (strips_off k) r) ∙ sym (scaled-strips c k shape)
+left_of c k shape rows left r e = ap (each_with c) (e ∙ ap (strips_off k) r)
+    ∙ sym (scaled-strips c k shape)
 
 pub returns-clause-gains : goal.returns-clause-gains
 returns-clause-gains c =
     on_ok c.add_each.result c.add_each.ensures.gains
     (λ gains.
     subst (λ l. Gains c.args.sum.now l c.add_each.new.self)
-    (left_of c.args.c c.args.self.now.cells c.args.shape.now c.parts.result.now c.deref.result.now c.parts.ensures.value (c.deref.ensures.value ∙ c.in_ok-left.ensures))
+    (left_of c.args.c c.args.self.now.cells c.args.shape.now c.parts.result.now c.deref.result.now
+    c.parts.ensures.value (c.deref.ensures.value ∙ c.in_ok-left.ensures))
     gains)
 
 pub returns-clause-large : goal.returns-clause-large
 returns-clause-large c = λ large.
     subst (Overflows equal c.args.sum.now)
-    (left_of c.args.c c.args.self.now.cells c.args.shape.now c.parts.result.now c.deref.result.now c.parts.ensures.value (c.deref.ensures.value ∙ c.in_ok-left.ensures))
+    (left_of c.args.c c.args.self.now.cells c.args.shape.now c.parts.result.now c.deref.result.now
+    c.parts.ensures.value (c.deref.ensures.value ∙ c.in_ok-left.ensures))
     (c.add_each.ensures.large large)

@@ -6,7 +6,9 @@ use Rattle.expand_in_schurs.specs.Operands.{IsOperand, MayBeLarge}
 use Rattle.expand_in_schurs.proofs.operations.SchursTarget.atom.Goals as goal
 
 pub returns-in_err-label : goal.returns-in_err-label
-returns-in_err-label c = failed IsOperand MayBeLarge _ _ _ c.from_residual.ensures.0 c.from_residual.ensures.1 (λ large. tt)
+returns-in_err-label c = failed IsOperand MayBeLarge _ _ _ c.from_residual.ensures.0
+    c.from_residual.ensures.1 (λ large. tt)
 
 pub returns : goal.returns
-returns c = done IsOperand MayBeLarge _ _ (ap (atom (basis_of c.args.basis)) (sym c.in_ok-label.ensures.ok))
+returns c = done IsOperand MayBeLarge _ _ (ap (atom (basis_of c.args.basis))
+    (sym c.in_ok-label.ensures.ok))

@@ -7,18 +7,22 @@ use Rattle.expand_in_schurs.specs.SchurLists.{StandsFor}
 use Rattle.expand_in_schurs.proofs.operations.SchursTarget.quotient.Goals as goal
 
 pub returns-in_err-list-clause-number : goal.returns-in_err-list-clause-number
-returns-in_err-list-clause-number c one = failed IsOperand MayBeLarge _ _ _ c.from_residual.ensures.0 c.from_residual.ensures.1 (λ large. tt)
+returns-in_err-list-clause-number c one = failed IsOperand MayBeLarge _ _ _
+    c.from_residual.ensures.0 c.from_residual.ensures.1 (λ large. tt)
 
 pub returns-in_err-list-clause-fraction : goal.returns-in_err-list-clause-fraction
-returns-in_err-list-clause-fraction c = failed IsOperand MayBeLarge _ _ _ c.from_residual.ensures.0 c.from_residual.ensures.1 (λ large. tt)
+returns-in_err-list-clause-fraction c = failed IsOperand MayBeLarge _ _ _ c.from_residual.ensures.0
+    c.from_residual.ensures.1 (λ large. tt)
 
 pub returns-clause-number : goal.returns-clause-number
 returns-clause-number c one =
     done IsOperand MayBeLarge _ _
     (subst (λ d. StandsFor (fraction (nat_abs c.args.num) d) c.in_ok-list.list) one
-    (subst (λ z. StandsFor (fraction (nat_abs z) c.args.den) c.in_ok-list.list) (to_z-of_z c.ranges.num) c.in_ok-list.ensures))
+    (subst (λ z. StandsFor (fraction (nat_abs z) c.args.den) c.in_ok-list.list)
+    (to_z-of_z c.ranges.num) c.in_ok-list.ensures))
 
 pub returns-clause-fraction : goal.returns-clause-fraction
 returns-clause-fraction c =
     done IsOperand MayBeLarge _ _
-    (subst (λ z. StandsFor (fraction (nat_abs z) c.args.den) c.in_ok-list.list) (to_z-of_z c.ranges.num) c.in_ok-list.ensures)
+    (subst (λ z. StandsFor (fraction (nat_abs z) c.args.den) c.in_ok-list.list)
+    (to_z-of_z c.ranges.num) c.in_ok-list.ensures)

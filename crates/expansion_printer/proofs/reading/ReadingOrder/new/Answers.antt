@@ -9,7 +9,9 @@ pub invariant_of-result : goal.invariant_of-result
 invariant_of-result c =
     let shape = c.args.shape in
     let numbers = c.deref.result.now in
-    let cells : c.size.result ≡ size shape.0 = c.size.ensures.value ∙ ap size c.outer.ensures.value in
+    let cells : c.size.result ≡ size shape.0 = c.size.ensures.value ∙ ap size c.outer.ensures.value
+    in
     subst HasReadingPlaces (sym c.in_ok-places.ensures)
     (places-told shape.0 shape.1 numbers c.outer.ensures.limits.outside.partition.falls
-    (λ i below. ap (λ (l : List ℕ). slice_index l i) c.deref.ensures.value ∙ c.in_ok-numbers.ensures i (omega (arith, cells))))
+    (λ i below. ap (λ (l : List ℕ). slice_index l i) c.deref.ensures.value ∙ c.in_ok-numbers.ensures
+    i (omega (arith, cells))))

@@ -5,4 +5,5 @@ use Rattle.expansion_printer.proofs.text_buffer.TextBuffer.flush.Goals as goal
 pub returns-clause-goes : goal.returns-clause-goes
 returns-clause-goes g c =
     Gathers-from c.self.view_is
-    (Gathers-flushed c.clear.ensures (Puts-as c.as_slice.ensures.value c.put_if-self-inside.ensures.goes))
+    (Gathers-flushed c.clear.ensures
+    (Puts-as c.as_slice.ensures.value c.put_if-self-inside.ensures.goes))

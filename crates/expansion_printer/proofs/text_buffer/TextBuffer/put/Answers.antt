@@ -6,4 +6,5 @@ returns-then-keep g c =
     Gathers-kept (g.K.Sink.seen c.args.sink.now) (c.keep.ensures.kept c.if-keep.true)
 
 pub returns : goal.returns
-returns g c = Gathers-from (c.keep.ensures.full c.if-keep.false) (Gathers-then c.flush.ensures.goes c.put_first.ensures)
+returns g c = Gathers-from (c.keep.ensures.full c.if-keep.false)
+    (Gathers-then c.flush.ensures.goes c.put_first.ensures)

@@ -5,5 +5,13 @@ use Rattle.expression_reading.proofs.TreeFacts.{nesting-positive}
 use Rattle.expression_reading.proofs.expr.Expr.+is_plain_within.Goals as goal
 
 pub returns-then-limit-eq0 : goal.returns-then-limit-eq0
-returns-then-limit-eq0 t c =
-    (λ h. absurd (false≢true h), λ h. absurd (omega (arith, h.0, nesting-positive (tree_of c.args.self.now), c.if-limit-eq0.true)))
+returns-then-limit-eq0 t c = (
+  λ h. absurd (false≢true h),
+  λ h.
+      absurd (omega (
+        arith,
+        h.0,
+        nesting-positive (tree_of c.args.self.now),
+        c.if-limit-eq0.true,
+      )),
+)

@@ -8,17 +8,20 @@ use Rattle.basis_change_laws.specs.JoinedLists.{row}
 use Rattle.family_lists.proofs.RowSteps.{row-gained, large-row}
 use Rattle.family_lists.proofs.products.TimesListRulePartitionPartition.add_image.Goals as goal
 
-nothing : (old : WholeTerms) (k : List ℕ) (x c : ℤ) (V : WholeTerms) → length V ≡ 0 → Gains old (scaled x (row k c V)) old
+nothing : (old : WholeTerms) (k : List ℕ) (x c : ℤ) (V : WholeTerms) → length V ≡ 0 → Gains old
+    (scaled x (row k c V)) old
 nothing old k x c [] e = gains_none old
 nothing old k x c (t ∷ V) e = absurd (omega arith)
 
 pub returns-then-len-eq0-clause-gains : goal.returns-then-len-eq0-clause-gains
 returns-then-len-eq0-clause-gains c =
-    nothing c.args.sum.now c.args.label.now c.args.x c.args.self.now.c c.args.self.now.list.now (sym c.len.ensures.len ∙ c.if-len-eq0.true)
+    nothing c.args.sum.now c.args.label.now c.args.x c.args.self.now.c c.args.self.now.list.now
+    (sym c.len.ensures.len ∙ c.if-len-eq0.true)
 
 pub returns-in_default-clause-large : goal.returns-in_default-clause-large
 returns-in_default-clause-large c err =
-    large-row c.args.sum.now c.args.label.now c.args.x c.args.self.now.c c.args.self.now.list.now c.len.ensures.combination
+    large-row c.args.sum.now c.args.label.now c.args.x c.args.self.now.c c.args.self.now.list.now
+    c.len.ensures.combination
     (λ e. c.if-len-eq0.false (c.len.ensures.len ∙ e)) c.in_default.ensures
 
 -- what the inner rule adds
@@ -30,10 +33,12 @@ returns-clause-gains c =
     on_ok c.add_row.result c.add_row.ensures.gains
     (λ more.
     subst (λ (l : WholeTerms). Gains c.args.sum.now l c.add_row.new.sum)
-    (image c.args.label.now c.args.x c.args.self.now.c c.in-Some.c c.args.self.now.list.now c.in-Some.ensures) more)
+    (image c.args.label.now c.args.x c.args.self.now.c c.in-Some.c c.args.self.now.list.now
+    c.in-Some.ensures) more)
 
 pub returns-clause-large : goal.returns-clause-large
 returns-clause-large c err =
     subst (λ (l : WholeTerms). Overflows equal c.args.sum.now l)
-    (image c.args.label.now c.args.x c.args.self.now.c c.in-Some.c c.args.self.now.list.now c.in-Some.ensures)
+    (image c.args.label.now c.args.x c.args.self.now.c c.in-Some.c c.args.self.now.list.now
+    c.in-Some.ensures)
     (c.add_row.ensures.large err)

@@ -14,7 +14,9 @@ returns-in-None-clause-value g c =
     ∙ ap (λ es. coefficient g.L.PartialEq.eq g.R.Scalar.zero es c.args.label.now) c.self.view_is
 
 pub returns-in-Some-clause-combination : goal.returns-in-Some-clause-combination
-returns-in-Some-clause-combination g c = subst (IsCombination g.L.PartialEq.eq g.L.Label.is_label g.R.Scalar.value) c.self.view_is c.self.invariant.combination
+returns-in-Some-clause-combination g c = subst (IsCombination g.L.PartialEq.eq g.L.Label.is_label
+    g.R.Scalar.value) c.self.view_is c.self.invariant.combination
 
 pub returns-in-None-clause-combination : goal.returns-in-None-clause-combination
-returns-in-None-clause-combination g c = subst (IsCombination g.L.PartialEq.eq g.L.Label.is_label g.R.Scalar.value) c.self.view_is c.self.invariant.combination
+returns-in-None-clause-combination g c = subst (IsCombination g.L.PartialEq.eq g.L.Label.is_label
+    g.R.Scalar.value) c.self.view_is c.self.invariant.combination

@@ -21,7 +21,8 @@ loop-label-preserved g c =
     ap (λ es. done ++ es) (sym c.in-Some.ensures.steps) ∙ c.loop-label.invariant in
     let distinct : IsDistinct eq (keys_of (done ++ (k, v) ∷ rest)) =
     subst (λ es. IsDistinct eq (keys_of es)) (sym (so_far ∙ given.0)) given.4 in
-    let none : lookup (eq k) done ≡ None = absent_before g.met.L.Eq.laws done (k, v) rest distinct in
+    let none : lookup (eq k) done ≡ None = absent_before g.met.L.Eq.laws done (k, v) rest distinct
+    in
     let here : c.insert.new.self.entries ≡ done ++ (k, v) ∷ [] =
     c.in_ok-insert.ensures.entries ∙ ap (λ x. insert_entry eq done x v) c.in_ok-copy.ensures.ok
     ∙ insert_entry-new eq c.loop-label.table k v none in
@@ -29,11 +30,13 @@ loop-label-preserved g c =
 
 copied : (g : Over) (c : goal.In-None g) → c.loop-label.table.entries ≡ c.self.inside.table.entries
 copied g c =
-    all_done c.loop-label.table.entries c.loop-label.label-iterator _ _ c.in-None.ensures.steps.0 c.loop-label.invariant c.into_iter-label-iterator.ensures.into_iter_gives.0
+    all_done c.loop-label.table.entries c.loop-label.label-iterator _ _ c.in-None.ensures.steps.0
+    c.loop-label.invariant c.into_iter-label-iterator.ensures.into_iter_gives.0
 
 pub invariant_of-result : goal.invariant_of-result
 invariant_of-result g c =
-    subst (λ es. IsTable g.L.PartialEq.eq g.L.Label.is_label g.R.Scalar.zero g.R.Scalar.value g.R.Scalar.is_held es) (sym (copied g c)) c.self.invariant
+    subst (λ es. IsTable g.L.PartialEq.eq g.L.Label.is_label g.R.Scalar.zero g.R.Scalar.value
+    g.R.Scalar.is_held es) (sym (copied g c)) c.self.invariant
 
 pub returns-clause-combination : goal.returns-clause-combination
 returns-clause-combination g c = (invariant_of-result g c).combination

@@ -13,7 +13,8 @@ invariant_of-result c =
     let whole : length now ≡ c.in_ok-buffer.buffer.len = omega (arith, c.deref_mut.ensures.len) in
     subst (λ xs. HoldsParts xs c.fill-rows.result)
     (sym (all_written c.in_ok-buffer.buffer.len now c.in_ok-buffer.buffer.items whole))
-    (first_holds c.args.d c.deref_mut.result.now now c.fill-rows.result c.requires before long c.fill-rows.ensures.within c.fill-rows.ensures.parts)
+    (first_holds c.args.d c.deref_mut.result.now now c.fill-rows.result c.requires before long
+    c.fill-rows.ensures.within c.fill-rows.ensures.parts)
 
 pub returns-clause-rest : goal.returns-clause-rest
 returns-clause-rest c =
@@ -21,6 +22,8 @@ returns-clause-rest c =
     let before : length c.deref_mut.result.now ≡ c.args.d =
     omega (arith, c.deref_mut.ensures.len, c.in_ok-buffer.ensures.len, c.from.ensures) in
     let whole : length now ≡ c.in_ok-buffer.buffer.len = omega (arith, c.deref_mut.ensures.len) in
-    subst (λ xs. take c.fill-rows.result xs ∷ partitions_after (take c.fill-rows.result xs) ≡ partitions_of c.args.d)
+    subst (λ xs. take c.fill-rows.result xs ∷ partitions_after (take c.fill-rows.result xs)
+    ≡ partitions_of c.args.d)
     (sym (all_written c.in_ok-buffer.buffer.len now c.in_ok-buffer.buffer.items whole))
-    (first_is c.args.d c.deref_mut.result.now now c.fill-rows.result before c.fill-rows.ensures.parts)
+    (first_is c.args.d c.deref_mut.result.now now c.fill-rows.result before
+    c.fill-rows.ensures.parts)

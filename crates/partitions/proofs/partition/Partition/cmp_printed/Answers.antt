@@ -19,7 +19,8 @@ value c =
     ∙ ap (slice_cmp nat_cmp other) c.parts-2.ensures.value in
     c.then.ensures ∙ ap (λ o. ordering_then o c.cmp-2.result) sizes
     ∙ ap (ordering_then (nat_cmp (size other) (size this))) lists
-    ∙ printed_order-slice_cmp this other c.size-2.ensures.limits.partition.positive c.size.ensures.limits.partition.positive
+    ∙ printed_order-slice_cmp this other c.size-2.ensures.limits.partition.positive
+    c.size.ensures.limits.partition.positive
 
 pub returns-clause-value : goal.returns-clause-value
 returns-clause-value c = value c
@@ -27,5 +28,6 @@ returns-clause-value c = value c
 pub returns-clause-equal : goal.returns-clause-equal
 returns-clause-equal c =
     λ together.
-    printed_order-equal _ _ c.size-2.ensures.limits.partition.positive c.size.ensures.limits.partition.positive
+    printed_order-equal _ _ c.size-2.ensures.limits.partition.positive
+    c.size.ensures.limits.partition.positive
     (sym (value c) ∙ together)

@@ -6,7 +6,8 @@ returns-then-unwrap_or-part c =
     let row = c.loop-row.row in
     let e : (row + 1) - 1 ≡ row = omega arith in
     let outer : c.unwrap_or.result ≡ get_or c.args.self.now row 0 =
-    c.unwrap_or.ensures ∙ ap (λ o. unwrap_or o 0) c.copied.ensures ∙ c.get.ensures.lookup.4 (omega arith) 0
+    c.unwrap_or.ensures ∙ ap (λ o. unwrap_or o 0) c.copied.ensures ∙ c.get.ensures.lookup.4
+    (omega arith) 0
     ∙ ap (λ xs. get_or xs row 0) c.parts-outer.ensures.value in
     let inner : get_or c.parts-part-items.result.now row 0 ≡ get_or c.args.inner.now row 0 =
     ap (λ xs. get_or xs row 0) c.parts-part-items.ensures.value in (

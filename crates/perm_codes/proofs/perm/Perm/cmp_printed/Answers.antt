@@ -18,11 +18,13 @@ value c =
     ∙ ap (slice_cmp nat_cmp this) c.letters-2.ensures.value in
     c.then.ensures ∙ ap (λ o. ordering_then o c.cmp-2.result) counts
     ∙ ap (ordering_then (nat_cmp (inversions this) (inversions other))) lists
-    ∙ permutation_order-slice_cmp this other c.inversions.ensures.limits c.inversions-2.ensures.limits
+    ∙ permutation_order-slice_cmp this other c.inversions.ensures.limits
+    c.inversions-2.ensures.limits
 
 pub returns-clause-value : goal.returns-clause-value
 returns-clause-value c = value c
 
 pub returns-clause-equal : goal.returns-clause-equal
 returns-clause-equal c =
-    λ together. permutation_order-equal _ _ c.inversions.ensures.limits c.inversions-2.ensures.limits (sym (value c) ∙ together)
+    λ together. permutation_order-equal _ _ c.inversions.ensures.limits
+    c.inversions-2.ensures.limits (sym (value c) ∙ together)

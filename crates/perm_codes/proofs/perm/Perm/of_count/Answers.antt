@@ -11,8 +11,10 @@ invariant_of-result c =
     let w = c.args.letters.items in
     let len = c.count_kept-len.result in
     let items : c.truncate.new.self.items ≡ kept w =
-    c.truncate.ensures.items ∙ ap (take len) (sym c.as_slice.ensures) ∙ c.count_kept-len.ensures ∙ ap kept c.as_slice.ensures in
+    c.truncate.ensures.items ∙ ap (take len) (sym c.as_slice.ensures) ∙ c.count_kept-len.ensures
+    ∙ ap kept c.as_slice.ensures in
     record {
       limits = subst IsWithinLimits (sym items) (kept_limits w c.requires.letters);
-      count_is = c.requires.count ∙ sym (inversions_kept w c.requires.letters.one_line) ∙ ap inversions (sym items);
+      count_is = c.requires.count ∙ sym (inversions_kept w c.requires.letters.one_line)
+          ∙ ap inversions (sym items);
     }

@@ -17,39 +17,49 @@ pub add_signed-requires : goal.add_signed-requires
 add_signed-requires c =
     let alcove = c.in-Some.alcove in
     let e = ap signed_partition (sym c.in-Some.is) ∙ c.in_ok-alcove.ensures.value in
-    let is = sign_told c.args.self.now.k c.args.self.now.n c.args.grown.now alcove.shape alcove.sign e in
+    let is = sign_told c.args.self.now.k c.args.self.now.n c.args.grown.now alcove.shape alcove.sign
+    e in
     subst IsSign (sym (kept_narrow alcove.sign is)) is
 
 pub returns-in_default-mul-clause-large : goal.returns-in_default-mul-clause-large
 returns-in_default-mul-clause-large c err =
     let alcove = c.in-Some.alcove in
     let e = ap signed_partition (sym c.in-Some.is) ∙ c.in_ok-alcove.ensures.value in
-    let is = sign_told c.args.self.now.k c.args.self.now.n c.args.grown.now alcove.shape alcove.sign e in
+    let is = sign_told c.args.self.now.k c.args.self.now.n c.args.grown.now alcove.shape alcove.sign
+    e in
     let past = refused_size (c.args.c *ℤ c.args.d) (sym c.in_default-mul.ensures.product) in
     let s = signed_size (c.args.c *ℤ c.args.d) alcove.sign is in
-    subst (λ (l : WholeTerms). Overflows (pointwise nat_eq) c.args.sums.now (scaled (c.args.c *ℤ c.args.d) l)) (ap at_shape e)
-    (overflow_one (pointwise nat_eq) c.args.sums.now alcove.shape ((c.args.c *ℤ c.args.d) *ℤ alcove.sign) (at_same alcove.shape) (omega arith))
+    subst (λ (l : WholeTerms). Overflows (pointwise nat_eq) c.args.sums.now
+    (scaled (c.args.c *ℤ c.args.d) l)) (ap at_shape e)
+    (overflow_one (pointwise nat_eq) c.args.sums.now alcove.shape
+    ((c.args.c *ℤ c.args.d) *ℤ alcove.sign) (at_same alcove.shape) (omega arith))
 
 pub returns-clause-gains : goal.returns-clause-gains
 returns-clause-gains c =
     let alcove = c.in-Some.alcove in
     let e = ap signed_partition (sym c.in-Some.is) ∙ c.in_ok-alcove.ensures.value in
-    let is = sign_told c.args.self.now.k c.args.self.now.n c.args.grown.now alcove.shape alcove.sign e in
-    let product : c.in-Some-mul.product ≡ c.args.c *ℤ c.args.d = answered_is (c.args.c *ℤ c.args.d) c.in-Some-mul.product c.in-Some-mul.ensures.product in
+    let is = sign_told c.args.self.now.k c.args.self.now.n c.args.grown.now alcove.shape alcove.sign
+    e in
+    let product : c.in-Some-mul.product ≡ c.args.c *ℤ c.args.d = answered_is (c.args.c *ℤ c.args.d)
+    c.in-Some-mul.product c.in-Some-mul.ensures.product in
     let with : ℤ → ℤ → WholeTerms = λ p z. scaled p ((alcove.shape, z) ∷ []) in
     let path = ap (with c.in-Some-mul.product) (kept_narrow alcove.sign is)
     ∙ ap (λ p. with p alcove.sign) product
     ∙ ap (scaled (c.args.c *ℤ c.args.d)) (ap at_shape e) in
-    subst (λ (l : WholeTerms). OnOk c.add_signed.result (Gains c.args.sums.now l c.add_signed.new.sums)) path c.add_signed.ensures.gains
+    subst (λ (l : WholeTerms). OnOk c.add_signed.result
+    (Gains c.args.sums.now l c.add_signed.new.sums)) path c.add_signed.ensures.gains
 
 pub returns-clause-large : goal.returns-clause-large
 returns-clause-large c err =
     let alcove = c.in-Some.alcove in
     let e = ap signed_partition (sym c.in-Some.is) ∙ c.in_ok-alcove.ensures.value in
-    let is = sign_told c.args.self.now.k c.args.self.now.n c.args.grown.now alcove.shape alcove.sign e in
-    let product : c.in-Some-mul.product ≡ c.args.c *ℤ c.args.d = answered_is (c.args.c *ℤ c.args.d) c.in-Some-mul.product c.in-Some-mul.ensures.product in
+    let is = sign_told c.args.self.now.k c.args.self.now.n c.args.grown.now alcove.shape alcove.sign
+    e in
+    let product : c.in-Some-mul.product ≡ c.args.c *ℤ c.args.d = answered_is (c.args.c *ℤ c.args.d)
+    c.in-Some-mul.product c.in-Some-mul.ensures.product in
     let with : ℤ → ℤ → WholeTerms = λ p z. scaled p ((alcove.shape, z) ∷ []) in
     let path = ap (with c.in-Some-mul.product) (kept_narrow alcove.sign is)
     ∙ ap (λ p. with p alcove.sign) product
     ∙ ap (scaled (c.args.c *ℤ c.args.d)) (ap at_shape e) in
-    subst (λ (l : WholeTerms). Overflows (pointwise nat_eq) c.args.sums.now l) path (c.add_signed.ensures.large err)
+    subst (λ (l : WholeTerms). Overflows (pointwise nat_eq) c.args.sums.now l) path
+    (c.add_signed.ensures.large err)

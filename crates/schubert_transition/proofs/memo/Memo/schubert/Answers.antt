@@ -10,4 +10,5 @@ returns-in-Some-clause-asked c =
 pub returns-in-None-clause-asked : goal.returns-in-None-clause-asked
 returns-in-None-clause-asked c =
     let none = rw c.in-None.is at c.in_ok-terms.ensures.found in
-    elim (comes_first c.args.w.now c.args.self.now c.made.new.self none c.made.ensures.put) [ inl same ↦ inl same | inr first ↦ inr (inr first) ]
+    elim (comes_first c.args.w.now c.args.self.now c.made.new.self none c.made.ensures.put)
+    [ inl same ↦ inl same | inr first ↦ inr (inr first) ]

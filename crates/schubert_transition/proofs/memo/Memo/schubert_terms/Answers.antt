@@ -7,6 +7,8 @@ use Rattle.schubert_transition.proofs.memo.Memo.schubert_terms.Goals as goal
 
 pub returns-clause-meets : goal.returns-clause-meets
 returns-clause-meets c n =
-    represents_same nat_list_eq_equiv same_partition c.in_ok-terms.terms c.in_ok-sorted_terms.field-0 c.in_ok-terms.ensures.is.table
-    c.in_ok-sorted_terms.ensures.combination c.in_ok-sorted_terms.ensures.same (λ exponents. x_to_in exponents n) (schubert_in c.args.w.now n)
+    represents_same nat_list_eq_equiv same_partition c.in_ok-terms.terms
+    c.in_ok-sorted_terms.field-0 c.in_ok-terms.ensures.is.table
+    c.in_ok-sorted_terms.ensures.combination c.in_ok-sorted_terms.ensures.same (λ exponents. x_to_in
+    exponents n) (schubert_in c.args.w.now n)
     (c.in_ok-terms.ensures.is.represents n)

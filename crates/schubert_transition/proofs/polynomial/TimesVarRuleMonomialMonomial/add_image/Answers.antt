@@ -12,16 +12,25 @@ use Rattle.schubert_transition.specs.Acted.{raised_terms}
 use Rattle.schubert_transition.proofs.polynomial.TimesVarRuleMonomialMonomial.add_image.Goals as goal
 
 -- the one term, as it is added
-one_term : (r : ℕ) (e x : List ℕ) (k : ℤ) → x ≡ raised r e → (x, k) ∷ [] ≡ scaled k (raised_terms r e)
-one_term r e x k is = ap (λ y. (y, k) ∷ []) is ∙ ap (λ z. (raised r e, z) ∷ []) (sym (product-one k))
+one_term : (r : ℕ) (e x : List ℕ) (k : ℤ) → x ≡ raised r e → (x, k) ∷ [] ≡ scaled k
+    (raised_terms r e)
+one_term r e x k is = ap (λ y. (y, k) ∷ []) is ∙ ap (λ z. (raised r e, z) ∷ [])
+    (sym (product-one k))
 
 pub returns-clause-gains : goal.returns-clause-gains
 returns-clause-gains c =
     on_ok c.add_term.result c.add_term.ensures.ok
-    (λ more. subst (λ (l : WholeTerms). Gains c.args.sum.now l c.add_term.new.self) (one_term c.args.self.now.r c.args.monomial.now c.in_ok-times_var.field-0 c.args.c c.in_ok-times_var.ensures)
-    (gains_term nat_list_eq_equiv same_partition c.args.sum.now c.add_term.new.self c.add_term.ensures.was c.add_term.ensures.combination c.in_ok-times_var.field-0 c.args.c more))
+    (λ more. subst (λ (l : WholeTerms). Gains c.args.sum.now l c.add_term.new.self)
+    (one_term c.args.self.now.r c.args.monomial.now c.in_ok-times_var.field-0 c.args.c
+    c.in_ok-times_var.ensures)
+    (gains_term nat_list_eq_equiv same_partition c.args.sum.now c.add_term.new.self
+    c.add_term.ensures.was c.add_term.ensures.combination c.in_ok-times_var.field-0 c.args.c
+    more))
 
 pub returns-clause-large : goal.returns-clause-large
 returns-clause-large c err =
-    subst (Overflows (pointwise nat_eq) c.args.sum.now) (one_term c.args.self.now.r c.args.monomial.now c.in_ok-times_var.field-0 c.args.c c.in_ok-times_var.ensures)
-    (overflows_term nat_list_eq_equiv same_partition c.args.sum.now c.add_term.ensures.was.distinct c.in_ok-times_var.field-0 c.args.c (c.add_term.ensures.large.0 err).refused)
+    subst (Overflows (pointwise nat_eq) c.args.sum.now)
+    (one_term c.args.self.now.r c.args.monomial.now c.in_ok-times_var.field-0 c.args.c
+    c.in_ok-times_var.ensures)
+    (overflows_term nat_list_eq_equiv same_partition c.args.sum.now c.add_term.ensures.was.distinct
+    c.in_ok-times_var.field-0 c.args.c (c.add_term.ensures.large.0 err).refused)

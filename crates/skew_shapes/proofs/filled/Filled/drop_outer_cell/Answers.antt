@@ -13,11 +13,15 @@ invariant_of-self c =
     let shape = c.self.inside.shape in
     let starts = c.self.inside.starts.items in
     let numbers = c.self.inside.numbers.items in
-    let corner = subst (λ (t : SkewFilling). HasInnerCorner c.args.row t.outer) (sym c.self.view_is) c.requires.corner in
-    let cell = subst (λ (t : SkewFilling). part t.inner c.args.row < part t.outer c.args.row) (sym c.self.view_is) c.requires.cell in
+    let corner = subst (λ (t : SkewFilling). HasInnerCorner c.args.row t.outer) (sym c.self.view_is)
+    c.requires.corner in
+    let cell = subst (λ (t : SkewFilling). part t.inner c.args.row < part t.outer c.args.row)
+    (sym c.self.view_is) c.requires.cell in
     let now : IsKept _ c.self.inside.starts.items c.self.inside.numbers.items = record {
-      skew = IsSkew-outer_lowered shape.0 shape.1 _ c.args.row c.self.invariant.skew corner cell refl;
-      places = HasPlaces-lowered starts shape.0 c.args.row (length numbers) corner.0 c.self.invariant.places;
+      skew = IsSkew-outer_lowered shape.0 shape.1 _ c.args.row c.self.invariant.skew corner cell
+          refl;
+      places = HasPlaces-lowered starts shape.0 c.args.row (length numbers) corner.0
+          c.self.invariant.places;
     } in
     subst (λ (s : List ℕ × List ℕ). IsKept s starts numbers) (sym c.remove_outer_corner.ensures) now
 
@@ -26,7 +30,8 @@ returns c =
     let shape = c.self.inside.shape in
     let starts = c.self.inside.starts.items in
     let numbers = c.self.inside.numbers.items in
-    let corner = subst (λ (t : SkewFilling). HasInnerCorner c.args.row t.outer) (sym c.self.view_is) c.requires.corner in
+    let corner = subst (λ (t : SkewFilling). HasInnerCorner c.args.row t.outer) (sym c.self.view_is)
+    c.requires.corner in
     let within = positive_within shape.0 (c.args.row - 1) (omega (arith, corner.1)) in
     ap (λ (s : List ℕ × List ℕ). filling_in s starts numbers) c.remove_outer_corner.ensures
     ∙ filling_in-dropped shape starts numbers c.args.row corner.0 (omega (arith, corner.0))

@@ -15,10 +15,12 @@ returns c =
     sym c.has_cell.ensures ∙ c.if-not-has_cell.false in
     let place : c.place.result ≡ place_of c.self.inside.starts.items c.args.row c.args.column =
     c.place.ensures ∙ ap (λ s. place_of s c.args.row c.args.column) c.deref.ensures.value in
-    let within = place_within starts shape.0 shape.1 _ c.args.row c.args.column c.self.invariant.places
+    let within = place_within starts shape.0 shape.1 _ c.args.row c.args.column
+    c.self.invariant.places
     (is_cell-tells shape.0 shape.1 c.args.row c.args.column cell) in
     let number : c.index.result.now ≡ get_or c.self.inside.numbers.items c.place.result 0 =
-    c.index.ensures ∙ sym (get_or_default numbers c.place.result 0 c.index.result.now (omega arith)) in
+    c.index.ensures ∙ sym (get_or_default numbers c.place.result 0 c.index.result.now (omega arith))
+    in
     ap Some (number ∙ ap (λ n. get_or numbers n 0) place)
     ∙ entry-filling_in shape starts numbers c.args.row c.args.column cell
     ∙ ap (λ (t : SkewFilling). entry_at t c.args.row c.args.column) c.self.view_is

@@ -11,9 +11,11 @@ invariant_of-self c =
     let shape = c.self.inside.shape in
     let starts = c.self.inside.starts.items in
     let numbers = c.replace_columns.new.numbers in
-    let whole : length c.replace_columns.new.numbers ≡ c.self.inside.numbers.len = omega (arith, c.deref_mut.ensures.len) in
+    let whole : length c.replace_columns.new.numbers ≡ c.self.inside.numbers.len =
+    omega (arith, c.deref_mut.ensures.len) in
     let written = all_written c.self.inside.numbers.len numbers c.self.inside.numbers.items whole in
-    let long : length c.self.inside.numbers.items ≡ length c.replace_columns.new.numbers = omega (arith, ap length c.deref_mut.ensures.value) in
+    let long : length c.self.inside.numbers.items ≡ length c.replace_columns.new.numbers =
+    omega (arith, ap length c.deref_mut.ensures.value) in
     subst (IsKept shape starts) (sym written)
     (record {
       skew = c.self.invariant.skew;
@@ -25,10 +27,13 @@ returns c =
     let shape = c.self.inside.shape in
     let starts = c.self.inside.starts.items in
     let numbers = c.replace_columns.new.numbers in
-    let whole : length c.replace_columns.new.numbers ≡ c.self.inside.numbers.len = omega (arith, c.deref_mut.ensures.len) in
+    let whole : length c.replace_columns.new.numbers ≡ c.self.inside.numbers.len =
+    omega (arith, c.deref_mut.ensures.len) in
     let written = all_written c.self.inside.numbers.len numbers c.self.inside.numbers.items whole in
     ap (λ xs. filling_in shape starts xs) written
     ∙ filled shape starts numbers c.args.reading.now
-    (moved _ starts numbers _ shape.0 _ shape.1 c.args.reading.now c.replace_columns.ensures c.deref.ensures.value
-    (c.parts.ensures.value ∙ c.outer.ensures.value) (c.parts-2.ensures.value ∙ c.inner.ensures.value))
+    (moved _ starts numbers _ shape.0 _ shape.1 c.args.reading.now c.replace_columns.ensures
+    c.deref.ensures.value
+    (c.parts.ensures.value ∙ c.outer.ensures.value)
+    (c.parts-2.ensures.value ∙ c.inner.ensures.value))
     ∙ ap (λ (t : SkewFilling). filled_with t.outer t.inner c.args.reading.now) c.self.view_is

@@ -22,7 +22,8 @@ returns-then-not-row_passes-clause-value c =
 
 pub returns-then-not-row_passes-clause-filling : goal.returns-then-not-row_passes-clause-filling
 returns-then-not-row_passes-clause-filling c =
-    subst IsFilling c.self.view_is (IsFilling-kept c.self.inside.shape c.self.inside.starts.items c.self.inside.numbers.items c.self.invariant)
+    subst IsFilling c.self.view_is (IsFilling-kept c.self.inside.shape c.self.inside.starts.items
+    c.self.inside.numbers.items c.self.invariant)
 
 pub loop-row-preserved : goal.loop-row-preserved
 loop-row-preserved c =
@@ -39,8 +40,10 @@ returns-clause-value c =
     ∙ length-filling_in c.self.inside.shape c.self.inside.starts.items c.self.inside.numbers.items
     ∙ sym (c.rows-row-end.ensures.value ∙ ap length c.outer.ensures.value) in
     let all : length c.args.self.now.rows ≡ c.loop-row.row = omega arith in
-    sym (tests-rows t.inner t.rows ∙ ap (λ n. every (row_passes t.inner t.rows) (after 0 n)) all ∙ c.loop-row.invariant)
+    sym (tests-rows t.inner t.rows ∙ ap (λ n. every (row_passes t.inner t.rows) (after 0 n)) all
+    ∙ c.loop-row.invariant)
 
 pub returns-clause-filling : goal.returns-clause-filling
 returns-clause-filling c =
-    subst IsFilling c.self.view_is (IsFilling-kept c.self.inside.shape c.self.inside.starts.items c.self.inside.numbers.items c.self.invariant)
+    subst IsFilling c.self.view_is (IsFilling-kept c.self.inside.shape c.self.inside.starts.items
+    c.self.inside.numbers.items c.self.invariant)

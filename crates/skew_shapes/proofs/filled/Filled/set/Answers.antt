@@ -12,9 +12,12 @@ returns c =
     let shape = c.self.inside.shape in
     let starts = c.self.inside.starts.items in
     let numbers = c.self.inside.numbers.items in
-    let place : c.place-place.result ≡ place_of c.self.inside.starts.items c.args.row c.args.column =
+    let place : c.place-place.result ≡ place_of c.self.inside.starts.items c.args.row c.args.column
+    =
     c.place-place.ensures ∙ ap (λ s. place_of s c.args.row c.args.column) c.deref.ensures.value in
-    let cell = subst (λ (t : SkewFilling). IsCell t.outer t.inner c.args.row c.args.column) (sym c.self.view_is) c.requires in
+    let cell = subst (λ (t : SkewFilling). IsCell t.outer t.inner c.args.row c.args.column)
+    (sym c.self.view_is) c.requires in
     ap (λ n. filling_in shape starts (set numbers n c.args.value)) place
-    ∙ filling_in-set shape starts numbers c.args.row c.args.column c.args.value c.self.invariant.places cell
+    ∙ filling_in-set shape starts numbers c.args.row c.args.column c.args.value
+    c.self.invariant.places cell
     ∙ ap (λ (t : SkewFilling). with_entry t c.args.row c.args.column c.args.value) c.self.view_is

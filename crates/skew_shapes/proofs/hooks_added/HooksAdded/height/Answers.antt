@@ -4,4 +4,6 @@ use Rattle.skew_shapes.proofs.hooks_added.HooksAdded.height.Goals as goal
 
 pub returns : goal.returns
 returns c =
-    added_height c.self.inside.base c.self.inside.k c.self.inside.buffer.items c.self.inside.hook.first c.self.inside.hook.last c.self.inside.listed c.args.self.now _ c.self.view_is c.self.invariant (λ l. omega arith)
+    added_height c.self.inside.base c.self.inside.k c.self.inside.buffer.items
+    c.self.inside.hook.first c.self.inside.hook.last c.self.inside.listed c.args.self.now _
+    c.self.view_is c.self.invariant (λ l. omega arith)

@@ -7,7 +7,10 @@ use Rattle.skew_shapes.proofs.hooks_removed.HooksRemoved.new.Goals as goal
 
 pub returns-clause-hooks : goal.returns-clause-hooks
 returns-clause-hooks c =
-    let e : rows c.args.outer.now ≡ c.rows-rows.result + 1 - 1 = (let v = c.rows-rows.ensures.value in omega arith) in
-    subst (λ p. AreHooksRemoved c.args.outer.now c.args.k (hooks_beginning_within c.args.k p (c.rows-rows.result + 1 - 1))) (sym c.in_ok-copy.ensures.ok)
-    (subst (λ n. AreHooksRemoved c.args.outer.now c.args.k (hooks_beginning_within c.args.k c.args.outer.now n)) e
+    let e : rows c.args.outer.now ≡ c.rows-rows.result + 1 - 1 =
+    (let v = c.rows-rows.ensures.value in omega arith) in
+    subst (λ p. AreHooksRemoved c.args.outer.now c.args.k (hooks_beginning_within c.args.k p
+    (c.rows-rows.result + 1 - 1))) (sym c.in_ok-copy.ensures.ok)
+    (subst (λ n. AreHooksRemoved c.args.outer.now c.args.k (hooks_beginning_within
+    c.args.k c.args.outer.now n)) e
     (hooks_removed c.args.k c.args.outer.now c.rows-rows.ensures.limits.partition))

@@ -20,7 +20,8 @@ has_each_once-requires c =
     let inner = c.inner.ensures.value ∙ ap (λ (v : List ℕ × List ℕ). v.1) c.shape.ensures.value in
     no_rows c.args.t.inner (sym (c.rows.ensures.value ∙ ap length inner) ∙ c.if-rows-ne0.false)
 
-pub returns-then-not-has_each_once-clause-standard : goal.returns-then-not-has_each_once-clause-standard
+pub returns-then-not-has_each_once-clause-standard
+    : goal.returns-then-not-has_each_once-clause-standard
 returns-then-not-has_each_once-clause-standard c = (
   λ e. absurd (cc),
   λ s.
@@ -31,13 +32,22 @@ returns-then-not-has_each_once-clause-standard c = (
 pub invariant_of-result : goal.invariant_of-result
 invariant_of-result c =
     let inner = c.inner.ensures.value ∙ ap (λ (v : List ℕ × List ℕ). v.1) c.shape.ensures.value in
-    let none = no_rows c.args.t.inner (sym (c.rows.ensures.value ∙ ap length inner) ∙ c.if-rows-ne0.false) in
-    (none, IsStandard-from c.args.t c.shape.ensures.tableau none (sym c.has_each_once.ensures ∙ c.if-not-has_each_once.false))
+    let none = no_rows c.args.t.inner (sym (c.rows.ensures.value ∙ ap length inner)
+    ∙ c.if-rows-ne0.false) in (
+      none,
+      IsStandard-from c.args.t c.shape.ensures.tableau none (sym c.has_each_once.ensures
+          ∙ c.if-not-has_each_once.false),
+    )
 
 pub returns-clause-standard : goal.returns-clause-standard
 returns-clause-standard c =
     let inner = c.inner.ensures.value ∙ ap (λ (v : List ℕ × List ℕ). v.1) c.shape.ensures.value in
-    let none = no_rows c.args.t.inner (sym (c.rows.ensures.value ∙ ap length inner) ∙ c.if-rows-ne0.false) in (
-      λ e. (none, IsStandard-from c.args.t c.shape.ensures.tableau none (sym c.has_each_once.ensures ∙ c.if-not-has_each_once.false)),
+    let none = no_rows c.args.t.inner (sym (c.rows.ensures.value ∙ ap length inner)
+    ∙ c.if-rows-ne0.false) in (
+      λ e. (
+        none,
+        IsStandard-from c.args.t c.shape.ensures.tableau none (sym c.has_each_once.ensures
+            ∙ c.if-not-has_each_once.false),
+      ),
       λ s. refl,
     )

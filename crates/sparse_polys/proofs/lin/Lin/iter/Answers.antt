@@ -8,4 +8,6 @@ returns-clause-rest g c = ap (terms_of g.R.Scalar.value) c.iter.ensures.rest ∙
 
 pub returns-clause-combination : goal.returns-clause-combination
 returns-clause-combination g c =
-    subst (IsCombination g.L.PartialEq.eq g.L.Label.is_label) c.self.view_is (combination_values g.R.Scalar.value g.L.PartialEq.eq g.L.Label.is_label c.self.inside.table c.iter.ensures.combination)
+    subst (IsCombination g.L.PartialEq.eq g.L.Label.is_label) c.self.view_is
+    (combination_values g.R.Scalar.value g.L.PartialEq.eq g.L.Label.is_label c.self.inside.table
+    c.iter.ensures.combination)

@@ -9,9 +9,12 @@ pub invariant_of-result : goal.invariant_of-result
 invariant_of-result c =
     let old = c.in_ok-exponents.exponents.items in
     let e : c.from.result - 1 + 1 ≡ c.args.r = omega arith in
-    let was : c.in_ok-exponents.exponents.items ≡ c.self.inside.exponents.items = c.in_ok-exponents.ensures.ok ∙ c.exponents.ensures.value ∙ sym c.self.view_is in
+    let was : c.in_ok-exponents.exponents.items ≡ c.self.inside.exponents.items =
+    c.in_ok-exponents.ensures.ok ∙ c.exponents.ensures.value ∙ sym c.self.view_is in
     let new : c.raise.new.exponents.items ≡ raised c.args.r c.self.inside.exponents.items =
-    c.in_ok-raise.ensures ∙ ap (λ r. raised r c.in_ok-exponents.exponents.items) e ∙ ap (raised c.args.r) was in
+    c.in_ok-raise.ensures ∙ ap (λ r. raised r c.in_ok-exponents.exponents.items) e
+    ∙ ap (raised c.args.r) was in
     let room = ap size c.self.view_is in
     subst (λ x. HasDegree x (c.self.inside.degree + 1)) (sym new)
-    (HasDegree-raised c.args.r c.self.inside.exponents.items c.self.inside.degree c.self.invariant (omega arith) (omega arith) (omega arith))
+    (HasDegree-raised c.args.r c.self.inside.exponents.items c.self.inside.degree c.self.invariant
+    (omega arith) (omega arith) (omega arith))

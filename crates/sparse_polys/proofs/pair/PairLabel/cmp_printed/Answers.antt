@@ -8,5 +8,6 @@ pub returns-clause-limits : goal.returns-clause-limits
 returns-clause-limits c =
     let this = c.self.inside in
     let both = and_from (is_label this.first) (is_label this.second)
-    (is_label-limits this.first c.cmp_printed.ensures.limits) (is_label-limits this.second c.cmp_printed-2.ensures.limits) in
+    (is_label-limits this.first c.cmp_printed.ensures.limits)
+    (is_label-limits this.second c.cmp_printed-2.ensures.limits) in
     subst (λ (pair : List ℕ × List ℕ). is_pair_label pair ≡ true) c.self.view_is both

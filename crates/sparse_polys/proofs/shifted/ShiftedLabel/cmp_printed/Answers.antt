@@ -9,5 +9,6 @@ pub returns-clause-limits : goal.returns-clause-limits
 returns-clause-limits c =
     let this = c.self.inside in
     let both = and_from (is_permutation_label this.perm) (is_monomial_label this.y)
-    (is_permutation_label-limits this.perm c.cmp_printed.ensures.limits) (is_monomial_label-from this.y c.cmp_printed-2.ensures.limits) in
+    (is_permutation_label-limits this.perm c.cmp_printed.ensures.limits)
+    (is_monomial_label-from this.y c.cmp_printed-2.ensures.limits) in
     subst (λ (label : List ℕ × List ℕ). is_shifted_label label ≡ true) c.self.view_is both

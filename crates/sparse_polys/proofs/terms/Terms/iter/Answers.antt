@@ -8,4 +8,6 @@ returns-clause-rest g c = ap (terms_of g.R.Scalar.value) c.iter.ensures.rest ∙
 
 pub returns-clause-canonical : goal.returns-clause-canonical
 returns-clause-canonical g c =
-    subst (IsCanonicalList g.L.Label.order g.L.Label.is_label) c.self.view_is (canonical_values g.R.Scalar.value g.L.Label.order g.L.Label.is_label c.self.inside.list ∙ c.iter.ensures.canonical)
+    subst (IsCanonicalList g.L.Label.order g.L.Label.is_label) c.self.view_is
+    (canonical_values g.R.Scalar.value g.L.Label.order g.L.Label.is_label c.self.inside.list
+    ∙ c.iter.ensures.canonical)

@@ -11,27 +11,37 @@ use Rattle.tableau_iter.proofs.board.Board.new.Goals as goal
 
 pub invariant_of-result : goal.invariant_of-result
 invariant_of-result c =
-    let near = near_of c.in_ok-near.near.above.items c.in_ok-near.near.right.items c.in_ok-near.near.most.items in
+    let near = near_of c.in_ok-near.near.above.items c.in_ok-near.near.right.items
+    c.in_ok-near.near.most.items in
     let word = c.in_ok-word.ensures.items_if_clones_equal (λ y e. e) in
-    let count = ap length word ∙ length-replicate {A = ℕ} c.from.result 0 ∙ c.from.ensures ∙ c.cells.ensures.value in
-    board c.args.letters c.args.shape.now.0 c.args.shape.now.1 near c.in_ok-start.start.items c.in_ok-sums.sums.items c.in_ok-word.word.items c.in_ok-near.ensures
-    (count ∙ sym (length-reading c.args.shape.now.0 c.args.shape.now.1 c.cells.ensures.limits.outside.partition.falls))
+    let count = ap length word ∙ length-replicate {A = ℕ} c.from.result 0 ∙ c.from.ensures
+    ∙ c.cells.ensures.value in
+    board c.args.letters c.args.shape.now.0 c.args.shape.now.1 near c.in_ok-start.start.items
+    c.in_ok-sums.sums.items c.in_ok-word.word.items c.in_ok-near.ensures
+    (count ∙ sym (length-reading c.args.shape.now.0 c.args.shape.now.1
+    c.cells.ensures.limits.outside.partition.falls))
     (omega (arith, ap size c.in_ok-start.ensures.items, count, c.requires.small))
     (omega (arith, ap length c.in_ok-start.ensures.items, c.requires.rows)) c.requires.few
-    (ap length c.in_ok-sums.ensures ∙ length-sums c.args.start.now [] c.args.letters c.requires.rows)
+    (ap length c.in_ok-sums.ensures ∙ length-sums c.args.start.now [] c.args.letters
+    c.requires.rows)
 
 pub returns : goal.returns
 returns c =
     let word = c.in_ok-word.ensures.items_if_clones_equal (λ y e. e) in
-    let count = ap length word ∙ length-replicate {A = ℕ} c.from.result 0 ∙ c.from.ensures ∙ c.cells.ensures.value in
-    let letters = ap length c.in_ok-sums.ensures ∙ length-sums c.args.start.now [] c.args.letters c.requires.rows in
+    let count = ap length word ∙ length-replicate {A = ℕ} c.from.result 0 ∙ c.from.ensures
+    ∙ c.cells.ensures.value in
+    let letters = ap length c.in_ok-sums.ensures ∙ length-sums c.args.start.now [] c.args.letters
+    c.requires.rows in
     record {
       shape = c.cells.ensures.limits;
-      setting = setting-same c.args.rule _ _ _ _ _ _ _ c.in_ok-counts.ensures.items c.in_ok-start.ensures.items letters;
+      setting = setting-same c.args.rule _ _ _ _ _ _ _ c.in_ok-counts.ensures.items
+          c.in_ok-start.ensures.items letters;
       near_in = c.in_ok-near.ensures;
-      cells = count ∙ sym (length-reading c.args.shape.now.0 c.args.shape.now.1 c.cells.ensures.limits.outside.partition.falls);
+      cells = count ∙ sym (length-reading c.args.shape.now.0 c.args.shape.now.1
+          c.cells.ensures.limits.outside.partition.falls);
       ready = record {
         fits = refl;
-        sums = c.in_ok-sums.ensures ∙ sym (ap₂ (λ s k. join s (content k [])) c.in_ok-start.ensures.items letters);
+        sums = c.in_ok-sums.ensures ∙ sym (ap₂ (λ s k. join s (content k []))
+            c.in_ok-start.ensures.items letters);
       };
     }

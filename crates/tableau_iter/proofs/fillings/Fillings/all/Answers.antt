@@ -4,9 +4,15 @@ use Rattle.tableau_iter.proofs.Starts.{tableau-list}
 use Rattle.tableau_iter.proofs.fillings.Fillings.all.Goals as goal
 
 pub new-requires-clause-small : goal.new-requires-clause-small
-new-requires-clause-small c = omega (arith, c.cells.ensures.value, c.cells.ensures.sizes, c.cells.ensures.limits.outside.small)
+new-requires-clause-small c = omega (
+  arith,
+  c.cells.ensures.value,
+  c.cells.ensures.sizes,
+  c.cells.ensures.limits.outside.small,
+)
 
 pub returns-clause-rest : goal.returns-clause-rest
 returns-clause-rest c =
     ap (λ (l : Listed). l.rest) c.at.ensures
-    ∙ tableau-list _ _ c.args.n c.args.shape.now.0 c.args.shape.now.1 c.in_ok-board.board c.in_ok-board.ensures
+    ∙ tableau-list _ _ c.args.n c.args.shape.now.0 c.args.shape.now.1 c.in_ok-board.board
+    c.in_ok-board.ensures

@@ -12,4 +12,5 @@ returns-clause-rest c =
     ∙ good-list _ _ c.args.rows c.args.shape.now.0 c.args.shape.now.1 c.in_ok-board.board told
     (subst Falls (sym c.parts.ensures.value) c.parts.ensures.limits.partition.falls)
     (subst (λ (s : List ℕ). length s ≤ c.args.rows) (sym c.parts.ensures.value) c.requires.start)
-    ∙ ap (λ s. good_readings c.args.rows s c.args.shape.now.0 c.args.shape.now.1) c.parts.ensures.value
+    ∙ ap (λ s. good_readings c.args.rows s c.args.shape.now.0 c.args.shape.now.1)
+    c.parts.ensures.value

@@ -9,7 +9,8 @@ use Rattle.tableau_iter.proofs.lattice.Lattice.resume.Goals as goal
 
 pub returns-then-last-from-clause-not_in_list : goal.returns-then-last-from-clause-not_in_list
 returns-then-last-from-clause-not_in_list c =
-    λ _. wrong-length c.args.start.now c.args.rows c.args.shape.now.0 c.args.shape.now.1 c.args.last.now
+    λ _. wrong-length c.args.start.now c.args.rows c.args.shape.now.0 c.args.shape.now.1
+    c.args.last.now
     (λ e. c.if-last-from.true (omega (arith, e, c.from.ensures, c.cells.ensures.value)))
 
 pub put_all-requires-clause-word : goal.put_all-requires-clause-word
@@ -21,14 +22,17 @@ put_all-requires-clause-word c =
       c.from.ensures,
       c.cells.ensures.value,
       told.cells,
-      length-reading c.args.shape.now.0 c.args.shape.now.1 c.cells.ensures.limits.outside.partition.falls,
+      length-reading c.args.shape.now.0 c.args.shape.now.1
+          c.cells.ensures.limits.outside.partition.falls,
     )
 
 pub returns-then-not-put_all-clause-not_in_list : goal.returns-then-not-put_all-clause-not_in_list
 returns-then-not-put_all-clause-not_in_list c =
     let told = c.in_ok-board.ensures in
-    λ _. ap (λ s. is_among c.args.last.now (good_readings c.args.rows s c.args.shape.now.0 c.args.shape.now.1)) (sym c.parts.ensures.value)
-    ∙ resumed-fails _ _ c.args.rows c.args.shape.now.0 c.args.shape.now.1 c.args.last.now c.in_ok-board.board told
+    λ _. ap (λ s. is_among c.args.last.now (good_readings c.args.rows s c.args.shape.now.0
+    c.args.shape.now.1)) (sym c.parts.ensures.value)
+    ∙ resumed-fails _ _ c.args.rows c.args.shape.now.0 c.args.shape.now.1 c.args.last.now
+    c.in_ok-board.board told
     (subst Falls (sym c.parts.ensures.value) c.parts.ensures.limits.partition.falls)
     (subst (λ (s : List ℕ). length s ≤ c.args.rows) (sym c.parts.ensures.value) c.requires.start)
     (sym c.put_all.ensures.fits ∙ c.if-not-put_all.true)
@@ -43,14 +47,18 @@ returns-clause-rest c =
       c.from.ensures,
       c.cells.ensures.value,
       told.cells,
-      length-reading c.args.shape.now.0 c.args.shape.now.1 c.cells.ensures.limits.outside.partition.falls,
+      length-reading c.args.shape.now.0 c.args.shape.now.1
+          c.cells.ensures.limits.outside.partition.falls,
     ) in
     ap (λ (l : Listed). l.rest) c.at.ensures
-    ∙ resumed-rest _ _ c.args.rows c.args.shape.now.0 c.args.shape.now.1 c.args.last.now c.in_ok-board.board c.put_all.new.board told
+    ∙ resumed-rest _ _ c.args.rows c.args.shape.now.0 c.args.shape.now.1 c.args.last.now
+    c.in_ok-board.board c.put_all.new.board told
     (subst Falls (sym c.parts.ensures.value) c.parts.ensures.limits.partition.falls)
     (subst (λ (s : List ℕ). length s ≤ c.args.rows) (sym c.parts.ensures.value) c.requires.start)
-    count (sym c.put_all.ensures.fits ∙ c.if-not-put_all.false) c.put_all.ensures.same c.if-not-put_all.ensures.word
-    ∙ ap (λ s. later_than c.args.last.now (good_readings c.args.rows s c.args.shape.now.0 c.args.shape.now.1)) c.parts.ensures.value
+    count (sym c.put_all.ensures.fits ∙ c.if-not-put_all.false) c.put_all.ensures.same
+    c.if-not-put_all.ensures.word
+    ∙ ap (λ s. later_than c.args.last.now (good_readings c.args.rows s c.args.shape.now.0
+    c.args.shape.now.1)) c.parts.ensures.value
 
 pub returns-clause-in_list : goal.returns-clause-in_list
 returns-clause-in_list c =
@@ -62,10 +70,13 @@ returns-clause-in_list c =
       c.from.ensures,
       c.cells.ensures.value,
       told.cells,
-      length-reading c.args.shape.now.0 c.args.shape.now.1 c.cells.ensures.limits.outside.partition.falls,
+      length-reading c.args.shape.now.0 c.args.shape.now.1
+          c.cells.ensures.limits.outside.partition.falls,
     ) in
-    ap (λ s. is_among c.args.last.now (good_readings c.args.rows s c.args.shape.now.0 c.args.shape.now.1)) (sym c.parts.ensures.value)
-    ∙ resumed-listed _ _ c.args.rows c.args.shape.now.0 c.args.shape.now.1 c.args.last.now c.in_ok-board.board told
+    ap (λ s. is_among c.args.last.now (good_readings c.args.rows s c.args.shape.now.0
+    c.args.shape.now.1)) (sym c.parts.ensures.value)
+    ∙ resumed-listed _ _ c.args.rows c.args.shape.now.0 c.args.shape.now.1 c.args.last.now
+    c.in_ok-board.board told
     (subst Falls (sym c.parts.ensures.value) c.parts.ensures.limits.partition.falls)
     (subst (λ (s : List ℕ). length s ≤ c.args.rows) (sym c.parts.ensures.value) c.requires.start)
     count (sym c.put_all.ensures.fits ∙ c.if-not-put_all.false)

@@ -1,0 +1,119 @@
+//! The polynomials of one part of e, h and p as lists in e, h and p: p_k, and e_k and h_k times k!.
+ghost use Rattle.std.specs.Prelude.{◌≡◌, ◌≢◌, ℕ, ◌+◌, ◌<◌, ◌≤◌, pos, vec_len, IfOk, IsErrOf};
+ghost use Rattle.whole_lists.specs.Families.{polynomial_of};
+ghost use Rattle.family_lists.specs.FactorLists.{AreFactors, ArePowers, IsFactor};
+ghost use Rattle.family_lists.specs.FactorLists.{list_at, over_number};
+
+use crate::coefficients::{coefficient, signed};
+use calc_base::{Lister, SumFault};
+use coeff_rings::{Int, Scalar};
+use linear_combinations::Lin;
+use partitions::{Partition, PartitionsOf};
+use std::alloc::Global;
+use whole_lists::{Family, Whole, single};
+use whole_numbers::factorial;
+
+/// The number that the list of the polynomial of k is over.
+fn over(family: Family, k: u16) -> Int
+    requires { k ≤ 20 }
+    ensures { result ≡ pos (over_number family k) }
+{
+    match family {
+        Family::PowerSum => Int::new(1),
+        Family::Elementary => signed(0, factorial(k)),
+        Family::Complete => signed(0, factorial(k)),
+    }
+}
+
+/// The polynomial of k of a family in the family itself.
+fn own_list(alloc: Global, family: Family, k: u16) -> Result<Whole, SumFault>
+    requires { (0 < k) × (k ≤ 20) }
+    ensures value { IfOk result (IsFactor (polynomial_of family) family k) }
+    ensures small { ¬ IsErrOf result SumFault.Large }
+{
+    single(alloc, &[k], over(family, k).get())
+}
+
+/// The polynomial of k of a family in another one, by closed coefficients of the partitions of k.
+fn closed_list(alloc: Global, target: Family, family: Family, k: u16) -> Result<Whole, SumFault>
+    requires other { target ≢ family }
+    requires low { (0 < k) × (k ≤ 20) }
+    ensures value { IfOk result (IsFactor (polynomial_of target) family k) }
+    ensures small { ¬ IsErrOf result SumFault.Large }
+{
+    let mut labels = PartitionsOf::new(alloc, k)?;
+    let mut list = Lin::new(alloc);
+    while labels.advance() {
+        let label = Partition::from_valid_parts(alloc, labels.current())?;
+        let c = coefficient(target, family, &label);
+        list.add_term(label, c)?;
+    }
+    Ok(list)
+}
+
+/// The polynomial of k of a family as a list in the target: p_k, or e_k or h_k times k!; nothing
+/// for k = 0. It is never refused as `Large`.
+///
+/// Example: 2!·h_2 in p is p_1^2 + p_2.
+pub fn factor_list(alloc: Global, target: Family, family: Family, k: u16) -> Result<Whole, SumFault>
+    requires { k ≤ 20 }
+    ensures value { IfOk result (λ list. 0 < k → IsFactor (polynomial_of target) family k list) }
+    ensures small { ¬ IsErrOf result SumFault.Large }
+{
+    if k == 0 {
+        return Ok(Lin::new(alloc));
+    }
+    if target == family {
+        return own_list(alloc, family, k);
+    }
+    closed_list(alloc, target, family, k)
+}
+
+/// The lists of 1, .., d, each at its place.
+fn lists_up_to(
+    alloc: Global,
+    target: Family,
+    family: Family,
+    d: u16,
+) -> Result<Vec<Whole>, SumFault>
+    requires { d ≤ 20 }
+    ensures length { IfOk result (λ lists. vec_len lists ≡ d + 1) }
+    ensures ok { IfOk result (λ lists. (k : ℕ) → 0 < k → k < d + 1
+        → IsFactor (polynomial_of target) family k (list_at lists.items k)) }
+    ensures small { ¬ IsErrOf result SumFault.Large }
+{
+    let mut lists = Vec::with_capacity(alloc, usize::from(d) + 1)?;
+    for k in 0..d + 1 {
+        let next = factor_list(alloc, target, family, k)?;
+        lists.push(next)?;
+    }
+    Ok(lists)
+}
+
+/// p_1, .., p_d in the target, each at its place,
+/// for d of at most 20. It is never refused as `Large`.
+pub fn power_sums(alloc: Global, target: Family, d: u16) -> Result<Vec<Whole>, SumFault>
+    requires { d ≤ 20 }
+    ensures length { IfOk result (λ lists. vec_len lists ≡ d + 1) }
+    ensures ok { IfOk result (λ lists. ArePowers (polynomial_of target) (d + 1) lists.items) }
+    ensures small { ¬ IsErrOf result SumFault.Large }
+{
+    lists_up_to(alloc, target, Family::PowerSum, d)
+}
+
+/// The polynomials of one part of a family, up to d, each at its place as a list in the target:
+/// p_k, and e_k and h_k times k!.
+pub fn factor_lists(
+    alloc: Global,
+    target: Family,
+    family: Family,
+    d: u16,
+) -> Result<Vec<Whole>, SumFault>
+    requires { d ≤ 20 }
+    ensures length { IfOk result (λ lists. vec_len lists ≡ d + 1) }
+    ensures ok { IfOk result (λ lists.
+        AreFactors (polynomial_of target) family (d + 1) lists.items) }
+    ensures small { ¬ IsErrOf result SumFault.Large }
+{
+    lists_up_to(alloc, target, family, d)
+}

@@ -1,0 +1,104 @@
+//! States of one length with their counts, in two vectors.
+ghost use Rattle.std.specs.Prelude.{◌≡◌, ℕ, ◌+◌, ◌*◌, ◌^◌, ◌<◌, List, ◌∷◌, [], ◌++◌, min};
+ghost use Rattle.std.specs.Prelude.{length, slice_get, OnOk, IfOk, IsTrue, Some};
+ghost use Rattle.std.specs.Map.{keys_of};
+ghost use Rattle.lr_product.specs.WeighedSum.{at_state, weighed};
+ghost use Rattle.lr_product.specs.Capped.{Agree};
+
+use calc_base::NoMemory;
+use std::alloc::Global;
+use std::marker::Model;
+
+/// Counts from here on are kept as this number.
+pub(crate) const CAP: u128 = 1 << 127;
+
+/// States of one length, each with its count. A state is the sum reached, in as many places as
+/// there are letters, and after it the letters of the column added last, where a further column
+/// needs them.
+#[derive(Drop)]
+pub(crate) struct States {
+    /// How many numbers a state has.
+    width: usize,
+    /// The numbers of the states, one state after the other.
+    numbers: Vec<u16>,
+    counts: Vec<u128>,
+}
+
+impl Model for States {
+    ghost use Rattle.std.specs.Prelude.{◌≡◌, ◌*◌, length};
+    ghost use Rattle.lr_product.specs.StateCounts.{StateCounts, counted_states};
+
+    ghost Value = { StateCounts };
+
+    ghost view = { λ s. record {
+      width = s.width;
+      entries = counted_states s.width s.numbers.items s.counts.items;
+    } };
+
+    ghost invariant = { λ s. length s.numbers.items ≡ length s.counts.items * s.width };
+}
+
+impl States {
+    /// No states of this length, with room for so many.
+    pub(crate) fn with_room(alloc: Global, width: usize, room: usize) -> Result<States, NoMemory>
+        ensures width { IfOk result (λ s. s.width ≡ width) }
+        ensures none { IfOk result (λ s. s.entries ≡ []) }
+    {
+        Ok(States {
+            width,
+            numbers: Vec::with_capacity(alloc, width.saturating_mul(room))?,
+            counts: Vec::with_capacity(alloc, room)?,
+        })
+    }
+
+    /// The number of states.
+    pub(crate) fn len(&self) -> usize
+        ensures count { result ≡ length self.now.entries }
+        ensures small { result < 2 ^ 63 }
+    {
+        self.counts.len()
+    }
+
+    /// The state and the count at an index.
+    pub(crate) fn entry(&self, at: usize) -> (&[u16], u128)
+        requires { at < length self.now.entries }
+        ensures { slice_get self.now.entries at ≡ Some (result.0.now, result.1) }
+    {
+        let start = at * self.width;
+        (&self.numbers[start..start + self.width], self.counts[at])
+    }
+
+    /// Whether this state is the one at an index.
+    pub(crate) fn is_at(&self, at: usize, state: &[u16]) -> bool
+        ensures within { IsTrue result → at < length self.now.entries }
+        ensures state { IsTrue result → slice_get (keys_of self.now.entries) at ≡ Some state.now }
+    {
+        at < self.len() && self.entry(at).0 == state
+    }
+
+    /// Puts a state with its count at the end.
+    pub(crate) fn push(&mut self, state: &[u16], count: u128) -> Result<(), NoMemory>
+        requires { length state.now ≡ self.old.width }
+        ensures width { OnOk result (self.new.width ≡ self.old.width) }
+        ensures entries { OnOk result
+            (self.new.entries ≡ self.old.entries ++ (state.now, count) ∷ []) }
+    {
+        self.counts.reserve(1)?;
+        self.numbers.extend_from_slice(state)?;
+        self.counts.push_reserved(count);
+        Ok(())
+    }
+
+    /// Adds a count to the one at an index.
+    pub(crate) fn add_at(&mut self, at: usize, count: u128)
+        requires { at < length self.old.entries }
+        ensures width { self.new.width ≡ self.old.width }
+        ensures adds { (state : List ℕ) → slice_get (keys_of self.old.entries) at ≡ Some state
+            → (n : ℕ) (f : List ℕ → List ℕ → ℕ)
+            → Agree (weighed n f self.new.entries)
+            (weighed n f self.old.entries + count * at_state n f state) }
+    {
+        let had = self.counts[at];
+        self.counts[at] = had.saturating_add(count).min(CAP);
+    }
+}

@@ -1,0 +1,231 @@
+//! Lists of monomial symmetric polynomials times h_k.
+ghost use Rattle.std.specs.Prelude.{◌≡◌, ◌+◌, ◌*◌, ◌^◌, ◌<◌, ◌≤◌, ◌≤ℤ◌, ◌*ℤ◌, pos, nat_abs, None};
+ghost use Rattle.std.specs.Prelude.{ℕ, List, [], ◌∷◌, ◌++◌, drop, IfOk, IfSome, OnOk, IsErrOf};
+ghost use Rattle.sym_model.specs.Conjugate.{count_from};
+ghost use Rattle.sym_model.specs.Partition.{IsPartition, Falls, Holds, part, size};
+ghost use Rattle.sym_model.specs.Polynomial.{coefficient};
+ghost use Rattle.sym_model.specs.Sum.{Among};
+ghost use Rattle.monomial_laws.specs.ExpressionTerms.{absolute, complete_terms};
+ghost use Rattle.monomial_laws.specs.MonomialProduct.{product_coefficient};
+ghost use Rattle.monomial_strip_laws.specs.StripProduct.{placings};
+ghost use Rattle.linear_combinations.specs.Gains.{Gains, HaveLabels, Overflows, scaled};
+ghost use Rattle.partitions.specs.Limits.{IsWithinLimits};
+ghost use Rattle.product_laws.specs.StripLists.{ListsEach};
+ghost use Rattle.whole_lists.specs.Tables.{equal, IsWholeTable};
+ghost use Rattle.pieri_product.specs.Rows.{AddsBelow, AddsCells, HasAdded, with_placings};
+
+use calc_base::{NoMemory, SumFault};
+use coeff_rings::{Int, Ring, Scalar};
+use linear_combinations::{Lin, Rule};
+use partitions::Partition;
+use std::alloc::Global;
+use whole_lists::Whole;
+
+/// How many of the rows, which fall, are at least v.
+fn rows_from(rows: &[u16], v: u16) -> usize
+    requires { Falls rows.now }
+    ensures { result ≡ count_from v rows.now }
+{
+    let mut count = 0;
+    while count < rows.len() && rows[count] >= v {
+        count += 1;
+    }
+    count
+}
+
+/// a·n/d, which is a whole number, or `None` where it is 2^128 or more.
+fn times_quotient(a: u128, n: usize, d: usize) -> Option<u128>
+    requires { 0 < d }
+    ensures some { IfSome result (λ r. (q : ℕ) → q * d ≡ a * n → r ≡ q) }
+    ensures none { result ≡ None → (q : ℕ) → q * d ≡ a * n → 2 ^ 128 ≤ q }
+{
+    if n == d {
+        return Some(a);
+    }
+    let (n, d) = (n as u128, d as u128);
+    let whole = (a / d).checked_mul(n)?;
+    whole.checked_add(a % d * n / d)
+}
+
+/// In how many ways the parts of a partition, and zeros, stand in the rows of a shape that contains
+/// it, none greater than the row; `None` where these are 2^128 or more.
+///
+/// With μ and ν without their first rows there are fewer: those of μ, of which the first has v
+/// cells, times how many rows of ν are at least v, are those times how many of μ are.
+fn placings(inner: &[u16], shape: &[u16]) -> Option<u128>
+    requires inner { IsPartition inner.now }
+    requires shape { IsPartition shape.now }
+    requires contained { Holds shape.now inner.now }
+    ensures some { IfSome result (λ count. count ≡ placings inner.now shape.now) }
+    ensures none { result ≡ None → 2 ^ 128 ≤ placings inner.now shape.now }
+{
+    let [v, below @ ..] = inner else {
+        return Some(1);
+    };
+    let later = placings(below, &shape[1..])?;
+    times_quotient(later, rows_from(shape, *v), rows_from(inner, *v))
+}
+
+/// The product of a number with such a count, or `None` where it is too large.
+fn times_placings(c: Int, inner: &[u16], shape: &[u16]) -> Option<Int>
+    requires inner { IsPartition inner.now }
+    requires shape { IsPartition shape.now }
+    requires contained { Holds shape.now inner.now }
+    ensures some { IfSome result (λ product. product ≡ c *ℤ pos (placings inner.now shape.now)) }
+    ensures none { result ≡ None → 2 ^ 127 ≤ nat_abs (c *ℤ pos (placings inner.now shape.now)) }
+{
+    if c.is_zero() {
+        return Some(c);
+    }
+    let count = placings(inner, shape)?;
+    if count > i128::MAX as u128 {
+        return None;
+    }
+    c.mul(Int::new(count as i128))
+}
+
+/// Adds `c` times the placings of a partition at each of some shapes that contain it.
+fn add_placings(
+    label: &Partition,
+    shapes: &[Partition],
+    c: Int,
+    sum: &mut Whole,
+) -> Result<(), SumFault>
+    requires { (ν : List ℕ) → Among ν shapes.now → Holds ν label.now }
+    ensures gains { OnOk result
+        (Gains sum.old (scaled c (with_placings label.now shapes.now)) sum.new) }
+    ensures large { IsErrOf result SumFault.Large
+        → Overflows equal sum.old (scaled c (with_placings label.now shapes.now)) }
+{
+    for shape in shapes {
+        let Some(product) = times_placings(c, label.parts(), shape.parts()) else {
+            return Err(SumFault::Large);
+        };
+        sum.add_at_label(shape, product)?;
+    }
+    Ok(())
+}
+
+/// The rows after the first one.
+fn below_first(rows: &[u16]) -> &[u16]
+    ensures { result.now ≡ drop 1 rows.now }
+{
+    match rows {
+        [_, below @ ..] => below,
+        [] => rows,
+    }
+}
+
+/// The length of the first row; 0 where there is none.
+fn first_row(rows: &[u16]) -> u16
+    ensures { result ≡ part rows.now 1 }
+{
+    rows.first().copied().unwrap_or(0)
+}
+
+/// Adds the shape of the rows of `above`, which stay as they are, and of those of `inner`.
+fn add_shape(
+    alloc: Global,
+    inner: &[u16],
+    above: &mut Vec<u16>,
+    shapes: &mut Vec<Partition>,
+) -> Result<(), NoMemory>
+    requires limits { IsWithinLimits (above.old.items ++ inner.now) }
+    ensures same { OnOk result (above.new.items ≡ above.old.items) }
+    ensures shapes { OnOk result (shapes.new.items
+        ≡ shapes.old.items ++ (above.old.items ++ inner.now) ∷ []) }
+{
+    let len = above.len();
+    above.extend_from_slice(inner)?;
+    shapes.push(Partition::from_valid_parts(alloc, above)?)?;
+    above.truncate(len);
+    Ok(())
+}
+
+/// Adds the shapes that begin with the rows of `above`, which stay as they are, and go on with the
+/// partitions that contain `inner`, with `left` cells more and no row longer than `most`.
+fn add_shapes(
+    alloc: Global,
+    most: u16,
+    left: u16,
+    inner: &[u16],
+    above: &mut Vec<u16>,
+    shapes: &mut Vec<Partition>,
+) -> Result<(), NoMemory>
+    requires inner { IsPartition inner.now }
+    requires falls { Falls (most ∷ inner.now) }
+    requires cells { size inner.now + left ≤ 512 }
+    requires limits { (rest : List ℕ) → AddsBelow most left inner.now rest
+        → IsWithinLimits (above.old.items ++ rest) }
+    ensures same { OnOk result (above.new.items ≡ above.old.items) }
+    ensures shapes { OnOk result (HasAdded (AddsBelow most left inner.now) above.old.items
+        shapes.old.items shapes.new.items) }
+{
+    if left == 0 {
+        return add_shape(alloc, inner, above, shapes);
+    }
+    let len = above.len();
+    let first = first_row(inner);
+    let below = below_first(inner);
+    for row in first.max(1)..most.min(first + left) + 1 {
+        above.push(row)?;
+        add_shapes(alloc, row, first + left - row, below, above, shapes)?;
+        above.truncate(len);
+    }
+    Ok(())
+}
+
+/// The partitions that contain a partition and have k cells more, each once.
+fn with_cells(alloc: Global, inner: &Partition, k: u16) -> Result<Vec<Partition>, NoMemory>
+    requires { size inner.now + k ≤ 512 }
+    ensures shapes { IfOk result (λ shapes. ListsEach (AddsCells k inner.now) shapes.items) }
+    ensures limits { OnOk result (IsWithinLimits inner.now) }
+{
+    let mut shapes = Vec::new(alloc);
+    let mut above = Vec::with_capacity(alloc, usize::from(inner.rows() + k))?;
+    let most = inner.size() + k;
+    add_shapes(alloc, most, k, inner.parts(), &mut above, &mut shapes)?;
+    Ok(shapes)
+}
+
+/// m_μ·h_k: each partition of k cells more with the placings of the parts of μ in its rows.
+#[derive(Drop)]
+struct TimesComplete {
+    alloc: Global,
+    k: u16,
+}
+
+impl Rule<Partition, Partition> for TimesComplete {
+    ghost use Rattle.sym_model.specs.Partition.{size};
+    ghost use Rattle.pieri_product.specs.Rows.{row_terms};
+
+    ghost takes = { λ rule label. size label + rule.k ≤ 512 };
+
+    ghost image = { λ rule label. row_terms rule.k label };
+
+    fn add_image(&self, label: &Partition, c: Int, sum: &mut Whole) -> Result<(), SumFault> {
+        let shapes = with_cells(self.alloc, label, self.k)?;
+        add_placings(label, &shapes, c, sum)
+    }
+}
+
+/// The product of a list of monomial symmetric polynomials and h_k, which is the sum of all m_λ
+/// with λ of size k, in every number of variables (Macdonald, I.2). Each label and k together have
+/// at most 512 cells.
+///
+/// It is refused as `Large` only where some coefficient of the product of the list that has the
+/// absolute values as coefficients is 2^127 or more.
+///
+/// Example: h_2 times m_(1) is m_(3) + 2 m_(2,1) + 3 m_(1,1,1).
+pub fn times_complete(alloc: Global, list: &Whole, k: u16) -> Result<Whole, SumFault>
+    requires { HaveLabels (λ μ. size μ + k ≤ 512) list.now }
+    ensures coefficients { IfOk result (λ product. (ν : List ℕ) → IsPartition ν
+        → coefficient product ν ≡ product_coefficient list.now (complete_terms k) ν) }
+    ensures table { IfOk result IsWholeTable }
+    ensures large { IsErrOf result SumFault.Large → (ν : List ℕ) × IsPartition ν
+        × (pos (2 ^ 127) ≤ℤ product_coefficient (absolute list.now) (complete_terms k) ν) }
+{
+    let mut product = Lin::new(alloc);
+    product.add_by(&TimesComplete { alloc, k }, list)?;
+    Ok(product)
+}

@@ -1,0 +1,11 @@
+use Rattle.std.proofs.Common.{◌≡◌, ◌++◌}
+use Rattle.std.specs.Vec.Iter.{into_iter_items}
+use Rattle.transition_walk.specs.Waiting.{Joins, each_waits}
+use Rattle.transition_walk.proofs.waiting.add_to_each.Given as goal
+
+-- the list is added at the permutations so far, and they and the rest are all
+abbrev pub invariant-loop-cover : goal.invariant-loop-cover
+invariant-loop-cover g l = record {
+  joins : Joins l.fn.todo.items (each_waits l.list l.yielded) l.todo.items;
+  so_far : l.yielded ++ into_iter_items l.cover-iterator ≡ l.fn.covers.items;
+}
