@@ -142,7 +142,7 @@ full_rows (a ∷ b) f p = (let h = above a b f p in omega arith, full_rows b (st
     above a [] f p = p.0
     above a (c ∷ b) f p = let h = above c b f.1 p.1 in let g = f.0 in omega arith
 
-rows-full : (b : List ℕ) → FallsStrictly b → ArePositive b → rows (from_beta b) ≡ length b
+pub rows-full : (b : List ℕ) → FallsStrictly b → ArePositive b → rows (from_beta b) ≡ length b
 rows-full b f p = ap length (without_last_zeros-positive (less_the_rest b) (full_rows b f p)) ∙ length-less b
 
 -- the entries of α + ρ, where a part stands in the last place

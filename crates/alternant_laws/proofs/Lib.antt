@@ -19,6 +19,7 @@ pub mod Stacks
 pub mod Exchanges
 pub mod SymmetricSums
 pub mod TableauInvolution
+pub mod WholeLists
 pub mod SortedAlternants
 pub mod StraightenedMonomials
 pub mod EnoughPlaces

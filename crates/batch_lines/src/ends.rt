@@ -1,15 +1,14 @@
 //! What stands between two blocks, and the end of the sink.
-ghost use Rattle.std.specs.Prelude.{◌≡◌, true};
-ghost use Rattle.calc_base.specs.Puts.{Puts};
+ghost use Rattle.std.specs.Prelude.{◌≡◌};
 ghost use Rattle.batch_lines.specs.Ends.{separator, status_where, Finishes};
 
 use calc_base::{Sink, Status};
 
-/// Puts the line `--`, but not in front of the first block, and answers whether all went well.
-pub fn put_separator<K: Sink>(is_first: bool, sink: &mut K) -> bool
-    ensures { Puts true (K.seen sink.old) result (K.seen sink.new) (separator is_first) }
+/// What stands in front of a block: the line `--`, and nothing in front of the first one.
+pub fn separator(is_first: bool) -> &'static [u8]
+    ensures { result.now ≡ separator is_first }
 {
-    is_first || sink.put(b"--\n").is_ok()
+    if is_first { b"" } else { b"--\n" }
 }
 
 /// Finishes the sink, and answers the status, or that the sink failed.

@@ -4,7 +4,7 @@
 //! What is proved:
 //!
 //! `LineReader` gives the lines of a source one at a time, over pieces of any size; `has_line` says
-//! whether a whole line was taken that is still to be read. `Progress`, `at_end`, `put_separator`,
+//! whether a whole line was taken that is still to be read. `Progress`, `at_end`, `separator`,
 //! `finished`: what is written between two blocks of a batch, how far it is, and the status at its
 //! end, each by the definition of its name. `work_line` writes the next line of the generator and
 //! advances its state, without memory. `Sums::add` counts a block, its terms and its bytes, and
@@ -24,7 +24,7 @@ mod progress;
 mod reader;
 mod sums;
 
-pub use ends::{finished, put_separator};
+pub use ends::{finished, separator};
 pub use line::work_line;
 pub use line_buf::LineBuf;
 pub use next::{LineFault, Next};

@@ -5,10 +5,9 @@ use Rattle.std.specs.Int.{w128}
 use Rattle.std.proofs.lemmas.Bool.{and_parts, and_from, lt-ltb, cond-true, false_from_ne_true}
 use Rattle.sym_model.specs.Expansion.{Fraction, Terms}
 use Rattle.sym_model.specs.Kind.{LabelRules}
-use Rattle.sym_model.specs.Canonical.{is_coefficient, is_reduced, fits_128_bits}
+use Rattle.sym_model.specs.Canonical.{is_coefficient, is_reduced, each_term, fits_128_bits}
 use Rattle.sym_model.specs.NumberText.{cut_at, fraction_of, fraction_of_pieces, signed_value}
 use Rattle.sym_model.specs.PrintedBlock.{term_of_line, term_of_parts}
-use Rattle.sparse_polys.specs.Combination.{are_terms}
 use Rattle.coeff_rings.specs.Proved.Whole.{fits_from_test}
 use Rattle.block_reader.specs.Parts.{denominator_after}
 use Rattle.block_reader.specs.Fitting.{fits, all_fit, term_with}
@@ -83,11 +82,17 @@ module _ {L : Type 0} (has_fractions : Bool) (is_label : L → Bool) where
       let clash : true ≡ false = sym (and_from (fits has_fractions x.1 && is_label x.0) (all_fit has_fractions is_label xs) p.0 m) ∙ h in cc)) in
       let clash : true ≡ false = sym p.1 ∙ rest in cc)
 
-  -- terms that fit are those of a table
-  pub fit-terms : (terms : Terms L) → all_fit has_fractions is_label terms ≡ true → are_terms is_label terms ≡ true
+  -- terms that fit are those of a canonical list
+  abbrev are_reduced : Terms L → Bool
+  are_reduced terms = each_term (λ (t : L × Fraction). is_reduced t.1 && is_label t.0) terms
+
+  pub fit-terms : (terms : Terms L) → all_fit has_fractions is_label terms ≡ true
+      → are_reduced terms ≡ true
   fit-terms [] h = refl
   fit-terms (t ∷ terms) h =
       let p = and_parts (fits has_fractions t.1 && is_label t.0) (all_fit has_fractions is_label terms) h in
       let q = and_parts (fits has_fractions t.1) (is_label t.0) p.0 in
       let r = and_parts (is_coefficient has_fractions t.1) _ q.0 in
-      and_from (is_reduced t.1 && is_label t.0) (are_terms is_label terms) (and_from (is_reduced t.1) (is_label t.0) (and_parts _ (is_reduced t.1) r.0).1 q.1) (fit-terms terms p.1)
+      and_from (is_reduced t.1 && is_label t.0) (are_reduced terms)
+      (and_from (is_reduced t.1) (is_label t.0) (and_parts _ (is_reduced t.1) r.0).1 q.1)
+      (fit-terms terms p.1)

@@ -11,9 +11,10 @@ use crate::cutting::{after_first, after_first_two, cut};
 use crate::lists::list_of;
 use crate::numbers::number_of;
 use calc_base::NoMemory;
+use linear_combinations::Label;
 use partitions::{PartFault, Partition};
 use perm_codes::{Perm, PermFault};
-use sparse_polys::{Label, MonoFault, Monomial, Pair, Power, Shifted};
+use sparse_polys::{MonoFault, Monomial, Pair, Power, Shifted};
 use std::alloc::Global;
 
 /// Labels that can be read back.

@@ -14,7 +14,7 @@ use crate::labels::Spelled;
 use crate::numbers::{denominator_of, signed_of};
 use calc_base::NoMemory;
 use coeff_rings::{Int, Scalar};
-use sparse_polys::{Label, Terms};
+use linear_combinations::{Label, Terms};
 use std::alloc::Global;
 
 /// The terms that the lines of a text spell, or `NotPrinted` where they cannot stand in a block.
@@ -22,7 +22,8 @@ pub(crate) fn read_terms<L: Spelled, R: Coefficient>(
     alloc: Global,
     text: &[u8],
 ) -> Result<Terms<L, R>, ReadBackFault>
-    ensures ok { IfOk result (λ terms. terms ≡ block_terms L.line_rules text.now) }
+    ensures ok { IfOk result (λ terms. terms_of R.value terms
+        ≡ block_terms L.line_rules text.now) }
     ensures refused { IsErrOf result ReadBackFault.NotPrinted
         → (is_ordered L.order (block_terms L.line_rules text.now)
         && all_fit R.has_fractions L.is_label (block_terms L.line_rules text.now)) ≡ false }

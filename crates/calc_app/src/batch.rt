@@ -13,10 +13,10 @@ ghost use Rattle.calc_language.specs.Reading.{IsWithinItsLimits, command_of};
 ghost use Rattle.calc_replies.specs.Computed.{IsReplyTo, RunsNoOther, text_of, HasText, HasBlock};
 ghost use Rattle.calc_replies.specs.Computed.{status_for};
 
-use batch_lines::{LineFault, LineReader, Next, Progress, at_end, finished, put_separator};
+use batch_lines::{LineFault, LineReader, Next, Progress, at_end, finished, separator};
 use calc_base::{NoMemory, Place, Sink, Source, Status, WordsFault};
 use calc_language::{Command, read_line};
-use calc_replies::{Outcome, put_text, reply_by, status_if_put, tell_block};
+use calc_replies::{Outcome, put_text, reply_by, status_if_put};
 use schubert_transition::Memo;
 use std::alloc::Global;
 
@@ -167,9 +167,9 @@ fn put_block<K: Sink>(progress: &mut Progress, outcome: Outcome, sink: &mut K) -
     ensures counts { progress.new ≡ progress_after progress.old (status_for outcome) }
 {
     let mut outcome = outcome;
-    let is_first = progress.is_first;
+    let front = separator(progress.is_first);
     progress.count(status_if_put(&outcome));
-    put_behind(is_first, &mut outcome, sink)
+    put_text(front, &mut outcome, sink)
 }
 
 /// Hands on what was put, where no further line is there whole: who sends a line and waits for its
@@ -179,21 +179,4 @@ fn hand_on<K: Sink>(reader: &LineReader, sink: &mut K) -> bool
     ensures none { result ≡ false → HasNoFeed reader.now.pending }
 {
     reader.has_line() || sink.finish().is_ok()
-}
-
-/// Puts the line `--`, but not in front of the first block, and then the block,
-/// and answers whether all went well.
-fn put_behind<K: Sink>(is_first: bool, outcome: &mut Outcome, sink: &mut K) -> bool
-    requires { HasText outcome.old }
-    ensures goes { Puts true (K.seen sink.old) result (K.seen sink.new)
-        (separator is_first ++ text_of outcome.old) }
-    ensures printable { HasBlock outcome.old }
-{
-    if !put_separator(is_first, sink) {
-        // This tells the proof that the block is one that can be read back:
-        // what was put is a prefix of it.
-        tell_block(outcome);
-        return false;
-    }
-    put_text(outcome, sink)
 }

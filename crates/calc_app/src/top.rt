@@ -101,7 +101,7 @@ fn put_outcome<K: Sink>(outcome: Outcome, sink: &mut K) -> Status
 {
     let mut outcome = outcome;
     let status = status_if_put(&outcome);
-    if !put_text(&mut outcome, sink) {
+    if !put_text(b"", &mut outcome, sink) {
         return Status::SinkFault;
     }
     finished(status, sink)

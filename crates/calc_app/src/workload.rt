@@ -84,7 +84,7 @@ fn add_block(outcome: Outcome, text: &mut GrowingSink, sums: &mut Sums) -> Resul
     let mut outcome = outcome;
     text.clear();
     // A put into memory fails only where memory is refused.
-    if !put_text(&mut outcome, text) {
+    if !put_text(b"", &mut outcome, text) {
         return Err(NoMemory);
     }
     sums.add(text.bytes());

@@ -1,6 +1,7 @@
--- A printer's answer as the truth value that a text goes on with.
-use Rattle.std.proofs.Common.{◌≡◌, ℕ, List, Bool, true, false, sym, ◌∙◌}
+-- A printer's answer as the truth value that a text goes on with, and a text that stands in front.
+use Rattle.std.proofs.Common.{◌≡◌, ℕ, List, ◌++◌, Bool, true, false, sym, ◌∙◌, subst}
 use Rattle.std.specs.Prelude.{Result, Ok, Err, is_ok}
+use Rattle.calc_base.proofs.PutsLaws.{Puts-then}
 use Rattle.calc_base.specs.Puts.{Puts, Prints}
 use Rattle.calc_base.specs.Sink.{SinkSeen}
 
@@ -25,3 +26,10 @@ Puts-from_prints (Err e) prints is = record {
   untouched = λ ill. let clash : true ≡ false = ill in cc;
   ill = λ ill. let clash : true ≡ false = ill in cc;
 }
+
+-- a text in front that was put whole, and the text after it
+pub Puts-behind : {well now : Bool} {old mid new : SinkSeen} {front text : List ℕ} → well ≡ true
+    → Puts true old well mid front → Puts true mid now new text
+    → Puts true old now new (front ++ text)
+Puts-behind {old = old} {mid = mid} {front = front} is first second =
+    let P : Bool → Type 0 = λ w. Puts true old w mid front in Puts-then (subst P is first) second

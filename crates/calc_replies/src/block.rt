@@ -1,6 +1,6 @@
 //! What is put for an outcome, and the status that goes with it.
 
-ghost use Rattle.std.specs.Prelude.{◌≡◌, true};
+ghost use Rattle.std.specs.Prelude.{◌≡◌, ◌++◌, true};
 ghost use Rattle.calc_base.specs.Puts.{Puts};
 ghost use Rattle.calc_replies.specs.Computed.{text_of, HasText, HasBlock, refusal_status};
 ghost use Rattle.calc_replies.specs.Computed.{status_for};
@@ -9,30 +9,30 @@ use crate::form::put_answer;
 use crate::outcome::Outcome;
 use crate::tableau_answer::put_told;
 use calc_base::{Sink, Status, WordsFault};
-use expansion_printer::{print_large, print_refusal, tell_printable};
+use expansion_printer::{print_large, print_refusal};
 
-/// Puts the block of the answer, or the line of the refusal, and answers whether all went well.
-pub fn put_text<K: Sink>(outcome: &mut Outcome, sink: &mut K) -> bool
+/// Puts a text that stands in front, and after it the block of the answer, or the line of the
+/// refusal, and answers whether all went well.
+pub fn put_text<K: Sink>(front: &[u8], outcome: &mut Outcome, sink: &mut K) -> bool
     requires { HasText outcome.old }
-    ensures goes { Puts true (K.seen sink.old) result (K.seen sink.new) (text_of outcome.old) }
+    ensures goes { Puts true (K.seen sink.old) result (K.seen sink.new)
+        (front.now ++ text_of outcome.old) }
     ensures printable { HasBlock outcome.old }
 {
     match outcome {
-        Outcome::Answered { answer, form } => put_answer(answer, *form, sink),
-        Outcome::Refused { fault } => print_refusal(fault, sink).is_ok(),
-        Outcome::Large => print_large(sink).is_ok(),
-        Outcome::Told { lines } => put_told(lines, sink),
+        Outcome::Answered { answer, form } => put_answer(front, answer, *form, sink),
+        Outcome::Refused { fault } => put_front(front, sink) && print_refusal(fault, sink).is_ok(),
+        Outcome::Large => put_front(front, sink) && print_large(sink).is_ok(),
+        Outcome::Told { lines } => put_front(front, sink) && put_told(lines, sink),
     }
 }
 
-/// Tells that the block of an answer is one that can be read back. It puts nothing,
-/// and goes over no list of tableaux.
-pub fn tell_block(outcome: &Outcome)
-    ensures { HasBlock outcome.now }
+/// Puts the text that stands in front, and answers whether all went well.
+/// An empty text is not put.
+fn put_front<K: Sink>(front: &[u8], sink: &mut K) -> bool
+    ensures { Puts true (K.seen sink.old) result (K.seen sink.new) front.now }
 {
-    if let Outcome::Answered { answer, .. } = outcome {
-        tell_printable(answer);
-    }
+    front.is_empty() || sink.put(front).is_ok()
 }
 
 /// The status at the end, where the sink does not fail.

@@ -17,8 +17,8 @@ use calc_language::{Basis, Formula};
 use coeff_rings::Frac;
 use expand_in_monomials::to_monomial;
 use expansion_printer::Answer;
+use linear_combinations::{Lin, Terms};
 use partitions::Partition;
-use sparse_polys::{Lin, Terms};
 use std::alloc::Global;
 
 /// The bound of a list without terms.

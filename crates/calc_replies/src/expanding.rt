@@ -19,8 +19,8 @@ use expand_in_families::to_family;
 use expand_in_monomials::to_monomial;
 use expand_in_schurs::{to_monomial_by_schurs, to_schur};
 use expansion_printer::Answer;
+use linear_combinations::{Lin, Terms};
 use partitions::Partition;
-use sparse_polys::{Lin, Terms};
 use std::alloc::Global;
 use whole_lists::Family;
 

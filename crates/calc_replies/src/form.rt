@@ -1,6 +1,6 @@
 //! The printed forms of answers.
 
-ghost use Rattle.std.specs.Prelude.{◌≡◌, true};
+ghost use Rattle.std.specs.Prelude.{◌≡◌, ◌++◌, true};
 ghost use Rattle.calc_base.specs.Puts.{Puts};
 ghost use Rattle.expansion_printer.specs.Answers.{plain_answer};
 ghost use Rattle.sym_model.specs.Answer.{IsPrintable};
@@ -8,7 +8,7 @@ ghost use Rattle.sym_model.specs.PrintedForm.{answer_text_in};
 ghost use Rattle.calc_replies.specs.Forms.{plain_form, form_asked};
 
 use calc_base::{Basis, Sink};
-use expansion_printer::{Answer, print, print_one_line};
+use expansion_printer::{Answer, print_after, print_one_line_after};
 
 /// How an answer is printed.
 #[derive(Clone, Copy, Debug)]
@@ -30,14 +30,15 @@ pub(crate) fn asked_form(one_line: bool, basis: Basis) -> Form
     }
 }
 
-/// Puts the answer in the form, and answers whether all went well.
-pub(crate) fn put_answer<K: Sink>(answer: &Answer, form: Form, sink: &mut K) -> bool
+/// Puts a text that stands in front, and after it the answer in the form,
+/// and answers whether all went well.
+pub(crate) fn put_answer<K: Sink>(front: &[u8], answer: &Answer, form: Form, sink: &mut K) -> bool
     ensures goes { Puts true (K.seen sink.old) result (K.seen sink.new)
-        (answer_text_in (plain_form form) (plain_answer answer.now)) }
+        (front.now ++ answer_text_in (plain_form form) (plain_answer answer.now)) }
     ensures printable { IsPrintable (plain_answer answer.now) }
 {
     match form {
-        Form::Block => print(answer, sink).is_ok(),
-        Form::Line { basis } => print_one_line(answer, basis, sink).is_ok(),
+        Form::Block => print_after(front, answer, sink).is_ok(),
+        Form::Line { basis } => print_one_line_after(front, answer, basis, sink).is_ok(),
     }
 }

@@ -5,8 +5,8 @@
 //!
 //! `task_of`: what is to be done for words, with the whole answer of their command, that it is too
 //! large, or their refusal. `reply_to` and `reply_by`: the outcome of a command, without and with a
-//! store of Schubert polynomials. `put_text` puts the text that is defined for an outcome, and a
-//! block that can be read back; `status_if_put` is its status.
+//! store of Schubert polynomials. `put_text` puts the text that is defined for an outcome, behind a
+//! text that is given, and a block that can be read back; `status_if_put` is its status.
 #![tactic(auto)]
 
 mod block;
@@ -22,7 +22,7 @@ mod products;
 mod reductions;
 mod tableau_answer;
 
-pub use block::{put_text, status_if_put, tell_block};
+pub use block::{put_text, status_if_put};
 pub use form::Form;
 pub use listing::Listing;
 pub use outcome::{Outcome, Task, reply_by, reply_to, task_of};

@@ -28,16 +28,14 @@ pub struct Listing {
     pub lattice: Lattice,
 }
 
-/// A lister of the lattice tableaux of a shape, whose outer one has `rows` rows: of all of them,
-/// or of those after the one with this column reading, which is one of them.
-fn listed(alloc: Global, shape: &Skew, rows: u16, after: &Option<Word>) -> Result<Lattice, NoMemory>
-    requires rows { rows ≡ length shape.now.0 }
+/// A lister of the lattice tableaux of a shape: of all of them, or of those after the one with this
+/// column reading, which is one of them.
+fn listed(alloc: Global, shape: &Skew, after: &Option<Word>) -> Result<Lattice, NoMemory>
     requires small { size shape.now.0 ≤ 512 }
     requires listed { IsInList shape.now.0 shape.now.1 after.now }
     ensures { IfOk result (λ l. l.rest ≡ readings_after shape.now.0 shape.now.1 after.now) }
 {
-    // This tells the proof that the shape has no more cells than the outer one.
-    shape.cells();
+    let rows = shape.outer().rows();
     let start = Partition::from_valid_parts(alloc, &[])?;
     let Some(last) = after else {
         return Lattice::new(alloc, shape, &start, rows);
@@ -64,7 +62,7 @@ pub(crate) fn tab(
     let Some(shape) = Skew::new(outer.copy()?, inner.copy()?) else {
         return Ok(told(TableauAnswer::Listed { list: None }));
     };
-    let lattice = listed(alloc, &shape, outer.rows(), after)?;
+    let lattice = listed(alloc, &shape, after)?;
     let order = ReadingOrder::new(alloc, shape)?;
     Ok(told(TableauAnswer::Listed {
         list: Some(Listing { order, lattice }),

@@ -8,7 +8,6 @@ use calc_base::{NoMemory, SumFault};
 use expansion_printer::Answer;
 use perm_codes::Perm;
 use schubert_transition::{Memo, schubert_terms};
-use sparse_polys::Terms;
 use std::alloc::Global;
 
 /// The Schubert polynomial of a permutation.
@@ -16,9 +15,7 @@ pub(crate) fn schubert(alloc: Global, perm: &Perm) -> Result<Outcome, NoMemory>
     ensures { IsReplyTo (commands.schubert perm.now) result }
 {
     match schubert_terms(alloc, perm) {
-        Ok(list) => Ok(as_block(Answer::Polynomial {
-            terms: Terms::from_list(list),
-        })),
+        Ok(terms) => Ok(as_block(Answer::Polynomial { terms })),
         Err(SumFault::Large) => Ok(Outcome::Large),
         Err(SumFault::NoMemory) => Err(NoMemory),
     }
@@ -29,9 +26,7 @@ pub(crate) fn schubert_by(memo: &mut Memo, perm: &Perm) -> Result<Outcome, NoMem
     ensures { IsReplyTo (commands.schubert perm.now) result }
 {
     match memo.schubert_terms(perm) {
-        Ok(list) => Ok(as_block(Answer::Polynomial {
-            terms: Terms::from_list(list),
-        })),
+        Ok(terms) => Ok(as_block(Answer::Polynomial { terms })),
         Err(SumFault::Large) => Ok(Outcome::Large),
         Err(SumFault::NoMemory) => Err(NoMemory),
     }
@@ -43,9 +38,7 @@ pub(crate) fn schubmult(alloc: Global, left: &Perm, right: &Perm) -> Result<Outc
     ensures { IsReplyTo (commands.schubmult left.now right.now) result }
 {
     match monk_product::schubmult(alloc, left, right) {
-        Ok(list) => Ok(as_block(Answer::Permutations {
-            terms: Terms::from_list(list),
-        })),
+        Ok(terms) => Ok(as_block(Answer::Permutations { terms })),
         Err(SumFault::Large) => Ok(Outcome::Large),
         Err(SumFault::NoMemory) => Err(NoMemory),
     }
@@ -57,9 +50,7 @@ pub(crate) fn dschubmult(alloc: Global, left: &Perm, right: &Perm) -> Result<Out
     ensures { IsReplyTo (commands.dschubmult left.now right.now) result }
 {
     match double_schubert::dschubmult(alloc, left, right) {
-        Ok(list) => Ok(as_block(Answer::Shifts {
-            terms: Terms::from_list(list),
-        })),
+        Ok(terms) => Ok(as_block(Answer::Shifts { terms })),
         Err(SumFault::Large) => Ok(Outcome::Large),
         Err(SumFault::NoMemory) => Err(NoMemory),
     }
@@ -71,9 +62,7 @@ pub(crate) fn stanley(alloc: Global, rows: u16, perm: &Perm) -> Result<Outcome, 
     ensures { IsReplyTo (commands.stanley rows perm.now) result }
 {
     match stanley_expand::stanley(alloc, perm, rows) {
-        Ok(list) => Ok(as_block(Answer::Product {
-            terms: Terms::from_list(list),
-        })),
+        Ok(terms) => Ok(as_block(Answer::Product { terms })),
         Err(SumFault::Large) => Ok(Outcome::Large),
         Err(SumFault::NoMemory) => Err(NoMemory),
     }

@@ -1,38 +1,15 @@
 //! The answers to `mult`, `skew`, `coef` and `coprod`.
-ghost use Rattle.std.specs.Prelude.{◌≡◌};
 ghost use Rattle.sym_model.specs.Command as commands;
-ghost use Rattle.sym_model.specs.WholeTerms.{as_fractions};
 ghost use Rattle.calc_words.specs.WrittenLimits.{KeepsLimits};
 ghost use Rattle.calc_replies.specs.Computed.{IsReplyTo};
 
 use crate::form::{Form, asked_form};
 use crate::outcome::{Outcome, answered, as_block};
 use calc_base::{Basis, NoMemory, SumFault};
-use coeff_rings::Int;
 use expansion_printer::Answer;
-use linear_combinations::Terms as List;
 use lr_product::mult_all;
 use partitions::{Factors, Partition};
-use sparse_polys::{Pair, Terms};
 use std::alloc::Global;
-
-/// A list with partitions as labels, to be printed.
-pub(crate) fn as_product(list: List<Partition, Int>) -> Answer
-    ensures { result ≡ Answer.Product (as_fractions list) }
-{
-    Answer::Product {
-        terms: Terms::from_list(list),
-    }
-}
-
-/// A list with pairs of partitions as labels, to be printed.
-fn as_pairs(list: List<Pair, Int>) -> Answer
-    ensures { result ≡ Answer.Pairs (as_fractions list) }
-{
-    Answer::Pairs {
-        terms: Terms::from_list(list),
-    }
-}
 
 /// The product of Schur functions, in as many variables as there are rows where a number of rows is
 /// given.
@@ -46,7 +23,7 @@ pub(crate) fn mult(
     ensures { IsReplyTo (commands.mult rows one_line factors.now) result }
 {
     answered(
-        mult_all(alloc, factors, rows).map(as_product),
+        mult_all(alloc, factors, rows).map(|terms| Answer::Product { terms }),
         asked_form(one_line, Basis::S),
     )
 }
@@ -64,7 +41,7 @@ pub(crate) fn skew(
     ensures { IsReplyTo (commands.skew rows one_line outer.now inner.now) result }
 {
     answered(
-        lr_product::skew(alloc, outer, inner, rows).map(as_product),
+        lr_product::skew(alloc, outer, inner, rows).map(|terms| Answer::Product { terms }),
         asked_form(one_line, Basis::S),
     )
 }
@@ -90,7 +67,7 @@ pub(crate) fn coprod(alloc: Global, shape: &Partition) -> Result<Outcome, NoMemo
     ensures { IsReplyTo (commands.coprod shape.now) result }
 {
     match lr_coproduct::coprod(alloc, shape) {
-        Ok(list) => Ok(as_block(as_pairs(list))),
+        Ok(terms) => Ok(as_block(Answer::Pairs { terms })),
         Err(SumFault::Large) => Ok(Outcome::Large),
         Err(SumFault::NoMemory) => Err(NoMemory),
     }

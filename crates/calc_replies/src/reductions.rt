@@ -5,11 +5,9 @@ ghost use Rattle.calc_replies.specs.Computed.{IsReplyTo};
 
 use crate::form::Form;
 use crate::outcome::{Outcome, answered};
-use crate::products::as_product;
 use calc_base::NoMemory;
 use expansion_printer::Answer;
 use partitions::Factors;
-use sparse_polys::Terms;
 use std::alloc::Global;
 
 /// The quantum product of shapes, among those with at most k rows and n columns.
@@ -23,9 +21,7 @@ pub(crate) fn quantum(
     ensures { IsReplyTo (commands.quantum rows cols factors.now) result }
 {
     answered(
-        rim_hooks::quantum(alloc, factors, rows, cols).map(|list| Answer::Powers {
-            terms: Terms::from_list(list),
-        }),
+        rim_hooks::quantum(alloc, factors, rows, cols).map(|terms| Answer::Powers { terms }),
         Form::Block,
     )
 }
@@ -41,7 +37,7 @@ pub(crate) fn fusion(
     ensures { IsReplyTo (commands.fusion rows level factors.now) result }
 {
     answered(
-        rim_hooks::fusion(alloc, factors, rows, level).map(as_product),
+        rim_hooks::fusion(alloc, factors, rows, level).map(|terms| Answer::Product { terms }),
         Form::Block,
     )
 }

@@ -1,10 +1,10 @@
 -- What letters without an offence are: those of a permutation of at most that number of letters.
-use Rattle.std.proofs.Common.{◌≡◌, ℕ, suc, ◌+◌, ◌<◌, ◌≤◌, ◌==◌, nat_lt, Bool, true, false, ◌||◌, cond, List, [], ◌∷◌, ◌++◌, length, refl, ap, ◌∙◌, arith, None, inl, inr, eq-eqb}
+use Rattle.std.proofs.Common.{◌≡◌, ℕ, ◌+◌, ◌<◌, ◌≤◌, ◌==◌, nat_lt, false, ◌||◌, List, [], ◌∷◌, ◌++◌, length, refl, ap, ◌∙◌, arith, None, inl, inr, eq-eqb}
 use Rattle.std.proofs.lemmas.Bool.{eqb-false}
 use Rattle.sym_model.specs.Sum.{Among, Once}
 use Rattle.sym_model.specs.ExpressionOffence.{is_wide, literal, range, shape}
 use Rattle.sym_model.specs.CommandOffence.{first_offence, permutation_offences, permutation_offences_within, permutation_rule_within, offences_after, when, is_outside, stands_in, most_permuted}
-use Rattle.sym_model.specs.Permutation.{in_front_unless_fixed, without_fixed_from, kept}
+use Rattle.sym_model.specs.Permutation.{kept}
 use Rattle.calc_words.proofs.Judging.{or_both}
 use Rattle.perm_codes.specs.Limits.{IsShortPermutation}
 use Rattle.perm_codes.proofs.WithinLimits.{kept_limits}
@@ -12,6 +12,7 @@ use Rattle.word_laws.proofs.FirstOffences.{first_none}
 use Rattle.calc_words.specs.WrittenLimits.{IsPermutationWithin, IsWrittenPermutation}
 use Rattle.calc_words.proofs.WrittenLists.{inside}
 use Rattle.word_laws.proofs.NoOffences.{none_append, none_next, not_when}
+use Rattle.schubert_laws.proofs.Members.{fewer_kept}
 
 -- letters that stand after others, none of which they are
 record AreLetters (most count : ℕ) (before ns : List ℕ) : Type 0 where
@@ -59,22 +60,6 @@ short_within most k ns m s h =
     let f = letters_fine most (length ns) [] k ns (omega arith) (first_none (permutation_offences_within most k ns) h) in
     let few = f.few in
     (record { one_line = record { letters = f.letters; once = f.once }; some = s; few = omega (arith, m, few) }, omega (arith, few))
-
-fewer_from : (i : ℕ) (w : List ℕ) → length (without_fixed_from i w) ≤ length w
-fewer_from i [] = omega arith
-fewer_from i (a ∷ w) = by (without_fixed_from (i + 1) w) (fewer_from (i + 1) w)
-  where
-    one : (b : Bool) → length (cond b [] (a ∷ [])) ≤ suc (length w)
-    one true = omega arith
-    one false = omega arith
-
-    by : (v : List ℕ) → length v ≤ length w → length (in_front_unless_fixed i a v) ≤ suc (length w)
-    by [] h = one (a == i)
-    by (b ∷ v) h = omega (arith, h)
-
-fewer_kept : (w : List ℕ) → length (kept w) ≤ length w
-fewer_kept [] = omega arith
-fewer_kept (a ∷ w) = let x = fewer_from 2 w in omega (arith, x)
 
 -- the permutation that is kept of them
 pub letters_within : (most k : ℕ) (ns : List ℕ) → most ≤ 16 → 0 < length ns → first_offence (permutation_offences_within most k ns) ≡ None

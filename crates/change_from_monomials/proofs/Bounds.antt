@@ -6,7 +6,6 @@ use Rattle.sym_model.specs.Sum.{Among}
 use Rattle.sym_model.specs.Partition.{size}
 use Rattle.sym_model.specs.Expansion.{Fraction, Terms}
 use Rattle.sym_model.proofs.Sums.{Among_from_append}
-use Rattle.sparse_polys.specs.Combination.{terms_of}
 use Rattle.whole_lists.specs.LabelSizes.{AreWithin}
 use Rattle.std.proofs.lemmas.Nat.{le-div, mul-le}
 use Rattle.std.proofs.Common.{lit≤, pow-suc}
@@ -18,10 +17,6 @@ use Rattle.whole_lists.specs.declared.family.Family.TheVariants.{Elementary, Com
 use Rattle.whole_lists.specs.Families.{basis_in}
 use native.Mathlib.Nat.{mul-le-mul_left, mul-le-mul_right}
 use Rattle.monomial_laws.proofs.Growths.{factorial-mono}
-
-pub itself : (es : Terms (List ℕ)) → terms_of (λ (r : Fraction). r) es ≡ es
-itself [] = refl
-itself (t ∷ es) = ap (λ l. t ∷ l) (itself es)
 
 pub AreWithin-push : (g h : ℕ) (done : Terms (List ℕ)) (k : List ℕ) (v : Fraction) → AreWithin g done → g ≤ h → size k ≤ h → AreWithin h (done ++ (k, v) ∷ [])
 AreWithin-push g h done k v w l s t m = by (Among_from_append t done ((k, v) ∷ []) m)

@@ -3,7 +3,7 @@ use Rattle.std.proofs.Common.{◌≡◌, ◌⊎◌, ℕ, ◌+◌, ◌/◌, ◌<�
 use Rattle.std.specs.Prelude.{nat_abs}
 use Rattle.std.specs.Int.{◌∣◌}
 use Rattle.std.proofs.lemmas.Int.{unsigned_abs-mul}
-use Rattle.std.proofs.lemmas.Bool.{cases_lt, and_parts}
+use Rattle.std.proofs.lemmas.Bool.{cases_lt}
 use Rattle.std.proofs.lemmas.Nat.Gcd.{mod-eq-zero_of_dvd}
 use Rattle.coeff_rings.specs.Fractions.{whole, lowest_terms, scaled}
 use Rattle.coeff_rings.specs.Proved.Fractions.{Stands, Stands-lowest_terms}
@@ -14,17 +14,15 @@ use Rattle.sym_model.specs.Polynomial.{Term, same, coefficient}
 use Rattle.sym_model.specs.Expansion.{Fraction, Terms}
 use Rattle.sym_model.specs.ListWeight.{absolute_sum}
 use Rattle.sym_model.specs.WholeTerms.{WholeTerms}
-use Rattle.sym_model.specs.Canonical.{is_reduced}
-use Rattle.sym_model.specs.LabelLimits.{is_label}
 use Rattle.sym_model.proofs.Sums.{total_none}
-use Rattle.sym_model.proofs.CanonicalLists.{each_term-among}
 use Rattle.sym_model.proofs.Orders.{is_reduced-tells}
 use Rattle.sym_model.proofs.Exponents.{same_apart}
 use Rattle.monomial_laws.proofs.DividedTerms.{labels_of}
 use Rattle.sparse_polys.specs.MonomialProducts.{greatest_size}
 use Rattle.sparse_polys.proofs.Rows.{greatest_size-among}
+use Rattle.sparse_polys.proofs.Tables.{term-tests}
 use Rattle.whole_lists.proofs.Bounds.{greatest-within}
-use Rattle.whole_lists.specs.Tables.{IsTable}
+use Rattle.whole_lists.specs.Tables.{IsFractionTable}
 use Rattle.whole_lists.specs.LabelSizes.{AreWithin}
 use Rattle.whole_lists.proofs.WholeLists.{found-among, Once-keys}
 use Rattle.whole_lists.proofs.Quotients.{Quotients, lowest-zero}
@@ -46,7 +44,7 @@ greatest_is d terms within least =
 
 -- ---- the answer
 
-module _ (m d : ℕ) (W : WholeTerms) (answer : Terms (List ℕ)) (some : 0 < m) (is : IsTable answer) (q : Quotients m answer W) where
+module _ (m d : ℕ) (W : WholeTerms) (answer : Terms (List ℕ)) (some : 0 < m) (is : IsFractionTable answer) (q : Quotients m answer W) where
   quotient : (t : List ℕ × Fraction) → Among t answer → t.1 ≡ lowest_terms (coefficient W t.0) m
   quotient t n = sym (found-among answer is.distinct t n) ∙ q t.0
 
@@ -70,7 +68,7 @@ module _ (m d : ℕ) (W : WholeTerms) (answer : Terms (List ℕ)) (some : 0 < m)
           absurd
           (let none : t.1 ≡ whole (pos 0) = quotient t n ∙ ap (λ z. lowest_terms z m) (nothing_past d W t.0 r h) ∙ lowest-zero m some in
           let size_none = ap (λ (x : Fraction). nat_abs x.0) none in
-          let nonzero = (is_reduced-tells t.1 (and_parts (is_reduced t.1) (is_label t.0) (each_term-among _ answer is.proper t n)).0).nonzero in
+          let nonzero = (is_reduced-tells t.1 (term-tests answer is t n).0).nonzero in
           omega arith)
 
   pub cleared-answer : (most : ℕ) → mass W ≤ most → AreWithin d W → IsClearedBy m most d answer

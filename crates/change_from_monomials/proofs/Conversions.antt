@@ -20,7 +20,7 @@ use Rattle.change_from_monomials.proofs.LastParts.{IsEnded, last_part, part-end,
 abbrev pub at_last : List WholeTerms → List ℕ → ℕ → List ℕ → Mixed
 at_last factors converted a rest = products (list_at factors (a - 1)) converted rest ++ each_with (negsuc 0) (raised converted a rest rest)
 
--- the label stays: it has not so many parts, or none
+-- the label stays: the number of its parts is not the count, or the count is 0
 pub record Stays (factors : List WholeTerms) (count : ℕ) (label : MixedLabel) : Type 0 where
   pub is : conversion factors count label ≡ (label, pos 1) ∷ []
   pub none : length label.1 ≡ count → count ≡ 0

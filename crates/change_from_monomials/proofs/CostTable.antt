@@ -15,7 +15,7 @@ use Rattle.sym_model.specs.Weight.{factorial, growth}
 use Rattle.sym_model.proofs.Sums.{without, Among-without, Among-each, Within_tail}
 use Rattle.sym_model.proofs.PartitionLists.{Among-partitions_of}
 use Rattle.basis_change_laws.specs.AugmentedMonomial.{multiplicity_factorials}
-use Rattle.whole_lists.specs.Tables.{IsTable}
+use Rattle.whole_lists.specs.Tables.{IsFractionTable}
 use Rattle.whole_lists.specs.LabelSizes.{AreWithin}
 use Rattle.whole_lists.proofs.WholeLists.{Once-keys}
 use Rattle.change_from_monomials.proofs.Fractions.{label-partition}
@@ -175,7 +175,7 @@ module _ (N D d : ℕ) (low : d ≤ 15) where
   labels_among (t ∷ terms) p w x (inl e) = subst (λ l. Among l (partitions_to d)) (sym e) (among_to d t.0 (p t (inl refl)) (w t (inl refl)))
   labels_among (t ∷ terms) p w x (inr m) = labels_among terms (λ u n. p u (inr n)) (λ u n. w u (inr n)) x m
 
-pub cost-within : (N D d : ℕ) (terms : Terms (List ℕ)) → d ≤ 15 → IsTable terms → AreWithin d terms → IsBounded N D terms → weight cost (cleared_terms D (factorial d) terms) ≤ N * growth Basis.completes d
+pub cost-within : (N D d : ℕ) (terms : Terms (List ℕ)) → d ≤ 15 → IsFractionTable terms → AreWithin d terms → IsBounded N D terms → weight cost (cleared_terms D (factorial d) terms) ≤ N * growth Basis.completes d
 cost-within N D d terms low is w b =
     let p = label-partition terms is in
     let x = list-cost N D d low terms p w b in
@@ -184,7 +184,7 @@ cost-within N D d terms low is w b =
     let u : N * sum_over (label_cost d) (map (λ (t : List ℕ × Fraction). t.0) terms) ≤ N * growth Basis.completes d = mul-le-mul_left N (let t : sum_over (label_cost d) (map (λ (t : List ℕ × Fraction). t.0) terms) ≤ growth Basis.completes d = omega arith in t) in
     omega arith
 
-pub has-factors : (d : ℕ) (terms : Terms (List ℕ)) → d ≤ 15 → IsTable terms → AreWithin d terms → HasFactors (factorial d) terms
+pub has-factors : (d : ℕ) (terms : Terms (List ℕ)) → d ≤ 15 → IsFractionTable terms → AreWithin d terms → HasFactors (factorial d) terms
 has-factors d terms low is w t m =
     let div = divides-at d t.0 low (label-partition terms is t m) (w t m) in
     let e = div.multiplicities in

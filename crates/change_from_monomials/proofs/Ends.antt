@@ -20,7 +20,7 @@ use Rattle.sym_model.proofs.WholeTerms.{pair_of_combined}
 use Rattle.monomial_laws.specs.ExpressionTerms.{in_monomials, over}
 use Rattle.monomial_laws.proofs.DividedTerms.{over-there, over-missing, IsDivided, value-divided}
 use Rattle.basis_change_laws.specs.AugmentedMonomial.{augmented, multiplicity_factorials}
-use Rattle.whole_lists.specs.Tables.{IsTable}
+use Rattle.whole_lists.specs.Tables.{IsFractionTable}
 use Rattle.whole_lists.specs.LabelSizes.{AreWithin}
 use Rattle.whole_lists.proofs.WholeLists.{Once-keys}
 use Rattle.whole_lists.proofs.Quotients.{Quotients, IsDivided-quotients}
@@ -71,7 +71,7 @@ pair-over n D φ terms =
 -- ---- a list and its whole multiple
 
 -- the list that is changed
-pub IsDivided-list : (N D : ℕ) (terms : Terms (List ℕ)) → 0 < denominators terms → IsTable terms → IsBounded N D terms → IsDivided D (over D terms) terms
+pub IsDivided-list : (N D : ℕ) (terms : Terms (List ℕ)) → 0 < denominators terms → IsFractionTable terms → IsBounded N D terms → IsDivided D (over D terms) terms
 IsDivided-list N D terms positive is b = record {
   once = Once-keys terms is;
   positive = positive;
@@ -109,7 +109,7 @@ crossed D q Q R p u v w r f a b c h =
     four R q D Q f = simp ring (omega (arith, ints))
 
 -- the list and an answer that stands for the same, both with their fractions cleared
-pub expansion-by : (basis : Basis) (N D q : ℕ) (terms answer : Terms (List ℕ)) (R : WholeTerms) → 0 < D → 0 < q → IsTable terms → IsBounded N D terms → IsTable answer → Quotients (D * q) answer R
+pub expansion-by : (basis : Basis) (N D q : ℕ) (terms answer : Terms (List ℕ)) (R : WholeTerms) → 0 < D → 0 < q → IsFractionTable terms → IsBounded N D terms → IsFractionTable answer → Quotients (D * q) answer R
     → (n : ℕ) → ((α : List ℕ) → coefficient (combined (λ label. basis_polynomial basis label n) R) α ≡ pos q *ℤ coefficient (in_monomials (over D terms) n) α)
     → (f : Poly) (p : ℕ) → IsExpansionOf Basis.monomials terms n f p → IsExpansionOf basis answer n f p
 expansion-by basis N D q terms answer R some positive is b js quotients n same_values f p h =
@@ -131,9 +131,9 @@ expansion-by basis N D q terms answer R some positive is b js quotients n same_v
           ∙ sym (coefficient_scale (pos (denominators answer)) f α);
     }
 
-pub expansion-changed : (family : Family) (N D d : ℕ) (terms answer : Terms (List ℕ)) (end : WholeTerms) → 0 < D → d ≤ 15 → IsTable terms → AreWithin d terms → IsBounded N D terms
+pub expansion-changed : (family : Family) (N D d : ℕ) (terms answer : Terms (List ℕ)) (end : WholeTerms) → 0 < D → d ≤ 15 → IsFractionTable terms → AreWithin d terms → IsBounded N D terms
     → ((n : ℕ) (φ : List ℕ → ℤ) → sum_over (target_value family n φ) end ≡ sum_over (product_value family n φ) (cleared_terms D (factorial d) terms))
-    → IsTable answer → Quotients (D * factorial d) answer end → 0 < factorial d
+    → IsFractionTable answer → Quotients (D * factorial d) answer end → 0 < factorial d
     → (n : ℕ) (f : Poly) (p : ℕ) → IsExpansionOf Basis.monomials terms n f p → IsExpansionOf (basis_in family) answer n f p
 expansion-changed family N D d terms answer end some low is w b same_value js quotients positive n f p h =
     expansion-by (basis_in family) N D (factorial d) terms answer end some positive is b js quotients n total-value f p h

@@ -6,13 +6,12 @@ use Rattle.std.proofs.lemmas.Nat.{or_lt}
 use Rattle.std.proofs.Math.Nat.{pow-le-pow_right}
 use Rattle.sym_model.specs.Partition.{ArePositive, IsPartition, size, rows}
 use Rattle.sym_model.specs.Bases.{has}
-use Rattle.sym_model.specs.BetaList.{beta, put_falling, greater, from_beta, less_the_rest}
+use Rattle.sym_model.specs.BetaList.{beta, put_falling, greater, from_beta}
 use Rattle.sym_model.specs.PlaceOrders.{minus_one_to}
-use Rattle.sym_model.proofs.Parts.{without_last_zeros-positive}
 use Rattle.sym_model.proofs.Integers.{sign_size, nat_abs-product}
 use Rattle.sym_model.proofs.Ring.{ring}
 use Rattle.beta_list_laws.specs.StrictFall.{FallsStrictly}
-use Rattle.beta_list_laws.proofs.BetaLists.{from_beta_partition, beta-from_beta, length-less, strict_tail}
+use Rattle.beta_list_laws.proofs.BetaLists.{from_beta_partition, beta-from_beta}
 use Rattle.arrangement_laws.specs.SpecialRimHooks.{straight_value, hooked}
 use Rattle.arrangement_laws.proofs.HookSteps.{beta-last, length-others, value-again, value-put, strict-put, size-put}
 use Rattle.linear_combinations.specs.Gains.{WholeTermsOf, over, mass, scaled, HaveLabels, Overflows}
@@ -22,17 +21,10 @@ use Rattle.change_from_monomials.specs.BetaSets.{numbers, shape, IsBetaSet, IsSh
 use Rattle.change_from_monomials.proofs.BinaryPlaces.{places-even, places-odd, places-more, places-put}
 use Rattle.change_from_monomials.proofs.BetaSets.{digit-absent, or_digit}
 use Rattle.change_from_monomials.proofs.ShapeSums.{one_label}
+use Rattle.alternant_laws.proofs.EnoughPlaces.{rows-full}
 use lib.IntN.{+ℤ_idr}
 
 -- ---- a falling list without 0 is of a partition with as many rows
-
-above_rest : (a : ℕ) (b : List ℕ) → FallsStrictly (a ∷ b) → ArePositive (a ∷ b) → length b < a
-above_rest a [] f p = p.0
-above_rest a (c ∷ b) f p = let l = f.0 in let r = above_rest c b f.1 p.1 in omega arith
-
-positive_less : (b : List ℕ) → FallsStrictly b → ArePositive b → ArePositive (less_the_rest b)
-positive_less [] f p = tt
-positive_less (a ∷ b) f p = (let l = above_rest a b f p in omega arith, positive_less b (strict_tail a b f) p.1)
 
 positive_put : (a : ℕ) (xs : List ℕ) → 0 < a → ArePositive (put_falling a (map suc xs))
 positive_put a [] h = (h, tt)
@@ -48,8 +40,7 @@ positive_put a (x ∷ xs) h = by (nat_le (suc x) a) (positive_put a xs h)
 
 rows-put : (ν : List ℕ) (k a : ℕ) → 0 < a → FallsStrictly (put_falling a (map suc (beta k ν))) → rows (from_beta (put_falling a (map suc (beta k ν)))) ≡ length (put_falling a (map suc (beta k ν)))
 rows-put ν k a h f =
-    ap length (without_last_zeros-positive (less_the_rest (put_falling a (map suc (beta k ν)))) (positive_less (put_falling a (map suc (beta k ν))) f (positive_put a (beta k ν) h)))
-    ∙ length-less (put_falling a (map suc (beta k ν)))
+    rows-full (put_falling a (map suc (beta k ν))) f (positive_put a (beta k ν) h)
 
 -- ---- the outcome of it
 

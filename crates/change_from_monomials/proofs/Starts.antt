@@ -8,7 +8,7 @@ use Rattle.sym_model.specs.Expansion.{Basis, Fraction, Terms}
 use Rattle.sym_model.specs.ListWeight.{IsBounded}
 use Rattle.sym_model.specs.Weight.{factorial, growth}
 use Rattle.sym_model.proofs.SortedParts.{rows_within_size, IsPartition-none}
-use Rattle.whole_lists.specs.Tables.{IsTable}
+use Rattle.whole_lists.specs.Tables.{IsFractionTable}
 use Rattle.whole_lists.specs.LabelSizes.{AreWithin}
 use Rattle.change_from_monomials.proofs.Fractions.{label-partition}
 use Rattle.sparse_polys.specs.Labels.{same_pair}
@@ -28,7 +28,7 @@ none-large n None h e = by (cases_lt n (2 ^ 127))
     by (inr l) = l
 none-large n (Some x) h e = cc
 
-module _ (N D d factor : ℕ) (terms : Terms (List ℕ)) (is_factor : factor ≡ factorial d) (low : d ≤ 15) (is : IsTable terms) (within : AreWithin d terms) where
+module _ (N D d factor : ℕ) (terms : Terms (List ℕ)) (is_factor : factor ≡ factorial d) (low : d ≤ 15) (is : IsFractionTable terms) (within : AreWithin d terms) where
   pub start-cost : IsBounded N D terms → weight cost (cleared_terms D factor terms) ≤ N * growth Basis.completes d
   start-cost b = subst (λ f. weight cost (cleared_terms D f terms) ≤ N * growth Basis.completes d) (sym is_factor) (cost-within N D d terms low is within b)
 

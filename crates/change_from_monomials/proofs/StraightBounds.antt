@@ -22,7 +22,7 @@ use Rattle.beta_list_laws.proofs.NeighbourExchanges.{size-sorted, length-sorted}
 use Rattle.beta_list_laws.proofs.SortedLists.{sorted_strict}
 use Rattle.beta_list_laws.proofs.BetaLists.{size-from_beta}
 use Rattle.monomial_laws.proofs.WeightBounds.{factorial-within_growth, growth-mono, growth-positive}
-use Rattle.whole_lists.specs.Tables.{equal, IsTable}
+use Rattle.whole_lists.specs.Tables.{equal, IsFractionTable}
 use Rattle.whole_lists.specs.LabelSizes.{AreWithin}
 use Rattle.whole_lists.proofs.WholeLists.{Once-keys}
 use Rattle.sym_model.specs.WholeTerms.{WholeTerms}
@@ -158,7 +158,7 @@ scaled-le (suc N) x k h =
     let d = distributes_right (pos 1) (pos N) x in
     omega (arith, ints)
 
-pub list-within : (N D n : ℕ) (terms : Terms (List ℕ)) → IsTable terms → AreWithin n terms → IsBounded N D terms → (ν : List ℕ) → mass_at equal ν (straightened_list D n terms) ≤ N * growth Basis.schurs n
+pub list-within : (N D n : ℕ) (terms : Terms (List ℕ)) → IsFractionTable terms → AreWithin n terms → IsBounded N D terms → (ν : List ℕ) → mass_at equal ν (straightened_list D n terms) ≤ N * growth Basis.schurs n
 list-within N D n terms is w b ν = by (cases_lt n (size ν))
   where
     by : (n < size ν) ⊎ (size ν ≤ n) → mass_at equal ν (straightened_list D n terms) ≤ N * growth Basis.schurs n
@@ -186,7 +186,7 @@ same_growth : (d : ℕ) → growth Basis.schurs d ≡ growth Basis.monomials d
 same_growth zero = refl
 same_growth (suc d) = refl
 
-pub large-start : (N D n : ℕ) (terms : Terms (List ℕ)) → IsTable terms → AreWithin n terms → IsBounded N D terms → IsPast D n terms → 2 ^ 127 ≤ N * growth Basis.schurs n
+pub large-start : (N D n : ℕ) (terms : Terms (List ℕ)) → IsFractionTable terms → AreWithin n terms → IsBounded N D terms → IsPast D n terms → 2 ^ 127 ≤ N * growth Basis.schurs n
 large-start N D n terms is w b (inl (t, m, h)) =
     let k = number-bound N D terms b t m in
     let f = factorials-positive t.0 in

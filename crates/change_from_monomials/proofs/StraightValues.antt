@@ -21,7 +21,7 @@ use Rattle.sym_model.proofs.WholeTerms.{pair_of_combined}
 use Rattle.monomial_laws.specs.ExpressionTerms.{in_monomials, over}
 use Rattle.alternant_laws.specs.StraightenedTerms.{straightened_term, straightened_terms}
 use Rattle.alternant_laws.proofs.EnoughPlaces.{enough_places}
-use Rattle.whole_lists.specs.Tables.{IsTable}
+use Rattle.whole_lists.specs.Tables.{IsFractionTable}
 use Rattle.whole_lists.specs.LabelSizes.{AreWithin}
 use Rattle.whole_lists.proofs.Quotients.{Quotients}
 use Rattle.change_from_monomials.proofs.Fractions.{label-partition}
@@ -64,7 +64,7 @@ label-value n d φ c parts p h =
     (λ α. sym (pair_of_combined (λ label. schur label n) (straightened_term (straightened α)) φ)) (arrangements parts d))
     ∙ sym (pair_determined (monomial parts n) (combined (λ label. schur label n) (straightened_terms (arrangements parts d))) φ (enough_places n d parts p h)))
 
-straightened-value : (n d D : ℕ) (φ : List ℕ → ℤ) (terms : Terms (List ℕ)) → IsTable terms → AreWithin d terms
+straightened-value : (n d D : ℕ) (φ : List ℕ → ℤ) (terms : Terms (List ℕ)) → IsFractionTable terms → AreWithin d terms
     → sum_over (schur_value n φ) (straightened_list D d terms) ≡ pair (in_monomials (over D terms) n) φ
 straightened-value n d D φ terms is w =
     total_each (term_value n φ) (λ (t : List ℕ × Fraction). straight_terms (scaled D t.1) t.0 d) terms
@@ -72,8 +72,8 @@ straightened-value n d D φ terms is w =
     (λ t m. label-value n d φ (scaled D t.1) t.0 (label-partition terms is t m) (w t m))
     ∙ sym (pair-over n D φ terms)
 
-pub expansion-straightened : (N D d : ℕ) (terms answer : Terms (List ℕ)) (end : WholeTerms) → 0 < D → IsTable terms → AreWithin d terms → IsBounded N D terms
-    → Gains [] (straightened_list D d terms) end → IsTable answer → Quotients D answer end
+pub expansion-straightened : (N D d : ℕ) (terms answer : Terms (List ℕ)) (end : WholeTerms) → 0 < D → IsFractionTable terms → AreWithin d terms → IsBounded N D terms
+    → Gains [] (straightened_list D d terms) end → IsFractionTable answer → Quotients D answer end
     → (n : ℕ) (f : Poly) (p : ℕ) → IsExpansionOf Basis.monomials terms n f p → IsExpansionOf Basis.schurs answer n f p
 expansion-straightened N D d terms answer end some is w b a js quotients n f p h =
     let one : D ≡ D * 1 = omega arith in

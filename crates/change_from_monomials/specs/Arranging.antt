@@ -1,4 +1,4 @@
--- What the arrangements of a partition straighten to, as terms ( the
+-- What the arrangements of a partition straighten to, as terms (the
 -- straightening is Macdonald's, I.3).
 use Rattle.std.specs.Prelude.{ℕ, cond, ℤ, ◌*ℤ◌, List, [], ◌∷◌, Option, Some, None, flat_map}
 use Rattle.sym_model.specs.BetaList.{has_equal_entries, sorted_falling, sorting_sign, from_beta}

@@ -1,5 +1,5 @@
--- Sums of products of a polynomial of the target and an augmented monomial symmetric polynomial
---: what stands half way between two bases.
+-- Sums half way between two bases: each term is the product of a polynomial of the target and an
+-- augmented monomial symmetric polynomial.
 use Rattle.std.specs.Prelude.{ℕ, ◌+◌, ◌-◌, ◌*◌, ◌^◌, ◌<◌, ◌≤◌, nat_abs, nat_eq, Bool, ◌&&◌, cond}
 use Rattle.std.specs.Prelude.{pos, negsuc, ℤ, List, [], ◌∷◌, ◌++◌, map, length, take}
 use Rattle.std.specs.Cmp.Lexicographic.{pointwise}

@@ -7,7 +7,7 @@ ghost use Rattle.sym_model.specs.Weight.{factorial, growth};
 ghost use Rattle.sparse_polys.specs.MonomialProducts.{greatest_size};
 ghost use Rattle.expression_reading.specs.Trees.{basis_of};
 ghost use Rattle.whole_lists.specs.LabelSizes.{AreWithin};
-ghost use Rattle.whole_lists.specs.Tables.{IsTable};
+ghost use Rattle.whole_lists.specs.Tables.{IsFractionTable};
 ghost use Rattle.change_from_monomials.specs.Limits.{most_cells};
 ghost use Rattle.whole_lists.specs.Families.{basis_in};
 ghost use Rattle.change_from_monomials.specs.ClearedAnswer.{IsClearedBy, IsMultiplied};
@@ -18,8 +18,8 @@ use crate::straightening::by_arrangements;
 use calc_base::{Basis, SumFault, Weight};
 use coeff_rings::Frac;
 use family_lists::power_sums;
+use linear_combinations::Lin;
 use partitions::Partition;
-use sparse_polys::Lin;
 use std::alloc::Global;
 use whole_lists::{Family, divided};
 use whole_numbers::{denominator_product, factorial};
@@ -49,7 +49,7 @@ pub fn to_basis(
     ensures cleared { let d = greatest_size list.now in
         IfOk result (λ answer. IsMultiplied (basis_of target)
         → IsClearedBy (bound.den * factorial d) (bound.num * growth (basis_of target) d) d answer) }
-    ensures table { IfOk result IsTable }
+    ensures table { IfOk result IsFractionTable }
     ensures large { IsErrOf result SumFault.Large → (d : ℕ) → AreWithin d list.now
         → 2 ^ 127 ≤ bound.num * bound.den * growth (basis_of target) d }
 {
@@ -66,7 +66,7 @@ pub fn to_basis(
 fn copy_of(alloc: Global, list: &Lin<Partition, Frac>) -> Result<Lin<Partition, Frac>, SumFault>
     ensures value { IfOk result (λ answer. (n : ℕ) (f : Poly) (q : ℕ)
         → IsExpansionOf monomials list.now n f q → IsExpansionOf monomials answer n f q) }
-    ensures table { IfOk result IsTable }
+    ensures table { IfOk result IsFractionTable }
     ensures small { ¬ IsErrOf result SumFault.Large }
 {
     if list.len() == 0 {
@@ -91,7 +91,7 @@ fn by_augmented(
     ensures cleared { let d = greatest_size list.now in
         IfOk result (IsClearedBy (bound.den * factorial d)
         (bound.num * growth (basis_in family) d) d) }
-    ensures table { IfOk result IsTable }
+    ensures table { IfOk result IsFractionTable }
     ensures large { IsErrOf result SumFault.Large → (d : ℕ) → AreWithin d list.now
         → 2 ^ 127 ≤ bound.num * bound.den * growth (basis_in family) d }
 {

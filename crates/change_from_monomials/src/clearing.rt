@@ -7,7 +7,7 @@ ghost use Rattle.sym_model.specs.Polynomial.{Same};
 ghost use Rattle.monomial_laws.specs.ExpressionTerms.{over};
 ghost use Rattle.basis_change_laws.specs.AugmentedMonomial.{multiplicity_factorials};
 ghost use Rattle.whole_lists.specs.LabelSizes.{AreWithin};
-ghost use Rattle.whole_lists.specs.Tables.{IsTable, IsWholeTable};
+ghost use Rattle.whole_lists.specs.Tables.{IsFractionTable, IsWholeTable};
 ghost use Rattle.coeff_rings.specs.Fractions.{scaled};
 ghost use Rattle.change_from_monomials.specs.Clearing.{cleared_number, cleared_terms, HasFactors};
 ghost use Rattle.change_from_monomials.specs.AugmentedProducts.{equal, IsMixedTable};
@@ -17,9 +17,9 @@ use crate::parts::multiplicity_factorials;
 use crate::products::Mixed;
 use calc_base::SumFault;
 use coeff_rings::{Frac, Int, Ring};
-use linear_combinations::Lin as Table;
+use linear_combinations::Lin;
 use partitions::Partition;
-use sparse_polys::{Lin, Pair};
+use sparse_polys::Pair;
 use std::alloc::Global;
 use whole_lists::Whole;
 
@@ -30,7 +30,7 @@ pub(crate) const LIMIT: u128 = 1 << 127;
 pub fn greatest_size(list: &Lin<Partition, Frac>) -> u16
     ensures within { AreWithin result list.now }
     ensures least { (d : ℕ) → AreWithin d list.now → result ≤ d }
-    ensures table { IsTable list.now }
+    ensures table { IsFractionTable list.now }
 {
     let mut greatest = 0;
     for (label, _) in list.iter() {
@@ -83,7 +83,7 @@ pub fn whole_terms(alloc: Global, list: &Lin<Partition, Frac>, den: u128) -> Res
     ensures table { IfOk result IsWholeTable }
     ensures large { IsErrOf result SumFault.Large → 2 ^ 127 ≤ absolute_sum den list.now }
 {
-    let mut terms = Table::new(alloc);
+    let mut terms = Lin::new(alloc);
     for (label, c) in list.iter() {
         let Some(number) = scaled_number(*c, den) else {
             return Err(SumFault::Large);
@@ -152,7 +152,7 @@ pub(crate) fn in_augmented(
     ensures large { IsErrOf result SumFault.Large
         → Overflows equal [] (cleared_terms den factor list.now) }
 {
-    let mut sum = Table::new(alloc);
+    let mut sum = Lin::new(alloc);
     for (label, c) in list.iter() {
         add_cleared(alloc, &mut sum, label, *c, den, factor)?;
     }

@@ -24,7 +24,7 @@ pub(crate) type Mixed = Lin<Pair, Int>;
 
 /// Adds c times a term of a list, times the target's polynomial of a partition, times an augmented
 /// monomial. The parts of the two partitions are put together in `room`.
-fn add_product(
+fn add_mixed_term(
     alloc: Global,
     sum: &mut Mixed,
     room: &mut Vec<u16>,
@@ -55,7 +55,7 @@ fn add_product(
 
 /// Adds c times each term of a list, times the target's polynomial of a partition,
 /// times an augmented monomial.
-pub(crate) fn add_products(
+pub(crate) fn add_mixed(
     alloc: Global,
     sum: &mut Mixed,
     factor: &Whole,
@@ -73,7 +73,7 @@ pub(crate) fn add_products(
 {
     let mut room = Vec::new(alloc);
     for (label, have) in factor.iter() {
-        add_product(alloc, sum, &mut room, label, *have, converted, augmented, c)?;
+        add_mixed_term(alloc, sum, &mut room, label, *have, converted, augmented, c)?;
     }
     Ok(())
 }

@@ -11,7 +11,7 @@ ghost use Rattle.change_from_monomials.specs.AugmentedProducts.{AreSmall, in_tar
 ghost use Rattle.change_from_monomials.specs.Factors.{ArePowerSums, product_value, target_value};
 ghost use Rattle.change_from_monomials.specs.Costs.{cost};
 
-use crate::products::{Mixed, add_products, take_raised};
+use crate::products::{Mixed, add_mixed, take_raised};
 use calc_base::SumFault;
 use coeff_rings::Int;
 use family_lists::add_row;
@@ -45,7 +45,7 @@ impl Rule<Pair, Pair> for LastPart<'_> {
             return sum.add_at_label(label, c);
         };
         let factor = &self.factors[usize::from(*last) - 1];
-        add_products(self.alloc, sum, factor, label.first.parts(), rest, c)?;
+        add_mixed(self.alloc, sum, factor, label.first.parts(), rest, c)?;
         take_raised(self.alloc, sum, &label.first, rest, *last, c)
     }
 }

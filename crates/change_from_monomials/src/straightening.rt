@@ -6,7 +6,7 @@ ghost use Rattle.sym_model.specs.Polynomial.{Poly};
 ghost use Rattle.sym_model.specs.Weight.{growth};
 ghost use Rattle.whole_lists.specs.LabelSizes.{AreWithin};
 ghost use Rattle.linear_combinations.specs.Gains.{Gains};
-ghost use Rattle.whole_lists.specs.Tables.{IsTable};
+ghost use Rattle.whole_lists.specs.Tables.{IsFractionTable};
 ghost use Rattle.change_from_monomials.specs.Straightening.{straightened_list, IsPast};
 
 use crate::clearing::{LIMIT, greatest_size, scaled_number};
@@ -14,9 +14,8 @@ use crate::kept::straightened_parts;
 use calc_base::{SumFault, Weight};
 use coeff_rings::Frac;
 use indexmap::IndexMap;
-use linear_combinations::Lin as Table;
+use linear_combinations::Lin;
 use partitions::Partition;
-use sparse_polys::Lin;
 use std::alloc::Global;
 use whole_lists::{Whole, divided};
 
@@ -34,7 +33,7 @@ fn straightened(
     ensures gains { IfOk result (Gains [] (straightened_list den places list.now)) }
     ensures large { IsErrOf result SumFault.Large → IsPast den places list.now }
 {
-    let mut sum = Table::new(alloc);
+    let mut sum = Lin::new(alloc);
     let mut lists = IndexMap::new(alloc);
     for (label, c) in list.iter() {
         let Some(number) = scaled_number(*c, den) else {
@@ -57,7 +56,7 @@ pub(crate) fn by_arrangements(
     requires sizes { AreWithin 20 list.now }
     ensures value { IfOk result (λ answer. (n : ℕ) (f : Poly) (q : ℕ)
         → IsExpansionOf monomials list.now n f q → IsExpansionOf schurs answer n f q) }
-    ensures table { IfOk result IsTable }
+    ensures table { IfOk result IsFractionTable }
     ensures large { IsErrOf result SumFault.Large → (d : ℕ) → AreWithin d list.now
         → 2 ^ 127 ≤ bound.num * bound.den * growth schurs d }
 {

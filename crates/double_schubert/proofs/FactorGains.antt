@@ -25,7 +25,7 @@ use Rattle.linear_combinations.proofs.Gains.{scaled_append, replaced_over, gains
 use Rattle.linear_combinations.proofs.Masses.{mass_replaced, labels_replaced, labels_gained}
 use Rattle.linear_combinations.proofs.Totals.{term-among}
 use Rattle.transition_walk.proofs.Labels.{label_one_line, one_one_line}
-use Rattle.double_schubert.specs.Shifts.{ShiftedSum, IsWithin, IsTable, equal, each_beside, factor_terms, greatest_length}
+use Rattle.double_schubert.specs.Shifts.{ShiftedSum, IsWithin, IsShiftedTable, equal, each_beside, factor_terms, greatest_length}
 use Rattle.double_schubert.specs.FactorLaws.{over_terms, mass_terms, labels_terms}
 use Rattle.sym_model.proofs.Integers.{product-neg_one}
 
@@ -136,7 +136,7 @@ module _ (r c : ℕ) (first : 1 ≤ r) (list : ShiftedSum) where
       replaced_over (factor_terms r c) φ list
       ∙ total_ext (λ (t : (List ℕ × List ℕ) × ℤ). t.1 *ℤ over φ (factor_terms r c t.0)) (λ (t : (List ℕ × List ℕ) × ℤ). t.1 *ℤ over_factor r c φ t.0) (λ t. ap (λ z. t.1 *ℤ z) (over_terms r c φ t.0)) list
 
-  one_line : IsTable list → (t : (List ℕ × List ℕ) × ℤ) → Among t list → IsOneLine t.0.0
+  one_line : IsShiftedTable list → (t : (List ℕ × List ℕ) × ℤ) → Among t list → IsOneLine t.0.0
   one_line is t m =
       label_one_line t.0.0 (and_parts (is_permutation_label t.0.0) (is_monomial_label t.0.1) (and_parts _ (is_shifted_label t.0) (term-among is_shifted_label whole list is.proper t m)).1).0
 
@@ -144,14 +144,14 @@ module _ (r c : ℕ) (first : 1 ≤ r) (list : ShiftedSum) where
   product_mass letters degree is last =
       mass_replaced (factor_terms r c) (letters + 2) list (λ t m. let s = (is t m).short in let n = mass_terms r c t.0 first in omega arith)
 
-  pub product_labels : (old new : ShiftedSum) → IsTable new → Gains old (replaced (factor_terms r c) list) new → (letters degree : ℕ) → HaveLabels (IsWithin letters degree) list → r ≤ letters
+  pub product_labels : (old new : ShiftedSum) → IsShiftedTable new → Gains old (replaced (factor_terms r c) list) new → (letters degree : ℕ) → HaveLabels (IsWithin letters degree) list → r ≤ letters
       → HaveLabels (IsWithin (letters + 1) (degree + 1)) old → HaveLabels (IsWithin (letters + 1) (degree + 1)) new
   product_labels old new is gains letters degree within last was =
       labels_gained label_laws same_pair old (replaced (factor_terms r c) list) new is gains (IsWithin (letters + 1) (degree + 1)) was
       (labels_replaced (factor_terms r c) (IsWithin (letters + 1) (degree + 1)) list (λ t m. labels_terms r c letters degree t.0 first last (within t m)))
 
   -- the sums of the product, by Monk's rule at each label
-  pub pair_product : (n : ℕ) (φ : List ℕ → ℤ) → IsTable list
+  pub pair_product : (n : ℕ) (φ : List ℕ → ℤ) → IsShiftedTable list
       → over (over_factor r c (λ label. pair (shifted_in label n) φ)) list ≡ pair (times (difference_in r c n) (combined (λ label. shifted_in label n) list)) φ
   pair_product n φ is =
       sym

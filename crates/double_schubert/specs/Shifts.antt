@@ -36,8 +36,8 @@ abbrev pub equal : List ℕ × List ℕ → List ℕ × List ℕ → Bool
 equal a b = pointwise nat_eq a.0 b.0 && pointwise nat_eq a.1 b.1
 
 -- the list is one that a table holds
-abbrev pub IsTable : ShiftedSum → Type 0
-IsTable terms = IsCombination equal is_shifted_label whole terms
+abbrev pub IsShiftedTable : ShiftedSum → Type 0
+IsShiftedTable terms = IsCombination equal is_shifted_label whole terms
 
 -- permutations beside one monomial y^e, each with the coefficient k
 abbrev pub each_beside : ℤ → List ℕ → List (List ℕ) → ShiftedSum

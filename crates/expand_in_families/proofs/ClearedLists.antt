@@ -10,16 +10,12 @@ use Rattle.sym_model.specs.Weight.{factorial}
 use Rattle.basis_change_laws.proofs.GrowthBounds.{grown, grown-raised}
 use Rattle.basis_change_laws.proofs.FactorialQuotients.{rise-is}
 use native.Mathlib.Nat.{mul-le-mul_left, dvd-mul_left}
-use Rattle.std.proofs.lemmas.Bool.{and_parts}
 use Rattle.sym_model.specs.Sum.{Among}
 use Rattle.sym_model.specs.Polynomial.{Poly, coefficient, scale}
 use Rattle.sym_model.specs.Bases.{product_over}
-use Rattle.sym_model.specs.Canonical.{is_reduced}
-use Rattle.sym_model.specs.LabelLimits.{is_label}
 use Rattle.sym_model.specs.Expansion.{Terms, Fraction, denominators, value_by, Represents}
 use Rattle.sym_model.specs.ListWeight.{absolute_sum}
 use Rattle.sym_model.specs.WholeTerms.{combined}
-use Rattle.sym_model.proofs.CanonicalLists.{each_term-among}
 use Rattle.sym_model.proofs.Orders.{is_label-tells}
 use Rattle.sym_model.proofs.Ring.{ring, product_assoc}
 use Rattle.sym_model.proofs.Sums.{Among_from_map}
@@ -27,7 +23,8 @@ use Rattle.sym_model.proofs.Polynomials.{pair_scale, pair_determined, coefficien
 use Rattle.sym_model.proofs.WholeTerms.{pair_of_combined}
 use Rattle.monomial_laws.specs.ExpressionTerms.{over}
 use Rattle.monomial_laws.proofs.DividedTerms.{IsDivided, over-there, over-missing}
-use Rattle.whole_lists.specs.Tables.{IsTable}
+use Rattle.sparse_polys.proofs.Tables.{term-tests}
+use Rattle.whole_lists.specs.Tables.{IsFractionTable}
 use Rattle.whole_lists.proofs.WholeLists.{Once-keys}
 use Rattle.change_from_monomials.specs.ClearedAnswer.{IsClearedBy}
 use Rattle.family_lists.proofs.Totals.{absolute-over}
@@ -36,7 +33,7 @@ use Rattle.basis_change_laws.specs.JoinedLists.{IsLow, Stands}
 use Rattle.basis_change_laws.proofs.JoinedLists.{each-label}
 use Rattle.sym_model.proofs.Integers.{product_cancel}
 
-module _ (m most d : ℕ) (terms : Terms (List ℕ)) (is : IsTable terms) (c : IsClearedBy m most d terms) where
+module _ (m most d : ℕ) (terms : Terms (List ℕ)) (is : IsFractionTable terms) (c : IsClearedBy m most d terms) where
   divided : 0 < denominators terms → IsDivided m (over m terms) terms
   divided positive = record {
     once = Once-keys terms is;
@@ -84,7 +81,7 @@ module _ (m most d : ℕ) (terms : Terms (List ℕ)) (is : IsTable terms) (c : I
       one : (t : List ℕ × ℤ) → (u : List ℕ × Fraction) × Among u terms × (t ≡ (u.0, u.1.0 *ℤ pos (m / u.1.1))) → IsLow d t.0
       one t (u, n, e) =
           subst (λ (v : List ℕ × ℤ). IsLow d v.0) (sym e)
-          (record { partition = (is_label-tells u.0 (and_parts (is_reduced u.1) (is_label u.0) (each_term-among _ terms is.proper u n)).1).partition; low = c.within u n })
+          (record { partition = (is_label-tells u.0 (term-tests terms is u n).1).partition; low = c.within u n })
 
 -- what is cleared over the factorial of d is cleared over that of a greater number, with the growth there
 pub cleared-greater : (den num d e : ℕ) (terms : Terms (List ℕ)) → ((t : List ℕ × Fraction) → Among t terms → 0 < t.1.1) → d ≤ e → IsClearedBy (den * factorial d) (num * grown d) d terms → IsClearedBy (den * factorial e) (num * grown e) e terms

@@ -7,14 +7,14 @@ use Rattle.sym_model.specs.WholeTerms.{WholeTerms, combined}
 use Rattle.sym_model.proofs.Ring.{ring}
 use Rattle.sym_model.proofs.Polynomials.{at_only, coefficient_pair, coefficient_scale}
 use Rattle.sym_model.proofs.WholeTerms.{pair_of_combined}
-use Rattle.whole_lists.specs.Tables.{IsTable}
+use Rattle.whole_lists.specs.Tables.{IsFractionTable}
 use Rattle.whole_lists.proofs.Quotients.{Quotients, IsDivided-quotients}
 use Rattle.monomial_laws.proofs.DividedTerms.{value-divided}
 use Rattle.basis_change_laws.specs.JoinedLists.{Stands}
 use Rattle.sym_model.proofs.Integers.{product_cancel}
 use native.Mathlib.Nat.{mul-pos}
 
-pub expansion-divided : (P : ℕ → ℕ → Poly) (q A d den : ℕ) (f : ℕ → Poly) (W : WholeTerms) (terms : Terms (List ℕ)) → 0 < q → 0 < den → Stands P q A d f W → IsTable terms → Quotients (den * q) terms W
+pub expansion-divided : (P : ℕ → ℕ → Poly) (q A d den : ℕ) (f : ℕ → Poly) (W : WholeTerms) (terms : Terms (List ℕ)) → 0 < q → 0 < den → Stands P q A d f W → IsFractionTable terms → Quotients (den * q) terms W
     → (n : ℕ) → Represents (λ label. product_over P label n) terms (f n) den
 expansion-divided P q A d den f W terms some positive s is quotients n =
     let D = IsDivided-quotients (den * q) W terms (mul-pos positive some) is quotients in

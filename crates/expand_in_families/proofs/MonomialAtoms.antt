@@ -1,27 +1,24 @@
 -- A partition in any basis, changed into the target by way of m.
 use Rattle.std.proofs.Common.{◌≡◌, ℕ, ◌*◌, ◌^◌, ◌<◌, ◌≤◌, List, refl, sym, ◌∙◌, ap, subst, arith}
-use Rattle.std.proofs.lemmas.Bool.{and_parts}
 use Rattle.calc_base.specs.declared.words.Basis.{Basis as Letter}
 use Rattle.sym_model.specs.Sum.{Among}
 use Rattle.sym_model.specs.Partition.{size}
 use Rattle.sym_model.specs.Polynomial.{Poly, Same}
 use Rattle.sym_model.specs.Bases.{product_over}
-use Rattle.sym_model.specs.Canonical.{is_reduced}
 use Rattle.sym_model.specs.Expansion.{Basis, monomials, basis_polynomial, Fraction, Terms, IsExpansionOf, Represents}
 use Rattle.sym_model.specs.Expression.{atom}
-use Rattle.sym_model.specs.LabelLimits.{is_label}
 use Rattle.sym_model.specs.ListWeight.{absolute_sum}
 use Rattle.sym_model.specs.Weight.{factorial, growth, weight}
 use Rattle.sym_model.specs.WholeTerms.{WholeTerms}
-use Rattle.sym_model.proofs.CanonicalLists.{each_term-among}
 use Rattle.sym_model.proofs.Orders.{is_reduced-tells}
 use Rattle.monomial_laws.specs.ExpressionTerms.{over}
 use Rattle.monomial_laws.proofs.Growths.{growth-most}
 use Rattle.sparse_polys.specs.MonomialProducts.{greatest_size}
+use Rattle.sparse_polys.proofs.Tables.{term-tests}
 use Rattle.expression_reading.specs.Trees.{basis_of}
 use Rattle.basis_change_laws.specs.JoinedLists.{Stands}
 use Rattle.basis_change_laws.proofs.GrowthBounds.{grown}
-use Rattle.whole_lists.specs.Tables.{IsTable, IsWholeTable}
+use Rattle.whole_lists.specs.Tables.{IsFractionTable, IsWholeTable}
 use Rattle.whole_lists.specs.LabelSizes.{AreWithin}
 use Rattle.whole_lists.proofs.Bounds.{greatest-within}
 use Rattle.whole_lists.specs.declared.family.Family.{Family}
@@ -73,7 +70,7 @@ module _ (target : Family) (letter : Letter) (e : basis_of letter ≡ basis_in t
       let s = same_growth target (size label) in
       omega arith)
 
-  module _ (list answer : Terms (List ℕ)) (is : IsTable answer) (w : AreWithin (size label) list)
+  module _ (list answer : Terms (List ℕ)) (is : IsFractionTable answer) (w : AreWithin (size label) list)
       (cleared : IsMultiplied (basis_of letter) → IsClearedBy (1 * factorial (greatest_size list)) (1 * growth (basis_of letter) (greatest_size list)) (greatest_size list) answer) where
     is-cleared : IsClearedBy (factorial (size label)) (grown (size label)) (size label) answer
     is-cleared =
@@ -89,7 +86,7 @@ module _ (target : Family) (letter : Letter) (e : basis_of letter ≡ basis_in t
         one x = omega arith
 
         positive : (t : List ℕ × Fraction) → Among t answer → 0 < t.1.1
-        positive t m = (is_reduced-tells t.1 (and_parts (is_reduced t.1) (is_label t.0) (each_term-among _ answer is.proper t m)).0).denominator
+        positive t m = (is_reduced-tells t.1 (term-tests answer is t m).0).denominator
 
     -- a refusal of the list with whole coefficients
     pub large-whole : 2 ^ 127 ≤ absolute_sum (factorial (size label)) answer → 2 ^ 127 ≤ weight Basis.completes (atom basis label)

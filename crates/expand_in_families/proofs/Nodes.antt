@@ -13,16 +13,20 @@ use Rattle.sym_model.proofs.Polynomials.{coefficient_scale, coefficient_negate, 
 use Rattle.monomial_laws.specs.ExpressionTerms.{HasDenominators}
 use Rattle.monomial_laws.proofs.WeightBounds.{denominator-positive, numerator-positive}
 use Rattle.sparse_polys.specs.MonomialProducts.{greatest_size}
+use Rattle.linear_combinations.specs.Gains.{Gains, Overflows}
+use Rattle.linear_combinations.proofs.Found.{gains_same}
 use Rattle.whole_lists.specs.Large.{HasLarge}
+use Rattle.whole_lists.specs.Tables.{equal}
 use Rattle.monomial_laws.proofs.Growths.{factorial-positive}
 use Rattle.expand_in_families.specs.declared.node.Node.{Node}
 use Rattle.basis_change_laws.specs.JoinedLists.{joined, Stands}
 use Rattle.expand_in_families.specs.Nodes.{ClearsTo}
 use Rattle.basis_change_laws.proofs.JoinedLists.{absolute-scale, stands-product, stands-scale, stands-same}
-use Rattle.basis_change_laws.proofs.GrowthBounds.{grown, grown-product, grown-positive, factorial-within}
+use Rattle.basis_change_laws.proofs.GrowthBounds.{grown, grown-product, factorial-within}
 use Rattle.family_lists.proofs.Totals.{coefficient-few}
+use Rattle.family_lists.proofs.RowSteps.{large-products}
 use Rattle.family_lists.proofs.TableLists.{stands-greatest, table-stands}
-use native.Mathlib.Nat.{mul-le-mul_left, mul-le-mul_right, mul-pos}
+use native.Mathlib.Nat.{mul-le-mul_left, mul-le-mul_right}
 
 -- ---- weights
 
@@ -102,7 +106,7 @@ joined-bound e f k h =
     regroup k n b m c = omega arith
 
 pub clears-product : (P : ℕ → ℕ → Poly) → ((n k : ℕ) → In n (P k n)) → (e f : Tree) (c d s : Node) (k : ℕ) → s.den ≡ c.den * d.den → s.degree ≡ c.degree + d.degree
-    → k * (factorial c.degree * factorial d.degree) ≡ factorial (c.degree + d.degree) → Same s.terms (joined (scale (pos k) c.terms) d.terms)
+    → k * (factorial c.degree * factorial d.degree) ≡ factorial (c.degree + d.degree) → Gains [] (joined (scale (pos k) c.terms) d.terms) s.terms
     → ClearsTo P e c → ClearsTo P f d → ClearsTo P (product e f) s
 clears-product P places e f c d s k m g w h i j =
     let x = i.degree_is in
@@ -112,22 +116,20 @@ clears-product P places e f c d s k m g w h i j =
       den_is = m ∙ ap₂ ◌*◌ i.den_is j.den_is;
       degree_is = g ∙ ap₂ ◌+◌ x y;
       stands =
-          table-stands s.terms (joined (scale (pos k) c.terms) d.terms) s.table h P (factorial (degree e + degree f)) ((numerator e * numerator f) * grown (degree e + degree f)) (degree e + degree f) (cleared_value (product e f))
+          table-stands s.terms (joined (scale (pos k) c.terms) d.terms) s.table (gains_same [] (joined (scale (pos k) c.terms) d.terms) s.terms h) P (factorial (degree e + degree f)) ((numerator e * numerator f) * grown (degree e + degree f)) (degree e + degree f) (cleared_value (product e f))
           (stands-product P places (factorial (degree e)) (numerator e * grown (degree e)) (degree e) (factorial (degree f)) (numerator f * grown (degree f)) (degree f) (factorial (degree e + degree f))
           ((numerator e * numerator f) * grown (degree e + degree f)) k (cleared_value e) (cleared_value f) c.terms d.terms i.stands j.stands v (joined-bound e f k v));
     }
 
 pub large-product : (P : ℕ → ℕ → Poly) (e f : Tree) (c d : Node) (k : ℕ) (z : ℤ) → HasDenominators e → HasDenominators f → z ≡ pos k → k * (factorial c.degree * factorial d.degree) ≡ factorial (c.degree + d.degree)
     → ClearsTo P e c → ClearsTo P f d
-    → ((m : ℕ) → absolute_total d.terms ≤ m → 1 ≤ m → 2 ^ 127 ≤ 0 + nat_abs z * absolute_total c.terms * m)
+    → Overflows equal [] (joined (scale z c.terms) d.terms)
     → 2 ^ 127 ≤ weight Basis.completes (product e f)
 large-product P e f c d k z he hf zk w i j large =
     let x = i.degree_is in
     let y = j.degree_is in
     let v : k * (factorial (degree e) * factorial (degree f)) ≡ factorial (degree e + degree f) = sym (ap₂ (λ p q. k * (factorial p * factorial q)) x y) ∙ w ∙ ap₂ (λ p q. factorial (p + q)) x y in
-    let M = numerator f * grown (degree f) in
-    let some : 1 ≤ numerator f * grown (degree f) = mul-pos (numerator-positive f hf) (grown-positive (degree f)) in
-    let l = large (numerator f * grown (degree f)) j.stands.few some in
+    let l = large-products [] z c.terms d.terms (numerator f * grown (degree f)) large j.stands.few in
     let b = joined-bound e f k v in
     let a = i.stands.few in
     let q = growth-within_weight (product e f) (he, hf) in

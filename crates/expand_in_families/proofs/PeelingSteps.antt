@@ -21,10 +21,13 @@ use Rattle.sym_model.proofs.Contents.{map-zeros}
 use Rattle.sym_model.proofs.Polynomials.{Same_refl}
 use Rattle.sym_model.proofs.SortedParts.{rows_within_size}
 use Rattle.partitions.specs.Limits.{IsWithinLimits}
-use Rattle.whole_lists.specs.Tables.{IsWholeTable}
+use Rattle.linear_combinations.specs.Gains.{Gains, Overflows}
+use Rattle.linear_combinations.proofs.Found.{gains_same}
+use Rattle.whole_lists.specs.Tables.{equal, IsWholeTable}
 use Rattle.basis_change_laws.specs.JoinedLists.{joined, Stands}
-use Rattle.basis_change_laws.proofs.GrowthBounds.{grown, grown-positive}
+use Rattle.basis_change_laws.proofs.GrowthBounds.{grown}
 use Rattle.basis_change_laws.proofs.JoinedLists.{stands-same}
+use Rattle.family_lists.proofs.RowSteps.{large-products}
 use Rattle.special_hook_laws.specs.SpecialHooks.{SpecialHook, shortened, special_hooks}
 use Rattle.special_hook_laws.proofs.HookShapes.{IsRest}
 use Rattle.whole_lists.specs.declared.family.Family.{Family}
@@ -153,20 +156,20 @@ module _ (target family : Family) (newton : family ≢ PowerSum) (parts : List �
 
   pub peeled-next : (S N : WholeTerms) → IsWholeTable N
       → Stands (polynomial_of target) (factorial (size parts)) (i * peeled (size parts)) (size parts) (λ n. flat_map (hook_term family n) (take i (special_hooks parts))) S
-      → Same N (S ++ joined (scale z W) V)
+      → Gains S (joined (scale z W) V) N
       → Stands (polynomial_of target) (factorial (size parts)) ((i + 1) * peeled (size parts)) (size parts) (λ n. flat_map (hook_term family n) (take (i + 1) (special_hooks parts))) N
   peeled-next S N is s h =
-      table-stands N (S ++ joined (scale z W) V) is h (polynomial_of target) (factorial (size parts)) ((i + 1) * peeled (size parts)) (size parts)
+      table-stands N (S ++ joined (scale z W) V) is (gains_same S (joined (scale z W) V) N h) (polynomial_of target) (factorial (size parts)) ((i + 1) * peeled (size parts)) (size parts)
       (λ n. flat_map (hook_term family n) (take (i + 1) (special_hooks parts)))
       (hooks-next (polynomial_of target) (factorial (size parts)) (peeled (size parts)) (size parts) (hook_term family) (special_hooks parts) i (hook_of parts i) S (joined (scale z W) V)
       (hook-at parts i lo) s peeled-term)
 
   -- it is refused only where the growth is too large
   pub peeled-large : (S : WholeTerms) → absolute_total S ≤ i * peeled (size parts)
-      → ((m : ℕ) → absolute_total V ≤ m → 1 ≤ m → 2 ^ 127 ≤ absolute_total S + nat_abs z * absolute_total W * m) → 2 ^ 127 ≤ grown (size parts)
+      → Overflows equal S (joined (scale z W) V) → 2 ^ 127 ≤ grown (size parts)
   peeled-large S s large =
       let k = get_or parts i 0 + (length parts - 1 - i) in
-      let l = large (grown (size rest)) v.few (grown-positive (size rest)) in
+      let l = large-products S z W V (grown (size rest)) large v.few in
       let b = peeled-part (get_or parts i 0 + (length parts - 1 - i)) (size rest) c some many in
       let u : nat_abs z ≡ c = ap nat_abs signed ∙ unsigned_abs-mul (pos c) (minus_one_to (length parts - 1 - i)) ∙ ap (λ x. c * x) (sign_size (length parts - 1 - i)) ∙ (let o : c * 1 ≡ c = omega arith in o) in
       let t = mul-le-mul_left c w.few in

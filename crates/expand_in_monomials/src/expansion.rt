@@ -7,7 +7,7 @@ ghost use Rattle.sym_model.specs.Partition.{size};
 ghost use Rattle.sym_model.specs.Weight.{growth, numerator, weight};
 ghost use Rattle.expression_reading.specs.Trees.{basis_of, tree_of};
 ghost use Rattle.whole_lists.specs.LabelSizes.{AreWithin};
-ghost use Rattle.whole_lists.specs.Tables.{IsTable};
+ghost use Rattle.whole_lists.specs.Tables.{IsFractionTable};
 
 use crate::atoms::atom;
 use crate::operations::Monomials;
@@ -15,8 +15,8 @@ use calc_base::{Basis, SumFault};
 use coeff_rings::Frac;
 use expression_evaluation::evaluate;
 use expression_reading::Formula;
+use linear_combinations::Lin;
 use partitions::Partition;
-use sparse_polys::Lin;
 use std::alloc::Global;
 use whole_lists::divided;
 
@@ -31,7 +31,7 @@ pub fn to_monomial(alloc: Global, formula: &Formula) -> Result<Lin<Partition, Fr
     ensures bounded { let e = tree_of formula.now.tree in
         IfOk result (IsBounded (numerator e) (denominator e)) }
     ensures labels { IfOk result (AreWithin (degree (tree_of formula.now.tree))) }
-    ensures table { IfOk result IsTable }
+    ensures table { IfOk result IsFractionTable }
     ensures large { IsErrOf result SumFault.Large
         → 2 ^ 127 ≤ weight monomials (tree_of formula.now.tree) }
 {
@@ -54,7 +54,7 @@ pub fn atom_to_monomial(
         → IsExpansionOf monomials list n (basis_polynomial (basis_of basis) label.now n) 1) }
     ensures bounded { IfOk result (IsBounded 1 1) }
     ensures labels { IfOk result (AreWithin (size label.now)) }
-    ensures table { IfOk result IsTable }
+    ensures table { IfOk result IsFractionTable }
     ensures large { IsErrOf result SumFault.Large → 2 ^ 127 ≤ growth monomials (size label.now) }
 {
     let converted = atom(alloc, basis, label)?;

@@ -15,9 +15,9 @@ use Rattle.sym_model.proofs.Polynomials.{pair_plus, pair_scale, pair_determined,
 use Rattle.sym_model.proofs.PolynomialLaws.{times-scale}
 use Rattle.monomial_laws.proofs.DividedTerms.{divides-denominators}
 use Rattle.sparse_polys.proofs.Expansions.{common-denominators}
-use Rattle.whole_lists.specs.Tables.{IsTable}
+use Rattle.whole_lists.specs.Tables.{IsFractionTable}
 use Rattle.expand_in_schurs.specs.SchurLists.{sum_at}
-use Rattle.sparse_polys.specs.Products.{IsCommonDenominator}
+use Rattle.linear_combinations.specs.Cleared.{IsCommonDenominator}
 use Rattle.sym_model.proofs.Integers.{product_cancel}
 use lib.IntN.{*ℤ_comm, *ℤ-zero}
 
@@ -76,7 +76,7 @@ expansion-tells terms n f d q common h φ =
     (two_denominators q D terms n φ common.multiple (divides-denominators terms))
     (expansion-at terms n f d h φ)
 
-pub expansion-from : (terms : Terms (List ℕ)) (n : ℕ) (f : Poly) (d q : ℕ) → IsTable terms → IsCommonDenominator q terms
+pub expansion-from : (terms : Terms (List ℕ)) (n : ℕ) (f : Poly) (d q : ℕ) → IsFractionTable terms → IsCommonDenominator q terms
     → ((φ : List ℕ → ℤ) → pos d *ℤ sum_at q terms n φ ≡ pos q *ℤ pair f φ) → IsExpansionOf schurs terms n f d
 expansion-from terms n f d q is common h =
     let D = denominators terms in

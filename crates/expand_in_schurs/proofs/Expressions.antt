@@ -21,16 +21,16 @@ use Rattle.sparse_polys.specs.Combination.{IsMultipleOf, IsSumOf}
 use Rattle.std.proofs.lemmas.Nat.Gcd.{dvd_trans}
 use Rattle.std.proofs.Math.Nat.{dvd-mul_left, dvd-mul_right}
 use native.Mathlib.Nat.{mul-pos}
-use Rattle.whole_lists.specs.Tables.{IsTable}
+use Rattle.whole_lists.specs.Tables.{IsFractionTable}
 use Rattle.expand_in_schurs.specs.SchurLists.{StandsFor, sum_at}
 use Rattle.expand_in_schurs.specs.TargetLaws.{expansion_respects}
 use Rattle.expand_in_schurs.proofs.Expansions.{expansion-tells, expansion-from}
 use Rattle.expand_in_schurs.proofs.Tables.{common-sum, sum_at-sum, common-multiple, sum_at-multiple}
-use Rattle.sparse_polys.specs.Products.{IsCommonDenominator}
+use Rattle.linear_combinations.specs.Cleared.{IsCommonDenominator}
 
 -- ---- negations
 
-pub negation-list : (e : Tree) (list turned : Terms (List ℕ)) → IsTable list → IsTable turned → IsMultipleOf (pointwise nat_eq) list (whole (negsuc 0)) turned → StandsFor e list → StandsFor (negation e) turned
+pub negation-list : (e : Tree) (list turned : Terms (List ℕ)) → IsFractionTable list → IsFractionTable turned → IsMultipleOf (pointwise nat_eq) list (whole (negsuc 0)) turned → StandsFor e list → StandsFor (negation e) turned
 negation-list e list turned is it products h n =
     let D = denominators list in
     let common = common-denominators list is in
@@ -76,7 +76,7 @@ joined m d e l r q X Y f g a b h k =
         ap (λ (k : ℕ). pos k *ℤ X) (sym a) ∙ grouped (pos l) (pos d) X ∙ ap (λ z. pos l *ℤ z) h ∙ exchanged (pos l) (pos d) (pos q) f
 
 -- a common denominator of two tables
-both_common : (left right : Terms (List ℕ)) → IsTable left → IsTable right → IsCommonDenominator (denominators left * denominators right) left × IsCommonDenominator (denominators left * denominators right) right
+both_common : (left right : Terms (List ℕ)) → IsFractionTable left → IsFractionTable right → IsCommonDenominator (denominators left * denominators right) left × IsCommonDenominator (denominators left * denominators right) right
 both_common left right is also =
     let a = common-denominators left is in
     let b = common-denominators right also in (
@@ -84,7 +84,7 @@ both_common left right is also =
       record { positive = mul-pos a.positive b.positive; multiple = λ t m. dvd_trans t.1.1 (b.multiple t m) (dvd-mul_left (denominators right) (denominators left)) },
     )
 
-pub sum-list : (e f : Tree) (left right both : Terms (List ℕ)) → HasDenominators e → HasDenominators f → IsTable left → IsTable right → IsTable both
+pub sum-list : (e f : Tree) (left right both : Terms (List ℕ)) → HasDenominators e → HasDenominators f → IsFractionTable left → IsFractionTable right → IsFractionTable both
     → IsSumOf (pointwise nat_eq) left right both → StandsFor e left → StandsFor f right → StandsFor (sum e f) both
 sum-list e f left right both he hf is also it sums h k n =
     let q = denominators left * denominators right in

@@ -19,12 +19,12 @@ use Rattle.monomial_laws.specs.ExpressionTerms.{IsList, over}
 use Rattle.monomial_laws.proofs.DividedTerms.{expansion_divided}
 use Rattle.monomial_laws.proofs.WeightBounds.{lcm-left, lcm-right, lcm-positive}
 use Rattle.whole_lists.specs.LabelSizes.{AreWithin}
-use Rattle.whole_lists.specs.Tables.{IsTable, IsWholeTable}
+use Rattle.whole_lists.specs.Tables.{IsFractionTable, IsWholeTable}
 use Rattle.whole_lists.proofs.Quotients.{Quotients, IsDivided-quotients}
 use Rattle.whole_lists.proofs.WholeLists.{labels-same}
 use Rattle.expand_in_schurs.specs.SchurLists.{sum_at}
 use Rattle.expand_in_schurs.proofs.Expansions.{expansion-tells, through}
-use Rattle.sparse_polys.specs.Products.{IsCommonDenominator}
+use Rattle.linear_combinations.specs.Cleared.{IsCommonDenominator}
 use native.Mathlib.Nat.{dvd-mul_left}
 
 -- ---- a common denominator
@@ -61,7 +61,7 @@ within-whole d q list terms is within same =
 -- ---- what the list in m stands for
 
 pub expansion-in_monomials : (list answer : Terms (List ℕ)) (W A : WholeTerms) (q : ℕ) → IsCommonDenominator q list → Same W (over q list)
-    → IsList A (λ n. combined (λ label. schur label n) W) → IsTable answer → Quotients q answer A
+    → IsList A (λ n. combined (λ label. schur label n) W) → IsFractionTable answer → Quotients q answer A
     → (n : ℕ) (f : Poly) (d : ℕ) → IsExpansionOf schurs list n f d → IsExpansionOf monomials answer n f d
 expansion-in_monomials list answer W A q common same made table quotients n f d h = record {
   positive = told.positive;

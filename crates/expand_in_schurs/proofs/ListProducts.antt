@@ -1,6 +1,5 @@
 -- Products of lists of Schur polynomials, pair by pair.
 use Rattle.std.proofs.Common.{◌≡◌, ℕ, ◌*◌, ◌<◌, List, [], ◌∷◌, ◌++◌, length, sym, ◌∙◌, ap, subst, refl, arith, ℤ, pos, ◌+ℤ◌, ◌*ℤ◌}
-use Rattle.std.proofs.lemmas.Int.{ints}
 use Rattle.std.proofs.lemmas.List.{map-append}
 use Rattle.std.specs.Prelude.{nat_eq}
 use Rattle.std.specs.Int.{◌∣◌}
@@ -11,22 +10,22 @@ use Rattle.coeff_rings.specs.Proved.Cleared.{product-cleared}
 use Rattle.sym_model.specs.Polynomial.{Poly, pair, one, scale, join, times}
 use Rattle.sym_model.specs.Schur.{schur}
 use Rattle.sym_model.specs.Expansion.{schurs, Fraction, Terms, denominators, cleared, value, IsExpansionOf}
-use Rattle.sym_model.specs.WholeTerms.{WholeTerms, AreWhole, numerators}
-use Rattle.sym_model.proofs.Ring.{ring, product-one, product_assoc}
+use Rattle.sym_model.specs.WholeTerms.{WholeTerms}
+use Rattle.sym_model.proofs.Ring.{ring, one-product, product-one, product_assoc}
 use Rattle.sym_model.proofs.Polynomials.{pair_ext, pair_exchange, pair_plus, pair_scale, pair_times, pair_determined, times_respects}
 use Rattle.sym_model.proofs.PolynomialLaws.{times-scale, scale-times, one-times, times-one}
-use Rattle.sym_model.proofs.WholeTerms.{pair-combined, value_by-whole, denominators_of_whole}
 use Rattle.sparse_polys.specs.Combination.{terms_of}
 use Rattle.monomial_laws.specs.ExpressionTerms.{over}
 use Rattle.monomial_laws.proofs.DividedTerms.{divides-denominators}
 use Rattle.sym_model.specs.LabelLimits.{is_label}
-use Rattle.sparse_polys.proofs.Steps.{IsCombination-empty}
-use Rattle.expand_in_schurs.specs.SchurLists.{Adds, product_at, row_at, products_at}
-use Rattle.expand_in_schurs.proofs.Expansions.{pair_cleared, expansion-from}
+use Rattle.sparse_polys.proofs.Expansions.{over-one, whole-denominators}
+use Rattle.sparse_polys.proofs.Tables.{table_gained}
+use Rattle.expand_in_schurs.specs.SchurLists.{ComeTo, sum_at, product_at, row_at, products_at}
+use Rattle.expand_in_schurs.proofs.Expansions.{pair_cleared, expansion-tells, expansion-from}
 use Rattle.expand_in_schurs.proofs.Tables.{common_of}
 use Rattle.expand_in_schurs.proofs.OneTerms.{schur-nothing}
 use Rattle.monomial_laws.proofs.SchurMajorants.{In-schur}
-use Rattle.sparse_polys.specs.Products.{IsCommonDenominator}
+use Rattle.linear_combinations.specs.Cleared.{IsCommonDenominator, GainsCleared}
 use lib.IntN.{+ℤ_idl, +ℤ_idr}
 use native.Mathlib.Nat.{mul-pos, dvd-mul_left}
 
@@ -40,9 +39,6 @@ pair_next q terms k c w =
     ap (λ (l : WholeTerms). pair l w) (over-append q terms ((k, c) ∷ []))
     ∙ pair_plus (over q terms) ((k, scaled q c) ∷ []) w
     ∙ ap (λ z. pair (over q terms) w +ℤ z) (+ℤ_idr (scaled q c *ℤ w k))
-
-pub terms_next : {R : Type 0} (value : R → Fraction) (done : List (List ℕ × R)) (k : List ℕ) (v : R) → terms_of value (done ++ (k, v) ∷ []) ≡ terms_of value done ++ (k, value v) ∷ []
-terms_next {R = R} value done k v = map-append (λ (p : List ℕ × R). (p.0, value p.1)) done ((k, v) ∷ [])
 
 pub row_next : (left : List ℕ) (e : ℕ) (done : Terms (List ℕ)) (k : List ℕ) (v : Fraction) (z : ℤ) (n : ℕ) (φ : List ℕ → ℤ)
     → z *ℤ row_at left e done n φ +ℤ (z *ℤ scaled e v) *ℤ product_at left k n φ ≡ z *ℤ row_at left e (done ++ (k, v) ∷ []) n φ
@@ -59,17 +55,14 @@ products_next d done k v e right n φ = sym (pair_next d done k v (λ label. row
 
 -- ---- the product of two Schur polynomials, as a list with whole coefficients
 
-pub listed_product : (terms : Terms (List ℕ)) (n : ℕ) (f : Poly) → AreWhole terms → IsExpansionOf schurs terms n f 1
-    → (φ : List ℕ → ℤ) → pair (numerators terms) (λ label. pair (schur label n) φ) ≡ pair f φ
-listed_product terms n f w h φ =
-    let one = denominators_of_whole terms w in
-    let told = pair_determined (scale (pos 1) (value schurs terms n)) (scale (pos (denominators terms)) f) φ h.equal in
-    let left = pair_scale (pos 1) (value schurs terms n) φ in
-    let right = pair_scale (pos (denominators terms)) f φ in
-    let unit = ap (λ (m : ℕ). pos m *ℤ pair f φ) one in
-    let listed : pair (value schurs terms n) φ ≡ pair (numerators terms) (λ label. pair (schur label n) φ) =
-    ap (λ g. pair g φ) (value_by-whole (λ label. schur label n) terms w) ∙ pair-combined (λ label. schur label n) (numerators terms) φ in
-    omega (arith, ints)
+pub listed_product : (terms : WholeTerms) (n : ℕ) (f : Poly)
+    → IsExpansionOf schurs (terms_of whole terms) n f 1
+    → (φ : List ℕ → ℤ) → pair terms (λ label. pair (schur label n) φ) ≡ pair f φ
+listed_product terms n f h φ =
+    ap (λ (l : WholeTerms). pair l (λ label. pair (schur label n) φ)) (sym (over-one terms))
+    ∙ sym (one-product (sum_at 1 (terms_of whole terms) n φ))
+    ∙ expansion-tells (terms_of whole terms) n f 1 1 (whole-denominators terms) h φ
+    ∙ one-product (pair f φ)
 
 -- ---- all pairs
 
@@ -99,7 +92,9 @@ common_of_expansion : (terms : Terms (List ℕ)) (n : ℕ) (f : Poly) (q : ℕ) 
 common_of_expansion terms n f q h = record { positive = h.positive; multiple = divides-denominators terms }
 
 pub product-list : (left right both : Terms (List ℕ))
-    → ((d e : ℕ) → IsCommonDenominator d left → IsCommonDenominator e right → Adds (d * e) [] (λ n φ. products_at d left e right n φ) both)
+    → ((d e : ℕ) → IsCommonDenominator d left → IsCommonDenominator e right → (gained : WholeTerms)
+    × ComeTo gained (λ n φ. products_at d left e right n φ)
+    × GainsCleared (pointwise nat_eq) is_label (d * e) [] gained both)
     → (n : ℕ) (f g : Poly) (p q : ℕ) → IsExpansionOf schurs left n f p → IsExpansionOf schurs right n g q → IsExpansionOf schurs both n (times f g) (p * q)
 product-list left right both sums n f g p q h k =
     let D = denominators left in
@@ -107,14 +102,16 @@ product-list left right both sums n f g p q h k =
     let a = common_of_expansion left n f p h in
     let b = common_of_expansion right n g q k in
     let adds = sums (denominators left) (denominators right) a b in
-    let it = adds.gains.table (IsCombination-empty (pointwise nat_eq) is_label) in
+    let it = table_gained (denominators left * denominators right) adds.0 both adds.2 in
     let V = value schurs left n in
     let W = value schurs right n in
     expansion-from both n (times f g) (p * q) (denominators left * denominators right) it
-    (common_of (denominators left * denominators right) both (mul-pos a.positive b.positive) it adds.gains.cleared)
+    (common_of (denominators left * denominators right) both (mul-pos a.positive b.positive) it
+    adds.2.cleared)
     (λ φ.
     ap (λ z. pos (p * q) *ℤ z)
-    (adds.gains.gains.sums (λ label. pair (schur label n) φ) ∙ +ℤ_idl (pair adds.gained (λ label. pair (schur label n) φ)) ∙ adds.value n φ
+    (adds.2.gains.sums (λ label. pair (schur label n) φ)
+    ∙ +ℤ_idl (pair adds.0 (λ label. pair (schur label n) φ)) ∙ adds.1 n φ
     ∙ sym (pair_products (denominators left) (denominators right) left right n φ))
     ∙ product_assoc (pos p) (pos q) (pair (times V W) φ)
     ∙ sym (both_scaled (pos p) (pos q) V W φ)

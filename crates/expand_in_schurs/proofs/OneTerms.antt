@@ -27,7 +27,8 @@ use Rattle.expand_in_schurs.specs.SchurLists.{IsOneTerm, StandsFor}
 use Rattle.expand_in_schurs.specs.TargetLaws.{expansion_respects}
 use Rattle.expand_in_schurs.proofs.Expansions.{expansion-from, expansion_rescaled}
 use Rattle.expand_in_schurs.proofs.Tables.{common_of}
-use Rattle.sparse_polys.proofs.ClearedSums.{AreCleared-nothing, Gains-term}
+use Rattle.linear_combinations.proofs.Cleared.{AreCleared-nothing}
+use Rattle.sparse_polys.proofs.ClearedSums.{Gains-term}
 use native.Mathlib.Nat.{dvd-mul_left}
 use lib.IntN.{+ℤ_idl, +ℤ_idr}
 
@@ -36,7 +37,9 @@ pub expansion_one_term : (label : List ℕ) (c : Fraction) (list : Terms (List �
     → (n : ℕ) → IsExpansionOf schurs list n (scale c.0 (schur label n)) c.1
 expansion_one_term label c list lc is n =
     let den : c.1 ∣ c.1 = subst (λ m. c.1 ∣ m) (let e : 1 * c.1 ≡ c.1 = omega arith in e) (dvd-mul_left c.1 1) in
-    let more = Gains-term c.1 [] list label c (IsCombination-empty (pointwise nat_eq) is_label) is.0 lc lc.positive den (AreCleared-nothing c.1) is.1 c.0 (alone c lc.positive) in
+    let more = Gains-term c.1 [] list label c (IsCombination-empty (pointwise nat_eq) is_label) is.0
+    lc lc.positive den (AreCleared-nothing (pointwise nat_eq) c.1) is.1 c.0
+    (alone c lc.positive) in
     expansion-from list n (scale c.0 (schur label n)) c.1 c.1 is.0 (common_of c.1 list lc.positive is.0 more.cleared)
     (λ φ.
     ap (λ z. pos c.1 *ℤ z)

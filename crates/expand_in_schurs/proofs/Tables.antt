@@ -1,8 +1,8 @@
 -- Tables in Schur polynomials by what their look-ups find.
 --     cleared_at            a common denominator clears each look-up
 --     sum_at-found          the sum over the terms is told by the look-ups
---     Adds-multiple         a number times one Schur polynomial
---     Adds-then, -none      one after another
+--     ComeTo-one, -multiple what one Schur polynomial comes to, and a multiple of terms
+--     ComeTo-both           terms and further ones
 --     sum_at-sum, -multiple the sum of two tables, and a multiple of one
 use Rattle.std.proofs.Common.{◌≡◌, ℕ, ◌*◌, ◌<◌, Bool, true, false, cond, List, [], ◌∷◌, ◌++◌, sym, ◌∙◌, ap, ap₂, subst, refl, inl, inr, arith, ℤ, pos, ◌+ℤ◌, ◌*ℤ◌}
 use Rattle.std.specs.Prelude.{nat_eq, Some}
@@ -16,21 +16,24 @@ use Rattle.sym_model.specs.Sum.{Among}
 use Rattle.sym_model.specs.Polynomial.{coefficient, pair, plus, scale}
 use Rattle.sym_model.specs.Schur.{schur}
 use Rattle.sym_model.specs.Expansion.{Fraction, Terms}
-use Rattle.sym_model.specs.LabelLimits.{is_label}
 use Rattle.sym_model.specs.WholeTerms.{WholeTerms}
+use Rattle.sym_model.proofs.Ring.{one-product}
 use Rattle.sym_model.proofs.Polynomials.{coefficient_plus, coefficient_scale, pair_determined, pair_plus, pair_scale}
 use Rattle.sparse_polys.specs.Combination.{IsMultipleOf, IsSumOf}
 use Rattle.monomial_laws.specs.ExpressionTerms.{over}
 use Rattle.sparse_polys.proofs.Accumulating.{lowest_at}
-use Rattle.sparse_polys.proofs.ClearedSums.{Gains-none, Gains-both}
+use Rattle.linear_combinations.proofs.Gains.{scaled_over}
 use Rattle.sparse_polys.proofs.Expansions.{coefficient-over, divides_terms}
-use Rattle.whole_lists.specs.Tables.{IsTable}
-use Rattle.expand_in_schurs.specs.SchurLists.{Adds, sum_at}
-use Rattle.sparse_polys.specs.Products.{IsCommonDenominator, coefficient_at, AreCleared, GainsCleared}
+use Rattle.whole_lists.specs.Tables.{IsFractionTable}
+use Rattle.expand_in_schurs.specs.SchurLists.{ComeTo, sum_at}
+use Rattle.linear_combinations.specs.Gains.{scaled as multiple}
+use Rattle.linear_combinations.specs.Cleared.{IsCommonDenominator, AreCleared}
+use Rattle.sparse_polys.specs.Products.{coefficient_at}
 use native.Mathlib.Nat.{mul-pos, dvd-mul_left}
 use lib.IntN.{+ℤ_idr, *ℤ_comm}
 
-pub cleared_at : (q : ℕ) (terms : Terms (List ℕ)) → ((t : List ℕ × Fraction) → Among t terms → t.1.1 ∣ q) → AreCleared q terms
+pub cleared_at : (q : ℕ) (terms : Terms (List ℕ))
+    → ((t : List ℕ × Fraction) → Among t terms → t.1.1 ∣ q) → AreCleared (pointwise nat_eq) q terms
 cleared_at q [] h ν = subst (λ n. 1 ∣ n) (let e : q * 1 ≡ q = omega arith in e) (dvd-mul_left 1 q)
 cleared_at q (t ∷ terms) h ν = by (pointwise nat_eq ν t.0) (cleared_at q terms (λ u m. h u (inr m)) ν)
   where
@@ -39,38 +42,37 @@ cleared_at q (t ∷ terms) h ν = by (pointwise nat_eq ν t.0) (cleared_at q ter
     by false r = r
 
 -- and what clears each look-up of a table is a common denominator
-pub common_of : (q : ℕ) (terms : Terms (List ℕ)) → 0 < q → IsTable terms → AreCleared q terms → IsCommonDenominator q terms
+pub common_of : (q : ℕ) (terms : Terms (List ℕ)) → 0 < q → IsFractionTable terms
+    → AreCleared (pointwise nat_eq) q terms → IsCommonDenominator q terms
 common_of q terms some is h = record { positive = some; multiple = divides_terms q terms is (λ ν p. h ν) }
 
-pub sum_at-found : (q : ℕ) (terms : Terms (List ℕ)) (W : WholeTerms) → IsTable terms → ((ν : List ℕ) → scaled q (coefficient_at terms ν) ≡ coefficient W ν)
+pub sum_at-found : (q : ℕ) (terms : Terms (List ℕ)) (W : WholeTerms) → IsFractionTable terms → ((ν : List ℕ) → scaled q (coefficient_at terms ν) ≡ coefficient W ν)
     → (n : ℕ) (φ : List ℕ → ℤ) → sum_at q terms n φ ≡ pair W (λ label. pair (schur label n) φ)
 sum_at-found q terms W is h n φ = pair_determined (over q terms) W (λ label. pair (schur label n) φ) (λ ν. coefficient-over q terms is ν ∙ h ν)
 
--- ---- one after another
+-- ---- what terms come to
 
--- a number times one Schur polynomial
-pub Adds-multiple : (q : ℕ) (old new : Terms (List ℕ)) (label : List ℕ) (z : ℤ) (a : ℕ → (List ℕ → ℤ) → ℤ) → ((n : ℕ) (φ : List ℕ → ℤ) → pair (schur label n) φ ≡ a n φ)
-    → GainsCleared is_label q old ((label, z) ∷ []) new → Adds q old (λ n φ. z *ℤ a n φ) new
-Adds-multiple q old new label z a e gains = record {
-  gained = (label, z) ∷ [];
-  gains = gains;
-  value = λ n φ. +ℤ_idr (z *ℤ pair (schur label n) φ) ∙ ap (λ y. z *ℤ y) (e n φ);
-}
+-- one Schur polynomial
+pub ComeTo-one : (label : List ℕ) (a : ℕ → (List ℕ → ℤ) → ℤ)
+    → ((n : ℕ) (φ : List ℕ → ℤ) → pair (schur label n) φ ≡ a n φ)
+    → ComeTo ((label, pos 1) ∷ []) a
+ComeTo-one label a e n φ =
+    +ℤ_idr (pos 1 *ℤ pair (schur label n) φ) ∙ one-product (pair (schur label n) φ) ∙ e n φ
 
-pub Adds-then : (q : ℕ) (first second third : Terms (List ℕ)) (a b s : ℕ → (List ℕ → ℤ) → ℤ) → ((n : ℕ) (φ : List ℕ → ℤ) → a n φ +ℤ b n φ ≡ s n φ)
-    → Adds q first a second → Adds q second b third → Adds q first s third
-Adds-then q first second third a b s e x y = record {
-  gained = x.gained ++ y.gained;
-  gains = Gains-both q first x.gained second y.gained third x.gains y.gains;
-  value = λ n φ. pair_plus x.gained y.gained (λ label. pair (schur label n) φ) ∙ ap₂ ◌+ℤ◌ (x.value n φ) (y.value n φ) ∙ e n φ;
-}
+pub ComeTo-multiple : (z : ℤ) (terms : WholeTerms) (a : ℕ → (List ℕ → ℤ) → ℤ) → ComeTo terms a
+    → ComeTo (multiple z terms) (λ n φ. z *ℤ a n φ)
+ComeTo-multiple z terms a h n φ =
+    scaled_over z (λ label. pair (schur label n) φ) terms ∙ ap (λ y. z *ℤ y) (h n φ)
 
-pub Adds-none : (q : ℕ) (old : Terms (List ℕ)) (a : ℕ → (List ℕ → ℤ) → ℤ) → ((n : ℕ) (φ : List ℕ → ℤ) → a n φ ≡ pos 0) → AreCleared q old → Adds q old a old
-Adds-none q old a e cleared = record { gained = []; gains = Gains-none q old cleared; value = λ n φ. sym (e n φ) }
+pub ComeTo-both : (first second : WholeTerms) (a b s : ℕ → (List ℕ → ℤ) → ℤ)
+    → ((n : ℕ) (φ : List ℕ → ℤ) → a n φ +ℤ b n φ ≡ s n φ)
+    → ComeTo first a → ComeTo second b → ComeTo (first ++ second) s
+ComeTo-both first second a b s e h k n φ =
+    pair_plus first second (λ label. pair (schur label n) φ) ∙ ap₂ ◌+ℤ◌ (h n φ) (k n φ) ∙ e n φ
 
 -- ---- sums and multiples
 
-module _ (q : ℕ) (first second both : Terms (List ℕ)) (is : IsTable first) (also : IsTable second) (it : IsTable both)
+module _ (q : ℕ) (first second both : Terms (List ℕ)) (is : IsFractionTable first) (also : IsFractionTable second) (it : IsFractionTable both)
     (c : IsCommonDenominator q first) (d : IsCommonDenominator q second) (sums : IsSumOf (pointwise nat_eq) first second both) where
   sum_found : (ν : List ℕ) → ((coefficient_at both ν).1 ∣ q) × (scaled q (coefficient_at both ν) ≡ scaled q (coefficient_at first ν) +ℤ scaled q (coefficient_at second ν))
   sum_found ν =
@@ -90,7 +92,7 @@ module _ (q : ℕ) (first second both : Terms (List ℕ)) (is : IsTable first) (
       n φ
       ∙ pair_plus (over q first) (over q second) (λ label. pair (schur label n) φ)
 
-module _ (q e : ℕ) (c : Fraction) (list multiple : Terms (List ℕ)) (is : IsTable list) (it : IsTable multiple) (lc : InLowestTerms c) (some : 0 < e) (cd : c.1 ∣ e)
+module _ (q e : ℕ) (c : Fraction) (list multiple : Terms (List ℕ)) (is : IsFractionTable list) (it : IsFractionTable multiple) (lc : InLowestTerms c) (some : 0 < e) (cd : c.1 ∣ e)
     (common : IsCommonDenominator q list) (products : IsMultipleOf (pointwise nat_eq) list c multiple) where
   multiple_found : (ν : List ℕ) → ((coefficient_at multiple ν).1 ∣ (q * e)) × (scaled (q * e) (coefficient_at multiple ν) ≡ scaled q (coefficient_at list ν) *ℤ scaled e c)
   multiple_found ν =

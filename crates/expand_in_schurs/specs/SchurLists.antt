@@ -5,13 +5,11 @@ use Rattle.std.specs.Cmp.Lexicographic.{pointwise}
 use Rattle.sym_model.specs.Polynomial.{pair, times}
 use Rattle.sym_model.specs.Schur.{schur}
 use Rattle.sym_model.specs.Expansion.{schurs, Fraction, Terms, IsExpansionOf}
-use Rattle.sym_model.specs.Canonical.{is_label}
 use Rattle.sym_model.specs.Expression.{Tree, cleared_value, denominator}
 use Rattle.sym_model.specs.WholeTerms.{WholeTerms}
 use Rattle.sparse_polys.specs.Combination.{HasMoreAt}
 use Rattle.monomial_laws.specs.ExpressionTerms.{over}
-use Rattle.whole_lists.specs.Tables.{IsTable}
-use Rattle.sparse_polys.specs.Products.{GainsCleared}
+use Rattle.whole_lists.specs.Tables.{IsFractionTable}
 
 -- the list is the expression, in every number of variables
 abbrev pub StandsFor : Tree → Terms (List ℕ) → Type 0
@@ -19,7 +17,7 @@ StandsFor e terms = (n : ℕ) → IsExpansionOf schurs terms n (cleared_value e 
 
 -- the list has the coefficient at the label, and 0 elsewhere
 abbrev pub IsOneTerm : List ℕ → Fraction → Terms (List ℕ) → Type 0
-IsOneTerm label c terms = IsTable terms × HasMoreAt (pointwise nat_eq) [] label c terms
+IsOneTerm label c terms = IsFractionTable terms × HasMoreAt (pointwise nat_eq) [] label c terms
 
 -- the list in n variables times q, as a sum over its terms,
 -- by what a test function of the exponents comes to
@@ -38,10 +36,8 @@ row_at left e right n φ = pair (over e right) (λ label. product_at left label 
 abbrev pub products_at : ℕ → Terms (List ℕ) → ℕ → Terms (List ℕ) → ℕ → (List ℕ → ℤ) → ℤ
 products_at d left e right n φ = pair (over d left) (λ label. row_at label e right n φ)
 
--- the new list, cleared by q, has gained terms that come to what is added
-pub record Adds (q : ℕ) (old : Terms (List ℕ)) (added : ℕ → (List ℕ → ℤ) → ℤ)
-    (new : Terms (List ℕ)) : Type 0 where
-  pub gained : WholeTerms
-  pub gains : GainsCleared is_label q old gained new
-  pub value : (n : ℕ) (φ : List ℕ → ℤ)
-      → pair gained (λ label. pair (schur label n) φ) ≡ added n φ
+-- the terms, as a list in Schur polynomials, come to this value in every number of variables, by
+-- what a test function of the exponents comes to
+abbrev pub ComeTo : WholeTerms → (ℕ → (List ℕ → ℤ) → ℤ) → Type 0
+ComeTo terms value =
+    (n : ℕ) (φ : List ℕ → ℤ) → pair terms (λ label. pair (schur label n) φ) ≡ value n φ

@@ -11,8 +11,8 @@ use change_from_monomials::to_basis;
 use coeff_rings::Frac;
 use expand_in_monomials::to_monomial;
 use expression_reading::Formula;
+use linear_combinations::Lin;
 use partitions::Partition;
-use sparse_polys::Lin;
 use std::alloc::Global;
 
 /// The expansion of a formula in Schur polynomials, in every number of variables.

@@ -5,7 +5,7 @@ ghost use Rattle.sym_model.specs.Expression.{cleared_value, denominator};
 ghost use Rattle.sym_model.specs.Polynomial.{Poly};
 ghost use Rattle.sym_model.specs.Weight.{weight};
 ghost use Rattle.expression_reading.specs.Trees.{tree_of};
-ghost use Rattle.sparse_polys.specs.Products.{IsCommonDenominator};
+ghost use Rattle.linear_combinations.specs.Cleared.{IsCommonDenominator};
 
 use crate::operations::converted;
 use calc_base::{Basis, NoMemory, SumFault};
@@ -14,8 +14,8 @@ use coeff_rings::Frac;
 use expand_in_monomials::{schurs_to_monomials, to_monomial};
 use expression_evaluation::postorder;
 use expression_reading::{Expr, Formula};
+use linear_combinations::Lin;
 use partitions::Partition;
-use sparse_polys::Lin;
 use std::alloc::Global;
 use whole_lists::divided;
 use whole_numbers::common_denominator;

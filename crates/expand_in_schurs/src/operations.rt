@@ -5,7 +5,7 @@ ghost use Rattle.std.specs.Cmp.Lexicographic.{pointwise};
 ghost use Rattle.sym_model.specs.Expression.{Tree, degree, product};
 ghost use Rattle.expression_reading.specs.Trees.{tree_of, has_no_signs};
 ghost use Rattle.sparse_polys.specs.Combination.{IsSumOf};
-ghost use Rattle.whole_lists.specs.Tables.{IsTable};
+ghost use Rattle.whole_lists.specs.Tables.{IsFractionTable};
 ghost use Rattle.expand_in_schurs.specs.SchurLists.{StandsFor};
 ghost use Rattle.expand_in_schurs.specs.Operands.{IsOperand, MayBeLarge};
 ghost use Rattle.expand_in_schurs.specs.TargetLaws.{operand-difference};
@@ -18,8 +18,8 @@ use calc_base::{Basis, SumFault};
 use coeff_rings::{Frac, Ring};
 use expression_evaluation::{Target, evaluate};
 use expression_reading::Expr;
+use linear_combinations::Lin;
 use partitions::Partition;
-use sparse_polys::Lin;
 use std::alloc::Global;
 
 /// The target s. It refuses as `Large` where a number on the way is.
@@ -92,9 +92,9 @@ fn sum_of(
     first: Lin<Partition, Frac>,
     second: Lin<Partition, Frac>,
 ) -> Result<Lin<Partition, Frac>, SumFault>
-    ensures tables { IsTable first × IsTable second }
+    ensures tables { IsFractionTable first × IsFractionTable second }
     ensures sum { IfOk result (IsSumOf (pointwise nat_eq) first second) }
-    ensures table { IfOk result IsTable }
+    ensures table { IfOk result IsFractionTable }
 {
     if first.len() < second.len() {
         return second.add_all(&first);

@@ -1,20 +1,22 @@
 //! Products of two lists of terms in Schur polynomials, pair by pair.
-ghost use Rattle.std.specs.Prelude.{◌≡◌, ◌↔◌, ◌<◌, ◌+◌, ◌*◌, ◌≤◌, ◌*ℤ◌, ℕ, [], ◌∷◌, IsTrue, IfOk};
-ghost use Rattle.std.specs.Prelude.{OnOk};
-ghost use Rattle.std.specs.Int.{◌∣◌};
+ghost use Rattle.std.specs.Prelude.{◌↔◌, ◌<◌, ◌+◌, ◌*◌, ◌≤◌, ◌*ℤ◌, ℕ, [], ◌∷◌, IsTrue, IfOk};
+ghost use Rattle.std.specs.Prelude.{OnOk, nat_eq, pos};
+ghost use Rattle.std.specs.Cmp.Lexicographic.{pointwise};
 ghost use Rattle.sym_model.specs.Expansion.{schurs, IsExpansionOf};
 ghost use Rattle.sym_model.specs.Partition.{rows, size};
 ghost use Rattle.sym_model.specs.LabelLimits.{is_label};
 ghost use Rattle.sym_model.specs.Polynomial.{Poly, times};
+ghost use Rattle.sym_model.specs.WholeTerms.{WholeTerms};
 ghost use Rattle.coeff_rings.specs.Fractions.{scaled, InLowestTerms};
-ghost use Rattle.expand_in_schurs.specs.SchurLists.{Adds, product_at, row_at};
-ghost use Rattle.sparse_polys.specs.Products.{IsCommonDenominator, AreCleared, GainsCleared};
+ghost use Rattle.linear_combinations.specs.Cleared.{IsDenominator, IsCommonDenominator};
+ghost use Rattle.linear_combinations.specs.Cleared.{AreCleared, GainsCleared, GainsMultiple};
+ghost use Rattle.expand_in_schurs.specs.SchurLists.{ComeTo, product_at, row_at};
 
 use calc_base::SumFault;
 use coeff_rings::{Frac, Ring};
+use linear_combinations::Lin;
 use lr_product::mult;
 use partitions::Partition;
-use sparse_polys::Lin;
 use std::alloc::Global;
 
 /// The most cells, and the most rows, of two labels that are multiplied.
@@ -34,8 +36,8 @@ fn can_multiply(left: &Partition, right: &Partition) -> bool
 /// Adds a number times a Schur polynomial.
 fn add_multiple(label: &Partition, c: Frac, sum: &mut Lin<Partition, Frac>) -> Result<(), SumFault>
     requires { InLowestTerms c }
-    ensures { OnOk result ((q : ℕ) → 0 < q → c.1 ∣ q → AreCleared q sum.old
-        → GainsCleared is_label q sum.old ((label.now, scaled q c) ∷ []) sum.new) }
+    ensures { OnOk result (GainsMultiple (pointwise nat_eq) is_label c ((label.now, pos 1) ∷ [])
+        sum.old sum.new) }
 {
     sum.add_term(label.copy()?, c)
 }
@@ -50,8 +52,9 @@ fn add_pair(
     sum: &mut Lin<Partition, Frac>,
 ) -> Result<(), SumFault>
     requires { InLowestTerms c }
-    ensures { OnOk result ((q : ℕ) → 0 < q → c.1 ∣ q → AreCleared q sum.old
-        → Adds q sum.old (λ n φ. scaled q c *ℤ product_at left.now right.now n φ) sum.new) }
+    ensures { OnOk result ((terms : WholeTerms)
+        × ComeTo terms (λ n φ. product_at left.now right.now n φ)
+        × GainsMultiple (pointwise nat_eq) is_label c terms sum.old sum.new) }
 {
     if left.rows() == 0 {
         return add_multiple(right, c, sum);
@@ -73,16 +76,17 @@ fn add_pair(
 }
 
 /// Adds the product of a term with a list.
-fn add_products(
+fn add_term_product(
     alloc: Global,
     left: &Partition,
     c: Frac,
     right: &Lin<Partition, Frac>,
     sum: &mut Lin<Partition, Frac>,
 ) -> Result<(), SumFault>
-    ensures { OnOk result ((d e : ℕ) → 0 < d → c.1 ∣ d → IsCommonDenominator e right.now
-        → AreCleared (d * e) sum.old
-        → Adds (d * e) sum.old (λ n φ. scaled d c *ℤ row_at left.now e right.now n φ) sum.new) }
+    ensures { OnOk result ((d e : ℕ) → IsDenominator d c → IsCommonDenominator e right.now
+        → AreCleared (pointwise nat_eq) (d * e) sum.old → (gained : WholeTerms)
+        × ComeTo gained (λ n φ. scaled d c *ℤ row_at left.now e right.now n φ)
+        × GainsCleared (pointwise nat_eq) is_label (d * e) sum.old gained sum.new) }
 {
     for (other, factor) in right.iter() {
         let Some(product) = c.mul(*factor) else {
@@ -105,7 +109,7 @@ pub(crate) fn product(
 {
     let mut sum = Lin::new(alloc);
     for (label, c) in left.iter() {
-        add_products(alloc, label, *c, right, &mut sum)?;
+        add_term_product(alloc, label, *c, right, &mut sum)?;
     }
     Ok(sum)
 }

@@ -14,8 +14,8 @@ ghost use Rattle.expand_in_schurs.specs.Operands.{IsOperand};
 use crate::operand::Operand;
 use calc_base::{Basis, SumFault};
 use coeff_rings::Frac;
+use linear_combinations::Lin;
 use partitions::Partition;
-use sparse_polys::Lin;
 use std::alloc::Global;
 use strip_rules::times_family;
 use whole_lists::Family;
@@ -62,8 +62,7 @@ fn times_part(
     if !has_room(&list, k) {
         return Err(SumFault::Large);
     }
-    let product = times_family(alloc, list.as_table(), family, k)?;
-    Ok(Lin::from_table(product))
+    times_family(alloc, &list, family, k)
 }
 
 /// The list times e_k, h_k or p_k for each of the parts k.

@@ -1,70 +1,75 @@
--- Terms whose coefficients are values of scalars, and what the type of the scalars tells of them.
-use Rattle.std.proofs.Common.{◌≡◌, ◌^◌, Bool, true, false, ◌&&◌, ◌==◌, [], ◌∷◌, ◌++◌, length, arith, refl, subst, pos, nat_lt, FitsSigned}
+-- Canonical lists whose coefficients are numbers of 128 bits can be read back.
+use Rattle.std.proofs.Common.{◌≡◌, ◌^◌, ℤ, List, Bool, true, false, ◌&&◌, [], ◌∷◌, refl, sym, ap}
+use Rattle.std.proofs.Common.{◌∙◌, pos, nat_lt, FitsSigned}
 use Rattle.std.specs.Int.{w128}
+use Rattle.std.specs.List.{All}
 use Rattle.std.specs.declared.cmp.Ordering.{Ordering}
-use Rattle.std.proofs.lemmas.Bool.{and_from, and_parts}
+use Rattle.std.proofs.lemmas.Bool.{and_from}
+use Rattle.std.proofs.lemmas.List.Elements.{All-head, All-tail}
 use Rattle.sym_model.specs.Expansion.{Fraction, Terms}
-use Rattle.sym_model.specs.Canonical.{is_printable, is_reduced, is_coefficient, is_ordered, each_term, fits_128_bits}
-use Rattle.sparse_polys.specs.Combination.{are_terms, is_canonical_list}
+use Rattle.sym_model.specs.Canonical.{is_printable, is_reduced, is_coefficient, is_ordered}
+use Rattle.sym_model.specs.Canonical.{each_term, fits_128_bits}
+use Rattle.sym_model.specs.WholeTerms.{as_fractions}
 use Rattle.coeff_rings.specs.Fractions.{whole}
-use Rattle.expansion_printer.specs.HeldTerms.{IsValueHeld, AreHeld}
 use Rattle.coeff_rings.specs.Checked.{IsFraction, fits_fraction}
 use Rattle.coeff_rings.specs.Proved.FractionAnswers.{held-fits_fraction}
 use Rattle.coeff_rings.specs.Proved.Whole.{test_from_fits}
+use Rattle.linear_combinations.specs.Entries.{is_canonical_list}
+use Rattle.sparse_polys.proofs.Tables.{canonical-fractions}
+use Rattle.sparse_polys.proofs.ValueLists.{canonical_values}
 
-pub AreHeld-push : {Label R : Type 0} (value : R → Fraction) (is_held : R → Type 0) (terms : Terms Label) (t : Label × Fraction)
-    → AreHeld value is_held terms → IsValueHeld value is_held t.1 → AreHeld value is_held (terms ++ t ∷ [])
-AreHeld-push value is_held [] t all one = (one, tt)
-AreHeld-push value is_held (u ∷ terms) t all one = (all.0, AreHeld-push value is_held terms t all.1 one)
+module _ {L : Type 0} where
+  -- whether each term has a coefficient that stands in a block, and a label of its type
+  abbrev are_proper : Bool → (L → Bool) → Terms L → Bool
+  are_proper has_fractions is_label terms =
+      each_term (λ (t : L × Fraction). is_coefficient has_fractions t.1 && is_label t.0) terms
 
-pub held-none : {Label R : Type 0} (value : R → Fraction) (is_held : R → Type 0) (terms : Terms Label) → length terms ≡ 0
-    → AreHeld value is_held terms
-held-none value is_held [] none = tt
-held-none value is_held (t ∷ terms) none = absurd (omega arith)
+  -- ---- whole numbers of 128 bits
 
--- ---- whole numbers of 128 bits
+  proper-whole : (is_label : L → Bool) (terms : List (L × ℤ))
+      → are_proper false is_label (as_fractions terms)
+      ≡ each_term (λ (t : L × Fraction). is_reduced t.1 && is_label t.0) (as_fractions terms)
+  proper-whole is_label [] = refl
+  proper-whole is_label (t ∷ terms) =
+      ap (λ b. (is_reduced (whole t.1) && is_label t.0) && b) (proper-whole is_label terms)
 
-whole_fits : (c : Fraction) → IsValueHeld whole (FitsSigned w128) c → (fits_128_bits c.0 && fits_128_bits (pos c.1)) ≡ true
-whole_fits c h =
-    subst (λ (d : Fraction). (fits_128_bits d.0 && fits_128_bits (pos d.1)) ≡ true) h.same
-    (and_from (fits_128_bits h.scalar) (nat_lt 1 (2 ^ 127)) (test_from_fits h.scalar h.held) refl)
+  printable-whole : (terms : List (L × ℤ)) → All (λ (t : L × ℤ). FitsSigned w128 t.1) terms
+      → is_printable (as_fractions terms) ≡ true
+  printable-whole [] all = refl
+  printable-whole (t ∷ terms) all =
+      and_from (fits_128_bits t.1 && fits_128_bits (pos 1)) (is_printable (as_fractions terms))
+      (and_from (fits_128_bits t.1) (nat_lt 1 (2 ^ 127))
+      (test_from_fits t.1 (All-head (λ (u : L × ℤ). FitsSigned w128 u.1) t terms all)) refl)
+      (printable-whole terms (All-tail (λ (u : L × ℤ). FitsSigned w128 u.1) t terms all))
 
-whole_one : (c : Fraction) → IsValueHeld whole (FitsSigned w128) c → (c.1 == 1) ≡ true
-whole_one c h = subst (λ (d : Fraction). (d.1 == 1) ≡ true) h.same refl
+  -- a canonical list with whole numbers of 128 bits
+  pub whole-printable : (order : L → L → Ordering) (is_label : L → Bool) (terms : List (L × ℤ))
+      → All (λ (t : L × ℤ). FitsSigned w128 t.1) terms
+      → is_canonical_list order is_label whole terms ≡ true
+      → ((is_ordered order (as_fractions terms) && are_proper false is_label (as_fractions terms))
+      ≡ true) × (is_printable (as_fractions terms) ≡ true)
+  whole-printable order is_label terms all h =
+      let listed = canonical-fractions is_label order (as_fractions terms) in (
+        ap (λ b. is_ordered order (as_fractions terms) && b) (proper-whole is_label terms)
+            ∙ sym listed ∙ canonical_values whole order is_label terms ∙ h,
+        printable-whole terms all,
+      )
 
-printable_whole : {Label : Type 0} (terms : Terms Label) → AreHeld whole (FitsSigned w128) terms → is_printable terms ≡ true
-printable_whole [] all = refl
-printable_whole (t ∷ terms) all =
-    and_from (fits_128_bits t.1.0 && fits_128_bits (pos t.1.1)) (is_printable terms) (whole_fits t.1 all.0) (printable_whole terms all.1)
+  -- ---- fractions of 128 bits
 
-coefficients_whole : {Label : Type 0} (is_label : Label → Bool) (terms : Terms Label) → AreHeld whole (FitsSigned w128) terms
-    → are_terms is_label terms ≡ true → each_term (λ (t : Label × Fraction). is_coefficient false t.1 && is_label t.0) terms ≡ true
-coefficients_whole is_label [] all h = refl
-coefficients_whole {Label} is_label (t ∷ terms) all h =
-    let p = and_parts (is_reduced t.1 && is_label t.0) (are_terms is_label terms) h in
-    let q = and_parts (is_reduced t.1) (is_label t.0) p.0 in
-    and_from (is_coefficient false t.1 && is_label t.0) (each_term (λ (u : Label × Fraction). is_coefficient false u.1 && is_label u.0) terms)
-    (and_from (is_coefficient false t.1) (is_label t.0) (and_from (t.1.1 == 1) (is_reduced t.1) (whole_one t.1 all.0) q.0) q.1)
-    (coefficients_whole is_label terms all.1 p.1)
+  printable-fractions : (terms : Terms L) → All (λ (t : L × Fraction). IsFraction t.1) terms
+      → is_printable terms ≡ true
+  printable-fractions [] all = refl
+  printable-fractions (t ∷ terms) all =
+      and_from (fits_fraction t.1) (is_printable terms)
+      (held-fits_fraction t.1 (All-head (λ (u : L × Fraction). IsFraction u.1) t terms all))
+      (printable-fractions terms (All-tail (λ (u : L × Fraction). IsFraction u.1) t terms all))
 
--- terms with whole coefficients of 128 bits are a canonical list that can be read back
-pub whole-printable : {Label : Type 0} (order : Label → Label → Ordering) (is_label : Label → Bool) (terms : Terms Label)
-    → AreHeld whole (FitsSigned w128) terms → is_canonical_list order is_label terms ≡ true
-    → ((is_ordered order terms && each_term (λ (t : Label × Fraction). is_coefficient false t.1 && is_label t.0) terms) ≡ true) × (is_printable terms ≡ true)
-whole-printable {Label} order is_label terms all h =
-    let p = and_parts (is_ordered order terms) (are_terms is_label terms) h in (
-      and_from (is_ordered order terms) (each_term (λ (t : Label × Fraction). is_coefficient false t.1 && is_label t.0) terms) p.0
-          (coefficients_whole is_label terms all p.1),
-      printable_whole terms all,
-    )
-
--- ---- fractions of 128 bits
-
-fraction_fits : (c : Fraction) → IsValueHeld (λ (r : Fraction). r) IsFraction c → fits_fraction c ≡ true
-fraction_fits c h = subst (λ (d : Fraction). fits_fraction d ≡ true) h.same (held-fits_fraction h.scalar h.held)
-
--- terms with fractions of 128 bits can be read back
-pub fractions-printable : {Label : Type 0} (terms : Terms Label) → AreHeld (λ (r : Fraction). r) IsFraction terms → is_printable terms ≡ true
-fractions-printable [] all = refl
-fractions-printable (t ∷ terms) all =
-    and_from (fits_fraction t.1) (is_printable terms) (fraction_fits t.1 all.0) (fractions-printable terms all.1)
+  -- a canonical list with fractions of 128 bits
+  pub fractions-printable : (order : L → L → Ordering) (is_label : L → Bool) (terms : Terms L)
+      → All (λ (t : L × Fraction). IsFraction t.1) terms
+      → is_canonical_list order is_label (λ (r : Fraction). r) terms ≡ true
+      → ((is_ordered order terms && are_proper true is_label terms) ≡ true)
+      × (is_printable terms ≡ true)
+  fractions-printable order is_label terms all h =
+      (sym (canonical-fractions is_label order terms) ∙ h, printable-fractions terms all)

@@ -4,6 +4,7 @@ use Rattle.sym_model.specs.Kind.{Kind as PlainKind, Label, number, expansion, pr
 use Rattle.sym_model.specs.Kind.{powers, permutations, polynomial, shifts}
 use Rattle.sym_model.specs.Expansion.{Terms}
 use Rattle.sym_model.specs.Answer.{Answer as PlainAnswer, answer}
+use Rattle.sym_model.specs.WholeTerms.{as_fractions}
 use Rattle.expansion_printer.specs.declared.answer.Kind.{Kind}
 use Rattle.expansion_printer.specs.declared.answer.Kind.TheVariants as kinds
 use Rattle.expansion_printer.specs.declared.answer.Answer.{Answer}
@@ -26,16 +27,16 @@ kind_of kinds.Shifts = shifts
 abbrev pub number_terms : ℤ → Terms (Label number)
 number_terms value = cond (nat_lt 0 (nat_abs value)) ((tt, (value, 1)) ∷ []) []
 
--- the plain answer: its kind and its terms
+-- the plain answer: its kind and its terms, whole coefficients as fractions too
 abbrev pub plain_answer : Answer → PlainAnswer
 plain_answer (Number value) = answer number (number_terms value)
 plain_answer (Expansion terms) = answer expansion terms
-plain_answer (Product terms) = answer product terms
-plain_answer (Pairs terms) = answer pairs terms
-plain_answer (Powers terms) = answer powers terms
-plain_answer (Permutations terms) = answer permutations terms
-plain_answer (Polynomial terms) = answer polynomial terms
-plain_answer (Shifts terms) = answer shifts terms
+plain_answer (Product terms) = answer product (as_fractions terms)
+plain_answer (Pairs terms) = answer pairs (as_fractions terms)
+plain_answer (Powers terms) = answer powers (as_fractions terms)
+plain_answer (Permutations terms) = answer permutations (as_fractions terms)
+plain_answer (Polynomial terms) = answer polynomial (as_fractions terms)
+plain_answer (Shifts terms) = answer shifts (as_fractions terms)
 
 -- the kind of an answer
 abbrev pub kind_of_answer : Answer → PlainKind

@@ -1,7 +1,6 @@
 -- The definitions that the contracts cite.
 pub mod Answers
 pub mod Refusal
-pub mod HeldTerms
 pub mod ReadingPlaces
 -- The definitions that the contracts cite.
 pub mod SignedTerms

@@ -3,9 +3,10 @@ ghost use Rattle.std.specs.Prelude.{◌≡◌};
 ghost use Rattle.expansion_printer.specs.Answers.{kind_of, kind_of_answer};
 
 use coeff_rings::{Frac, Int};
+use linear_combinations::Terms;
 use partitions::Partition;
 use perm_codes::Perm;
-use sparse_polys::{Monomial, Pair, Power, Shifted, Terms};
+use sparse_polys::{Monomial, Pair, Power, Shifted};
 
 /// The kinds of answers.
 #[derive(Clone, Copy, Debug, PartialEq, Eq, Hash)]

@@ -1,20 +1,21 @@
 //! The printed block of an answer.
-ghost use Rattle.std.specs.Prelude.{codes};
+ghost use Rattle.std.specs.Prelude.{◌++◌, codes};
+ghost use Rattle.std.specs.List.{All};
 ghost use Rattle.calc_base.specs.Puts.{Prints};
 ghost use Rattle.expansion_printer.specs.Gathering.{Gathers};
 ghost use Rattle.sym_model.specs.Answer.{answer, answer_text, IsPrintable};
 ghost use Rattle.sym_model.specs.Kind.{number};
 ghost use Rattle.sym_model.specs.PrintedBlock.{block_by, line_by};
-ghost use Rattle.sparse_polys.specs.Combination.{IsCanonicalList};
+ghost use Rattle.linear_combinations.specs.Entries.{IsCanonicalList};
+ghost use Rattle.sparse_polys.specs.Combination.{terms_of};
 ghost use Rattle.expansion_printer.specs.Answers.{plain_answer, number_terms};
-ghost use Rattle.expansion_printer.specs.HeldTerms.{AreHeld};
 
 use crate::answer::Answer;
 use crate::named::Named;
 use crate::text_buffer::TextBuffer;
 use calc_base::{Sink, SinkFault};
 use coeff_rings::{Digits, Int, Scalar};
-use sparse_polys::{Label, Terms};
+use linear_combinations::Terms;
 
 /// Prints the block of the answer: a line for each term,
 /// and the line `0` where there is none. A number is one line.
@@ -28,7 +29,23 @@ pub fn print<K: Sink>(answer: &Answer, sink: &mut K) -> Result<(), SinkFault>
     // Every answer is canonical, with numbers of 128 bits, so that its block can be read back.
     ensures printable { IsPrintable (plain_answer answer.now) }
 {
+    print_after(b"", answer, sink)
+}
+
+/// Prints a text that stands in front, and after it the block of the answer.
+/// Where that text is empty, the sink is not called for it.
+///
+/// `SinkFault` exactly where a put failed. It is the last one,
+/// and what was put is then a prefix of the two.
+pub fn print_after<K: Sink>(front: &[u8], answer: &Answer, sink: &mut K) -> Result<(), SinkFault>
+    ensures prints { Prints (K.seen sink.old) (K.seen sink.new)
+        (front.now ++ answer_text (plain_answer answer.now)) result }
+
+    // As of `print`.
+    ensures printable { IsPrintable (plain_answer answer.now) }
+{
     let mut text = TextBuffer::new();
+    text.put(front, sink);
     put_block(answer, &mut text, sink);
     text.finish(sink)
 }
@@ -51,41 +68,6 @@ fn put_block<K: Sink>(answer: &Answer, text: &mut TextBuffer, sink: &mut K)
     }
 }
 
-/// Tells that the block of the answer can be read back: it is canonical, with numbers of 128 bits.
-/// It goes over the terms once and puts nothing.
-pub fn tell_printable(answer: &Answer)
-    ensures { IsPrintable (plain_answer answer.now) }
-{
-    match answer {
-        Answer::Number { value } => tell_value(*value),
-        Answer::Expansion { terms } => tell_terms(terms),
-        Answer::Product { terms } => tell_terms(terms),
-        Answer::Pairs { terms } => tell_terms(terms),
-        Answer::Powers { terms } => tell_terms(terms),
-        Answer::Permutations { terms } => tell_terms(terms),
-        Answer::Polynomial { terms } => tell_terms(terms),
-        Answer::Shifts { terms } => tell_terms(terms),
-    }
-}
-
-/// Tells that the line of a number can be read back.
-fn tell_value(value: Int)
-    ensures { IsPrintable (answer number (number_terms value)) }
-{
-    let _ = value.is_zero();
-}
-
-/// Tells that the terms are canonical, and their coefficients scalars of the type.
-fn tell_terms<L: Label, R: Scalar>(terms: &Terms<L, R>)
-    ensures held { AreHeld R.value R.is_held terms.now }
-    ensures canonical { IsCanonicalList L.order L.is_label terms.now }
-{
-    let _ = terms.len();
-    for (_, c) in terms.iter() {
-        let _ = c.is_zero();
-    }
-}
-
 /// Puts the line of a number.
 fn put_value<K: Sink>(value: Int, text: &mut TextBuffer, sink: &mut K)
     ensures goes { Gathers text.old (K.seen sink.old) text.new (K.seen sink.new)
@@ -101,9 +83,9 @@ fn put_value<K: Sink>(value: Int, text: &mut TextBuffer, sink: &mut K)
 /// Puts the block of the terms.
 fn put_terms<L: Named, R: Scalar, K: Sink>(terms: &Terms<L, R>, text: &mut TextBuffer, sink: &mut K)
     ensures goes { Gathers text.old (K.seen sink.old) text.new (K.seen sink.new)
-        (block_by L.line_rules terms.now) }
-    ensures held { AreHeld R.value R.is_held terms.now }
-    ensures canonical { IsCanonicalList L.order L.is_label terms.now }
+        (block_by L.line_rules (terms_of R.value terms.now)) }
+    ensures held { All (λ (t : L × R). R.is_held t.1) terms.now }
+    ensures canonical { IsCanonicalList L.order L.is_label R.value terms.now }
 {
     if terms.is_empty() {
         return text.put(b"0\n", sink);

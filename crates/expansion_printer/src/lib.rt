@@ -13,7 +13,7 @@
 //! `print_tableau` their lines: whole, or after a fault a prefix with no further put. Every answer
 //! is canonical with numbers of 128 bits. `print_one_line`: an expansion or a product on one line
 //! with the atoms of a basis, put to any sink, with the fault clauses of `print`; any other answer
-//! gets its block.
+//! gets its block. `print_after`, `print_one_line_after`: the same, behind a text that is given.
 #![tactic(auto)]
 
 mod answer;
@@ -31,8 +31,8 @@ mod text_buffer;
 mod words;
 
 pub use answer::{Answer, Kind};
-pub use block::{print, tell_printable};
-pub use line::print_one_line;
+pub use block::{print, print_after};
+pub use line::{print_one_line, print_one_line_after};
 pub use reading::ReadingOrder;
 pub use refusal::{print_large, print_refusal};
 pub use tableau::{print_reading, print_tableau};

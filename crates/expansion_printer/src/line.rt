@@ -1,11 +1,13 @@
 //! The one-line form of an answer.
+ghost use Rattle.std.specs.Prelude.{◌++◌, List, ℕ};
+ghost use Rattle.std.specs.List.{All};
 ghost use Rattle.calc_base.specs.Puts.{Prints};
 ghost use Rattle.expansion_printer.specs.Gathering.{Gathers};
 ghost use Rattle.expression_reading.specs.Trees.{basis_of};
 ghost use Rattle.expansion_printer.specs.Answers.{plain_answer};
-ghost use Rattle.expansion_printer.specs.HeldTerms.{AreHeld};
 ghost use Rattle.expansion_printer.specs.SignedTerms.{signed_text};
-ghost use Rattle.sparse_polys.specs.Combination.{IsCanonicalList};
+ghost use Rattle.linear_combinations.specs.Entries.{IsCanonicalList};
+ghost use Rattle.sparse_polys.specs.Combination.{terms_of};
 ghost use Rattle.sym_model.specs.Answer.{IsPrintable};
 ghost use Rattle.sym_model.specs.LabelLimits.{is_label};
 ghost use Rattle.sym_model.specs.OneLine.{one_line};
@@ -15,10 +17,10 @@ ghost use Rattle.sym_model.specs.PrintedOrder.{printed_order};
 use crate::atoms::put_atom;
 use crate::coefficients::{Ratio, put_coefficient, put_sign};
 use crate::text_buffer::TextBuffer;
-use crate::{Answer, print};
+use crate::{Answer, print_after};
 use calc_base::{Basis, Sink, SinkFault};
+use linear_combinations::Terms;
 use partitions::Partition;
-use sparse_polys::Terms;
 
 /// Prints an expansion, or a product, on one line with the atoms of the basis, as
 /// `-1/3*p[3]+1/3*p[1,1,1]`: the terms in their order, and `0` where there is none. An answer of
@@ -33,25 +35,47 @@ pub fn print_one_line<K: Sink>(answer: &Answer, basis: Basis, sink: &mut K) -> R
     // Every answer is canonical, with numbers of 128 bits, so that its line can be read back.
     ensures printable { IsPrintable (plain_answer answer.now) }
 {
+    print_one_line_after(b"", answer, basis, sink)
+}
+
+/// Prints a text that stands in front, and after it what `print_one_line` prints.
+/// Where that text is empty, the sink is not called for it.
+///
+/// `SinkFault` exactly where a put failed. It is the last one,
+/// and what was put is then a prefix of the two.
+pub fn print_one_line_after<K: Sink>(
+    front: &[u8],
+    answer: &Answer,
+    basis: Basis,
+    sink: &mut K,
+) -> Result<(), SinkFault>
+    ensures prints { Prints (K.seen sink.old) (K.seen sink.new)
+        (front.now ++ answer_text_in (as_line (basis_of basis)) (plain_answer answer.now)) result }
+
+    // As of `print_one_line`.
+    ensures printable { IsPrintable (plain_answer answer.now) }
+{
     match answer {
-        Answer::Expansion { terms } => print_terms(basis, terms, sink),
-        Answer::Product { terms } => print_terms(basis, terms, sink),
-        _ => print(answer, sink),
+        Answer::Expansion { terms } => print_terms(front, basis, terms, sink),
+        Answer::Product { terms } => print_terms(front, basis, terms, sink),
+        _ => print_after(front, answer, sink),
     }
 }
 
-/// Prints the one-line form of the terms.
+/// Prints a text that stands in front, and after it the one-line form of the terms.
 fn print_terms<R: Ratio, K: Sink>(
+    front: &[u8],
     basis: Basis,
     terms: &Terms<Partition, R>,
     sink: &mut K,
 ) -> Result<(), SinkFault>
     ensures prints { Prints (K.seen sink.old) (K.seen sink.new)
-        (one_line (basis_of basis) terms.now) result }
-    ensures held { AreHeld R.value R.is_held terms.now }
-    ensures canonical { IsCanonicalList printed_order is_label terms.now }
+        (front.now ++ one_line (basis_of basis) (terms_of R.value terms.now)) result }
+    ensures held { All (λ (t : List ℕ × R). R.is_held t.1) terms.now }
+    ensures canonical { IsCanonicalList printed_order is_label R.value terms.now }
 {
     let mut text = TextBuffer::new();
+    text.put(front, sink);
     put_line(basis, terms, &mut text, sink);
     text.finish(sink)
 }
@@ -64,9 +88,9 @@ fn put_line<R: Ratio, K: Sink>(
     sink: &mut K,
 )
     ensures goes { Gathers text.old (K.seen sink.old) text.new (K.seen sink.new)
-        (one_line (basis_of basis) terms.now) }
-    ensures held { AreHeld R.value R.is_held terms.now }
-    ensures canonical { IsCanonicalList printed_order is_label terms.now }
+        (one_line (basis_of basis) (terms_of R.value terms.now)) }
+    ensures held { All (λ (t : List ℕ × R). R.is_held t.1) terms.now }
+    ensures canonical { IsCanonicalList printed_order is_label R.value terms.now }
 {
     if terms.is_empty() {
         return text.put(b"0\n", sink);

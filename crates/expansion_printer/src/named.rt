@@ -7,9 +7,10 @@ ghost use Rattle.sym_model.specs.Kind.{permutations, polynomial, shifts};
 use crate::numbers::{put_label, put_number};
 use crate::text_buffer::TextBuffer;
 use calc_base::Sink;
+use linear_combinations::Label;
 use partitions::Partition;
 use perm_codes::Perm;
-use sparse_polys::{Label, Monomial, Pair, Power, Shifted};
+use sparse_polys::{Monomial, Pair, Power, Shifted};
 
 /// Labels that stand on a line after its coefficient.
 pub(crate) trait Named: Label {

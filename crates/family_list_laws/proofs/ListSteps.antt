@@ -2,7 +2,7 @@
 --     total-taken     a sum over the partitions of k - i is one over those of k with a part i
 --     sum-step        the list of a sum of products with one part
 use Rattle.std.proofs.Common.{◌≡◌, ℕ, ◌-◌, ◌<◌, ◌≤◌, Bool, true, false, cond, List, refl, sym, ap, ◌∙◌, arith, ℤ, pos, ◌*ℤ◌, filter}
-use Rattle.sym_model.specs.Sum.{total, Once}
+use Rattle.sym_model.specs.Sum.{total}
 use Rattle.sym_model.specs.Polynomial.{Poly, pair, join, times}
 use Rattle.sym_model.specs.Partition.{IsPartition, after, size, insert_part}
 use Rattle.sym_model.specs.PartitionList.{partitions_of}
@@ -13,14 +13,10 @@ use Rattle.sym_model.proofs.Sums.{total_ext, total_among, total_select, total_sc
 use Rattle.sym_model.proofs.Polynomials.{pair_times, pair_determined}
 use Rattle.sym_model.proofs.PolynomialLaws.{times_comm}
 use Rattle.sym_model.proofs.AfterLists.{after_among}
-use Rattle.sym_model.proofs.PartitionLists.{partitions_of-tells, Among-partitions_of, FallsLexicographically-partitions_within, Once-FallsLexicographically}
+use Rattle.sym_model.proofs.PartitionLists.{partitions_of-tells, Among-partitions_of, Once-partitions_of}
 use Rattle.sym_model.proofs.SortedParts.{IsPartition-insert_part, IsPartition-without_one, size-insert_part, size-without_one, has-insert_part, insert_part-without_one, without_one-insert_part}
 use Rattle.basis_change_laws.proofs.MergedParts.{product_over-insert_part}
 use lib.IntN.{*ℤ_comm, zero-*ℤ}
-
-once-partitions : (d : ℕ) → Once (partitions_of d)
-once-partitions d = Once-FallsLexicographically (partitions_of d)
-    (FallsLexicographically-partitions_within d d d)
 
 pub total-taken : (k i : ℕ) (g : List ℕ → ℤ) → 0 < i → i ≤ k
     → total (λ (μ : List ℕ). cond (has i μ) (g (without_one i μ)) (pos 0)) (partitions_of k)
@@ -29,7 +25,7 @@ total-taken k i g p l =
     sym (total_select (λ (μ : List ℕ). g (without_one i μ)) (has i) (partitions_of k))
     ∙ total_bijection g (without_one i) (insert_part i) (filter (has i) (partitions_of k))
     (partitions_of (k - i))
-    (Once-select (has i) (partitions_of k) (once-partitions k)) (once-partitions (k - i))
+    (Once-select (has i) (partitions_of k) (Once-partitions_of k)) (Once-partitions_of (k - i))
     (λ μ m.
     let s = Among_from_select (has i) μ (partitions_of k) m in
     let t = partitions_of-tells k μ s.0 in

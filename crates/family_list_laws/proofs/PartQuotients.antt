@@ -8,7 +8,7 @@ use Rattle.sym_model.specs.RaisedPart.{without_one, distinct}
 use Rattle.sym_model.specs.Bases.{has}
 use Rattle.sym_model.specs.Schur.{times_in}
 use Rattle.sym_model.specs.Weight.{factorial}
-use Rattle.sym_model.proofs.Ring.{distributes_right, one-product}
+use Rattle.sym_model.proofs.Ring.{counted-product}
 use Rattle.sym_model.proofs.Sums.{total_ext, total_add, total_none, total_scale, total_only, total_constant}
 use Rattle.sym_model.proofs.AfterLists.{once_after, among_after}
 use Rattle.sym_model.proofs.SortedParts.{has_from-times_in, insert_part-without_one, size-without_one, IsPartition-without_one, has-zero, has_past, without_one_here, without_one_past, rows_within_size}
@@ -22,17 +22,13 @@ use native.Mathlib.Nat.{eq_of_mul-eq-mul_right, mul-pos}
 
 -- ---- sums over the numbers up to k, each counted as often as it is a part
 
-counted : (b : Bool) (n : ℕ) (z : ℤ) → pos (cond b 1 0 + n) *ℤ z ≡ cond b z (pos 0) +ℤ pos n *ℤ z
-counted true n z = distributes_right (pos 1) (pos n) z ∙ ap (λ y. y +ℤ pos n *ℤ z) (one-product z)
-counted false n z = omega (arith, ints)
-
 pub total-parts : (y : ℕ → ℤ) (k : ℕ) (μ : List ℕ) → ((j : ℕ) → Among j μ → (0 < j) × (j ≤ k))
     → total (λ (i : ℕ). pos (times_in i μ) *ℤ y i) (after 0 k) ≡ total y μ
 total-parts y k [] h = total_none (λ (i : ℕ). pos 0 *ℤ y i) (after 0 k) (λ i m. zero-*ℤ (y i))
 total-parts y k (j ∷ μ) h =
     total_ext (λ (i : ℕ). pos (times_in i (j ∷ μ)) *ℤ y i)
     (λ (i : ℕ). cond (eqb j i) (y i) (pos 0) +ℤ pos (times_in i μ) *ℤ y i)
-    (λ i. counted (eqb j i) (times_in i μ) (y i)) (after 0 k)
+    (λ i. counted-product (eqb j i) (times_in i μ) (y i)) (after 0 k)
     ∙ total_add (λ (i : ℕ). cond (eqb j i) (y i) (pos 0)) (λ (i : ℕ). pos (times_in i μ) *ℤ y i)
     (after 0 k)
     ∙ ap₂ ◌+ℤ◌

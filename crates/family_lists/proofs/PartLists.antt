@@ -6,11 +6,14 @@ use Rattle.sym_model.specs.Partition.{IsPartition, columns, size}
 use Rattle.sym_model.specs.Bases.{product_over}
 use Rattle.sym_model.specs.Weight.{factorial}
 use Rattle.sym_model.specs.WholeTerms.{WholeTerms, absolute_total}
-use Rattle.whole_lists.specs.Tables.{IsWholeTable}
+use Rattle.linear_combinations.specs.Gains.{Gains, Overflows}
+use Rattle.linear_combinations.proofs.Found.{gains_same}
+use Rattle.whole_lists.specs.Tables.{equal, IsWholeTable}
 use Rattle.basis_change_laws.specs.JoinedLists.{joined, Stands}
 use Rattle.sym_model.proofs.PolynomialLaws.{times-one}
 use Rattle.basis_change_laws.proofs.JoinedLists.{stands-product, stands-same, stands-weaken}
-use Rattle.basis_change_laws.proofs.GrowthBounds.{grown, grown-joined, grown-positive}
+use Rattle.basis_change_laws.proofs.GrowthBounds.{grown, grown-joined}
+use Rattle.family_lists.proofs.RowSteps.{large-products}
 use Rattle.family_lists.proofs.TableLists.{table-stands}
 use native.Mathlib.Nat.{mul-le-mul_left, mul-le-mul_right}
 use lib.IntN.{+ℤ_idr}
@@ -31,18 +34,18 @@ columns-tail k (b ∷ rest) p = p.falls.0
 
 pub parts-next : (P F : ℕ → ℕ → Poly) → ((n k : ℕ) → In n (P k n)) → (k c o : ℕ) (rest : List ℕ) (W V terms : WholeTerms) → c * (o * factorial (size rest)) ≡ factorial (k + size rest)
     → Stands P o (o * 2 ^ k) k (λ n. F k n) W → Stands P (factorial (size rest)) (grown (size rest)) (size rest) (product_over F rest) V
-    → IsWholeTable terms → Same terms (joined (scale (pos c) W) V)
+    → IsWholeTable terms → Gains [] (joined (scale (pos c) W) V) terms
     → Stands P (factorial (k + size rest)) (grown (k + size rest)) (k + size rest) (product_over F (k ∷ rest)) terms
 parts-next P F places k c o rest W V terms e w v is h =
-    table-stands terms (joined (scale (pos c) W) V) is h P (factorial (k + size rest)) (grown (k + size rest)) (k + size rest) (product_over F (k ∷ rest))
+    table-stands terms (joined (scale (pos c) W) V) is (gains_same [] (joined (scale (pos c) W) V) terms h) P (factorial (k + size rest)) (grown (k + size rest)) (k + size rest) (product_over F (k ∷ rest))
     (stands-product P places o (o * 2 ^ k) k (factorial (size rest)) (grown (size rest)) (size rest) (factorial (k + size rest)) (grown (k + size rest)) c
     (λ n. F k n) (product_over F rest) W V w v e (grown-joined k (size rest) c o e))
 
 pub parts-large : (P F : ℕ → ℕ → Poly) (k c o : ℕ) (rest : List ℕ) (W V : WholeTerms) (z : ℤ) → z ≡ pos c → c * (o * factorial (size rest)) ≡ factorial (k + size rest)
     → Stands P o (o * 2 ^ k) k (λ n. F k n) W → Stands P (factorial (size rest)) (grown (size rest)) (size rest) (product_over F rest) V
-    → ((m : ℕ) → absolute_total V ≤ m → 1 ≤ m → 2 ^ 127 ≤ 0 + nat_abs z * absolute_total W * m) → 2 ^ 127 ≤ grown (k + size rest)
+    → Overflows equal [] (joined (scale z W) V) → 2 ^ 127 ≤ grown (k + size rest)
 parts-large P F k c o rest W V z zi e w v large =
-    let l = large (grown (size rest)) v.few (grown-positive (size rest)) in
+    let l = large-products [] z W V (grown (size rest)) large v.few in
     let b = grown-joined k (size rest) c o e in
     let u = ap nat_abs zi in
     let t = mul-le-mul_left c w.few in

@@ -1,19 +1,18 @@
 -- Products of lists label by label, and where they are refused.
-use Rattle.std.proofs.Common.{◌≡◌, ℕ, zero, suc, ◌+◌, ◌*◌, ◌^◌, ◌≤◌, Bool, true, false, cond, List, [], ◌∷◌, ◌++◌, length, sym, ◌∙◌, ap, ap₂, subst, refl, inl, arith, ℤ, pos, negsuc, ◌*ℤ◌}
+use Rattle.std.proofs.Common.{◌≡◌, ℕ, zero, suc, ◌+◌, ◌*◌, ◌^◌, ◌≤◌, Bool, true, false, cond, List, [], ◌∷◌, ◌++◌, length, sym, ◌∙◌, ap, ap₂, refl, inl, arith, ℤ, pos, negsuc, ◌*ℤ◌}
 use Rattle.std.specs.Prelude.{nat_abs, MatchOption}
 use Rattle.std.proofs.lemmas.Int.{unsigned_abs-mul}
 use Rattle.std.proofs.lemmas.Nat.{mul-le}
 use Rattle.coeff_rings.specs.Checked.{checked_i128, where_fits}
 use Rattle.coeff_rings.proofs.Sizes.{refused_size}
 use Rattle.sym_model.specs.Partition.{IsPartition, size}
-use Rattle.sym_model.specs.Polynomial.{Same, scale}
+use Rattle.sym_model.specs.Polynomial.{scale}
 use Rattle.sym_model.specs.Canonical.{fits_128_bits}
 use Rattle.sym_model.specs.WholeTerms.{WholeTerms, absolute_total}
 use Rattle.sym_model.proofs.Ring.{product_assoc}
 use Rattle.sym_model.proofs.SortedParts.{rows_within_size}
 use Rattle.partitions.specs.Limits.{IsWithinLimits}
-use Rattle.linear_combinations.specs.Gains.{Gains, Overflows, mass, scaled, replaced}
-use Rattle.linear_combinations.proofs.Found.{gains_same}
+use Rattle.linear_combinations.specs.Gains.{Overflows, scaled, replaced}
 use Rattle.linear_combinations.proofs.Masses.{overflow_mass}
 use Rattle.whole_lists.specs.Tables.{equal, IsWholeTable}
 use Rattle.whole_lists.proofs.WholeLists.{equal_from, not_zero}
@@ -47,12 +46,9 @@ pub row-gained : (k : List ℕ) (x c : ℤ) (V : WholeTerms) → row k (x *ℤ c
 row-gained k x c V = ap (λ z. row k z V) (*ℤ_comm x c) ∙ sym (scaled-row k x c V)
 
 -- row by row, the product
-products-gained : (c : ℤ) (W V : WholeTerms) → replaced (λ k. row k c V) W ≡ joined (scale c W) V
+pub products-gained : (c : ℤ) (W V : WholeTerms) → replaced (λ k. row k c V) W ≡ joined (scale c W) V
 products-gained c [] V = refl
 products-gained c (t ∷ W) V = ap₂ (λ (a b : WholeTerms). a ++ b) (scaled-row t.0 t.1 c V) (products-gained c W V)
-
-pub products-same : (old new : WholeTerms) (c : ℤ) (W V : WholeTerms) → Gains old (replaced (λ k. row k c V) W) new → Same new (old ++ joined (scale c W) V)
-products-same old new c W V g = subst (λ (l : WholeTerms). Same new (old ++ l)) (products-gained c W V) (gains_same old (replaced (λ k. row k c V) W) new g)
 
 -- ---- refusals
 
@@ -75,11 +71,11 @@ large-row old k x c (t ∷ V) is some h =
     positive zero h = absurd (h refl)
     positive (suc n) h = omega arith
 
-pub large-products : (old : WholeTerms) (c : ℤ) (W V : WholeTerms) (m : ℕ) → Overflows equal old (replaced (λ k. row k c V) W) → absolute_total V ≤ m
+pub large-products : (old : WholeTerms) (c : ℤ) (W V : WholeTerms) (m : ℕ) → Overflows equal old (joined (scale c W) V) → absolute_total V ≤ m
     → 2 ^ 127 ≤ absolute_total old + nat_abs c * absolute_total W * m
 large-products old c W V m large few =
-    let a = overflow_mass equal old (replaced (λ k. row k c V) W) large in
-    let b = ap mass (products-gained c W V) ∙ absolute-joined (scale c W) V in
+    let a = overflow_mass equal old (joined (scale c W) V) large in
+    let b = absolute-joined (scale c W) V in
     let d = absolute-scale c W in
     let f : absolute_total (scale c W) * absolute_total V ≤ nat_abs c * absolute_total W * m =
     mul-le (absolute_total (scale c W)) (absolute_total V) (nat_abs c * absolute_total W) m (omega arith) few in

@@ -4,8 +4,8 @@
 //!
 //! `factor_list`: p_k, and e_k and h_k times k!, in e, h or p, by closed coefficients; `power_sums`
 //! and `factor_lists`: those up to a number. `add_products`: c times the product of two lists is
-//! added; `Large` only where the absolute values come to 2^127 or more. `add_row`: so for a label
-//! and a list; `Large` only where they do at one label. `keep` and `list_at`: lists that are made
+//! added, and `add_row`: that of a label and a list; `Large` only where the absolute values at one
+//! label come to 2^127 or more. `keep` and `list_at`: lists that are made
 //! once, each kept under a partition.
 #![tactic(auto)]
 

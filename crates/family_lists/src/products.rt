@@ -1,12 +1,10 @@
 //! Products of lists whose labels are multiplied by joining their parts.
-ghost use Rattle.std.specs.Prelude.{◌≡◌, ℕ, ◌+◌, ◌*◌, ◌≤◌, ◌^◌, ◌*ℤ◌, ◌++◌, ◌∷◌, [], nat_abs};
+ghost use Rattle.std.specs.Prelude.{◌≡◌, ◌+◌, ◌≤◌, ◌^◌, ◌*ℤ◌, ◌++◌, ◌∷◌, [], nat_abs};
 ghost use Rattle.std.specs.Prelude.{MatchOption, IfOk, OnOk, IsErrOf};
 ghost use Rattle.sym_model.specs.Partition.{IsPartition, size};
-ghost use Rattle.sym_model.specs.Polynomial.{Same, scale};
-ghost use Rattle.sym_model.specs.WholeTerms.{absolute_total};
 ghost use Rattle.sparse_polys.specs.MonomialProducts.{greatest_size};
 ghost use Rattle.basis_change_laws.specs.JoinedLists.{merged, joined, row};
-ghost use Rattle.linear_combinations.specs.Gains.{Gains, Overflows};
+ghost use Rattle.linear_combinations.specs.Gains.{Gains, Overflows, scaled};
 ghost use Rattle.whole_lists.specs.Tables.{equal, IsWholeTable};
 
 use calc_base::{NoMemory, SumFault};
@@ -136,9 +134,7 @@ impl Rule<Partition, Partition> for TimesList<'_> {
     }
 }
 
-/// Adds c times the product of two lists. It is refused as `Large` only where the absolute values
-/// of what is there and of what is added come to 2^127 or more,
-/// those of the right list being at least 1.
+/// Adds c times the product of two lists. It is refused as `Large` only where that overflows.
 pub fn add_products(
     alloc: Global,
     sum: &mut Whole,
@@ -147,10 +143,10 @@ pub fn add_products(
     right: &Whole,
 ) -> Result<(), SumFault>
     requires { greatest_size left.now + greatest_size right.now ≤ 512 }
-    ensures value { OnOk result (Same sum.new (sum.old ++ joined (scale c left.now) right.now)) }
+    ensures gains { OnOk result (Gains sum.old (joined (scaled c left.now) right.now) sum.new) }
     ensures table { OnOk result (IsWholeTable sum.new) }
-    ensures large { IsErrOf result SumFault.Large → (m : ℕ) → absolute_total right.now ≤ m → 1 ≤ m
-        → 2 ^ 127 ≤ absolute_total sum.old + nat_abs c * absolute_total left.now * m }
+    ensures large { IsErrOf result SumFault.Large
+        → Overflows equal sum.old (joined (scaled c left.now) right.now) }
 {
     let rule = TimesList {
         alloc,

@@ -8,7 +8,7 @@ use Rattle.sym_model.specs.Insertion.{inserted}
 use Rattle.sym_model.specs.Permutation.{letter}
 use Rattle.sym_model.specs.Schur.{times_in}
 use Rattle.sym_model.specs.Tableau.{shape_of}
-use Rattle.sym_model.proofs.Contents.{times_in-append}
+use Rattle.sym_model.proofs.Contents.{times_in-append, times_in-last, times_in-last_other}
 use Rattle.insertion_laws.specs.Rows.{RowsBelow}
 use Rattle.insertion_laws.proofs.InsertedRows.{adds_cell}
 use Rattle.sym_model.specs.Growth.{with_cell, at_corner, growth_shape, at_most, with_end}
@@ -62,12 +62,6 @@ from_parts j a u small large more last e f n r =
       rule = ap shape_of f ∙ r ∙ ap (λ (x : List (List ℕ)). at_corner (a == suc j) (shape_of small) (shape_of large) (shape_of x)) (sym e);
     }
 
-other_last : (m a : ℕ) (u : List ℕ) → (a ≡ m → ⊥) → times_in m (u ++ a ∷ []) ≡ times_in m u
-other_last m a u d = omega (arith, times_in-append m u (a ∷ []), ap {B = ℕ} (λ t. cond t 1 0) (ne_eqb a m d))
-
-this_last : (m a : ℕ) (u : List ℕ) → a ≡ m → times_in m (u ++ a ∷ []) ≡ times_in m u + 1
-this_last m a u e = omega (arith, times_in-append m u (a ∷ []), ap {B = ℕ} (λ t. cond t 1 0) (eq-eqb a m e))
-
 -- a letter smaller than m
 square_less :
     (j a : ℕ) (u : List ℕ) (small large : List (List ℕ)) → RowsBelow (suc j) small → a < suc j → Extends (suc j) u small large
@@ -76,7 +70,7 @@ square_less j a u small large b l (alone t e) =
     let c = cell_of (shape_of (inserted small (Some a))) (shape_of small) (adds_cell a small) in
     from_parts j a u small large (inserted small (Some a)) (inserted small (Some a)) (goes_in j a small (omega arith))
     (goes_in (suc j) a large (omega arith) ∙ ap (λ (r : List (List ℕ)). inserted r (Some a)) e)
-    (alone (omega (arith, other_last (suc j) a u (λ f. omega arith))) refl)
+    (alone (omega (arith, times_in-last_other (suc j) a u (λ f. omega arith))) refl)
     (c.is ∙ sym (corner-right (a == suc j) (row_of_cell a small) (shape_of small))
     ∙ ap₂ (λ (x y : List ℕ). at_corner (a == suc j) (shape_of small) x y) (ap shape_of (sym e)) (sym c.is))
 square_less j a u small large b l (ended t k n e) =
@@ -86,7 +80,7 @@ square_less j a u small large b l (ended t k n e) =
     let within = c.within in
     let μ : shape_of large ≡ with_cell k (shape_of small) = ap shape_of e ∙ shape-last k (suc j) small in
     let count : length (shape_of small) ≡ length small = length-map small (λ (w : List ℕ). length w) in
-    let still : 0 < times_in (suc j) (u ++ a ∷ []) = omega (arith, other_last (suc j) a u (λ f. omega arith)) in
+    let still : 0 < times_in (suc j) (u ++ a ∷ []) = omega (arith, times_in-last_other (suc j) a u (λ f. omega arith)) in
     let long : length (shape_of small) ≤ length (shape_of more) = omega (arith, cell_long (row_of_cell a small) (shape_of small), ap (λ (x : List ℕ). length x) c.is) in
     elim (beside (suc j) k a small b l (omega arith)) [
       | pushed f g ↦
@@ -108,12 +102,12 @@ square_less j a u small large b l (ended t k n e) =
 square_same :
     (j a : ℕ) (u : List ℕ) (small large : List (List ℕ)) → RowsBelow (suc j) small → a ≡ suc j → times_in (suc j) (u ++ a ∷ []) ≤ 1
     → Extends (suc j) u small large → IsSquare j a u small large
-square_same j a u small large b l o (ended t k n e) = absurd (omega (arith, this_last (suc j) a u l))
+square_same j a u small large b l o (ended t k n e) = absurd (omega (arith, times_in-last (suc j) a u l))
 square_same j a u small large b l o (alone t e) =
     let s = shape_of small in
     from_parts j a u small large small (with_end 0 (suc j) small) (stays_out j a small (omega arith))
     (goes_in (suc j) a large (omega arith) ∙ ap₂ (λ (r : List (List ℕ)) (i : ℕ). inserted r (Some i)) e l ∙ largest-last (suc j) small b)
-    (ended (omega (arith, this_last (suc j) a u l)) 0 (omega arith) refl)
+    (ended (omega (arith, times_in-last (suc j) a u l)) 0 (omega arith) refl)
     (shape-last 0 (suc j) small ∙ ap (λ t. cond t (with_cell 0 s) s) (sym (eq-eqb a (suc j) l)) ∙ sym (corner-equal (a == suc j) s)
     ∙ ap (λ (x : List ℕ). at_corner (a == suc j) s x s) (ap shape_of (sym e)))
 
@@ -124,7 +118,7 @@ square_more j a u small large l (alone t e) =
     let s = shape_of small in
     let d : a ≡ suc j → ⊥ = λ f. omega arith in
     from_parts j a u small large small large (stays_out j a small (omega arith)) (stays_out (suc j) a large l)
-    (alone (omega (arith, other_last (suc j) a u d)) e)
+    (alone (omega (arith, times_in-last_other (suc j) a u d)) e)
     (ap shape_of e ∙ ap (λ t. cond t (with_cell 0 s) s) (sym (ne_eqb a (suc j) d)) ∙ sym (corner-equal (a == suc j) s)
     ∙ ap (λ (x : List ℕ). at_corner (a == suc j) s x s) (ap shape_of (sym e)))
 square_more j a u small large l (ended t k n e) =
@@ -132,7 +126,7 @@ square_more j a u small large l (ended t k n e) =
     let d : a ≡ suc j → ⊥ = λ f. omega arith in
     let μ : shape_of large ≡ with_cell k (shape_of small) = ap shape_of e ∙ shape-last k (suc j) small in
     from_parts j a u small large small large (stays_out j a small (omega arith)) (stays_out (suc j) a large l)
-    (ended (omega (arith, other_last (suc j) a u d)) k n e)
+    (ended (omega (arith, times_in-last_other (suc j) a u d)) k n e)
     (μ ∙ sym (corner-left (a == suc j) k s) ∙ ap (λ (x : List ℕ). at_corner (a == suc j) s x s) (sym μ))
 
 pub square :

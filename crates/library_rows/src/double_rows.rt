@@ -3,8 +3,9 @@ use crate::printing::shifts;
 use anyhow::Result;
 use coeff_rings::Int;
 use double_schubert::{dschubmult, times_factor};
+use linear_combinations::{Lin, Terms};
 use perm_codes::Perm;
-use sparse_polys::{Monomial, Shifted, Terms};
+use sparse_polys::{Monomial, Shifted};
 use std::alloc::Global;
 
 /// Prints the rows of the crate `double_schubert`.
@@ -16,16 +17,16 @@ pub fn print(rt: &(impl Print + Alloc<A = Global>)) -> Result<()> {
 
 /// S_(2,1)·(x_1 - y_1).
 fn with_factor(alloc: Global) -> Result<Terms<Shifted, Int>> {
-    let mut list = linear_combinations::Lin::new(alloc);
+    let mut list = Lin::new(alloc);
     let perm = Perm::from_letters(alloc, &[2, 1])?;
     let y = Monomial::one(alloc);
     list.add_term(Shifted { perm, y }, Int::new(1))?;
     let product = times_factor(alloc, list, 1, 1)?;
-    Ok(Terms::from_list(product.sorted_terms()?))
+    Ok(product.sorted_terms()?)
 }
 
 /// The square of S_(2,1).
 fn square(alloc: Global) -> Result<Terms<Shifted, Int>> {
     let w = Perm::from_letters(alloc, &[2, 1])?;
-    Ok(Terms::from_list(dschubmult(alloc, &w, &w)?))
+    Ok(dschubmult(alloc, &w, &w)?)
 }

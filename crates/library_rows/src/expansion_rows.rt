@@ -12,10 +12,11 @@ use calc_base::SumFault;
 use coeff_rings::{Frac, Int};
 use expand_in_monomials::to_monomial;
 use expression_reading::{Basis, Expr, Formula, Weight};
+use linear_combinations::Lin;
 use partitions::Partition;
 use plethysm::plethysm;
 use row_texts::said;
-use sparse_polys::{Lin, times_in_m};
+use sparse_polys::times_in_m;
 use std::alloc::Global;
 
 /// Prints the rows of expansions in m and in s, of a plethysm, and of a product in m.

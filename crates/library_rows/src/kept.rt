@@ -2,10 +2,11 @@
 use crate::printing::polynomial;
 use anyhow::Result;
 use coeff_rings::Int;
+use linear_combinations::Lin;
 use perm_codes::Perm;
 use row_texts::said;
 use schubert_transition::Memo;
-use sparse_polys::{Lin, Monomial};
+use sparse_polys::Monomial;
 use std::alloc::Global;
 
 /// Prints the rows of `Memo`.
@@ -30,12 +31,12 @@ fn asked(rt: &impl Print, memo: &mut Memo, w: &Perm, v: &Perm) -> Result<()> {
 }
 
 fn answered(rt: &impl Print, what: &str, memo: &mut Memo, w: &Perm) -> Result<()> {
-    polynomial(rt, what, Lin::from_table(memo.schubert(w)?))
+    polynomial(rt, what, memo.schubert(w)?)
 }
 
-fn held(rt: &impl Print, answer: Option<&linear_combinations::Lin<Monomial, Int>>) -> Result<()> {
+fn held(rt: &impl Print, answer: Option<&Lin<Monomial, Int>>) -> Result<()> {
     match answer {
-        Some(list) => polynomial(rt, "kept S_(1,3,2)", Lin::from_table(list.copy()?)),
+        Some(list) => polynomial(rt, "kept S_(1,3,2)", list.copy()?),
         None => said(rt, "kept S_(1,3,2)", &"none"),
     }
 }

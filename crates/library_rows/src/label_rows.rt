@@ -2,10 +2,11 @@
 //! and finds it among the keys of a hash table.
 use anyhow::Result;
 use indexmap::IndexMap;
+use linear_combinations::Label;
 use partitions::Partition;
 use perm_codes::Perm;
 use row_texts::truth;
-use sparse_polys::{Label, Monomial, Pair, Power};
+use sparse_polys::{Monomial, Pair, Power};
 use std::alloc::{AllocError, Global};
 
 /// Prints the rows of the kinds of labels.

@@ -3,10 +3,11 @@ use anyhow::Result;
 use block_reader::ReadBackFault;
 use coeff_rings::{Digits, Frac, Int, Scalar};
 use expansion_printer::Answer;
+use linear_combinations::{Lin, Terms};
 use partitions::Partition;
 use perm_codes::Perm;
 use row_texts::{end, said, start, term};
-use sparse_polys::{Lin, Monomial, Pair, Poly, Power, Shifted, Terms};
+use sparse_polys::{Monomial, Pair, Poly, Power, Shifted};
 
 /// Prints what a text is read as.
 pub fn read_as(rt: &impl Print, what: &str, read: Result<Answer, ReadBackFault>) -> Result<()> {

@@ -1,13 +1,13 @@
 //! Rows of products of polynomials, and of sums of Schubert polynomials by a variable.
-ghost use Rattle.std.specs.Prelude.{◌≡◌, ◌⊎◌, ℕ, ◌≤◌, ◌∷◌, [], List, length, IfOk};
-ghost use Rattle.sym_model.specs.Expansion.{Fraction};
-ghost use Rattle.sym_model.specs.Sum.{Among};
+ghost use Rattle.std.specs.Prelude.{◌≡◌, ◌⊎◌, ◌≤◌, ◌∷◌, [], length, IfOk};
+ghost use Rattle.linear_combinations.specs.Gains.{HaveLabels};
 
 use crate::printing::{polynomial, schubert_sum};
 use anyhow::Result;
 use coeff_rings::Int;
+use linear_combinations::Lin;
 use perm_codes::Perm;
-use sparse_polys::{Lin, Monomial, Poly, times, times_var};
+use sparse_polys::{Monomial, Poly, times, times_var};
 use std::alloc::Global;
 
 /// Prints the rows of the products of `sparse_polys` and `monk_product`.
@@ -21,7 +21,7 @@ pub fn print(rt: &(impl Print + Alloc<A = Global>)) -> Result<()> {
 
 /// x_1.
 fn first_variable(alloc: Global) -> Result<Poly<Int>>
-    ensures { IfOk result (λ f. (t : List ℕ × Fraction) → Among t f → t.0 ≡ 1 ∷ []) }
+    ensures { IfOk result (HaveLabels (λ e. e ≡ 1 ∷ [])) }
 {
     let mut sum = Lin::new(alloc);
     sum.add_term(Monomial::one(alloc).times_var(1)?, Int::new(1))?;
@@ -30,8 +30,7 @@ fn first_variable(alloc: Global) -> Result<Poly<Int>>
 
 /// x_1 + x_2.
 fn two_variables(alloc: Global) -> Result<Poly<Int>>
-    ensures { IfOk result (λ f. (t : List ℕ × Fraction) → Among t f
-        → (t.0 ≡ 0 ∷ 1 ∷ []) ⊎ (t.0 ≡ 1 ∷ [])) }
+    ensures { IfOk result (HaveLabels (λ e. (e ≡ 0 ∷ 1 ∷ []) ⊎ (e ≡ 1 ∷ []))) }
 {
     let mut sum = first_variable(alloc)?;
     sum.add_term(Monomial::one(alloc).times_var(2)?, Int::new(1))?;
@@ -57,7 +56,7 @@ fn monk(alloc: Global, letters: &[u16], r: u16) -> Result<Lin<Perm, Int>>
     requires last { r ≤ 254 }
     requires letters { length letters.now ≤ 254 }
 {
-    let mut sum = linear_combinations::Lin::new(alloc);
+    let mut sum = Lin::new(alloc);
     sum.add_term(Perm::from_letters(alloc, letters)?, Int::new(1))?;
-    Ok(Lin::from_table(monk_product::times_var(alloc, sum, r)?))
+    Ok(monk_product::times_var(alloc, sum, r)?)
 }

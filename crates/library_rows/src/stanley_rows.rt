@@ -4,7 +4,6 @@ ghost use Rattle.std.specs.Prelude.{◌≤◌};
 use crate::printing::shapes;
 use anyhow::Result;
 use perm_codes::Perm;
-use sparse_polys::Terms;
 use stanley_expand::stanley;
 use std::alloc::Global;
 
@@ -28,6 +27,5 @@ fn expanded(rt: &(impl Print + Alloc<A = Global>), what: &str, w: &Perm, rows: u
     if w.len() > 16 {
         return Ok(());
     }
-    let list = Terms::from_list(stanley(rt.alloc(), w, rows)?);
-    shapes(rt, what, &list)
+    shapes(rt, what, &stanley(rt.alloc(), w, rows)?)
 }

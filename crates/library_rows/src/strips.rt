@@ -7,7 +7,6 @@ use anyhow::Result;
 use coeff_rings::Int;
 use linear_combinations::Lin;
 use partitions::Partition;
-use sparse_polys::Lin as Fractions;
 use std::alloc::Global;
 use strip_rules::{add_column, add_hook, add_row};
 
@@ -16,13 +15,9 @@ type Expansion = Lin<Partition, Int>;
 
 /// Prints the rows of the crate `strip_rules`.
 pub fn print(rt: &(impl Print + Alloc<A = Global>)) -> Result<()> {
-    row(rt, "h_2 s_(1)", with_row(rt.alloc())?)?;
-    row(rt, "e_2 s_(1)", with_column(rt.alloc())?)?;
-    row(rt, "p_2 s_(1)", with_hook(rt.alloc())?)
-}
-
-fn row(rt: &impl Print, what: &str, list: Expansion) -> Result<()> {
-    sum(rt, what, Fractions::from_table(list))
+    sum(rt, "h_2 s_(1)", with_row(rt.alloc())?)?;
+    sum(rt, "e_2 s_(1)", with_column(rt.alloc())?)?;
+    sum(rt, "p_2 s_(1)", with_hook(rt.alloc())?)
 }
 
 fn with_row(alloc: Global) -> Result<Expansion> {

@@ -2,14 +2,14 @@
 use anyhow::Result;
 use calc_base::SumFault;
 use coeff_rings::{Int, Scalar};
+use linear_combinations::Lin;
 use partitions::Partition;
 use row_texts::{end, said, start, term, truth};
-use sparse_polys::Lin;
 use std::alloc::Global;
 
 type Table = Lin<Partition, Int>;
 
-/// Prints the rows of the crate `sparse_polys`.
+/// Prints the rows of the crate `linear_combinations`.
 pub fn print(rt: &(impl Print + Alloc<A = Global>)) -> Result<()> {
     let alloc = rt.alloc();
     refused_sum(rt)?;

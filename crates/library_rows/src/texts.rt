@@ -8,9 +8,9 @@ use coeff_rings::Frac;
 use expand_in_monomials::to_monomial;
 use expansion_printer::Kind;
 use expression_reading::{Basis, Expr, Formula};
+use linear_combinations::Lin;
 use partitions::Partition;
 use row_texts::said;
-use sparse_polys::Lin;
 use std::alloc::Global;
 
 /// Prints the rows of a change of basis, of blocks and of one-line forms.

@@ -8,7 +8,6 @@ use Rattle.std.specs.Map.{keys_of}
 use Rattle.std.proofs.lemmas.Int.{ints}
 use Rattle.std.proofs.lemmas.Bool.{both_ways}
 use Rattle.sym_model.specs.Sum.{Among}
-use Rattle.sym_model.specs.WholeTerms.{as_fractions, numerators, AreWhole}
 use Rattle.sym_model.specs.Polynomial.{Same, same, coefficient as coefficient_of}
 use Rattle.sym_model.proofs.Sums.{total_ext}
 use Rattle.sym_model.proofs.Ring.{product-one}
@@ -30,16 +29,6 @@ counts_at {L} eq x (t ∷ g) h = by (eq x t.0) t.1 (h t (inl refl)) (counts_at e
     by true (pos n) l r = let e = product-one (pos n) in omega (arith, ints)
     by true (negsuc n) l r = absurd (omega (arith, ints))
     by false c l r = let e = *ℤ-zero c in omega (arith, ints)
-
--- ---- whole coefficients as fractions
-
-pub numerators-as_fractions : {L : Type 0} (terms : WholeTermsOf L) → numerators (as_fractions terms) ≡ terms
-numerators-as_fractions [] = refl
-numerators-as_fractions (t ∷ terms) = ap (λ l. t ∷ l) (numerators-as_fractions terms)
-
-pub AreWhole-as_fractions : {L : Type 0} (terms : WholeTermsOf L) → AreWhole (as_fractions terms)
-AreWhole-as_fractions [] = tt
-AreWhole-as_fractions (t ∷ terms) = (refl, AreWhole-as_fractions terms)
 
 -- ---- labels that are lists of numbers
 

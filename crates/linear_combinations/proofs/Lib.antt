@@ -8,6 +8,7 @@ pub mod Following
 pub mod Multiples
 pub mod Totals
 pub mod Gains
+pub mod Cleared
 pub mod Masses
 pub mod Found
 pub mod Inserted

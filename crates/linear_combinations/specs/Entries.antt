@@ -1,14 +1,16 @@
 -- Finite linear combinations of labels, as lists of labels with their coefficients: which
 -- coefficient a label has, and when a list is one of them.
-use Rattle.std.specs.Prelude.{◌≡◌, Bool, true, ◌&&◌, Option, Some, None, List, [], ◌∷◌}
-use Rattle.std.specs.Prelude.{if◌then◌else◌, IsTrue}
+use Rattle.std.specs.Prelude.{◌≡◌, ℕ, ℤ, nat_eq, Bool, true, ◌&&◌, Option, Some, None, List, []}
+use Rattle.std.specs.Prelude.{◌∷◌, if◌then◌else◌, IsTrue}
+use Rattle.std.specs.Cmp.Lexicographic.{pointwise}
 use Rattle.std.specs.List.{IsDistinct}
 use Rattle.std.specs.Map.{lookup, keys_of}
 use Rattle.std.specs.Option.{unwrap_or}
 use Rattle.std.specs.Ordering.{is_lt}
 use Rattle.std.specs.declared.cmp.Ordering.{Ordering}
 use Rattle.sym_model.specs.Expansion.{Fraction}
-use Rattle.sym_model.specs.Canonical.{is_reduced}
+use Rattle.coeff_rings.specs.Fractions.{whole}
+use Rattle.sym_model.specs.Canonical.{is_label, is_reduced}
 use Rattle.sym_model.specs.Sum.{Among}
 
 -- the coefficient of a label in a list, 0 where the label is not there
@@ -30,6 +32,10 @@ pub record IsCombination {L R : Type 0} (eq : L → L → Bool) (is_label : L �
     (value : R → Fraction) (entries : List (L × R)) : Type 0 where
   pub distinct : IsDistinct eq (keys_of entries)
   pub proper : IsTrue (are_terms value is_label entries)
+
+-- a finite linear combination of partitions with whole numbers
+abbrev pub IsWholeTable : List (List ℕ × ℤ) → Type 0
+IsWholeTable entries = IsCombination (pointwise nat_eq) is_label whole entries
 
 -- each coefficient is one that a scalar may have
 pub record AreHeld {L R : Type 0} (eq : L → L → Bool) (zero : R) (is_held : R → Type 0)

@@ -1,3 +1,4 @@
 pub mod Labels
 pub mod Entries
 pub mod Gains
+pub mod Cleared

@@ -1,5 +1,5 @@
 -- The elements of a list at indexes, and its first elements.
-use Rattle.std.proofs.Common.{◌≡◌, ℕ, zero, suc, ◌+◌, ◌<◌, ◌≤◌, ◌⊎◌, List, [], ◌∷◌, ◌++◌, length, take, refl, sym, ap, ◌∙◌, subst, inl, inr, arith}
+use Rattle.std.proofs.Common.{◌≡◌, ℕ, zero, suc, ◌+◌, ◌<◌, ◌⊎◌, List, [], ◌∷◌, ◌++◌, length, take, refl, sym, ap, ◌∙◌, subst, inl, inr, arith}
 use Rattle.std.proofs.lemmas.List.{get_or_default}
 use Rattle.sym_model.specs.Sum.{Among}
 pub use Rattle.lr_coproduct.specs.InnerShapeList.{IsAt}
@@ -20,12 +20,6 @@ take_next (y ∷ xs) zero x r = ap (λ z. z ∷ take 0 xs) (sym r.is) ∙ ap (λ
 take_next (y ∷ xs) (suc i) x r =
     let e : suc i + 1 ≡ suc (i + 1) = omega arith in
     ap (λ j. take j (y ∷ xs)) e ∙ ap (λ l. y ∷ l) (take_next xs i x (let l = r.within in record { within = omega arith; is = r.is }))
-
-pub take_past : {A : Type 0} (xs : List A) (i : ℕ) → length xs ≤ i → take i xs ≡ xs
-take_past [] zero h = refl
-take_past [] (suc i) h = refl
-take_past (x ∷ xs) zero h = absurd (omega arith)
-take_past (x ∷ xs) (suc i) h = ap (λ l. x ∷ l) (take_past xs i (omega arith))
 
 -- what holds at the element and at those before it
 pub either_at : {A : Type 0} (P : A → Type 0) (xs : List A) (i : ℕ) (x z : A) → IsAt xs i x → Among z (take (i + 1) xs) → P x → (Among z (take i xs) → P z) → P z

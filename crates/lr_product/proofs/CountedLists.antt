@@ -95,12 +95,6 @@ weighed-front n g [] (suc i) = omega arith
 weighed-front n g (e ∷ es) zero = omega arith
 weighed-front n g (e ∷ es) (suc i) = let r = weighed-front n g es i in omega arith
 
-pub take_past : (es : List (List ℕ × ℕ)) (i : ℕ) → length es ≤ i → take i es ≡ es
-take_past [] zero h = refl
-take_past [] (suc i) h = refl
-take_past (e ∷ es) zero h = absurd (omega arith)
-take_past (e ∷ es) (suc i) h = ap (λ l. e ∷ l) (take_past es i (omega arith))
-
 -- the counts of the first entries
 abbrev pub counted : ℕ → List (List ℕ × ℕ) → ℕ → List ℕ → ℕ
 counted n es i parts = weighed n (comes_to parts) (take i es)

@@ -12,10 +12,8 @@ use Rattle.sym_model.specs.Schur.{contains, semistandard, fillings_of, row_lengt
 use Rattle.sym_model.specs.GoodTableau.{good_tableaux, product_count, skew_count}
 use Rattle.sym_model.specs.Alternant.{alternant, staircase, schur_coefficient}
 use Rattle.sym_model.specs.LabelLimits.{is_partition, is_label}
-use Rattle.sym_model.specs.Expansion.{Fraction}
 use Rattle.sym_model.specs.WholeTerms.{WholeTerms, as_fractions, absolute_total}
 use Rattle.coeff_rings.specs.Fractions.{whole}
-use Rattle.linear_combinations.proofs.Found.{numerators-as_fractions, AreWhole-as_fractions}
 use Rattle.linear_combinations.proofs.Steps.{IsCombination-empty}
 use Rattle.sym_model.specs.Kind.{product}
 use Rattle.sym_model.specs.Answer.{answer}
@@ -27,7 +25,7 @@ use Rattle.sym_model.proofs.Polynomials.{at_only, coefficient_pair, pair_times, 
 use Rattle.sym_model.proofs.WholeTerms.{represents-whole}
 use Rattle.sym_model.proofs.Orders.{is_partition-tells, is_partition-from}
 use Rattle.sym_model.proofs.SortedParts.{IsPartition-none}
-use Rattle.sym_model.proofs.Sums.{total_none, total_map, Among_from_map}
+use Rattle.sym_model.proofs.Sums.{total_none, total_map}
 use Rattle.tableau_laws.specs.ColumnFold.{column_lines, is_sum}
 use Rattle.tableau_laws.proofs.ColumnCounts.{contains_nothing, total_readings_by_columns}
 use Rattle.tableau_laws.proofs.GoodReadings.{total_good_contents}
@@ -36,6 +34,7 @@ use Rattle.alternant_laws.specs.GoodSums.{ListsCounts, start_plus_content}
 use Rattle.alternant_laws.proofs.CountedTerms.{good_terms, coefficient_counts, no_long_labels, product_coefficients, skew_coefficients, nothing_times, mult_meets, skew_meets}
 use Rattle.alternant_laws.proofs.Degrees.{coefficient-other_degree, times-of_degree, alternant-of_degree, schur-of_degree}
 use Rattle.alternant_laws.proofs.ClassicalProducts.{classical_product-coefficient, classical_product-term}
+use Rattle.alternant_laws.proofs.WholeLists.{whole_counts}
 use Rattle.lr_product.specs.WeighedSum.{comes_to, VanishesOutside}
 use Rattle.lr_product.specs.Capped.{Agree}
 use Rattle.lr_product.specs.Counts.{good_count, HasCounts, IsPastSomewhere}
@@ -113,14 +112,9 @@ pub no_label : (terms : WholeTerms) (ν : List ℕ) → ((t : List ℕ × ℤ) �
 no_label terms ν h = total_none (λ (t : Term). cond (same t.0 ν) t.1 (pos 0)) terms (λ t m. ap (λ (b : Bool). cond b t.1 (pos 0)) (same_apart t.0 ν (h t m)))
 
 -- the terms as fractions
-pub lists_counts : (k : ℕ) (count : List ℕ → ℕ) (terms : WholeTerms) → HasCounts k count terms → ListsCounts k count (as_fractions terms)
-lists_counts k count terms c = record {
-  whole = AreWhole-as_fractions terms;
-  labels = λ t m.
-      let u = Among_from_map (λ (v : List ℕ × ℤ). let term : List ℕ × Fraction = (v.0, (v.1, 1)) in term) t terms m in
-      subst (λ (l : List ℕ). IsPartition l × (rows l ≤ k)) (sym (ap (λ (v : List ℕ × Fraction). v.0) u.2)) (c.labels u.0 u.1);
-  counts = λ parts p h. ap (λ (l : WholeTerms). coefficient l parts) (numerators-as_fractions terms) ∙ c.counts parts p h;
-}
+pub lists_counts : (k : ℕ) (count : List ℕ → ℕ) (terms : WholeTerms)
+    → HasCounts k count terms → ListsCounts k count (as_fractions terms)
+lists_counts k count terms c = whole_counts k count terms c.labels c.counts
 
 pub lists_in : (n m : ℕ) (good count : List ℕ → ℕ) (terms : WholeTerms) → SameCounts n m good count → HasCounts n good terms → HasCounts m count terms
 lists_in n m good count terms same_ones c = record {

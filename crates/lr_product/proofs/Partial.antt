@@ -12,14 +12,14 @@ use Rattle.sym_model.specs.Partition.{IsPartition, size, rows, ArePartitions}
 use Rattle.sym_model.specs.Schur.{schur}
 use Rattle.sym_model.specs.Canonical.{is_label}
 use Rattle.sym_model.specs.Expansion.{Fraction}
-use Rattle.sym_model.specs.WholeTerms.{WholeTerms, as_fractions, numerators}
+use Rattle.sym_model.specs.WholeTerms.{WholeTerms, as_fractions}
 use Rattle.sym_model.specs.Target.{schur_product, ExpandsInSchurs, classical_product}
 use Rattle.sym_model.proofs.Ring.{one-product}
-use Rattle.sym_model.proofs.Sums.{total_ext, Among_from_map, Among-append_left, Among-append_right}
+use Rattle.sym_model.proofs.Sums.{total_ext, Among-append_left, Among-append_right}
 use Rattle.sym_model.proofs.Polynomials.{pair_each, pair_scale, pair_determined, same_from_pair, Same_sym, Same_trans}
 use Rattle.sym_model.proofs.WholeTerms.{represents-whole}
 use Rattle.linear_combinations.specs.Entries.{IsCombination}
-use Rattle.linear_combinations.proofs.Found.{coefficient_of_term, numerators-as_fractions, AreWhole-as_fractions}
+use Rattle.linear_combinations.proofs.Found.{coefficient_of_term}
 use Rattle.linear_combinations.proofs.LowestTerms.{not_zero-is_reduced}
 use Rattle.linear_combinations.proofs.Totals.{term-among}
 use Rattle.alternant_laws.proofs.ClassicalProducts.{classical_product-term}
@@ -29,7 +29,7 @@ use Rattle.product_laws.specs.CountedProducts.{IsShownIn, Reaches}
 use Rattle.product_laws.proofs.CountLists.{counts-coefficient, some_term}
 use Rattle.product_laws.proofs.SomeLabel.{are_two}
 use Rattle.product_laws.proofs.Growing.{counted-all, label_size, reaches_more}
-use Rattle.product_laws.proofs.Expanding.{HasFewRows, expands_next}
+use Rattle.product_laws.proofs.Expanding.{expands_whole}
 use Rattle.partitions.specs.FactorList.{AreFactors}
 use Rattle.lr_product.specs.ProductOfFactors.{AreSmallCounts, AllMayMeet}
 
@@ -84,28 +84,6 @@ term_of k first rest product p is e t m =
     at_least_one (negsuc a) g n = absurd (omega (arith, ints))
 
 -- ---- one factor more
-
--- a list that stands for the product of the first factors, and one for its products with the next
-expands_whole : (given : Option ℕ) (k : ℕ) (front : List (List ℕ)) (next : List ℕ) (product after : WholeTerms) → IsPartition next
-    → ((t : Term) → Among t product → IsPartition t.0 × (rows t.0 ≤ k) × IsShownIn given (rows t.0 + rows next) k)
-    → ((t : Term) → Among t after → rows t.0 ≤ k)
-    → ExpandsInSchurs given (schur_product front) (as_fractions product) → Same after (multiplied k next product)
-    → IsShownIn given (size (map rows front) + rows next) k
-    → ExpandsInSchurs given (schur_product (front ++ next ∷ [])) (as_fractions after)
-expands_whole given k front next product after q labels few e is shown =
-    expands_next given k front next (as_fractions product) (as_fractions after) (AreWhole-as_fractions product) (AreWhole-as_fractions after) q
-    (subst (λ (l : WholeTerms). (t : Term) → Among t l → IsPartition t.0 × (rows t.0 ≤ k) × IsShownIn given (rows t.0 + rows next) k) (sym (numerators-as_fractions product)) labels)
-    (few_rows given shown) e
-    (subst (λ (l : WholeTerms). Same l (multiplied k next (numerators (as_fractions product)))) (sym (numerators-as_fractions after))
-    (subst (λ (l : WholeTerms). Same after (multiplied k next l)) (sym (numerators-as_fractions product)) is))
-  where
-    few_rows : (given : Option ℕ) → IsShownIn given (size (map rows front) + rows next) k → HasFewRows given (as_fractions after)
-    few_rows None s = tt
-    few_rows (Some n) s = λ t m.
-        let u = Among_from_map (λ (v : Term). let term : List ℕ × Fraction = (v.0, (v.1, 1)) in term) t after m in
-        let f = few u.0 u.1 in
-        let d = ap (λ (v : List ℕ × Fraction). rows v.0) u.2 in
-        omega (arith, s)
 
 pub rows-push : (front : List (List ℕ)) (next : List ℕ) → size (map rows (front ++ next ∷ [])) ≡ size (map rows front) + rows next
 rows-push [] next = omega arith

@@ -39,7 +39,7 @@ impl Model for States {
 }
 
 impl States {
-    /// No states of this length, with room for so many.
+    /// No states of this length, with room for a number of them.
     pub(crate) fn with_room(alloc: Global, width: usize, room: usize) -> Result<States, NoMemory>
         ensures width { IfOk result (λ s. s.width ≡ width) }
         ensures none { IfOk result (λ s. s.entries ≡ []) }

@@ -31,7 +31,7 @@ impl Model for Table {
 }
 
 impl Table {
-    /// The table of no states of this length, with room for so many.
+    /// The table of no states of this length, with room for a number of them.
     pub(crate) fn with_room(alloc: Global, width: usize, room: usize) -> Result<Table, NoMemory>
         ensures width { IfOk result (λ t. t.width ≡ width) }
         ensures none { IfOk result (λ t. t.entries ≡ []) }

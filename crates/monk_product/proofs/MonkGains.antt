@@ -26,7 +26,7 @@ use Rattle.linear_combinations.proofs.Gains.{replaced_over, scaled_append, mass_
 use Rattle.linear_combinations.proofs.Masses.{scaled_each, labels_append, labels_each, labels_replaced, mass_replaced, mass_at_replaced, labels_gained}
 use Rattle.transition_walk.proofs.Covers.{up_within, down_within}
 use Rattle.transition_walk.proofs.Labels.{label_one_line, one_one_line}
-use Rattle.monk_product.specs.Monk.{IsTable, AreShort, over, mass, each_with, monk_terms, over_covers, greatest_length, count_of}
+use Rattle.monk_product.specs.Monk.{IsPermutationTable, AreShort, over, mass, each_with, monk_terms, over_covers, greatest_length, count_of}
 use Rattle.monk_product.specs.MonkLaws.{over_terms, mass_terms}
 use Rattle.monk_product.proofs.MonkSteps.{pair_monk}
 use Rattle.monk_product.proofs.OneCover.{one_cover}
@@ -67,17 +67,17 @@ module _ (r : ℕ) (first : 1 ≤ r) (list : WholeTerms) where
       replaced_over (monk_terms r) φ list
       ∙ total_ext (λ (t : List ℕ × ℤ). t.1 *ℤ over φ (monk_terms r t.0)) (λ (t : List ℕ × ℤ). t.1 *ℤ over_covers r φ t.0) (λ t. ap (λ z. t.1 *ℤ z) (over_terms r φ t.0)) list
 
-  pub one_line : IsTable list → (t : List ℕ × ℤ) → Among t list → IsOneLine t.0
+  pub one_line : IsPermutationTable list → (t : List ℕ × ℤ) → Among t list → IsOneLine t.0
   one_line is t m = label_one_line t.0 (and_parts _ (is_permutation_label t.0) (term-among is_permutation_label whole list is.proper t m)).1
 
   module _ (old new : WholeTerms) where
-    pub product_mass : IsTable new → Gains old (replaced (monk_terms r) list) new → (most : ℕ) → AreShort most list → r ≤ most → mass new ≤ mass old + mass list * most
+    pub product_mass : IsPermutationTable new → Gains old (replaced (monk_terms r) list) new → (most : ℕ) → AreShort most list → r ≤ most → mass new ≤ mass old + mass list * most
     product_mass is gains most short last =
         let a = gains_mass nat_list_eq_equiv same_partition old (replaced (monk_terms r) list) new is gains in
         let b = mass_replaced (monk_terms r) most list (λ t m. let s = short t m in let n = mass_terms r t.0 first in omega arith) in
         omega arith
 
-    pub product_short : IsTable new → Gains old (replaced (monk_terms r) list) new → (most : ℕ) → AreShort most list → r ≤ most → AreShort (most + 1) old → AreShort (most + 1) new
+    pub product_short : IsPermutationTable new → Gains old (replaced (monk_terms r) list) new → (most : ℕ) → AreShort most list → r ≤ most → AreShort (most + 1) old → AreShort (most + 1) new
     product_short is gains most short last was =
         labels_gained nat_list_eq_equiv same_partition old (replaced (monk_terms r) list) new is gains (λ x. length x ≤ most + 1) was
         (labels_replaced (monk_terms r) (λ x. length x ≤ most + 1) list
@@ -87,7 +87,7 @@ module _ (r : ℕ) (first : 1 ≤ r) (list : WholeTerms) where
         (labels_each (λ x. length x ≤ most + 1) (pos 1) (covers_up r t.0) (λ x i. up_within r (most + 1) t.0 x first (omega arith) i))
         (labels_each (λ x. length x ≤ most + 1) (negsuc 0) (covers_down r t.0) (λ x i. down_within r (most + 1) t.0 x (omega arith) i))))
 
-    pub product_large : IsTable list → Overflows (pointwise nat_eq) old (replaced (monk_terms r) list) → 2 ^ 127 ≤ mass old + mass list
+    pub product_large : IsPermutationTable list → Overflows (pointwise nat_eq) old (replaced (monk_terms r) list) → 2 ^ 127 ≤ mass old + mass list
     product_large is o =
         let l = o.1 in
         let a = over_only_within (pointwise nat_eq) o.0 old in
@@ -96,7 +96,7 @@ module _ (r : ℕ) (first : 1 ≤ r) (list : WholeTerms) where
         omega arith
 
   -- the sums of the product, by Monk's rule at each label
-  pub pair_product : (n : ℕ) (φ : List ℕ → ℤ) → IsTable list → over (over_covers r (λ w. pair (schubert_in w n) φ)) list ≡ pair (times (variable_in r n) (combined (λ w. schubert_in w n) list)) φ
+  pub pair_product : (n : ℕ) (φ : List ℕ → ℤ) → IsPermutationTable list → over (over_covers r (λ w. pair (schubert_in w n) φ)) list ≡ pair (times (variable_in r n) (combined (λ w. schubert_in w n) list)) φ
   pair_product n φ is =
       sym (pair_times (variable_in r n) (combined (λ w. schubert_in w n) list) φ
       ∙ pair_ext (variable_in r n) (λ α. pair (combined (λ w. schubert_in w n) list) (λ β. φ (join α β)))

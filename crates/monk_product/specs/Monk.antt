@@ -12,8 +12,8 @@ pub use Rattle.linear_combinations.specs.Gains.{over, mass, each_with}
 use Rattle.sym_model.specs.WholeTerms.{WholeTerms}
 
 -- each permutation stands once, with a coefficient that is not 0
-abbrev pub IsTable : WholeTerms → Type 0
-IsTable terms = IsCombination (pointwise nat_eq) is_permutation_label whole terms
+abbrev pub IsPermutationTable : WholeTerms → Type 0
+IsPermutationTable terms = IsCombination (pointwise nat_eq) is_permutation_label whole terms
 
 -- each label has at most that number of letters
 abbrev pub AreShort : ℕ → WholeTerms → Type 0

@@ -19,14 +19,14 @@ use Rattle.sym_model.proofs.Parts.{size-ones}
 use Rattle.sym_model.proofs.Sums.{total_ext, total_among, total_none, total_scale, length-select}
 use Rattle.sym_model.proofs.Exponents.{same_true, same_apart}
 use Rattle.sym_model.proofs.Polynomials.{pair_ext}
-use Rattle.sym_model.proofs.SortedParts.{insert_part_comm, without_one-insert_part, without_one-zero, times_in-sorted_parts, has-insert_part, has-zero, has_past, has-zero_or, size-sorted_parts, IsPartition-insert_part, rows-sorted_parts, sorted_parts-partition}
+use Rattle.sym_model.proofs.SortedParts.{insert_part_comm, without_one-insert_part, without_one-zero, times_in-sorted_parts, has-insert_part, has-zero, has_past, has-zero_or, size-sorted_parts, IsPartition-insert_part, rows-sorted_parts, sorted_parts-partition, insert_part-injective}
 use Rattle.monomial_laws.specs.MonomialProduct.{splits, arrangements, product_coefficient}
 use Rattle.monomial_laws.proofs.Splits.{length-splits, product_coefficient-arrangements, product_coefficient-sorted, sorted_total}
 use Rattle.monomial_laws.proofs.Arrangements.{arrangements-cons, arrangements-comm, sizes-splits}
 use Rattle.monomial_strip_laws.specs.StripProduct.{column}
 use Rattle.monomial_strip_laws.proofs.MarkedPlaces.{IsTaken, marked_taken, marked-equal, marking}
 use Rattle.monomial_strip_laws.proofs.SplitCounts.{some_split, counts-splits, counts-near, count_from-sorted_parts, vertical_from_counts}
-use Rattle.monomial_strip_laws.proofs.Placings.{insert_part-injective, is_label-insert_part}
+use Rattle.monomial_strip_laws.proofs.Placings.{is_label-insert_part}
 use lib.IntN.{+ℤ_idr, *ℤ-zero}
 
 as_number : {a b : ℕ} → pos a ≡ pos b → a ≡ b

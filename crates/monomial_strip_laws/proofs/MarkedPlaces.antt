@@ -1,14 +1,13 @@
 -- The ways to split a list, with one place of its first part marked.
 --     marking            a sum over the splits, the places of b in the first part counted: over all places, b taken there
 --     marked-equal, marked-from      over the places of a number, or of the numbers from it on, all with one value
-use Rattle.std.proofs.Common.{◌≡◌, ℕ, ◌+◌, ◌-◌, Bool, true, false, cond, eqb, leb, List, [], ◌∷◌, sym, ◌∙◌, ap, ap₂, refl, inl, inr, arith, ℤ, pos, ◌+ℤ◌, ◌*ℤ◌}
-use Rattle.std.proofs.lemmas.Int.{ints}
+use Rattle.std.proofs.Common.{◌≡◌, ℕ, ◌+◌, ◌-◌, cond, eqb, leb, List, [], ◌∷◌, sym, ◌∙◌, ap, ap₂, refl, inl, inr, arith, ℤ, pos, ◌+ℤ◌, ◌*ℤ◌}
 use Rattle.sym_model.specs.Sum.{total, Among}
 use Rattle.sym_model.specs.Partition.{insert_part, sorted_parts}
 use Rattle.sym_model.specs.Bases.{down_from}
 use Rattle.sym_model.specs.Schur.{times_in}
 use Rattle.sym_model.specs.Conjugate.{count_from}
-use Rattle.sym_model.proofs.Ring.{distributes_left, distributes_right, one-product}
+use Rattle.sym_model.proofs.Ring.{distributes_left, counted-product}
 use Rattle.sym_model.proofs.Sums.{total_ext, total_add, total_zero, total_cond}
 use Rattle.sym_model.proofs.SortedParts.{insert_part_comm}
 use Rattle.sym_model.proofs.Monomials.{total_down_from-only}
@@ -62,21 +61,17 @@ marked_scale c f (d ∷ ν) =
     distributes_left c (f d ν) (marked (λ (e : ℕ) (rest : List ℕ). f e (d ∷ rest)) ν)
     ∙ ap (λ z. c *ℤ f d ν +ℤ z) (marked_scale c (λ (e : ℕ) (rest : List ℕ). f e (d ∷ rest)) ν)
 
-counted : (b : Bool) (n : ℕ) (z : ℤ) → pos (cond b 1 0 + n) *ℤ z ≡ cond b z (pos 0) +ℤ pos n *ℤ z
-counted true n z = distributes_right (pos 1) (pos n) z ∙ ap (λ y. y +ℤ pos n *ℤ z) (one-product z)
-counted false n z = omega (arith, ints)
-
 pub marked-equal : (v : ℕ) (z : ℤ) (ν : List ℕ)
     → marked (λ (d : ℕ) (rest : List ℕ). cond (eqb d v) z (pos 0)) ν ≡ pos (times_in v ν) *ℤ z
 marked-equal v z [] = sym (zero-*ℤ z)
 marked-equal v z (d ∷ ν) = ap (λ y. cond (eqb d v) z (pos 0) +ℤ y) (marked-equal v z ν)
-    ∙ sym (counted (eqb d v) (times_in v ν) z)
+    ∙ sym (counted-product (eqb d v) (times_in v ν) z)
 
 pub marked-from : (v : ℕ) (z : ℤ) (ν : List ℕ)
     → marked (λ (d : ℕ) (rest : List ℕ). cond (leb v d) z (pos 0)) ν ≡ pos (count_from v ν) *ℤ z
 marked-from v z [] = sym (zero-*ℤ z)
 marked-from v z (d ∷ ν) = ap (λ y. cond (leb v d) z (pos 0) +ℤ y) (marked-from v z ν)
-    ∙ sym (counted (leb v d) (count_from v ν) z)
+    ∙ sym (counted-product (leb v d) (count_from v ν) z)
 
 pub marking : (ν : List ℕ) (b : ℕ) (ψ : List ℕ → List ℕ → ℤ)
     → total (λ (s : List ℕ × List ℕ). pos (times_in b s.0) *ℤ ψ (sorted_parts s.0)
@@ -123,7 +118,7 @@ marking (d ∷ ν) b ψ =
         (sorted_parts s.1))
         (λ (s : List ℕ × List ℕ). cond (eqb x b) (with x (sorted_parts s.0) (sorted_parts s.1))
         (pos 0) +ℤ pos (times_in b s.0) *ℤ with x (sorted_parts s.0) (sorted_parts s.1))
-        (λ s. counted (eqb x b) (times_in b s.0) (with x (sorted_parts s.0) (sorted_parts s.1)))
+        (λ s. counted-product (eqb x b) (times_in b s.0) (with x (sorted_parts s.0) (sorted_parts s.1)))
         (splits ν)
         ∙ total_add
         (λ (s : List ℕ × List ℕ). cond (eqb x b) (with x (sorted_parts s.0) (sorted_parts s.1))

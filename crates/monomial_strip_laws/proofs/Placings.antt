@@ -1,19 +1,18 @@
 -- The placings of the parts of a partition (specs/StripProduct).
 --     placings-next     one more part, none of those before it less
-use Rattle.std.proofs.Common.{◌≡◌, ◌⊎◌, ℕ, zero, suc, ◌+◌, ◌-◌, ◌*◌, ◌<◌, ◌≤◌, Bool, true, false, cond, ◌==◌, eqb, leb, List, [], ◌∷◌, ◌++◌, length, sym, ◌∙◌, ap, ap₂, subst, refl, inl, inr, arith, ℤ, pos, ◌*ℤ◌}
+use Rattle.std.proofs.Common.{◌≡◌, ◌⊎◌, ℕ, suc, ◌+◌, ◌-◌, ◌*◌, ◌<◌, ◌≤◌, Bool, true, false, cond, ◌==◌, eqb, leb, List, [], ◌∷◌, ◌++◌, length, sym, ◌∙◌, ap, ap₂, subst, refl, inl, inr, arith, ℤ, pos, ◌*ℤ◌}
 use Rattle.std.proofs.lemmas.Bool.{cases_eq, le-leb, eq-eqb, ne_eqb, eqb-true, leb-true}
 use Rattle.std.proofs.lemmas.Int.{ints}
 use Rattle.sym_model.specs.Sum.{total, Among}
 use Rattle.sym_model.specs.Polynomial.{same, coefficient, pair}
 use Rattle.sym_model.specs.Partition.{IsPartition, Falls, Holds, size, insert_part, sorted_parts}
 use Rattle.sym_model.specs.Bases.{has}
-use Rattle.sym_model.specs.RaisedPart.{without_one}
 use Rattle.sym_model.specs.Schur.{times_in}
 use Rattle.sym_model.specs.Conjugate.{count_from}
 use Rattle.sym_model.proofs.Sums.{total_ext, total_among, total_none, total_scale, total_cond, length-select}
 use Rattle.sym_model.proofs.Exponents.{tests_agree, same_true, same_from, same_sym}
 use Rattle.sym_model.proofs.Monomials.{total_down_from-last}
-use Rattle.sym_model.proofs.SortedParts.{insert_part-front, without_one-insert_part, times_in-sorted_parts, IsPartition_tail, has-insert_part, size-sorted_parts, IsPartition-sorted_parts}
+use Rattle.sym_model.proofs.SortedParts.{insert_part-front, times_in-sorted_parts, IsPartition_tail, has-insert_part, size-sorted_parts, IsPartition-sorted_parts, insert_part-injective}
 use Rattle.monomial_laws.specs.MonomialProduct.{splits, product_coefficient}
 use Rattle.monomial_laws.proofs.Splits.{total_splits, sorted_total}
 use Rattle.monomial_strip_laws.specs.StripProduct.{placings}
@@ -28,12 +27,6 @@ use native.Mathlib.Nat.{mul-pos, eq_of_mul-eq-mul_right}
 
 pub placings-total : (μ ν : List ℕ) → pos (placings μ ν) ≡ sorted_total (λ x y. at_only μ x) ν
 placings-total μ ν = length-select (λ (s : List ℕ × List ℕ). same (sorted_parts s.0) μ) (splits ν)
-
-pub insert_part-injective : (b : ℕ) (x y : List ℕ) → insert_part b x ≡ insert_part b y → x ≡ y
-insert_part-injective zero x y e = e
-insert_part-injective (suc b) x y e =
-    sym (without_one-insert_part (suc b) x (omega arith)) ∙ ap (without_one (suc b)) e
-    ∙ without_one-insert_part (suc b) y (omega arith)
 
 pub is_label-insert_part : (b : ℕ) (μ x : List ℕ) → same (insert_part b x) (insert_part b μ)
     ≡ same x μ

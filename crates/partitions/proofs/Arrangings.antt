@@ -14,8 +14,7 @@ use Rattle.sym_model.specs.Schur.{times_in}
 use Rattle.sym_model.specs.Arrangement.{arrangements}
 use Rattle.sym_model.proofs.Exponents.{same_apart, same_from, same_or_not}
 use Rattle.sym_model.proofs.Monomials.{members_of-exponent_lists}
-use Rattle.sym_model.proofs.SortedParts.{IsPartition-sorted_parts, times_in-insert_part, times_in-sorted_parts, rows-sorted_parts, size-sorted_parts, partition_from_counts, without_one-insert_part, sorted_parts-partition, sorted_parts-padded, Falls_tail}
-use Rattle.sym_model.specs.RaisedPart.{without_one}
+use Rattle.sym_model.proofs.SortedParts.{IsPartition-sorted_parts, times_in-insert_part, times_in-sorted_parts, rows-sorted_parts, size-sorted_parts, partition_from_counts, sorted_parts-partition, sorted_parts-padded, Falls_tail, insert_part-injective}
 use Rattle.sym_model.proofs.Contents.{times_in-append}
 use Rattle.sym_model.proofs.Parts.{size-append, Falls-zeros, size-zeros}
 use Rattle.sym_model.proofs.Lists.{select-each, select-map, select-none, select-ext, each-ext}
@@ -44,19 +43,13 @@ each-none f (suc a) none =
 -- ---- sorted lists
 
 -- one number put into two sorted lists
-insert_part-cancel : (b : ℕ) (σ τ : List ℕ) → insert_part b σ ≡ insert_part b τ → σ ≡ τ
-insert_part-cancel zero σ τ e = e
-insert_part-cancel (suc b) σ τ e =
-    sym (without_one-insert_part (suc b) σ (omega arith)) ∙ ap (without_one (suc b)) e
-    ∙ without_one-insert_part (suc b) τ (omega arith)
-
 same-insert_part : (b : ℕ) (σ τ : List ℕ) → same (insert_part b σ) (insert_part b τ) ≡ same σ τ
 same-insert_part b σ τ = by (same_or_not σ τ)
   where
     by : (σ ≡ τ) ⊎ (σ ≡ τ → ⊥) → same (insert_part b σ) (insert_part b τ) ≡ same σ τ
     by (inl e) = same_from (insert_part b σ) (insert_part b τ) (ap (insert_part b) e) ∙ sym (same_from σ τ e)
     by (inr n) =
-        same_apart (insert_part b σ) (insert_part b τ) (λ e. n (insert_part-cancel b σ τ e)) ∙ sym (same_apart σ τ n)
+        same_apart (insert_part b σ) (insert_part b τ) (λ e. n (insert_part-injective b σ τ e)) ∙ sym (same_apart σ τ n)
 
 -- lists of as many numbers that have each positive number equally often sort alike
 pub sorted-from_counts : (α β : List ℕ) → ((k : ℕ) → 0 < k → times_in k α ≡ times_in k β) → sorted_parts α ≡ sorted_parts β

@@ -209,7 +209,8 @@ impl Partition {
     pub fn beta(&self, k: u16) -> Result<Beta, NoMemory>
         requires rows { rows self.now ≤ k }
         requires few { k ≤ 512 }
-        ensures { IfOk result (λ b. b ≡ beta k self.now) }
+        ensures value { IfOk result (λ b. b ≡ beta k self.now) }
+        ensures limits { IsWithinLimits self.now }
     {
         Ok(Beta::new(lengthened(*self.parts.allocator(), self.parts(), k)?))
     }

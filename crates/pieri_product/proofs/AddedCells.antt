@@ -1,4 +1,4 @@
--- The partitions that contain a partition and have so many cells more, by their first rows.
+-- The partitions that contain a partition and have k cells more, by their first rows.
 --     added-none        with no cell more there is the partition itself
 --     rows-none, -next, -all     those with a first row below some length, one length after the other
 --     all_added         and all of them
@@ -52,10 +52,6 @@ pub falls_below : (row : ℕ) (parts : List ℕ) → IsPartition parts → part 
 falls_below row [] p h = tt
 falls_below row (a ∷ []) p h = tt
 falls_below row (a ∷ b ∷ parts) p h = (omega (arith, p.falls.0), p.falls.1)
-
-pub first_below : (most : ℕ) (parts : List ℕ) → Falls (most ∷ parts) → part parts 1 ≤ most
-first_below most [] f = omega arith
-first_below most (a ∷ parts) f = f.0
 
 -- the rows after the first one are fewer, or cells have been used
 pub fewer_left : (k row : ℕ) (parts : List ℕ) → 0 < k → 1 ≤ row → part parts 1 ≤ row → length (drop 1 parts) + (part parts 1 + k - row) < length parts + k

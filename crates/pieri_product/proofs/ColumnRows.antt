@@ -2,15 +2,15 @@
 --     rises       it does not fall from row to row
 --     at_end      after the last row it is the coefficient
 --     counted..   what a row changes
-use Rattle.std.proofs.Common.{◌≡◌, ◌⊎◌, ℕ, zero, suc, ◌+◌, ◌-◌, ◌*◌, ◌^◌, ◌<◌, ◌≤◌, Bool, cond, List, [], ◌∷◌, ◌++◌, length, length-append, take, get_or, refl, sym, ap, ap₂, ◌∙◌, inl, inr, arith}
-use Rattle.std.proofs.lemmas.Bool.{cases_lt, cases_eq, eq-eqb, ne_eqb}
+use Rattle.std.proofs.Common.{◌≡◌, ◌⊎◌, ℕ, zero, suc, ◌+◌, ◌-◌, ◌*◌, ◌<◌, ◌≤◌, Bool, cond, List, [], ◌∷◌, ◌++◌, length, length-append, take, get_or, refl, sym, ap, ap₂, ◌∙◌, inl, inr, arith}
+use Rattle.std.proofs.lemmas.Bool.{cases_lt, cases_eq, ne_eqb}
 use Rattle.std.proofs.Math.Seq.{take-suc}
 use Rattle.std.proofs.lemmas.List.{take_all}
 use Rattle.sym_model.specs.Sum.{Among}
-use Rattle.sym_model.specs.Partition.{IsPartition, Falls, ArePositive, part, size, sorted_parts, insert_part}
+use Rattle.sym_model.specs.Partition.{IsPartition, Falls, ArePositive, size, sorted_parts, insert_part}
 use Rattle.sym_model.specs.Schur.{times_in}
 use Rattle.sym_model.specs.Strip.{IsVerticalStrip}
-use Rattle.sym_model.proofs.Contents.{times_in-append}
+use Rattle.sym_model.proofs.Contents.{times_in-last, times_in-last_other}
 use Rattle.sym_model.proofs.Parts.{part-get_or, positive-at, past_end, positive_within, size-append}
 use Rattle.sym_model.proofs.SortedParts.{sorted_parts-partition, size-sorted_parts}
 use Rattle.sym_model.proofs.Sums.{Among_from_append}
@@ -100,14 +100,6 @@ are_positive (a ∷ u) h = (h a (inl refl), are_positive u (λ d m. h d (inr m))
 
 -- ---- how often a number stands there
 
-this_last : (c a : ℕ) (u : List ℕ) → a ≡ c → times_in c (u ++ a ∷ []) ≡ times_in c u + 1
-this_last c a u e = omega
-    (arith, times_in-append c u (a ∷ []), ap (λ (b : Bool). cond {A = ℕ} b 1 0) (eq-eqb a c e))
-
-other_last : (c a : ℕ) (u : List ℕ) → (a ≡ c → ⊥) → times_in c (u ++ a ∷ []) ≡ times_in c u
-other_last c a u n = omega
-    (arith, times_in-append c u (a ∷ []), ap (λ (b : Bool). cond {A = ℕ} b 1 0) (ne_eqb a c n))
-
 not_there : (c : ℕ) (u : List ℕ) → ((d : ℕ) → Among d u → c < d) → times_in c u ≡ 0
 not_there c [] h = refl
 not_there c (a ∷ u) h =
@@ -133,7 +125,6 @@ quotient_least a b l r e h = by (cases_lt a b)
 -- these are longer than the inner ones
 pub record IsCounted (μ ν : List ℕ) (i count run longer : ℕ) : Type 0 where
   pub count_is : count ≡ so_far μ ν i
-  pub small : count < 2 ^ 127
   pub run_is : run ≡ times_in (get_or ν i 0) (first_rows i ν)
   pub longer_is : (c : ℕ) → get_or ν i 0 ≡ suc c → longer ≡ times_in c (first_rows i μ)
   pub few_rows : run ≤ i
@@ -142,7 +133,6 @@ pub record IsCounted (μ ν : List ℕ) (i count run longer : ℕ) : Type 0 wher
 -- the same with row i + 1, how many rows are as long as this one
 pub record IsRow (μ ν : List ℕ) (i count run longer : ℕ) : Type 0 where
   pub count_is : count ≡ so_far μ ν (suc i)
-  pub small : count < 2 ^ 127
   pub run_is : run ≡ times_in (get_or ν i 0) (first_rows (suc i) ν)
   pub longer_is : (c : ℕ) → get_or ν i 0 ≡ suc c → longer ≡ times_in c (first_rows (suc i) μ)
   pub few_rows : run ≤ suc i
@@ -151,7 +141,6 @@ pub record IsRow (μ ν : List ℕ) (i count run longer : ℕ) : Type 0 where
 pub counted-none : (μ ν : List ℕ) → IsCounted μ ν 0 1 0 0
 counted-none μ ν = record {
   count_is = refl;
-  small = omega arith;
   run_is = refl;
   longer_is = λ c e. refl;
   few_rows = omega arith;
@@ -241,19 +230,19 @@ module _ (μ ν : List ℕ) (p : IsPartition μ) (q : IsPartition ν) (s : IsVer
           → times_in c (first_rows (suc j) μ) ≤ times_in (suc c) (first_rows (suc j) ν)
       by (inl a) (inl b) r = omega (
         arith,
-        this_last c (get_or μ j 0) (first_rows j μ) a,
-        this_last (suc c) (get_or ν j 0) (first_rows j ν) b,
+        times_in-last c (get_or μ j 0) (first_rows j μ) a,
+        times_in-last (suc c) (get_or ν j 0) (first_rows j ν) b,
       )
       by (inl a) (inr b) r = absurd (b (omega (arith, far, near j)))
       by (inr a) (inl b) r = omega (
         arith,
-        other_last c (get_or μ j 0) (first_rows j μ) a,
-        this_last (suc c) (get_or ν j 0) (first_rows j ν) b,
+        times_in-last_other c (get_or μ j 0) (first_rows j μ) a,
+        times_in-last (suc c) (get_or ν j 0) (first_rows j ν) b,
       )
       by (inr a) (inr b) r = omega (
         arith,
-        other_last c (get_or μ j 0) (first_rows j μ) a,
-        other_last (suc c) (get_or ν j 0) (first_rows j ν) b,
+        times_in-last_other c (get_or μ j 0) (first_rows j μ) a,
+        times_in-last_other (suc c) (get_or ν j 0) (first_rows j ν) b,
       )
 
   rises_once : (i : ℕ) → i < length ν → so_far μ ν i ≤ so_far μ ν (suc i)
@@ -322,19 +311,18 @@ module _ (μ ν : List ℕ) (p : IsPartition μ) (q : IsPartition ν) (s : IsVer
 
   row_run : (i run : ℕ) → run ≡ times_in (get_or ν i 0) (first_rows i ν)
       → run + 1 ≡ times_in (get_or ν i 0) (first_rows (suc i) ν)
-  row_run i run e = omega (arith, e, this_last (get_or ν i 0) (get_or ν i 0) (first_rows i ν) refl)
+  row_run i run e = omega (arith, e, times_in-last (get_or ν i 0) (get_or ν i 0) (first_rows i ν) refl)
 
   pub row_raised : (i count run longer more : ℕ) → IsCounted μ ν i count run longer
-      → get_or μ i 0 < get_or ν i 0 → more ≡ so_far μ ν (suc i) → more < 2 ^ 127
+      → get_or μ i 0 < get_or ν i 0 → more ≡ so_far μ ν (suc i)
       → IsRow μ ν i more (run + 1) (longer + 1)
-  row_raised i count run longer more h l e small = record {
+  row_raised i count run longer more h l e = record {
     count_is = e;
-    small = small;
     run_is = row_run i run h.run_is;
     longer_is = λ c f. omega (
       arith,
       h.longer_is c f,
-      this_last c (get_or μ i 0) (first_rows i μ) (omega (arith, l, f, near i)),
+      times_in-last c (get_or μ i 0) (first_rows i μ) (omega (arith, l, f, near i)),
     );
     few_rows = omega (arith, h.few_rows);
     few_longer = omega (arith, h.few_longer);
@@ -346,12 +334,11 @@ module _ (μ ν : List ℕ) (p : IsPartition μ) (q : IsPartition ν) (s : IsVer
       let e : get_or μ i 0 ≡ get_or ν i 0 = omega (arith, within i) in
       record {
         count_is = h.count_is ∙ sym (kept i n e);
-        small = h.small;
         run_is = row_run i run h.run_is;
         longer_is = λ c f. omega (
           arith,
           h.longer_is c f,
-          other_last c (get_or μ i 0) (first_rows i μ) (λ g. omega (arith, e, f, g)),
+          times_in-last_other c (get_or μ i 0) (first_rows i μ) (λ g. omega (arith, e, f, g)),
         );
         few_rows = omega (arith, h.few_rows);
         few_longer = omega (arith, h.few_longer);
@@ -362,7 +349,6 @@ module _ (μ ν : List ℕ) (p : IsPartition μ) (q : IsPartition ν) (s : IsVer
       → get_or ν (suc i) 0 < get_or ν i 0 → IsCounted μ ν (suc i) count 0 0
   next_shorter i count run longer h l = record {
     count_is = h.count_is;
-    small = h.small;
     run_is = sym
         (not_there (get_or ν (suc i) 0) (first_rows (suc i) ν)
         (λ d m. omega (arith, l, least_row i d ν q.falls m)));
@@ -380,14 +366,13 @@ module _ (μ ν : List ℕ) (p : IsPartition μ) (q : IsPartition ν) (s : IsVer
       let e : get_or ν (suc i) 0 ≡ get_or ν i 0 = omega (arith, falls_get ν q.falls i) in
       record {
         count_is = h.count_is;
-        small = h.small;
         run_is = h.run_is ∙ ap (λ r. times_in r (first_rows (suc i) ν)) (sym e);
         longer_is = λ c f. h.longer_is c (sym e ∙ f);
         few_rows = h.few_rows;
         few_longer = h.few_longer;
       }
 
--- a row by its place from 0
-pub row_is : (parts numbers : List ℕ) (i row : ℕ) → numbers ≡ parts → row ≡ part numbers (i + 1)
+-- a row of the parts that a call gave
+pub row_is : (parts numbers : List ℕ) (i row : ℕ) → numbers ≡ parts → row ≡ get_or numbers i 0
     → row ≡ get_or parts i 0
-row_is parts numbers i row e f = f ∙ ap (λ (l : List ℕ). part l (i + 1)) e ∙ part-get_or parts i
+row_is parts numbers i row e f = f ∙ ap (λ (l : List ℕ). get_or l i 0) e

@@ -1,6 +1,6 @@
 mod ColumnRows
 mod ColumnSums
-mod Fractions
+mod DivisionSteps
 mod AddedCells
 mod PlacingSteps
 mod RowTables

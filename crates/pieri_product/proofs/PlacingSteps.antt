@@ -1,10 +1,7 @@
--- Placings row by row from the last one, and whole quotients.
+-- Placings row by row from the last one.
 --     placings-row      one more row before the others
---     quotient_of       a·n/d where d divides a·n, by the quotient and the remainder of a
-use Rattle.std.proofs.Common.{◌≡◌, ◌⊎◌, ℕ, zero, suc, ◌+◌, ◌-◌, ◌*◌, ◌/◌, ◌%◌, ◌<◌, ◌≤◌, cond, eqb, leb, List, [], ◌∷◌, length, take, drop, get_or, sym, ◌∙◌, ap, ap₂, subst, refl, inl, inr, arith}
+use Rattle.std.proofs.Common.{◌≡◌, ◌⊎◌, ℕ, zero, suc, ◌+◌, ◌-◌, ◌*◌, ◌<◌, ◌≤◌, cond, eqb, leb, List, [], ◌∷◌, length, take, drop, get_or, sym, ◌∙◌, ap, ap₂, subst, refl, inl, inr, arith}
 use Rattle.std.proofs.lemmas.Bool.{cases_eq, cases_lt, le-leb, lt-leb, eq-eqb, ne_eqb}
-use Rattle.std.specs.Prelude.{Option, Some, None}
-use Rattle.std.specs.Option.{SomeIff, IfSome}
 use Rattle.sym_model.specs.Sum.{Among}
 use Rattle.sym_model.specs.Partition.{IsPartition, Holds}
 use Rattle.sym_model.specs.Schur.{times_in}
@@ -13,7 +10,7 @@ use Rattle.sym_model.proofs.SortedParts.{IsPartition_tail}
 use Rattle.monomial_strip_laws.specs.StripProduct.{placings}
 use Rattle.monomial_strip_laws.proofs.Placings.{repeats, placed, placings-placed, placings-first, below_first, repeats-positive}
 use Rattle.pieri_product.proofs.AddedCells.{holds_below}
-use Rattle.std.proofs.Math.Nat.{mod-eq-sub-div-mul, div-mul-le_self, mul-div_cancel, le_of_mul-le-mul_right}
+use Rattle.std.proofs.Math.Nat.{le_of_mul-le-mul_right}
 use native.Mathlib.Nat.{eq_of_mul-eq-mul_right, mul-le-mul_left}
 
 -- a row that is as long as each part takes one place
@@ -123,41 +120,3 @@ have_rows (v ∷ μ) (x ∷ ν) p q h l =
   where
     grows : (p d l n : ℕ) → p * d ≡ l * n → 0 < d → d ≤ n → l ≤ p
     grows p d l n e some h = le_of_mul-le-mul_right (let g = mul-le-mul_left l h in omega arith) some
-
--- ---- whole quotients
-
-pub quotient_of : (a n d q : ℕ) → 0 < d → q * d ≡ a * n → a / d * n + a % d * n / d ≡ q
-quotient_of a n d q p e =
-    let r = mod-eq-sub-div-mul a d in
-    let l = div-mul-le_self a d in
-    let s : a ≡ a / d * d + a % d = omega arith in
-    let t : a * n ≡ a / d * n * d + a % d * n = ap (λ b. b * n) s ∙ spread (a / d) d (a % d) n in
-    let few : a / d * n ≤ q = at_most (a / d * n) q d p (omega arith) in
-    let u : (q - a / d * n) * d ≡ a % d * n = less q (a / d * n) d (a % d * n) few (e ∙ t) in
-    let v = ap (λ b. b / d) (sym u) ∙ mul-div_cancel (q - a / d * n) p in
-    omega arith
-  where
-    spread : (x d y n : ℕ) → (x * d + y) * n ≡ x * n * d + y * n
-    spread x d y n = omega arith
-
-    at_most : (x q d : ℕ) → 0 < d → x * d ≤ q * d → x ≤ q
-    at_most x q d p h = le_of_mul-le-mul_right h p
-
-    less : (q x d y : ℕ) → x ≤ q → q * d ≡ x * d + y → (q - x) * d ≡ y
-    less q x d y h e =
-        let k : q - x + x ≡ q = omega arith in
-        let f : (q - x) * d + x * d ≡ q * d = split (q - x) x d ∙ ap (λ n. n * d) k in
-        omega arith
-      where
-        split : (u x d : ℕ) → u * d + x * d ≡ (u + x) * d
-        split u x d = omega arith
-
-pub quotient_some : (a n d whole B : ℕ) (o : Option ℕ) → 0 < d → whole ≡ a / d * n → SomeIff o (whole + a % d * n / d < B) (whole + a % d * n / d)
-    → IfSome o (λ r. (q : ℕ) → q * d ≡ a * n → r ≡ q)
-quotient_some a n d whole B None p w h = tt
-quotient_some a n d whole B (Some r) p w h = λ q e. let f = quotient_of a n d q p e in let g = h.1 in omega arith
-
-pub quotient_none : (a n d whole B : ℕ) (o : Option ℕ) → 0 < d → whole ≡ a / d * n → SomeIff o (whole + a % d * n / d < B) (whole + a % d * n / d)
-    → o ≡ None → (q : ℕ) → q * d ≡ a * n → B ≤ q
-quotient_none a n d whole B None p w h none q e = let f = quotient_of a n d q p e in let g : whole + a % d * n / d < B → ⊥ = h in omega arith
-quotient_none a n d whole B (Some r) p w h none q e = absurd (cc)

@@ -15,7 +15,7 @@ use Rattle.sym_model.specs.Polynomial.{coefficient, pair, same}
 use Rattle.sym_model.specs.WholeTerms.{WholeTerms}
 use Rattle.sym_model.proofs.Sums.{total_ext, total_among, total_map, total_none, total_only, total_select, total_same_members, Among-select, Among_from_select, Among_from_map, Among_from_append, Once-select}
 use Rattle.sym_model.proofs.Exponents.{among_or_not, same_from, same_apart}
-use Rattle.sym_model.proofs.PartitionLists.{partitions_of-tells, Among-partitions_of, FallsLexicographically-partitions_within, Once-FallsLexicographically}
+use Rattle.sym_model.proofs.PartitionLists.{partitions_of-tells, Among-partitions_of, Once-partitions_of}
 use Rattle.monomial_laws.specs.ExpressionTerms.{absolute, complete_terms}
 use Rattle.monomial_laws.specs.MonomialProduct.{product_coefficient}
 use Rattle.monomial_strip_laws.specs.StripProduct.{placings}
@@ -43,16 +43,7 @@ take_split (y ∷ xs) (suc i) x h e =
     let n : suc i + 1 ≡ suc (i + 1) = omega arith in
     ap (λ k. take (suc i) (y ∷ xs) ++ x ∷ drop k (y ∷ xs)) n ∙ ap (λ l. y ∷ l) (take_split xs i x (omega arith) e)
 
-pub take_every : {A : Type 0} (xs : List A) (i : ℕ) → length xs ≤ i → take i xs ≡ xs
-take_every [] zero h = refl
-take_every [] (suc i) h = refl
-take_every (y ∷ xs) zero h = absurd (omega arith)
-take_every (y ∷ xs) (suc i) h = ap (λ l. y ∷ l) (take_every xs i (omega arith))
-
 -- ---- all of m_μ·h_k
-
-once_partitions : (d : ℕ) → Once (partitions_of d)
-once_partitions d = Once-FallsLexicographically (partitions_of d) (FallsLexicographically-partitions_within d d d)
 
 -- a sum over some of the elements, if it is 0 at the others
 total_some : (f : List ℕ → ℤ) (xs ys : List (List ℕ)) → Once xs → Once ys → ((x : List ℕ) → Among x xs → Among x ys)
@@ -97,7 +88,7 @@ module _ (k : ℕ) (μ : List ℕ) (shapes : List (List ℕ)) (p : IsPartition �
   rows_sum : (φ : List ℕ → ℤ) → over φ (with_placings μ shapes) ≡ over φ (row_terms k μ)
   rows_sum φ =
       over_placings μ φ shapes
-      ∙ total_some (λ (ν : List ℕ). pos (placings μ ν) *ℤ φ ν) shapes (partitions_of (size μ + k)) l.once (once_partitions (size μ + k))
+      ∙ total_some (λ (ν : List ℕ). pos (placings μ ν) *ℤ φ ν) shapes (partitions_of (size μ + k)) l.once (Once-partitions_of (size μ + k))
       (λ ν m. let a = (l.members ν).0 m in Among-partitions_of (size μ + k) ν a.0 a.1)
       (λ ν m n. let t = partitions_of-tells (size μ + k) ν m in none ν t.0 t.1 n (cases_lt 0 (placings μ ν)))
       ∙ sym (over_placings μ φ (partitions_of (size μ + k)))
@@ -137,7 +128,7 @@ listed_at d count ν p b here there =
 
     by : (b : Bool) → (b ≡ true → size ν ≡ d) → (b ≡ false → size ν ≡ d → ⊥) → total at (partitions_of d) ≡ cond b (pos (count ν)) (pos 0)
     by true here there =
-        total_only at ν (partitions_of d) (once_partitions d) (Among-partitions_of d ν p (here refl))
+        total_only at ν (partitions_of d) (Once-partitions_of d) (Among-partitions_of d ν p (here refl))
         (λ ρ n e. ap (λ (b : Bool). cond b (pos (count ρ)) (pos 0)) (same_apart ρ ν e))
         ∙ ap (λ (b : Bool). cond b (pos (count ν)) (pos 0)) (same_from ν ν refl)
     by false here there =

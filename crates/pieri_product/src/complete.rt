@@ -1,6 +1,7 @@
 //! Lists of monomial symmetric polynomials times h_k.
-ghost use Rattle.std.specs.Prelude.{◌≡◌, ◌+◌, ◌*◌, ◌^◌, ◌<◌, ◌≤◌, ◌≤ℤ◌, ◌*ℤ◌, pos, nat_abs, None};
-ghost use Rattle.std.specs.Prelude.{ℕ, List, [], ◌∷◌, ◌++◌, drop, IfOk, IfSome, OnOk, IsErrOf};
+ghost use Rattle.std.specs.Prelude.{◌≡◌, ◌+◌, ◌^◌, ◌<◌, ◌≤◌, ◌≤ℤ◌, ◌*ℤ◌, pos, nat_abs};
+ghost use Rattle.std.specs.Prelude.{ℕ, List, [], ◌∷◌, ◌++◌, drop, MatchOption, SomeIff};
+ghost use Rattle.std.specs.Prelude.{IfOk, OnOk, IsErrOf};
 ghost use Rattle.sym_model.specs.Conjugate.{count_from};
 ghost use Rattle.sym_model.specs.Partition.{IsPartition, Falls, Holds, part, size};
 ghost use Rattle.sym_model.specs.Polynomial.{coefficient};
@@ -14,6 +15,7 @@ ghost use Rattle.product_laws.specs.StripLists.{ListsEach};
 ghost use Rattle.whole_lists.specs.Tables.{equal, IsWholeTable};
 ghost use Rattle.pieri_product.specs.Rows.{AddsBelow, AddsCells, HasAdded, with_placings};
 
+use crate::counts::{coefficient_of, times_quotient};
 use calc_base::{NoMemory, SumFault};
 use coeff_rings::{Int, Ring, Scalar};
 use linear_combinations::{Lin, Rule};
@@ -33,20 +35,6 @@ fn rows_from(rows: &[u16], v: u16) -> usize
     count
 }
 
-/// a·n/d, which is a whole number, or `None` where it is 2^128 or more.
-fn times_quotient(a: u128, n: usize, d: usize) -> Option<u128>
-    requires { 0 < d }
-    ensures some { IfSome result (λ r. (q : ℕ) → q * d ≡ a * n → r ≡ q) }
-    ensures none { result ≡ None → (q : ℕ) → q * d ≡ a * n → 2 ^ 128 ≤ q }
-{
-    if n == d {
-        return Some(a);
-    }
-    let (n, d) = (n as u128, d as u128);
-    let whole = (a / d).checked_mul(n)?;
-    whole.checked_add(a % d * n / d)
-}
-
 /// In how many ways the parts of a partition, and zeros, stand in the rows of a shape that contains
 /// it, none greater than the row; `None` where these are 2^128 or more.
 ///
@@ -56,8 +44,8 @@ fn placings(inner: &[u16], shape: &[u16]) -> Option<u128>
     requires inner { IsPartition inner.now }
     requires shape { IsPartition shape.now }
     requires contained { Holds shape.now inner.now }
-    ensures some { IfSome result (λ count. count ≡ placings inner.now shape.now) }
-    ensures none { result ≡ None → 2 ^ 128 ≤ placings inner.now shape.now }
+    ensures { SomeIff result (placings inner.now shape.now < 2 ^ 128)
+        (placings inner.now shape.now) }
 {
     let [v, below @ ..] = inner else {
         return Some(1);
@@ -71,17 +59,14 @@ fn times_placings(c: Int, inner: &[u16], shape: &[u16]) -> Option<Int>
     requires inner { IsPartition inner.now }
     requires shape { IsPartition shape.now }
     requires contained { Holds shape.now inner.now }
-    ensures some { IfSome result (λ product. product ≡ c *ℤ pos (placings inner.now shape.now)) }
-    ensures none { result ≡ None → 2 ^ 127 ≤ nat_abs (c *ℤ pos (placings inner.now shape.now)) }
+    ensures { MatchOption result (2 ^ 127 ≤ nat_abs (c *ℤ pos (placings inner.now shape.now)))
+        (λ product. product ≡ c *ℤ pos (placings inner.now shape.now)) }
 {
     if c.is_zero() {
         return Some(c);
     }
-    let count = placings(inner, shape)?;
-    if count > i128::MAX as u128 {
-        return None;
-    }
-    c.mul(Int::new(count as i128))
+    let count = coefficient_of(placings(inner, shape)?)?;
+    c.mul(count)
 }
 
 /// Adds `c` times the placings of a partition at each of some shapes that contain it.
@@ -106,21 +91,15 @@ fn add_placings(
     Ok(())
 }
 
-/// The rows after the first one.
-fn below_first(rows: &[u16]) -> &[u16]
-    ensures { result.now ≡ drop 1 rows.now }
+/// The first row, or 0 where there is none, and the rows below it.
+fn first_and_below(rows: &[u16]) -> (u16, &[u16])
+    ensures first { result.0 ≡ part rows.now 1 }
+    ensures below { result.1.now ≡ drop 1 rows.now }
 {
     match rows {
-        [_, below @ ..] => below,
-        [] => rows,
+        [first, below @ ..] => (*first, below),
+        [] => (0, rows),
     }
-}
-
-/// The length of the first row; 0 where there is none.
-fn first_row(rows: &[u16]) -> u16
-    ensures { result ≡ part rows.now 1 }
-{
-    rows.first().copied().unwrap_or(0)
 }
 
 /// Adds the shape of the rows of `above`, which stay as they are, and of those of `inner`.
@@ -165,8 +144,7 @@ fn add_shapes(
         return add_shape(alloc, inner, above, shapes);
     }
     let len = above.len();
-    let first = first_row(inner);
-    let below = below_first(inner);
+    let (first, below) = first_and_below(inner);
     for row in first.max(1)..most.min(first + left) + 1 {
         above.push(row)?;
         add_shapes(alloc, row, first + left - row, below, above, shapes)?;

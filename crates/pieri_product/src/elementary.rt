@@ -1,7 +1,7 @@
 //! A list in m times e_k.
-ghost use Rattle.std.specs.Prelude.{◌≡◌, ℕ, ◌+◌, ◌*◌, ◌^◌, ◌<◌, ◌≤◌, pos, List, [], ◌∷◌};
-ghost use Rattle.std.specs.Prelude.{IfOk, OnOk, IsErrOf, MatchOption};
-ghost use Rattle.sym_model.specs.Partition.{IsPartition, part, size};
+ghost use Rattle.std.specs.Prelude.{◌≡◌, ℕ, ◌+◌, ◌^◌, ◌<◌, pos, List, [], ◌∷◌, get_or};
+ghost use Rattle.std.specs.Prelude.{SomeIff, IfOk, OnOk, IsErrOf};
+ghost use Rattle.sym_model.specs.Partition.{IsPartition, size};
 ghost use Rattle.sym_model.specs.Polynomial.{coefficient};
 ghost use Rattle.sym_model.specs.Strip.{IsVerticalStrip};
 ghost use Rattle.monomial_laws.specs.ExpressionTerms.{elementary_terms};
@@ -12,6 +12,7 @@ ghost use Rattle.whole_lists.specs.Large.{ProductIsLarge};
 ghost use Rattle.whole_lists.specs.Tables.{equal, IsWholeTable};
 ghost use Rattle.pieri_product.specs.Columns.{HasRoom, column_term};
 
+use crate::counts::{coefficient_of, times_quotient};
 use calc_base::SumFault;
 use coeff_rings::{Int, Ring, Scalar};
 use linear_combinations::{Lin, Rule};
@@ -20,33 +21,9 @@ use skew_shapes::with_vertical_strip;
 use std::alloc::Global;
 use whole_lists::Whole;
 
-/// Counts are below this.
-const LIMIT: u128 = 1 << 127;
-
-/// The count times a fraction, which is a whole number; none where it is 2^127 or more.
-fn times_fraction(count: u128, over: u16, under: u16) -> Option<u128>
-    requires small { count < 2 ^ 127 }
-    requires under { 0 < under }
-    ensures { (product : ℕ) → product * under ≡ count * over
-        → MatchOption result (2 ^ 127 ≤ product) (λ p. (p ≡ product) × (product < 2 ^ 127)) }
-{
-    if over == under {
-        return Some(count);
-    }
-    // The rest of the division is taken by itself, so that nothing is too large before the end.
-    let factor = u128::from(over);
-    let divisor = u128::from(under);
-    let most = (count / divisor).checked_mul(factor)?;
-    let product = most.checked_add(count % divisor * factor / divisor)?;
-    if product >= LIMIT {
-        return None;
-    }
-    Some(product)
-}
-
-/// A row by its place; 0 past the last one.
+/// A row by its place from 0; 0 past the last one.
 fn row_at(rows: &[u16], at: usize) -> u16
-    ensures { result ≡ part rows.now (at + 1) }
+    ensures { result ≡ get_or rows.now at 0 }
 {
     rows.get(at).copied().unwrap_or(0)
 }
@@ -56,8 +33,8 @@ fn row_at(rows: &[u16], at: usize) -> u16
 fn coefficient_at(inner: &Partition, outer: &Partition) -> Option<Int>
     requires { IsVerticalStrip outer.now inner.now }
     ensures { (k : ℕ) → size outer.now ≡ size inner.now + k
-        → MatchOption result (2 ^ 127 ≤ arrangements inner.now (column k) outer.now)
-        (λ c. c ≡ pos (arrangements inner.now (column k) outer.now)) }
+        → SomeIff result (arrangements inner.now (column k) outer.now < 2 ^ 127)
+        (pos (arrangements inner.now (column k) outer.now)) }
 {
     let shorter = inner.parts();
     let rows = outer.parts();
@@ -66,18 +43,18 @@ fn coefficient_at(inner: &Partition, outer: &Partition) -> Option<Int>
     let mut run = 0;
     let mut longer = 0;
     for at in 0..rows.len() {
-        let row = row_at(rows, at);
+        let row = rows[at];
         run += 1;
         if row_at(shorter, at) < row {
             longer += 1;
-            count = times_fraction(count, run, longer)?;
+            count = times_quotient(count, run, longer)?;
         }
         if row_at(rows, at + 1) < row {
             run = 0;
             longer = 0;
         }
     }
-    Some(Int::new(count as i128))
+    coefficient_of(count)
 }
 
 /// Adds c times the term of a shape that a vertical strip makes of the label.

@@ -22,6 +22,7 @@
 #![tactic(auto)]
 
 mod complete;
+mod counts;
 mod elementary;
 
 pub use complete::times_complete;

@@ -16,7 +16,7 @@ use Rattle.monomial_laws.proofs.DividedTerms.{cleared-over}
 use Rattle.monomial_laws.proofs.ExpressionTerms.{list-no_factor}
 use Rattle.plethysm_laws.specs.SumsOfMonomials.{HavePlaces}
 use Rattle.plethysm_laws.proofs.Substitutions.{pair-substitute, replaced-zeros}
-use Rattle.whole_lists.specs.Tables.{IsTable}
+use Rattle.whole_lists.specs.Tables.{IsFractionTable}
 use Rattle.whole_lists.specs.LabelSizes.{AreWithin}
 use Rattle.plethysm.proofs.FactorLists.{label_of}
 use Rattle.sym_model.proofs.Integers.{product_cancel}
@@ -49,7 +49,7 @@ no_cells [] p h = refl
 no_cells (a ∷ parts) p h = absurd (let s = p.0 in omega arith)
 
 -- the outer list has no label but the empty one, and stands for f divided by q
-module _ (outer : Terms (List ℕ)) (f : ℕ → Poly) (q : ℕ) (is : IsTable outer) (none : AreWithin 0 outer)
+module _ (outer : Terms (List ℕ)) (f : ℕ → Poly) (q : ℕ) (is : IsFractionTable outer) (none : AreWithin 0 outer)
     (x : (k : ℕ) → IsExpansionOf Basis.monomials outer k (f k) q) where
   abbrev Q : ℕ
   Q = denominators outer

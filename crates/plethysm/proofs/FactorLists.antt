@@ -1,26 +1,20 @@
 -- p_k[G] and p_λ[G] of a list G in m, factor by factor.
-use Rattle.std.proofs.Common.{◌≡◌, cond, ℕ, ◌+◌, ◌*◌, ◌^◌, ◌<◌, ◌≤◌, List, [], ◌∷◌, ◌++◌, length, refl, sym, ◌∙◌, ap, subst, arith, ℤ, pos}
-use Rattle.std.specs.Map.{keys_of}
+use Rattle.std.proofs.Common.{◌≡◌, ℕ, ◌+◌, ◌*◌, ◌^◌, ◌<◌, ◌≤◌, List, [], ◌∷◌, ◌++◌, length, sym, ap, subst, arith, ℤ, pos}
 use Rattle.std.proofs.lemmas.Int.{ints}
-use Rattle.std.proofs.lemmas.Bool.{and_parts}
 use Rattle.std.proofs.lemmas.List.{map-append}
 use Rattle.std.proofs.lemmas.Nat.{mul-le, pow-add}
 use Rattle.std.proofs.Math.Nat.{pow-le-pow_right}
 use Rattle.sym_model.specs.Sum.{Among, Once}
 use Rattle.sym_model.specs.Partition.{IsPartition, Falls, ArePositive, size}
 use Rattle.sym_model.specs.Plethysm.{multiplied, repeated_monomials}
-use Rattle.sym_model.specs.Polynomial.{same, Same, coefficient}
+use Rattle.sym_model.specs.Polynomial.{Same, coefficient}
 use Rattle.sym_model.specs.Expansion.{Basis, Fraction, Terms}
-use Rattle.sym_model.specs.Canonical.{is_reduced}
-use Rattle.sym_model.specs.LabelLimits.{is_label}
 use Rattle.sym_model.specs.Weight.{growth}
-use Rattle.sym_model.specs.WholeTerms.{WholeTerms, labels, numerators}
-use Rattle.sym_model.proofs.CanonicalLists.{each_term-among}
-use Rattle.sym_model.proofs.Exponents.{same_apart}
+use Rattle.sym_model.specs.WholeTerms.{WholeTerms, labels}
 use Rattle.sym_model.proofs.Orders.{is_label-tells}
 use Rattle.sym_model.proofs.Polynomials.{Same_sym}
 use Rattle.sym_model.proofs.SortedParts.{rows_within_size}
-use Rattle.sym_model.proofs.Sums.{total_none, Among-map, Among_from_map}
+use Rattle.sym_model.proofs.Sums.{Among_from_map}
 use Rattle.partitions.specs.Limits.{IsWithinLimits}
 use Rattle.monomial_laws.specs.ExpressionTerms.{in_monomials, IsList}
 use Rattle.monomial_laws.specs.MonomialProduct.{product_coefficient}
@@ -36,11 +30,12 @@ use Rattle.plethysm_laws.proofs.NonnegativeTerms.{coefficient-nonnegative, nonne
 use Rattle.plethysm_laws.proofs.PathBounds.{path-product}
 use Rattle.sparse_polys.specs.MonomialProducts.{greatest_size, AreSums}
 use Rattle.sparse_polys.proofs.Rows.{greatest_size-among}
-use Rattle.whole_lists.specs.Tables.{IsTable, IsWholeTable}
+use Rattle.sparse_polys.proofs.Tables.{term-tests}
+use Rattle.whole_lists.specs.Tables.{IsFractionTable, IsWholeTable}
 use Rattle.whole_lists.specs.LabelSizes.{AreWithin}
 use Rattle.whole_lists.specs.Large.{ProductIsLarge}
-use Rattle.whole_lists.proofs.PartitionTerms.{once_before}
-use Rattle.whole_lists.proofs.WholeLists.{Once-keys, labels-same}
+use Rattle.linear_combinations.proofs.Gains.{next_among}
+use Rattle.whole_lists.proofs.WholeLists.{label-partition, labels-same}
 use Rattle.plethysm.specs.BoundedSums.{IsBoundedSum}
 use Rattle.plethysm.specs.PathSums.{power_sum_in}
 use native.Mathlib.Nat.{mul-le-mul_left, mul-pos}
@@ -135,48 +130,30 @@ within-product left right product a b d h k l added t m =
     omega arith
 
 -- and those of a list with every part times k
-pub within-dilated : (k : ℕ) (inner : Terms (List ℕ)) (list : WholeTerms) → IsWholeTable list → Same list (dilated k (numerators inner)) → AreWithin (k * greatest_size inner) list
+pub within-dilated : (k : ℕ) (inner list : WholeTerms) → IsWholeTable list → Same list (dilated k inner) → AreWithin (k * greatest_size inner) list
 within-dilated k inner list is same =
-    labels-same (λ (label : List ℕ). size label ≤ k * greatest_size inner) list (dilated k (numerators inner)) is same
+    labels-same (λ (label : List ℕ). size label ≤ k * greatest_size inner) list (dilated k inner) is same
     (λ t m.
-    let u = Among_from_map (λ (v : List ℕ × ℤ). (multiplied k v.0, v.1)) t (numerators inner) m in
-    let v = Among_from_map (λ (w : List ℕ × Fraction). (w.0, w.1.0)) u.0 inner u.1 in
+    let u = Among_from_map (λ (v : List ℕ × ℤ). (multiplied k v.0, v.1)) t inner m in
     let e = ap (λ (w : List ℕ × ℤ). size w.0) u.2 in
-    let f = ap (λ (w : List ℕ × ℤ). k * size w.0) v.2 in
-    let g = mul-le-mul_left k (greatest_size-among inner v.0 v.1) in
+    let g = mul-le-mul_left k (greatest_size-among inner u.0 u.1) in
     let h = size-multiplied k u.0.0 in
     omega arith)
 
 -- ---- the loop over the terms
 
 -- the label of a term is a partition within the greatest size
-pub label_of : (terms : Terms (List ℕ)) (label : List ℕ) (c : Fraction) → IsTable terms → Among (label, c) terms → IsPartition label × (size label ≤ greatest_size terms)
+pub label_of : (terms : Terms (List ℕ)) (label : List ℕ) (c : Fraction) → IsFractionTable terms → Among (label, c) terms → IsPartition label × (size label ≤ greatest_size terms)
 label_of terms label c is m = (
-  (is_label-tells label (and_parts (is_reduced c) (is_label label) (each_term-among _ terms is.proper (label, c) m)).1).partition,
+  (is_label-tells label (term-tests terms is (label, c) m).1).partition,
   greatest_size-among terms (label, c) m,
 )
 
-pub dilated-push : (k : ℕ) (done : Terms (List ℕ)) (label : List ℕ) (c : Fraction)
-    → dilated k (numerators (done ++ (label, c) ∷ [])) ≡ dilated k (numerators done) ++ (multiplied k label, c.0) ∷ []
-dilated-push k done label c =
-    ap (dilated k) (map-append (λ (t : List ℕ × Fraction). (t.0, t.1.0)) done ((label, c) ∷ []))
-    ∙ map-append (λ (t : List ℕ × ℤ). (multiplied k t.0, t.1)) (numerators done) ((label, c.0) ∷ [])
+-- and so is that of the next term of a table of whole numbers
+pub next_label : (terms done rest : WholeTerms) (label : List ℕ) (c : ℤ) → IsWholeTable terms → done ++ (label, c) ∷ rest ≡ terms → IsPartition label × (size label ≤ greatest_size terms)
+next_label terms done rest label c is e =
+    let m = subst (λ (ts : WholeTerms). Among (label, c) ts) e (next_among done (label, c) rest) in
+    (label-partition terms is (label, c) m, greatest_size-among terms (label, c) m)
 
-pub keys-numerators : (terms : Terms (List ℕ)) → labels (numerators terms) ≡ keys_of terms
-keys-numerators [] = refl
-keys-numerators (t ∷ terms) = ap (λ ks. t.0 ∷ ks) (keys-numerators terms)
-
--- a label has no coefficient among those before it
-pub none_before : (terms done rest : Terms (List ℕ)) (label : List ℕ) (c : Fraction) → IsTable terms → done ++ (label, c) ∷ rest ≡ terms → coefficient (numerators done) label ≡ pos 0
-none_before terms done rest label c is e =
-    total_none (λ (t : List ℕ × ℤ). cond (same t.0 label) t.1 (pos 0)) (numerators done)
-    (λ t m. ap (λ b. cond b t.1 (pos 0)) (same_apart t.0 label (λ i. once_before (labels (numerators done)) (labels (numerators rest)) label once (subst (λ l. Among l (labels (numerators done))) i (Among-map (λ (u : List ℕ × ℤ). u.0) t (numerators done) m)))))
-  where
-    once : Once (labels (numerators done) ++ (label ∷ labels (numerators rest)))
-    once =
-        subst (λ (ls : List (List ℕ)). Once ls)
-        (sym (keys-numerators terms)
-        ∙ ap (λ ts. labels (numerators ts)) (sym e)
-        ∙ ap labels (map-append (λ (t : List ℕ × Fraction). (t.0, t.1.0)) done ((label, c) ∷ rest))
-        ∙ map-append (λ (t : List ℕ × ℤ). t.0) (numerators done) ((label, c.0) ∷ numerators rest))
-        (Once-keys terms is)
+pub dilated-push : (k : ℕ) (done : WholeTerms) (t : List ℕ × ℤ) → dilated k (done ++ t ∷ []) ≡ dilated k done ++ (multiplied k t.0, t.1) ∷ []
+dilated-push k done t = map-append (λ (t : List ℕ × ℤ). (multiplied k t.0, t.1)) done (t ∷ [])

@@ -9,7 +9,7 @@ use Rattle.sym_model.specs.ListWeight as listed
 use Rattle.monomial_laws.specs.Majorant as majorant
 use Rattle.monomial_laws.specs.ExpressionTerms.{in_monomials, over, IsList}
 use Rattle.monomial_laws.proofs.Splits.{In-monomial_terms}
-use Rattle.whole_lists.specs.Tables.{IsTable}
+use Rattle.whole_lists.specs.Tables.{IsFractionTable}
 use Rattle.whole_lists.specs.LabelSizes.{AreWithin}
 use Rattle.whole_lists.proofs.DividedLists.{within-multiple, bounded-multiple}
 use Rattle.whole_lists.proofs.WholeLists.{Once-keys}
@@ -25,7 +25,7 @@ use Rattle.plethysm.proofs.PlethysmAnswers.{positive-labels}
 -- outer is the list in m of F, bounded by N and D, with labels of at most a cells; terms is it in p, cleared by D·k; W is the list in
 -- m of G, bounded by K at the degree b; sum is D·k times the plethysm; answer is the sum divided by D·k
 module _ (N D a k K b : ℕ) (outer terms answer : Terms (List ℕ)) (W sum : WholeTerms)
-    (some : 0 < D) (more : 0 < k) (js : IsTable outer) (is : IsTable terms) (ks : IsTable answer)
+    (some : 0 < D) (more : 0 < k) (js : IsFractionTable outer) (is : IsFractionTable terms) (ks : IsFractionTable answer)
     (bounded : listed.IsBounded N D outer) (within : AreWithin a outer)
     (whole : (t : List ℕ × Fraction) → Among t terms → (D * k) % t.1.1 ≡ 0)
     (h : IsBoundedSum K b W)

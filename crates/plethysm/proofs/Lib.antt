@@ -1,5 +1,6 @@
 pub mod FactorLists
 pub mod PathSteps
+pub mod NumeratorLists
 pub mod InnerLists
 pub mod PlethysmAnswers
 pub mod FinishedBounds

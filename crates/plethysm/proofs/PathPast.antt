@@ -15,7 +15,7 @@ use Rattle.monomial_laws.specs.ExpressionTerms.{in_monomials, over}
 use Rattle.monomial_laws.proofs.Splits.{In-monomial_terms}
 use Rattle.plethysm_laws.proofs.PathBounds.{path-met}
 use Rattle.plethysm_laws.proofs.PathWeights.{weight-met, weight-product, weight-outer}
-use Rattle.whole_lists.specs.Tables.{IsTable}
+use Rattle.whole_lists.specs.Tables.{IsFractionTable}
 use Rattle.coeff_rings.specs.Fractions.{scaled}
 use Rattle.change_from_monomials.specs.ClearedAnswer.{IsClearedBy}
 use Rattle.family_lists.proofs.Totals.{absolute-over}
@@ -34,7 +34,7 @@ term-within m (u ∷ terms) t (inl e) =
 term-within m (u ∷ terms) t (inr n) = omega (arith, term-within m terms t n)
 
 -- terms is the outer list in p, cleared; W is the inner list in m
-module _ (N D a K b : ℕ) (terms : Terms (List ℕ)) (W : WholeTerms) (n : 1 ≤ N) (d : 1 ≤ D) (k : 1 ≤ K) (is : IsTable terms)
+module _ (N D a K b : ℕ) (terms : Terms (List ℕ)) (W : WholeTerms) (n : 1 ≤ N) (d : 1 ≤ D) (k : 1 ≤ K) (is : IsFractionTable terms)
     (cleared : IsClearedBy (D * factorial a) (N * growth power_sums a) a terms) (h : IsBoundedSum (K * (b + 1)) b W) where
   label : (t : List ℕ × ℤ) → Among t (over (D * factorial a) terms) → ArePositive t.0 × (size t.0 ≤ a)
   label t m =

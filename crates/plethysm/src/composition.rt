@@ -4,21 +4,22 @@ ghost use Rattle.sym_model.specs.Expansion.{monomials, IsExpansionOf};
 ghost use Rattle.sym_model.specs.ListWeight.{IsBounded};
 ghost use Rattle.sym_model.specs.Plethysm.{plethysm, plethysm_weight};
 ghost use Rattle.sym_model.specs.Polynomial.{Poly};
-ghost use Rattle.sym_model.specs.WholeTerms.{numerators};
+ghost use Rattle.monomial_laws.specs.ExpressionTerms.{in_monomials};
 ghost use Rattle.expression_reading.specs.Trees.{basis_of};
 ghost use Rattle.sparse_polys.specs.MonomialProducts.{greatest_size};
 ghost use Rattle.whole_lists.specs.LabelSizes.{AreWithin};
 ghost use Rattle.plethysm.specs.BoundedSums.{IsBoundedSum};
 ghost use Rattle.plethysm.specs.PlethysmLists.{AreNaturalNumbers, IsPlethysmOf};
 
+use crate::inner::numerators;
 use crate::path::multiplied_out;
 use calc_base::{Basis, SumFault, Weight};
 use change_from_monomials::{greatest_size, to_basis};
 use coeff_rings::Frac;
+use linear_combinations::Lin;
 use partitions::Partition;
-use sparse_polys::Lin;
 use std::alloc::Global;
-use whole_lists::divided;
+use whole_lists::{Whole, divided};
 use whole_numbers::{denominator_product, factorial};
 
 /// The plethysm F[G]: the variables of F replaced by the monomials of G, each as often as its
@@ -64,7 +65,8 @@ pub fn plethysm(
     let Some(num) = finished_number(outer_bound.num, a, inner_bound.num, b) else {
         return Err(SumFault::Large);
     };
-    let finished = in_m(alloc, outer, outer_bound, inner)?;
+    let whole = numerators(alloc, inner)?;
+    let finished = in_m(alloc, outer, outer_bound, &whole)?;
     let bound = Weight {
         num,
         den: outer_bound.den,
@@ -77,20 +79,21 @@ fn in_m(
     alloc: Global,
     outer: &Lin<Partition, Frac>,
     bound: Weight,
-    inner: &Lin<Partition, Frac>,
+    inner: &Whole,
 ) -> Result<Lin<Partition, Frac>, SumFault>
     requires bounded { IsBounded bound.num bound.den outer.now }
     requires positive { (1 ≤ bound.num) × (1 ≤ bound.den) }
     requires size { greatest_size outer.now ≤ 15 }
     requires low { greatest_size outer.now * greatest_size inner.now ≤ 512 }
-    requires natural { AreNaturalNumbers inner.now }
-    ensures value { IfOk result (λ list. (K b : ℕ) → IsBoundedSum K b (numerators inner.now)
-        → IsPlethysmOf monomials b outer.now inner.now list) }
+    ensures value { IfOk result (λ list. (K b : ℕ) → IsBoundedSum K b inner.now
+        → (n : ℕ) (f : ℕ → Poly) (q : ℕ)
+        → ((k : ℕ) → IsExpansionOf monomials outer.now k (f k) q)
+        → IsExpansionOf monomials list n (plethysm f b n (in_monomials inner.now n)) q) }
     ensures bounded { let a = greatest_size outer.now in
-        IfOk result (λ list. (K b : ℕ) → IsBoundedSum K b (numerators inner.now)
+        IfOk result (λ list. (K b : ℕ) → IsBoundedSum K b inner.now
         → IsBounded (bound.num * (a + 1) * K ^ a) bound.den list × AreWithin (a * b) list) }
     ensures large { IsErrOf result SumFault.Large
-        → (K b : ℕ) → 1 ≤ K → IsBoundedSum (K * (b + 1)) b (numerators inner.now)
+        → (K b : ℕ) → 1 ≤ K → IsBoundedSum (K * (b + 1)) b inner.now
         → 2 ^ 127 ≤ plethysm_weight bound.num bound.den (greatest_size outer.now) K b }
 {
     let size = greatest_size(outer);

@@ -5,7 +5,6 @@ ghost use Rattle.sym_model.specs.Partition.{ArePositive, size};
 ghost use Rattle.sym_model.specs.Plethysm.{multiplied};
 ghost use Rattle.sym_model.specs.Polynomial.{Same};
 ghost use Rattle.sym_model.specs.Weight.{growth};
-ghost use Rattle.sym_model.specs.WholeTerms.{numerators};
 ghost use Rattle.monomial_laws.specs.ExpressionTerms.{IsList};
 ghost use Rattle.plethysm_laws.specs.PowerSumPlethysm.{dilated};
 ghost use Rattle.sparse_polys.specs.MonomialProducts.{greatest_size};
@@ -15,11 +14,9 @@ ghost use Rattle.plethysm.specs.BoundedSums.{IsBoundedSum};
 ghost use Rattle.plethysm.specs.PathSums.{power_sum_in};
 
 use calc_base::SumFault;
-use change_from_monomials::numerator_of;
-use coeff_rings::Frac;
-use linear_combinations::Lin as Table;
+use linear_combinations::Lin;
 use partitions::Partition;
-use sparse_polys::{Lin, times_whole_in_m};
+use sparse_polys::times_whole_in_m;
 use std::alloc::{AllocError, Global};
 use whole_lists::{Whole, single};
 
@@ -36,38 +33,31 @@ fn multiplied(alloc: Global, parts: &[u16], k: u16) -> Result<Vec<u16>, AllocErr
 }
 
 /// p_k[G]: the list with every part times k.
-fn dilated(alloc: Global, inner: &Lin<Partition, Frac>, k: u16) -> Result<Whole, SumFault>
+fn dilated(alloc: Global, inner: &Whole, k: u16) -> Result<Whole, SumFault>
     requires positive { 0 < k }
     requires low { k * greatest_size inner.now ≤ 512 }
-    ensures value { IfOk result (λ list. Same list (dilated k (numerators inner.now))) }
+    ensures value { IfOk result (λ list. Same list (dilated k inner.now)) }
     ensures table { IfOk result IsWholeTable }
     ensures small { ¬ IsErrOf result SumFault.Large }
 {
-    let mut list = Table::new(alloc);
+    let mut list = Lin::new(alloc);
     for (label, c) in inner.iter() {
         let parts = multiplied(alloc, label.parts(), k)?;
-        list.add_term(
-            Partition::from_valid_parts(alloc, &parts)?,
-            numerator_of(*c),
-        )?;
+        list.add_term(Partition::from_valid_parts(alloc, &parts)?, *c)?;
     }
     Ok(list)
 }
 
 /// p_λ[G]: the product of the p_k[G] over the parts k of λ.
-pub(crate) fn over_parts(
-    alloc: Global,
-    inner: &Lin<Partition, Frac>,
-    parts: &[u16],
-) -> Result<Whole, SumFault>
+pub(crate) fn over_parts(alloc: Global, inner: &Whole, parts: &[u16]) -> Result<Whole, SumFault>
     requires positive { ArePositive parts.now }
     requires low { size parts.now * greatest_size inner.now ≤ 512 }
     ensures value { IfOk result (λ list.
-        IsList list (power_sum_in (numerators inner.now) parts.now)) }
+        IsList list (power_sum_in inner.now parts.now)) }
     ensures labels { IfOk result (AreWithin (size parts.now * greatest_size inner.now)) }
     ensures table { IfOk result IsWholeTable }
     ensures large { IsErrOf result SumFault.Large → (K b : ℕ)
-        → IsBoundedSum K b (numerators inner.now)
+        → IsBoundedSum K b inner.now
         → 2 ^ 127 ≤ K ^ size parts.now * growth monomials (size parts.now * b) }
 {
     let [k, rest @ ..] = parts else {

@@ -11,6 +11,7 @@
 
 mod composition;
 mod factors;
+mod inner;
 mod path;
 
 pub use composition::plethysm;

@@ -1,8 +1,9 @@
 -- Expansions of products of Schur polynomials with one factor more, by the classical products of the labels.
-use Rattle.std.proofs.Common.{◌≡◌, ℕ, ◌+◌, ◌≤◌, ◌<◌, inl, inr, List, [], ◌∷◌, ◌++◌, refl, sym, ◌∙◌, ap, ap₂, subst, arith, pos, Option, Some, None, flat_map}
+use Rattle.std.proofs.Common.{◌≡◌, ℕ, ◌+◌, ◌≤◌, ◌<◌, inl, inr, List, [], ◌∷◌, ◌++◌, map, flat_map}
+use Rattle.std.proofs.Common.{Option, Some, None, pos, refl, sym, ◌∙◌, ap, ap₂, subst, arith}
 use Rattle.sym_model.specs.Sum.{Among}
-use Rattle.sym_model.specs.Polynomial.{Poly, Term, Same, nothing, coefficient, scale, times}
-use Rattle.sym_model.specs.Partition.{IsPartition, rows}
+use Rattle.sym_model.specs.Polynomial.{Poly, Term, Same, nothing, scale, times}
+use Rattle.sym_model.specs.Partition.{IsPartition, rows, size}
 use Rattle.sym_model.specs.Schur.{schur}
 use Rattle.sym_model.specs.GoodTableau.{product_count}
 use Rattle.sym_model.specs.Expansion.{Fraction, Terms}
@@ -14,43 +15,25 @@ use Rattle.alternant_laws.specs.GoodSums.{ListsCounts}
 use Rattle.alternant_laws.proofs.ClassicalProducts.{classical_product-coefficient, classical_product-term}
 use Rattle.alternant_laws.proofs.CountedTerms.{product_coefficients, product_counts_stable, mult_meets}
 use Rattle.alternant_laws.proofs.SchurProducts.{schur_few_variables}
+use Rattle.alternant_laws.proofs.WholeLists.{numerators-as_fractions, AreWhole-as_fractions}
+use Rattle.alternant_laws.proofs.WholeLists.{whole_counts}
 use Rattle.product_laws.specs.FactorSteps.{multiplied, products_of}
 use Rattle.product_laws.proofs.Expansions.{every_step, limited_step}
 use Rattle.product_laws.specs.CountedProducts.{IsShownIn}
 use Rattle.product_laws.proofs.Growing.{two_rows}
-
--- ---- lists of whole numbers written as fractions
-
-pub numerators-as_fractions : (terms : WholeTerms) → numerators (as_fractions terms) ≡ terms
-numerators-as_fractions [] = refl
-numerators-as_fractions (t ∷ terms) = ap (λ l. t ∷ l) (numerators-as_fractions terms)
-
-pub AreWhole-as_fractions : (terms : WholeTerms) → AreWhole (as_fractions terms)
-AreWhole-as_fractions [] = tt
-AreWhole-as_fractions (t ∷ terms) = (refl, AreWhole-as_fractions terms)
-
-each_same : {A : Type 0} (f g : A → WholeTerms) (xs : List A) → ((x : A) → f x ≡ g x) → flat_map f xs ≡ flat_map g xs
-each_same f g [] e = refl
-each_same f g (x ∷ xs) e = ap₂ ◌++◌ (e x) (each_same f g xs e)
 
 -- ---- two factors
 
 pub two_listed : (k m : ℕ) (left right : List ℕ) → IsPartition left → IsPartition right → m ≤ k
     → ((t : Term) → Among t (classical_product k (left ∷ right ∷ [])) → rows t.0 ≤ m)
     → ListsCounts m (product_count m left right) (as_fractions (classical_product k (left ∷ right ∷ [])))
-two_listed k m left right p q h few = record {
-  whole = AreWhole-as_fractions (classical_product k (left ∷ right ∷ []));
-  labels = λ t n.
-      let s = Among_from_map (λ (u : Term). let written : List ℕ × Fraction = (u.0, (u.1, 1)) in written) t (classical_product k (left ∷ right ∷ [])) n in
-      let c = classical_product-term k (left ∷ right ∷ []) s.0 s.1 in
-      let e : t.0 ≡ s.0.0 = ap (λ (u : List ℕ × Fraction). u.0) s.2 in
-      (subst IsPartition (sym e) c.partition, subst (λ label. rows label ≤ m) (sym e) (few s.0 s.1));
-  counts = λ parts r l.
-      ap (λ (terms : WholeTerms). coefficient terms parts) (numerators-as_fractions (classical_product k (left ∷ right ∷ [])))
-      ∙ classical_product-coefficient k (left ∷ right ∷ []) parts r (omega arith)
-      ∙ product_coefficients k left right parts p q r (omega arith)
-      ∙ ap pos (product_counts_stable m k left right parts h p q r l);
-}
+two_listed k m left right p q h few =
+    whole_counts m (product_count m left right) (classical_product k (left ∷ right ∷ []))
+    (λ t n. let c = classical_product-term k (left ∷ right ∷ []) t n in (c.partition, few t n))
+    (λ parts r l.
+    classical_product-coefficient k (left ∷ right ∷ []) parts r (omega arith)
+    ∙ product_coefficients k left right parts p q r (omega arith)
+    ∙ ap pos (product_counts_stable m k left right parts h p q r l))
 
 two_expand : (variables : Option ℕ) (k : ℕ) (left right : List ℕ) → IsPartition left → IsPartition right → rows left ≤ k → IsShownIn variables (rows left + rows right) k
     → ExpandsInSchurs variables (schur_product (left ∷ right ∷ [])) (as_fractions (classical_product k (left ∷ right ∷ [])))
@@ -63,17 +46,23 @@ two_expand (Some given) k left right p q h shown =
 
 -- ---- one factor more
 
+each_same : {A : Type 0} (f g : A → WholeTerms) (xs : List A) → ((x : A) → f x ≡ g x)
+    → flat_map f xs ≡ flat_map g xs
+each_same f g [] e = refl
+each_same f g (x ∷ xs) e = ap₂ ◌++◌ (e x) (each_same f g xs e)
+
 by_products : (k : ℕ) (next : List ℕ) (terms : WholeTerms) → products_of (λ label. as_fractions (classical_product k (label ∷ next ∷ []))) terms ≡ multiplied k next terms
 by_products k next terms =
     each_same (λ (t : Term). scale t.1 (numerators (as_fractions (classical_product k (t.0 ∷ next ∷ []))))) (λ (t : Term). scale t.1 (classical_product k (t.0 ∷ next ∷ []))) terms
     (λ t. ap (λ (l : WholeTerms). scale t.1 l) (numerators-as_fractions (classical_product k (t.0 ∷ next ∷ []))))
 
 -- no label has more rows than there are variables, where they are given
-abbrev pub HasFewRows : Option ℕ → Terms (List ℕ) → Type 0
+abbrev HasFewRows : Option ℕ → Terms (List ℕ) → Type 0
 HasFewRows None terms = Unit {0}
 HasFewRows (Some given) terms = (t : List ℕ × Fraction) → Among t terms → rows t.0 ≤ given
 
-pub expands_next : (variables : Option ℕ) (k : ℕ) (front : List (List ℕ)) (next : List ℕ) (terms after : Terms (List ℕ)) → AreWhole terms → AreWhole after → IsPartition next
+expands_next : (variables : Option ℕ) (k : ℕ) (front : List (List ℕ)) (next : List ℕ)
+    (terms after : Terms (List ℕ)) → AreWhole terms → AreWhole after → IsPartition next
     → ((t : Term) → Among t (numerators terms) → IsPartition t.0 × (rows t.0 ≤ k) × IsShownIn variables (rows t.0 + rows next) k)
     → HasFewRows variables after
     → ExpandsInSchurs variables (schur_product front) terms
@@ -88,6 +77,36 @@ expands_next (Some given) k front next terms after w v q labels few e is =
     (λ t m. let l = labels t m in (AreWhole-as_fractions (classical_product k (t.0 ∷ next ∷ [])), two_expand (Some given) k t.0 next l.0 q l.1 l.2))
     e (subst (λ (l : WholeTerms). Same (numerators after) l) (sym (by_products k next (numerators terms))) is)
     few
+
+-- the same for lists of whole numbers, where no label of the product has more than k rows
+pub expands_whole : (given : Option ℕ) (k : ℕ) (front : List (List ℕ)) (next : List ℕ)
+    (product after : WholeTerms) → IsPartition next
+    → ((t : Term) → Among t product
+    → IsPartition t.0 × (rows t.0 ≤ k) × IsShownIn given (rows t.0 + rows next) k)
+    → ((t : Term) → Among t after → rows t.0 ≤ k)
+    → ExpandsInSchurs given (schur_product front) (as_fractions product)
+    → Same after (multiplied k next product)
+    → IsShownIn given (size (map rows front) + rows next) k
+    → ExpandsInSchurs given (schur_product (front ++ (next ∷ []))) (as_fractions after)
+expands_whole given k front next product after q labels few e is shown =
+    expands_next given k front next (as_fractions product) (as_fractions after)
+    (AreWhole-as_fractions product) (AreWhole-as_fractions after) q
+    (λ t m. labels t (subst (λ (l : WholeTerms). Among t l) (numerators-as_fractions product) m))
+    (few_rows given shown) e
+    (subst (λ (l : WholeTerms). Same l (multiplied k next (numerators (as_fractions product))))
+    (sym (numerators-as_fractions after))
+    (subst (λ (l : WholeTerms). Same after (multiplied k next l))
+    (sym (numerators-as_fractions product)) is))
+  where
+    few_rows : (given : Option ℕ) → IsShownIn given (size (map rows front) + rows next) k
+        → HasFewRows given (as_fractions after)
+    few_rows None s = tt
+    few_rows (Some n) s = λ t m.
+        let written : Term → List ℕ × Fraction = λ v. (v.0, (v.1, 1)) in
+        let u = Among_from_map written t after m in
+        let f = few u.0 u.1 in
+        let d = ap (λ (v : List ℕ × Fraction). rows v.0) u.2 in
+        omega (arith, s)
 
 -- ---- a factor with more rows than there are variables
 

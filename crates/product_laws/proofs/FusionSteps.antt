@@ -1,14 +1,20 @@
 -- Reflecting into the alcove after each factor, and once.
 --     fusion_steps_meet    steps through all factors make the whole reflection
+--     fusion_steps_answer  which answers the command
 --     fusion_in_steps      and a collected list that is it is reached by steps
-use Rattle.std.proofs.Common.{◌≡◌, ℕ, ◌≤◌, List, [], ◌∷◌, ◌++◌, length, refl, sym, ◌∙◌, ap, subst, inl, arith, append-nil, append_assoc, ℤ, pos}
+use Rattle.std.proofs.Common.{◌≡◌, ℕ, ◌+◌, ◌≤◌, List, [], ◌∷◌, ◌++◌, length, append-nil}
+use Rattle.std.proofs.Common.{append_assoc, ℤ, pos, inl, refl, sym, ◌∙◌, ap, subst, arith}
 use Rattle.sym_model.specs.Polynomial.{Same, same, coefficient, scale}
-use Rattle.sym_model.specs.WholeTerms.{WholeTerms}
-use Rattle.sym_model.specs.Target.{classical_product, reflected_terms}
+use Rattle.sym_model.specs.WholeTerms.{WholeTerms, as_fractions}
+use Rattle.sym_model.specs.Kind.{product}
+use Rattle.sym_model.specs.Answer.{answer}
+use Rattle.sym_model.specs.Command.{fusion}
+use Rattle.sym_model.specs.Target.{Meets, classical_product, reflected_terms}
 use Rattle.sym_model.specs.ReductionSteps.{AreCollected, IsFusionStep, StepsLead, IsReflectedInSteps}
 use Rattle.sym_model.proofs.Ring.{one-product}
 use Rattle.sym_model.proofs.Sums.{Among-append_left, Among-append_right}
 use Rattle.sym_model.proofs.Exponents.{same_refl, same_true}
+use Rattle.alternant_laws.proofs.WholeLists.{numerators-as_fractions}
 use Rattle.product_laws.specs.FactorSteps.{fused}
 use Rattle.product_laws.proofs.Fusion.{fusion_step}
 use Rattle.product_laws.proofs.GatheredLists.{gathered, coefficient-gathered, collected-gathered}
@@ -56,6 +62,16 @@ fusion_steps_meet k n (first ∷ second ∷ factors) terms h l p s =
     later_steps k n (first ∷ second ∷ []) factors s.0 terms h p
     (λ label. s.1.sums label ∙ ap (λ (xs : WholeTerms). coefficient xs label) (first_step k n first second))
     s.2
+
+-- a list of whole numbers to which steps lead answers the command
+pub fusion_steps_answer : (k level : ℕ) (factors : List (List ℕ)) (terms : WholeTerms)
+    → 1 ≤ k + level → 2 ≤ length factors → ArePartitions factors
+    → IsReflectedInSteps k (k + level) factors terms
+    → Meets (fusion k level factors) (answer product (as_fractions terms))
+fusion_steps_answer k level factors terms h l p s =
+    let reflected = reflected_terms k (k + level) (classical_product k factors) in
+    subst (λ (list : WholeTerms). Same list reflected) (sym (numerators-as_fractions terms))
+    (fusion_steps_meet k (k + level) factors terms h l p s)
 
 -- ---- from the whole to steps
 

@@ -2,18 +2,24 @@
 --     quantum_step_made       what makes a step
 --     quantum_step_is         and what a step makes
 --     quantum_steps_meet      steps through all factors make the whole reduction
+--     quantum_steps_answer    which answers the command
 --     quantum_in_steps        and a collected list that is it is reached by steps
 use Rattle.std.proofs.Common.{◌≡◌, ℕ, ◌+◌, ◌≤◌, true, List, [], ◌∷◌, ◌++◌, map, length, refl, sym, ◌∙◌, ap, ap₂, subst, inl, arith, append-nil, append_assoc, ℤ, pos}
 use Rattle.std.proofs.lemmas.Bool.{and_parts, and_from, eq-eqb, eqb-true}
 use Rattle.sym_model.specs.Expansion.{Terms}
-use Rattle.sym_model.specs.WholeTerms.{coefficient_by, same_power, numerators}
-use Rattle.sym_model.specs.Target.{Reduction, IsRimHookReduction, classical_product, reduced_terms}
+use Rattle.sym_model.specs.WholeTerms.{coefficient_by, same_power, numerators, as_fractions}
+use Rattle.sym_model.specs.Kind.{powers}
+use Rattle.sym_model.specs.Answer.{answer}
+use Rattle.sym_model.specs.Command.{quantum}
+use Rattle.sym_model.specs.Target.{Meets, Reduction, IsRimHookReduction, classical_product}
+use Rattle.sym_model.specs.Target.{reduced_terms}
 use Rattle.sym_model.specs.ReductionSteps.{AreCollected, ReduceEach, reduced_each, IsQuantumStep, StepsLead, IsReducedInSteps, with_power}
 use Rattle.sym_model.proofs.Ring.{one-product}
 use Rattle.sym_model.proofs.Sums.{Among-append_right}
 use Rattle.sym_model.proofs.Exponents.{same_refl, same_true}
 use Rattle.beta_list_laws.specs.ReductionLists.{reductions_of}
 use Rattle.beta_list_laws.proofs.ReducedSums.{are_reductions}
+use Rattle.alternant_laws.proofs.WholeLists.{numerators-as_fractions}
 use Rattle.product_laws.specs.FactorSteps.{reduced_product, quantized, PowerTerms}
 use Rattle.product_laws.proofs.Quantum.{quantum_step}
 use Rattle.product_laws.proofs.RimHookSteps.{classical_labels, classical_only}
@@ -125,6 +131,15 @@ quantum_steps_meet k n factors terms h l p s = record {
   reduce = are_reductions k n (classical_product k factors) h (classical_labels k factors);
   sums = steps_whole k n factors (numerators terms) h l p s;
 }
+
+-- a list of whole numbers to which steps lead answers the command
+pub quantum_steps_answer : (k width : ℕ) (factors : List (List ℕ)) (terms : PowerTerms)
+    → 1 ≤ k + width → 2 ≤ length factors → ArePartitions factors
+    → IsReducedInSteps k (k + width) factors terms
+    → Meets (quantum k width factors) (answer powers (as_fractions terms))
+quantum_steps_answer k width factors terms h l p s =
+    quantum_steps_meet k (k + width) factors (as_fractions terms) h l p
+    (subst (IsReducedInSteps k (k + width) factors) (sym (numerators-as_fractions terms)) s)
 
 -- ---- from the whole to steps
 

@@ -1,12 +1,15 @@
 -- Sums of reductions do not depend on which rim hooks are removed first.
 --     any_reductions         those of the classical product
+--     any_whole_reductions   the same for a list of whole numbers
 --     any_step_reductions    those of one factor more
-use Rattle.std.proofs.Common.{ℕ, ◌≤◌, List, sym, ◌∙◌, ap}
+use Rattle.std.proofs.Common.{ℕ, ◌≤◌, List, sym, ◌∙◌, ap, subst}
 use Rattle.sym_model.specs.Expansion.{Terms}
 use Rattle.sym_model.specs.ReductionSteps.{IsQuantumStep, ReduceEach, reduced_each}
 use Rattle.sym_model.specs.Target.{AreReductions, IsRimHookReduction, Reduction, classical_product}
 use Rattle.sym_model.specs.Target.{reduced_terms}
-use Rattle.sym_model.specs.WholeTerms.{WholeTermsOf, coefficient_by, numerators, same_power}
+use Rattle.sym_model.specs.WholeTerms.{WholeTermsOf, as_fractions, coefficient_by, numerators}
+use Rattle.sym_model.specs.WholeTerms.{same_power}
+use Rattle.alternant_laws.proofs.WholeLists.{numerators-as_fractions}
 use Rattle.product_laws.proofs.GatheredLists.{gathered, coefficient-gathered, collected-gathered}
 use Rattle.product_laws.proofs.QuantumSteps.{power_true, power_self, quantum_step_is}
 use Rattle.product_laws.proofs.RimHookSteps.{classical_only}
@@ -23,6 +26,17 @@ any_reductions k n factors terms reductions h a r label =
     (reduced_terms (classical_product k factors) l) label)
     (classical_only k n factors r.reductions h r.reduce
     ∙ sym (classical_only k n factors reductions h a))
+
+-- a list of whole numbers
+pub any_whole_reductions : (k n : ℕ) (factors : List (List ℕ)) (terms : WholeTermsOf (ℕ × List ℕ))
+    (reductions : List Reduction) → 1 ≤ n
+    → AreReductions k n (classical_product k factors) reductions
+    → IsRimHookReduction k n (classical_product k factors) (as_fractions terms)
+    → HaveSameSums terms (reduced_terms (classical_product k factors) reductions)
+any_whole_reductions k n factors terms reductions h a r =
+    subst (λ (list : WholeTermsOf (ℕ × List ℕ)). HaveSameSums list
+    (reduced_terms (classical_product k factors) reductions)) (numerators-as_fractions terms)
+    (any_reductions k n factors (as_fractions terms) reductions h a r)
 
 -- other reductions make a step of their own, and all steps have the same sums
 pub any_step_reductions : (k n : ℕ) (factor : List ℕ) (terms next : WholeTermsOf (ℕ × List ℕ))

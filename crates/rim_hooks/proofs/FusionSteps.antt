@@ -1,16 +1,14 @@
 -- Fusion products in steps.
 --     fusion_none          where a factor has more than k rows, steps can lead to 0
---     fusion_meets         steps lead to the answer of the command
 use Rattle.std.proofs.Common.{◌≡◌, ◌⊎◌, ℕ, ◌<◌, ◌≤◌, List, [], ◌∷◌, ◌++◌, length, refl, sym, ◌∙◌, ap, subst, inl, inr, arith, pos}
 use Rattle.sym_model.specs.Sum.{Among}
-use Rattle.sym_model.specs.Polynomial.{Same, coefficient, scale}
+use Rattle.sym_model.specs.Polynomial.{coefficient, scale}
 use Rattle.sym_model.specs.Partition.{IsPartition, rows, ArePartitions}
-use Rattle.sym_model.specs.WholeTerms.{WholeTerms, as_fractions, numerators}
-use Rattle.sym_model.specs.Target.{classical_product, reflected_terms}
+use Rattle.sym_model.specs.WholeTerms.{WholeTerms}
+use Rattle.sym_model.specs.Target.{reflected_terms}
 use Rattle.sym_model.specs.ReductionSteps.{IsFusionStep, StepsLead, IsReflectedInSteps}
 use Rattle.product_laws.specs.FactorSteps.{fused, HasLong}
-use Rattle.product_laws.proofs.FusionSteps.{fusion_step_some, fusion_steps_meet}
-use Rattle.linear_combinations.proofs.Found.{numerators-as_fractions}
+use Rattle.product_laws.proofs.FusionSteps.{fusion_step_some}
 use Rattle.rim_hooks.specs.HeavySteps.{IsHeavyFusion}
 use Rattle.rim_hooks.specs.Reductions.{LeadsTo, IsHeavyFrom}
 use Rattle.rim_hooks.proofs.ClassicalLists.{classical_long_left, classical_long_right}
@@ -60,9 +58,3 @@ fusion_led k n (first ∷ factors) last s = s
 pub fusion_heavy : (k n : ℕ) (factors : List (List ℕ)) → IsHeavyFrom (λ (shape : List ℕ). shape) (IsFusionStep k n) (λ first. first) k factors → IsHeavyFusion k n factors
 fusion_heavy k n [] h = absurd h
 fusion_heavy k n (first ∷ factors) h = h
-
--- the list as the answer of the command
-pub fusion_meets : (k n : ℕ) (factors : List (List ℕ)) (terms : WholeTerms) → 1 ≤ n → 2 ≤ length factors → ArePartitions factors
-    → IsReflectedInSteps k n factors terms → Same (numerators (as_fractions terms)) (reflected_terms k n (classical_product k factors))
-fusion_meets k n factors terms h l p s =
-    subst (λ (x : WholeTerms). Same x (reflected_terms k n (classical_product k factors))) (sym (numerators-as_fractions terms)) (fusion_steps_meet k n factors terms h l p s)

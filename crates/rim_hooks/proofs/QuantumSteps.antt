@@ -1,16 +1,14 @@
 -- Quantum products in steps.
 --     quantum_none         where a factor has more than k rows, steps can lead to 0
---     quantum_meets        steps lead to the answer of the command
 use Rattle.std.proofs.Common.{◌≡◌, ◌⊎◌, ℕ, ◌<◌, ◌≤◌, List, [], ◌∷◌, ◌++◌, length, refl, sym, ◌∙◌, ap, subst, inl, inr, arith, pos}
 use Rattle.sym_model.specs.Sum.{Among}
 use Rattle.sym_model.specs.Partition.{IsPartition, rows, ArePartitions}
-use Rattle.sym_model.specs.WholeTerms.{WholeTerms, coefficient_by, same_power, as_fractions}
-use Rattle.sym_model.specs.Target.{IsRimHookReduction, classical_product, reduced_terms}
+use Rattle.sym_model.specs.WholeTerms.{WholeTerms, coefficient_by, same_power}
+use Rattle.sym_model.specs.Target.{reduced_terms}
 use Rattle.sym_model.specs.ReductionSteps.{shape_of, IsQuantumStep, StepsLead, IsReducedInSteps, with_power}
 use Rattle.beta_list_laws.specs.ReductionLists.{reductions_of}
 use Rattle.product_laws.specs.FactorSteps.{quantized, PowerTerms, HasLong}
-use Rattle.product_laws.proofs.QuantumSteps.{quantum_step_made, quantum_step_some, quantum_steps_meet}
-use Rattle.linear_combinations.proofs.Found.{numerators-as_fractions}
+use Rattle.product_laws.proofs.QuantumSteps.{quantum_step_made, quantum_step_some}
 use Rattle.rim_hooks.specs.HeavySteps.{IsHeavyQuantum}
 use Rattle.rim_hooks.specs.Reductions.{LeadsTo, IsHeavyFrom}
 use Rattle.rim_hooks.proofs.ClassicalLists.{classical_long_left, classical_long_right}
@@ -58,9 +56,3 @@ quantum_led k n (first ∷ factors) last s = s
 pub quantum_heavy : (k n : ℕ) (factors : List (List ℕ)) → IsHeavyFrom shape_of (IsQuantumStep k n) (λ first. (0, first)) k factors → IsHeavyQuantum k n factors
 quantum_heavy k n [] h = absurd h
 quantum_heavy k n (first ∷ factors) h = h
-
--- the list as the answer of the command
-pub quantum_meets : (k n : ℕ) (factors : List (List ℕ)) (terms : PowerTerms) → 1 ≤ n → 2 ≤ length factors → ArePartitions factors
-    → IsReducedInSteps k n factors terms → IsRimHookReduction k n (classical_product k factors) (as_fractions terms)
-quantum_meets k n factors terms h l p s =
-    quantum_steps_meet k n factors (as_fractions terms) h l p (subst (λ (x : PowerTerms). IsReducedInSteps k n factors x) (sym (numerators-as_fractions terms)) s)

@@ -44,7 +44,6 @@ pub fn alcove_of(
         (has_equal_entries (remainders n (beta k shape.now)) ≡ true)
         (λ a. IsAlcoveOf k n shape.now a.shape a.sign)) }
 {
-    let _ = shape.size();
     let entries = shape.beta(k)?;
     let Some(start) = window_start(entries.as_slice(), n) else {
         return Ok(None);

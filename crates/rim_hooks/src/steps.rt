@@ -51,7 +51,7 @@ fn add_reductions<L: Label, R: Reduction<L>>(
 ///
 /// It is refused as `Large` only where `c` times the coefficients of the classical product
 /// overflow.
-fn add_product<L: Label, R: Reduction<L>>(
+fn add_reduced_product<L: Label, R: Reduction<L>>(
     alloc: Global,
     rule: &R,
     label: &L,
@@ -95,7 +95,7 @@ fn times_factor<L: Label, R: Reduction<L>>(
 {
     let mut sums = Lin::new(alloc);
     for (label, c) in terms.iter() {
-        add_product(alloc, rule, label, *c, factor, &mut sums)?;
+        add_reduced_product(alloc, rule, label, *c, factor, &mut sums)?;
     }
     Ok(sums)
 }
@@ -123,7 +123,7 @@ pub(crate) fn product_in_steps<L: Label, R: Reduction<L>>(
     let len = factors.len();
     let start = R::start(factor_at(factors, 0))?;
     let mut terms = Lin::new(alloc);
-    add_product(
+    add_reduced_product(
         alloc,
         rule,
         &start,

@@ -39,7 +39,7 @@ use Rattle.transition_walk.proofs.Labels.{one_one_line}
 use Rattle.transition_walk.proofs.Monomials.{restrict_pair, schubert_monomials}
 use Rattle.transition_walk.proofs.Shares.{natural}
 use Rattle.schubert_transition.specs.Acted.{acted, raised_terms}
-use Rattle.schubert_transition.specs.TermLists.{AreTerms, IsTable, IsSchubertOf}
+use Rattle.schubert_transition.specs.TermLists.{AreTerms, IsMonomialTable, IsSchubertOf}
 use Rattle.schubert_transition.proofs.Acted.{acted_identity, acted_start, acted_at, shown_natural, at_only_here}
 use Rattle.schubert_transition.proofs.VariableShares.{coefficient_share, share_is, exact_share, outside_share, outside_falls, outside_start, within_by, within_terms}
 use Rattle.sym_model.proofs.PolynomialLaws.{restricted_test}
@@ -129,7 +129,7 @@ not_negative f (u ∷ terms) h t m some = by m (least u.1 (f u.0)) (all terms) (
 -- what is known of it
 record IsMade (w : List ℕ) (terms : WholeTerms) : Type 0 where
   value : (n : ℕ) (φ : List ℕ → ℤ) → over (acted n φ (1 ∷ [])) terms ≡ acted n φ w []
-  table : IsTable terms
+  table : IsMonomialTable terms
   held : AreHeld (pointwise nat_eq) (pos 0) (FitsSigned w128) terms
   shares : (share : List ℕ → List ℕ → ℕ) → IsShare (λ r v e. raised_terms r e) (λ e. 255 + size e) (length w) (top_of w 255) share
       → weighed (share (1 ∷ [])) terms ≤ share w []
@@ -202,7 +202,7 @@ short_of w one_line = record { one_line = one_line; few = omega arith }
 
 pub final : {E : Type 0} (w : List ℕ) (one : List ℕ) (r : Result WholeTerms E) → IsOneLine w → one ≡ []
     → IfOk r (λ terms. (n : ℕ) (φ : List ℕ → ℤ) → over (acted n φ (1 ∷ [])) terms ≡ acted n φ w one)
-    → IfOk r IsTable → IfOk r (AreHeld (pointwise nat_eq) (pos 0) (FitsSigned w128))
+    → IfOk r IsMonomialTable → IfOk r (AreHeld (pointwise nat_eq) (pos 0) (FitsSigned w128))
     → IfOk r (λ terms. (share : List ℕ → List ℕ → ℕ) → IsShare (λ r v e. raised_terms r e) (λ e. 255 + size e) (length w) (top_of w (255 + size one)) share
     → weighed (share (1 ∷ [])) terms ≤ share w one)
     → IfOk r (IsSchubertOf w)

@@ -17,7 +17,7 @@ use Rattle.sym_model.specs.DividedDifference.{x_to_in}
 use Rattle.sym_model.specs.WholeTerms.{WholeTerms}
 use Rattle.sym_model.specs.Schubert.{schubert_in}
 use Rattle.schubert_transition.specs.Kept.{AreKept, IsSchubertStore, Store, kept_for, ComesFirst}
-use Rattle.schubert_transition.specs.TermLists.{IsSchubertOf, IsTable}
+use Rattle.schubert_transition.specs.TermLists.{IsSchubertOf, IsMonomialTable}
 
 -- a test for the permutation
 abbrev is : List ℕ → List ℕ → Bool
@@ -67,7 +67,7 @@ found w entries terms kept at =
     subst (λ v. IsSchubertOf v terms) (sym (same_partition w c.0 c.2)) (kept.each (c.0, terms) c.1).0
 
 -- a copy of a polynomial is one too
-pub copied : (w : List ℕ) (terms copy : WholeTerms) → IsTable copy → HasSameCoefficients (pointwise nat_eq) (pos 0) terms copy → IsSchubertOf w terms → IsSchubertOf w copy
+pub copied : (w : List ℕ) (terms copy : WholeTerms) → IsMonomialTable copy → HasSameCoefficients (pointwise nat_eq) (pos 0) terms copy → IsSchubertOf w terms → IsSchubertOf w copy
 copied w terms copy second same h = record {
   represents = λ n. represents_same nat_list_eq_equiv same_partition terms copy h.table second same (λ exponents. x_to_in exponents n) (schubert_in w n) (h.represents n);
   terms_of = λ t m. h.terms_of t (carried nat_list_eq_equiv same_partition (pos 0) whole refl copy terms second t m (sym (same t.0)));
@@ -76,7 +76,7 @@ copied w terms copy second same h = record {
 }
 
 -- and no longer
-pub as_long : (terms copy : WholeTerms) → IsTable terms → IsTable copy → HasSameCoefficients (pointwise nat_eq) (pos 0) terms copy → length copy ≤ length terms
+pub as_long : (terms copy : WholeTerms) → IsMonomialTable terms → IsMonomialTable copy → HasSameCoefficients (pointwise nat_eq) (pos 0) terms copy → length copy ≤ length terms
 as_long terms copy first second same = length_same nat_list_eq_equiv same_partition (pos 0) whole refl copy terms second first (λ label. sym (same label))
 
 -- after a put each entry was there, or is the one that was put

@@ -32,7 +32,7 @@ use Rattle.transition_walk.proofs.Weighed.{weighed_among}
 use Rattle.transition_walk.proofs.Weights.{weigh_within, weigh_most}
 use Rattle.schubert_transition.specs.Acted.{acted, raised_terms}
 use Rattle.schubert_transition.specs.ActedLaws.{acted_step}
-use Rattle.schubert_transition.specs.TermLists.{IsTable}
+use Rattle.schubert_transition.specs.TermLists.{IsMonomialTable}
 use Rattle.schubert_transition.proofs.Acted.{acted_natural}
 use native.Mathlib.Nat.{mul-le-mul_left}
 
@@ -134,7 +134,7 @@ within_by n d w e none = by (is_within n d w e) refl
     by false h = absurd (none (let p = weight_positive w in let q = ap (λ b. cond b 0 (weight w)) h in omega arith))
 
 -- the terms of a list without a share lie within
-pub within_terms : (n d : ℕ) (w : List ℕ) (terms : WholeTerms) → IsTable terms → weighed (outside_share n d w) terms ≤ 0
+pub within_terms : (n d : ℕ) (w : List ℕ) (terms : WholeTerms) → IsMonomialTable terms → weighed (outside_share n d w) terms ≤ 0
     → (t : List ℕ × ℤ) → Among t terms → (length t.0 ≤ n) × (size t.0 + inversions w ≤ d)
 within_terms n d w terms is none t m =
     within_by n d w t.0

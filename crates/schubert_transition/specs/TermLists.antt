@@ -27,8 +27,8 @@ abbrev pub AreTerms : ℕ → ℕ → WholeTerms → Type 0
 AreTerms n d terms = (t : List ℕ × ℤ) → Among t terms → IsTerm n d t
 
 -- each monomial is in the list once, with a coefficient that is not 0
-abbrev pub IsTable : WholeTerms → Type 0
-IsTable terms = IsCombination (pointwise nat_eq) is_monomial_label whole terms
+abbrev pub IsMonomialTable : WholeTerms → Type 0
+IsMonomialTable terms = IsCombination (pointwise nat_eq) is_monomial_label whole terms
 
 -- the list is the Schubert polynomial of the permutation, in every number of variables, with
 -- coefficients below 2^127
@@ -36,5 +36,5 @@ pub record IsSchubertOf (w : List ℕ) (terms : WholeTerms) : Type 0 where
   pub represents : (n : ℕ) → Represents (λ exponents. x_to_in exponents n) (as_fractions terms)
       (schubert_in w n) 1
   pub terms_of : AreTerms (length w) (inversions w) terms
-  pub table : IsTable terms
+  pub table : IsMonomialTable terms
   pub fits : HasPastCoefficient (commands.schubert w) → ⊥

@@ -13,7 +13,7 @@ use Rattle.sym_model.specs.Bases.{down_from}
 use Rattle.sym_model.specs.Schur.{words, row_rises, columns_rise, times_in, content}
 use Rattle.sym_model.proofs.Sums.{total_ext, total_zero, total_map, total_each, total_exchange}
 use Rattle.sym_model.proofs.Exponents.{tests_agree}
-use Rattle.sym_model.proofs.SortedParts.{Falls_tail}
+use Rattle.sym_model.proofs.SortedParts.{Falls_tail, Falls_first}
 use Rattle.sym_model.proofs.AfterLists.{after_among}
 use Rattle.sym_model.proofs.Contents.{times_in-append}
 use Rattle.sym_model.proofs.Lists.{map-among}
@@ -152,10 +152,6 @@ LosesGreatest n parts =
     → over_rows (suc n) (ended n c upper) parts φ
     ≡ cond (nat_le (part parts 1) (length upper)) (total (λ (r : List ℕ × ℕ). over_rows n upper r.0 (λ γ. φ (γ ++ (r.1 ∷ [])))) (removals parts)) (pos 0)
 
-second_below : (a : ℕ) (parts : List ℕ) → Falls (a ∷ parts) → part parts 1 ≤ a
-second_below a [] f = omega arith
-second_below a (b ∷ parts) f = f.0
-
 -- one row with i of the greatest letter, and what stands below it
 row_ended : (n c i a : ℕ) (upper v parts : List ℕ) (φ : List ℕ → ℤ) → LosesGreatest n parts → AreAtMost n upper → Falls (a ∷ parts) → a ≤ length upper + c → i ≤ a
     → length v ≡ a - i → AreLetters n v
@@ -165,7 +161,7 @@ row_ended : (n c i a : ℕ) (upper v parts : List ℕ) (φ : List ℕ → ℤ) �
 row_ended n c i a upper v parts φ rec u f l h e m =
     ap₂ (λ (b : Bool) (z : ℤ). cond b z (pos 0))
     (columns_rise-ended n c i upper v u m (omega arith) ∙ ap (λ k. nat_le k (length upper) && columns_rise upper v) (let k : length v + i ≡ a = omega arith in k))
-    (rec i v (λ γ. φ (join (content (suc n) (ended n i v)) γ)) (letters_up_to n v m) (Falls_tail a parts f) (let s = second_below a parts f in omega arith)
+    (rec i v (λ γ. φ (join (content (suc n) (ended n i v)) γ)) (letters_up_to n v m) (Falls_tail a parts f) (let s = Falls_first a parts f in omega arith)
     ∙ ap₂ (λ (k : ℕ) (z : ℤ). cond (nat_le (part parts 1) k) z (pos 0)) e
     (total_ext (λ (r : List ℕ × ℕ). over_rows n v r.0 (λ γ. φ (join (content (suc n) (ended n i v)) (γ ++ (r.1 ∷ [])))))
     (λ (r : List ℕ × ℕ). over_rows n v r.0 (λ γ. φ (join (content n v) γ ++ ((i + r.1) ∷ []))))
@@ -200,7 +196,7 @@ loses_greatest n (a ∷ parts) c upper φ u f l =
     (rising-total n (a - i) (λ (r : List ℕ × ℕ) (v : List ℕ). cond (columns_rise upper v) (over_rows n v r.0 (λ γ. φ (join (content n v) γ ++ ((i + r.1) ∷ [])))) (pos 0)) (removals parts))))
     ∙ sym (cond_total (nat_le a (length upper)) (λ (i : ℕ). cond (nat_le (part parts 1) (a - i)) (left i) (pos 0)) (down_from a))
     ∙ ap (λ z. cond (nat_le a (length upper)) z (pos 0))
-    (total_greatest a (part parts 1) left (second_below a parts f)
+    (total_greatest a (part parts 1) left (Falls_first a parts f)
     ∙ total_ext left (λ (i : ℕ). total value (map (λ (r : List ℕ × ℕ). ((a - i) ∷ r.0, i + r.1)) (removals parts)))
     (λ i. sym (total_map value (λ (r : List ℕ × ℕ). ((a - i) ∷ r.0, i + r.1)) (removals parts))) (down_from (a - part parts 1))
     ∙ sym (total_each value (λ (i : ℕ). map (λ (r : List ℕ × ℕ). ((a - i) ∷ r.0, i + r.1)) (removals parts)) (down_from (a - part parts 1))))

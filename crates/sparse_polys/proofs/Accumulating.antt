@@ -4,10 +4,9 @@ use Rattle.std.specs.Prelude.{nat_eq, nat_abs, Option, Some, None, IfSome}
 use Rattle.std.specs.Int.{◌∣◌}
 use Rattle.std.specs.Cmp.Lexicographic.{pointwise, nat_list_eq_equiv}
 use Rattle.std.proofs.lemmas.Int.{ints, unsigned_abs-mul}
-use Rattle.std.proofs.lemmas.Bool.{cases_lt, and_parts}
+use Rattle.std.proofs.lemmas.Bool.{cases_lt}
 use Rattle.std.proofs.lemmas.Slice.Eq.{bytes_eq-Decides}
 use Rattle.sym_model.specs.Sum.{Among}
-use Rattle.sym_model.proofs.CanonicalLists.{each_term-among}
 use Rattle.sym_model.proofs.Orders.{is_reduced-tells}
 use Rattle.sym_model.specs.Partition.{IsPartition}
 use Rattle.sym_model.specs.Expansion.{Fraction, Terms}
@@ -20,8 +19,10 @@ use Rattle.coeff_rings.specs.Proved.Divisors.{quotient_positive}
 use Rattle.coeff_rings.specs.Proved.Cleared.{unsigned_abs-scaled, product-cleared}
 use Rattle.sparse_polys.specs.Combination.{IsCombination}
 use Rattle.sparse_polys.specs.Labels.{same_partition}
+use Rattle.sparse_polys.proofs.Tables.{term-tests}
 pub use Rattle.sparse_polys.proofs.ClearedSums.{lowest_at}
-use Rattle.sparse_polys.proofs.ClearedSums.{size_scaled, Gains-none, Gains-as}
+use Rattle.linear_combinations.proofs.Cleared.{Gains-none, Gains-as}
+use Rattle.sparse_polys.proofs.ClearedSums.{size_scaled}
 use Rattle.linear_combinations.proofs.Gains.{overflows_alone}
 use Rattle.monomial_laws.specs.ExpressionTerms.{over}
 use Rattle.sym_model.proofs.Integers.{nat_abs-product}
@@ -31,7 +32,8 @@ use Rattle.linear_combinations.proofs.Masses.{mass_at_scaled}
 use Rattle.sparse_polys.specs.MonomialProducts.{product_terms}
 use Rattle.sparse_polys.proofs.ProductLists.{terms_mass}
 use Rattle.sparse_polys.proofs.Coefficients.{nat_abs-is}
-use Rattle.sparse_polys.specs.Products.{AreDenominators, AreCleared, GainsCleared, OverflowsCleared}
+use Rattle.linear_combinations.specs.Cleared.{IsDenominator, AreCleared, GainsCleared}
+use Rattle.linear_combinations.specs.Cleared.{OverflowsCleared}
 use native.Mathlib.Nat.{mul-le-mul_left, mul-pos, dvd-mul_left}
 use lib.IntN.{+ℤ_idr, *ℤ-zero, zero-*ℤ}
 
@@ -48,11 +50,12 @@ magnitude-count : (n : ℕ) → magnitude 1 (whole (pos n)) ≡ n
 magnitude-count n = omega arith
 
 pub product-value : (d e : ℕ) (a b p c : Fraction) (n : ℕ) → InLowestTerms a → InLowestTerms b → InLowestTerms p
-    → p ≡ fraction_product a b → c ≡ fraction_product p (whole (pos n)) → AreDenominators d e a b
+    → p ≡ fraction_product a b → c ≡ fraction_product p (whole (pos n))
+    → IsDenominator d a × IsDenominator e b
     → (c.1 ∣ (d * e)) × (scaled (d * e) c ≡ scaled d a *ℤ scaled e b *ℤ pos n)
 product-value d e a b p c n la lb lp f g h =
-    let some : 0 < d * e = mul-pos h.left_positive h.right_positive in
-    let u = product-cleared d e a b la lb h.left_positive h.right_positive h.left h.right in
+    let some : 0 < d * e = mul-pos h.0.positive h.1.positive in
+    let u = product-cleared d e a b la lb h.0.positive h.1.positive h.0.multiple h.1.multiple in
     let pd : p.1 ∣ (d * e) = subst (λ (r : Fraction). r.1 ∣ (d * e)) (sym f) u.0 in
     let v = product-cleared (d * e) 1 p (whole (pos n)) lp (InLowestTerms-whole (pos n)) some (omega arith) pd one_divides in
     let k : (d * e) * 1 ≡ d * e = omega arith in (
@@ -64,14 +67,23 @@ product-value d e a b p c n la lb lp f g h =
     )
 
 -- the product of two scalars is refused for its size alone
-pub product-refused : {R : Type 0} (value : R → Fraction) (x y : R) (d e : ℕ) → AnswersProduct value x y None → AreDenominators d e (value x) (value y)
+pub product-refused : {R : Type 0} (value : R → Fraction) (x y : R) (d e : ℕ)
+    → AnswersProduct value x y None → IsDenominator d (value x) × IsDenominator e (value y)
     → d * e < 2 ^ 127 → 2 ^ 127 ≤ magnitude d (value x) * magnitude e (value y)
 product-refused value x y d e answers h small = by (cases_lt (magnitude d (value x) * magnitude e (value y)) (2 ^ 127))
   where
     by : (magnitude d (value x) * magnitude e (value y) < 2 ^ 127) ⊎ (2 ^ 127 ≤ magnitude d (value x) * magnitude e (value y))
         → 2 ^ 127 ≤ magnitude d (value x) * magnitude e (value y)
     by (inl l) =
-        let some = answers.room d e (record { left_positive = h.left_positive; right_positive = h.right_positive; small = small; left = h.left; right = h.right; room = l }) in
+        let some = answers.room d e (record {
+          left_positive = h.0.positive;
+          right_positive =
+              h.1.positive;
+          small = small;
+          left = h.0.multiple;
+          right = h.1.multiple;
+          room = l;
+        }) in
         cc
     by (inr l) = l
 
@@ -79,14 +91,18 @@ product-refused value x y d e answers h small = by (cases_lt (magnitude d (value
 size_product : (d e : ℕ) (a b : Fraction) → nat_abs (scaled d a *ℤ scaled e b) ≡ magnitude d a * magnitude e b
 size_product d e a b = nat_abs-product (scaled d a) (scaled e b) ∙ ap₂ (λ m n. m * n) (size_scaled d a) (size_scaled e b)
 
-pub Overflows-product : {R : Type 0} (value : R → Fraction) (x y : R) (d e : ℕ) → AnswersProduct value x y None → AreDenominators d e (value x) (value y) → d * e < 2 ^ 127
-    → (old : Terms (List ℕ)) (k : List ℕ) → OverflowsCleared (d * e) old ((k, scaled d (value x) *ℤ scaled e (value y)) ∷ [])
+pub Overflows-product : {R : Type 0} (value : R → Fraction) (x y : R) (d e : ℕ)
+    → AnswersProduct value x y None → IsDenominator d (value x) × IsDenominator e (value y)
+    → d * e < 2 ^ 127
+    → (old : Terms (List ℕ)) (k : List ℕ) → OverflowsCleared (pointwise nat_eq) (d * e) old
+    ((k, scaled d (value x) *ℤ scaled e (value y)) ∷ [])
 Overflows-product value x y d e answers h small old k =
     let l = product-refused value x y d e answers h small in
     let p = size_product d e (value x) (value y) in
     overflows_alone nat_list_eq_equiv same_partition (over (d * e) old) k (scaled d (value x) *ℤ scaled e (value y)) (omega arith)
 
-pub refused-first : {R : Type 0} (value : R → Fraction) (x y : R) (d e n : ℕ) → AnswersProduct value x y None → AreDenominators d e (value x) (value y)
+pub refused-first : {R : Type 0} (value : R → Fraction) (x y : R) (d e n : ℕ)
+    → AnswersProduct value x y None → IsDenominator d (value x) × IsDenominator e (value y)
     → d * e < 2 ^ 127 → 0 < n → 2 ^ 127 ≤ magnitude d (value x) * magnitude e (value y) * n
 refused-first value x y d e zero answers h small some = absurd (omega arith)
 refused-first value x y d e (suc n) answers h small some =
@@ -96,15 +112,20 @@ refused-first value x y d e (suc n) answers h small some =
 
 pub refused-second : {R : Type 0} (value : R → Fraction) (x y p w : R) (d e n : ℕ) → InLowestTerms (value x) → InLowestTerms (value y)
     → value p ≡ fraction_product (value x) (value y) → value w ≡ whole (pos n)
-    → AnswersProduct value p w None → AreDenominators d e (value x) (value y)
+    → AnswersProduct value p w None → IsDenominator d (value x) × IsDenominator e (value y)
     → d * e < 2 ^ 127 → 2 ^ 127 ≤ magnitude d (value x) * magnitude e (value y) * n
 refused-second value x y p w d e n lx ly f g answers h small =
-    let some : 0 < d * e = mul-pos h.left_positive h.right_positive in
-    let u = product-cleared d e (value x) (value y) lx ly h.left_positive h.right_positive h.left h.right in
+    let some : 0 < d * e = mul-pos h.0.positive h.1.positive in
+    let u = product-cleared d e (value x) (value y) lx ly h.0.positive h.1.positive h.0.multiple
+    h.1.multiple in
     let pd : (value p).1 ∣ (d * e) = subst (λ (r : Fraction). r.1 ∣ (d * e)) (sym f) u.0 in
     let wd : (value w).1 ∣ 1 = subst (λ (r : Fraction). r.1 ∣ 1) (sym g) one_divides in
     let k : (d * e) * 1 ≡ d * e = omega arith in
-    let l = product-refused value p w (d * e) 1 answers (record { left_positive = some; right_positive = omega arith; left = pd; right = wd }) (omega arith) in
+    let l = product-refused value p w (d * e) 1 answers (
+      record { positive = some; multiple = pd },
+      record
+          { positive = omega arith; multiple = wd },
+    ) (omega arith) in
     let size : magnitude (d * e) (value p) ≡ magnitude d (value x) * magnitude e (value y) =
     ap (magnitude (d * e)) f ∙ sym (unsigned_abs-scaled (d * e) (fraction_product (value x) (value y))) ∙ ap unsigned_abs u.1
     ∙ unsigned_abs-mul (scaled d (value x)) (scaled e (value y))
@@ -118,13 +139,17 @@ refused-second value x y p w d e n lx ly f g answers h small =
 pub at_same : (label : List ℕ) → pointwise nat_eq label label ≡ true
 at_same label = (bytes_eq-Decides label label).1 refl
 
-pub Gains-nothing : {is_label : List ℕ → Bool} (q n : ℕ) (z : ℤ) (old : Terms (List ℕ)) (k : List ℕ) → n ≡ 0 → AreCleared q old → GainsCleared is_label q old ((k, z *ℤ pos n) ∷ []) old
+pub Gains-nothing : {is_label : List ℕ → Bool} (q n : ℕ) (z : ℤ) (old : Terms (List ℕ)) (k : List ℕ)
+    → n ≡ 0 → AreCleared (pointwise nat_eq) q old
+    → GainsCleared (pointwise nat_eq) is_label q old ((k, z *ℤ pos n) ∷ []) old
 Gains-nothing q n z old k e cleared =
     Gains-as q old [] ((k, z *ℤ pos n) ∷ []) old
     (λ φ. sym (+ℤ_idr ((z *ℤ pos n) *ℤ φ k) ∙ ap (λ y. y *ℤ φ k) (ap (λ m. z *ℤ pos m) e ∙ *ℤ-zero z) ∙ zero-*ℤ (φ k)))
     (Gains-none q old cleared)
 
-pub Overflows-count : (d e n : ℕ) (a b : Fraction) (old : Terms (List ℕ)) (k : List ℕ) → 2 ^ 127 ≤ magnitude d a * magnitude e b * n → OverflowsCleared (d * e) old ((k, scaled d a *ℤ scaled e b *ℤ pos n) ∷ [])
+pub Overflows-count : (d e n : ℕ) (a b : Fraction) (old : Terms (List ℕ)) (k : List ℕ)
+    → 2 ^ 127 ≤ magnitude d a * magnitude e b * n
+    → OverflowsCleared (pointwise nat_eq) (d * e) old ((k, scaled d a *ℤ scaled e b *ℤ pos n) ∷ [])
 Overflows-count d e n a b old k large =
     let p = nat_abs-product (scaled d a *ℤ scaled e b) (pos n) in
     let m = ap (λ i. i * n) (size_product d e a b) in
@@ -132,7 +157,9 @@ Overflows-count d e n a b old k large =
 
 -- a number that is not below 2^127 stays so with a factor
 pub Overflows-many : (d e : ℕ) (a b : Fraction) (old : Terms (List ℕ)) (l r : List ℕ) → 0 < magnitude d a → 0 < magnitude e b
-    → (ν : List ℕ) × IsPartition ν × (2 ^ 127 ≤ arrangements l r ν) → OverflowsCleared (d * e) old (multiple (scaled d a *ℤ scaled e b) (product_terms l r))
+    → (ν : List ℕ) × IsPartition ν × (2 ^ 127 ≤ arrangements l r ν)
+    → OverflowsCleared (pointwise nat_eq) (d * e) old
+    (multiple (scaled d a *ℤ scaled e b) (product_terms l r))
 Overflows-many d e a b old l r some also h =
     let z = scaled d a *ℤ scaled e b in
     let p = size_product d e a b in
@@ -151,7 +178,7 @@ if_some (Some x) f h = f x h
 pub magnitude-positive : (q : ℕ) (terms : Terms (List ℕ)) (t : List ℕ × Fraction) → IsCombination (pointwise nat_eq) is_label terms → Among t terms
     → 0 < q → t.1.1 ∣ q → 0 < magnitude q t.1
 magnitude-positive q terms t is m some h =
-    let reduced = (and_parts _ _ (each_term-among _ terms is.proper t m)).0 in
+    let reduced = (term-tests terms is t m).0 in
     let a = (is_reduced-tells t.1 reduced).nonzero in
     let b = quotient_positive q t.1.1 some h in
     let z = nat_abs-is t.1.0 in

@@ -1,8 +1,10 @@
--- Lists to which terms are added one after another, with their fractions cleared (specs/Products).
+-- Lists to which terms are added one after another, with their fractions cleared
+-- (linear_combinations' specs/Cleared).
 --     found_over, mass_over, table_over   a cleared list is a table of whole numbers
---     Gains-term, Overflows-term          one term, in a table over any ring
---     Gains-next, Overflows-next          the terms of a list, one after another
-use Rattle.std.proofs.Common.{◌≡◌, ◌⊎◌, ℕ, ◌+◌, ◌*◌, ◌/◌, ◌^◌, ◌<◌, ◌≤◌, Bool, true, false, cond, ◌&&◌, List, [], ◌∷◌, ◌++◌, refl, sym, ap, ap₂, ◌∙◌, subst, inl, inr, arith, ℤ, pos, ◌+ℤ◌, ◌*ℤ◌, unsigned_abs}
+--     Gains-term, Overflows-term          one term, in a list of fractions
+--     Gains-entry, Overflows-entry        one term, in a table over any ring
+--     scaled_twice                        a multiple of a multiple
+use Rattle.std.proofs.Common.{◌≡◌, ◌⊎◌, ℕ, ◌+◌, ◌*◌, ◌/◌, ◌^◌, ◌<◌, ◌≤◌, Bool, true, false, cond, List, [], ◌∷◌, ◌++◌, refl, sym, ap, ap₂, ◌∙◌, subst, inl, inr, arith, ℤ, pos, ◌+ℤ◌, ◌*ℤ◌, unsigned_abs}
 use Rattle.std.specs.Prelude.{nat_eq, nat_abs, Option, Some, None, IsSome}
 use Rattle.std.specs.Int.{◌∣◌}
 use Rattle.std.specs.List.{IsDistinct}
@@ -13,10 +15,10 @@ use Rattle.std.proofs.lemmas.Bool.{cases_lt, and_parts, and_from}
 use Rattle.std.proofs.lemmas.Int.{ints, unsigned_abs-mul}
 use Rattle.sym_model.specs.Sum.{total, Among}
 use Rattle.sym_model.specs.Polynomial.{pair}
-use Rattle.sym_model.specs.Canonical.{is_reduced, each_term}
+use Rattle.sym_model.specs.Canonical.{is_reduced}
 use Rattle.sym_model.specs.Expansion.{Fraction, Terms}
 use Rattle.sym_model.specs.ListWeight.{absolute_sum}
-use Rattle.sym_model.specs.WholeTerms.{WholeTerms, WholeTermsOf}
+use Rattle.sym_model.specs.WholeTerms.{WholeTermsOf}
 use Rattle.sym_model.proofs.Integers.{nat_abs-product}
 use Rattle.sym_model.proofs.Orders.{is_reduced-tells}
 use Rattle.sym_model.proofs.Ring.{distributes_right, product_assoc}
@@ -30,16 +32,20 @@ use Rattle.coeff_rings.specs.Proved.Divisors.{quotient_positive}
 use Rattle.coeff_rings.specs.Proved.Fractions.{InLowestTerms-whole}
 use Rattle.linear_combinations.specs.Entries
 use Rattle.linear_combinations.specs.Gains.{over as sum_over, only, mass, scaled as multiple}
-use Rattle.linear_combinations.proofs.Gains.{gains_none, gains_as, gains_both, over_at, pairs_overflow}
+use Rattle.linear_combinations.proofs.Gains.{over_at}
 use Rattle.linear_combinations.proofs.LowestTerms.{is_reduced-lowest}
-use Rattle.sparse_polys.specs.Combination.{HasMoreAt, IsCombination}
+use Rattle.sparse_polys.specs.Combination.{terms_of, are_terms, HasMoreAt, IsCombination}
 use Rattle.sparse_polys.specs.Labels.{same_partition}
 use Rattle.sparse_polys.specs.Refusal.{IsRefused}
 use Rattle.sparse_polys.proofs.Tables.{lowest-coefficient}
 use Rattle.sparse_polys.proofs.Totals.{total-more}
-use Rattle.sparse_polys.specs.Products.{coefficient_at, AreCleared, AreDenominators, GainsCleared, OverflowsCleared}
+use Rattle.sparse_polys.proofs.ValueLists.{coefficient_values, combination_values, more_values}
+use Rattle.sparse_polys.proofs.ValueLists.{refused_values}
+use Rattle.linear_combinations.specs.Cleared.{AreCleared, IsDenominator, GainsCleared}
+use Rattle.linear_combinations.specs.Cleared.{OverflowsCleared}
+use Rattle.sparse_polys.specs.Products.{coefficient_at}
 use Rattle.sparse_polys.proofs.Coefficients.{nat_abs-is}
-use native.Mathlib.Nat.{mul-pos, dvd-mul_left}
+use native.Mathlib.Nat.{mul-pos}
 use lib.IntN.{+ℤ_idr, zero-*ℤ}
 pub use Rattle.linear_combinations.proofs.Steps.{on_ok}
 
@@ -88,7 +94,7 @@ module _ (q : ℕ) where
     pub table_over : 0 < q → ((t : List ℕ × Fraction) → Among t terms → t.1.1 ∣ q) → Entries.IsCombination (pointwise nat_eq) is_label whole (over q terms)
     table_over some divides = record { distinct = distinct_over; proper = proper terms is.proper divides }
       where
-        proper : (terms : Terms (List ℕ)) → each_term (λ (t : List ℕ × Fraction). is_reduced t.1 && is_label t.0) terms ≡ true
+        proper : (terms : Terms (List ℕ)) → are_terms is_label terms ≡ true
             → ((t : List ℕ × Fraction) → Among t terms → t.1.1 ∣ q) → Entries.are_terms whole is_label (over q terms) ≡ true
         proper [] h divides = refl
         proper (t ∷ terms) h divides =
@@ -105,11 +111,12 @@ module _ (q : ℕ) where
             r.1)
             (proper terms p.1 (λ u m. divides u (inr m)))
 
--- ---- one term, in a table over any ring
+-- ---- one term
 
 module _ {is_label : List ℕ → Bool} (q : ℕ) (old new : Terms (List ℕ)) (k : List ℕ) (c : Fraction)
     (is : IsCombination (pointwise nat_eq) is_label old) (also : IsCombination (pointwise nat_eq) is_label new) (low : InLowestTerms c)
-    (some : 0 < q) (divides : c.1 ∣ q) (cleared : AreCleared q old) (more : HasMoreAt (pointwise nat_eq) old k c new) where
+    (some : 0 < q) (divides : c.1 ∣ q) (cleared : AreCleared (pointwise nat_eq) q old)
+    (more : HasMoreAt (pointwise nat_eq) old k c new) where
   both : ((fraction_sum (coefficient_at old k) c).1 ∣ q) × (scaled q (fraction_sum (coefficient_at old k) c) ≡ scaled q (coefficient_at old k) +ℤ scaled q c)
   both = sum-cleared q (coefficient_at old k) c (lowest_at old is k) low some (cleared k) divides
 
@@ -117,7 +124,7 @@ module _ {is_label : List ℕ → Bool} (q : ℕ) (old new : Terms (List ℕ)) (
   sum_here =
       ap (scaled q) (more k ∙ ap (λ b. cond b (fraction_sum (coefficient_at old k) c) (coefficient_at old k)) (nat_list_eq_equiv.refl k)) ∙ both.1
 
-  cleared_more : AreCleared q new
+  cleared_more : AreCleared (pointwise nat_eq) q new
   cleared_more e = by (pointwise nat_eq k e) (more e)
     where
       by : (b : Bool) → coefficient_at new e ≡ cond b (fraction_sum (coefficient_at old k) c) (coefficient_at old e) → (coefficient_at new e).1 ∣ q
@@ -134,7 +141,8 @@ module _ {is_label : List ℕ → Bool} (q : ℕ) (old new : Terms (List ℕ)) (
       let n = +ℤ_idr (scaled q c *ℤ φ k) in
       omega (arith, ints)
 
-  pub Gains-term : (z : ℤ) → scaled q c ≡ z → GainsCleared is_label q old ((k, z) ∷ []) new
+  pub Gains-term : (z : ℤ) → scaled q c ≡ z
+      → GainsCleared (pointwise nat_eq) is_label q old ((k, z) ∷ []) new
   Gains-term z e = record {
     table = λ was. also;
     cleared = cleared_more;
@@ -144,7 +152,8 @@ module _ {is_label : List ℕ → Bool} (q : ℕ) (old new : Terms (List ℕ)) (
 -- a sum is refused for its size alone
 module _ {R : Type 0} (is_held : R → Type 0) (value : R → Fraction) (checked : R → R → Option R) (answers : (a b : R) → is_held a → is_held b → AnswersSum value a b (checked a b))
     (q : ℕ) (old : Terms (List ℕ)) (k : List ℕ) (c : Fraction) (refused : IsRefused is_held value checked (coefficient_at old k) c)
-    (some : 0 < q) (small : q < 2 ^ 127) (divides : c.1 ∣ q) (cleared : AreCleared q old) where
+    (some : 0 < q) (small : q < 2 ^ 127) (divides : c.1 ∣ q)
+    (cleared : AreCleared (pointwise nat_eq) q old) where
   pub sum_large : 2 ^ 127 ≤ magnitude q (coefficient_at old k) + magnitude q c
   sum_large =
       by
@@ -166,13 +175,46 @@ module _ {R : Type 0} (is_held : R → Type 0) (value : R → Fraction) (checked
           (record { positive = some; small = small; left = cleared k; right = divides; room = l }))))
       by none (inr l) = l
 
-  pub Overflows-term : {is_label : List ℕ → Bool} → IsCombination (pointwise nat_eq) is_label old → (z : ℤ) → scaled q c ≡ z → OverflowsCleared q old ((k, z) ∷ [])
+  pub Overflows-term : {is_label : List ℕ → Bool} → IsCombination (pointwise nat_eq) is_label old
+      → (z : ℤ) → scaled q c ≡ z → OverflowsCleared (pointwise nat_eq) q old ((k, z) ∷ [])
   Overflows-term is z e =
       let l = sum_large in
       let a = ap nat_abs (found_over q old is k) ∙ size_scaled q (coefficient_at old k) in
       let b = ap nat_abs (sym e) ∙ size_scaled q c in
       let h = ap (λ b. cond b (nat_abs z) 0) (nat_list_eq_equiv.refl k) in
       (k, omega arith)
+
+-- the same of the entries of a table
+module _ {R : Type 0} (value : R → Fraction) (zero : R) (none : value zero ≡ whole (pos 0))
+    {is_label : List ℕ → Bool} (q : ℕ) (entries : List (List ℕ × R)) (k : List ℕ) (v : R)
+    (was : Entries.IsCombination (pointwise nat_eq) is_label value entries) (some : 0 < q)
+    (divides : (value v).1 ∣ q) (cleared : AreCleared (pointwise nat_eq) q (terms_of value entries))
+  where
+    pub Gains-entry : (sum : R → R → R)
+        → ((a b : R) → value (sum a b) ≡ fraction_sum (value a) (value b))
+        → (after : List (List ℕ × R)) → InLowestTerms (value v)
+        → Entries.IsCombination (pointwise nat_eq) is_label value after
+        → Entries.HasMoreAt (pointwise nat_eq) zero sum entries k v after
+        → (z : ℤ) → scaled q (value v) ≡ z
+        → GainsCleared (pointwise nat_eq) is_label q (terms_of value entries) ((k, z) ∷ [])
+        (terms_of value after)
+    Gains-entry sum sums after low also more z e =
+        Gains-term q (terms_of value entries) (terms_of value after) k (value v)
+        (combination_values value (pointwise nat_eq) is_label entries was)
+        (combination_values value (pointwise nat_eq) is_label after also) low some divides cleared
+        (more_values value zero none (pointwise nat_eq) sum sums entries k v after more) z e
+
+    pub Overflows-entry : (is_held : R → Type 0) (checked : R → R → Option R)
+        → ((a b : R) → is_held a → is_held b → AnswersSum value a b (checked a b)) → q < 2 ^ 127
+        → Entries.IsRefused is_held checked (Entries.coefficient (pointwise nat_eq) zero entries k) v
+        → (z : ℤ) → scaled q (value v) ≡ z
+        → OverflowsCleared (pointwise nat_eq) q (terms_of value entries) ((k, z) ∷ [])
+    Overflows-entry is_held checked answers small refused z e =
+        Overflows-term is_held value checked answers q (terms_of value entries) k (value v)
+        (refused_values value is_held checked
+        (Entries.coefficient (pointwise nat_eq) zero entries k) v _ _
+        (coefficient_values value zero none (pointwise nat_eq) entries k) refl refused) some small
+        divides cleared (combination_values value (pointwise nat_eq) is_label entries was) z e
 
 -- ---- one product
 
@@ -182,49 +224,22 @@ pub record IsClearedProduct (d e : ℕ) (a b c : Fraction) : Type 0 where
   pub value : scaled (d * e) c ≡ scaled d a *ℤ scaled e b
   pub size : magnitude (d * e) c ≡ magnitude d a * magnitude e b
 
-pub cleared-product : (d e : ℕ) (a b c : Fraction) → InLowestTerms a → InLowestTerms b → c ≡ fraction_product a b → AreDenominators d e a b → IsClearedProduct d e a b c
+pub cleared-product : (d e : ℕ) (a b c : Fraction) → InLowestTerms a → InLowestTerms b
+    → c ≡ fraction_product a b → IsDenominator d a × IsDenominator e b → IsClearedProduct d e a b c
 cleared-product d e a b c la lb f h =
-    let u = product-cleared d e a b la lb h.left_positive h.right_positive h.left h.right in
+    let u = product-cleared d e a b la lb h.0.positive h.1.positive h.0.multiple h.1.multiple in
     let v : scaled (d * e) c ≡ scaled d a *ℤ scaled e b = ap (scaled (d * e)) f ∙ u.1 in
     record {
-      positive = mul-pos h.left_positive h.right_positive;
+      positive = mul-pos h.0.positive h.1.positive;
       divides = subst (λ (r : Fraction). r.1 ∣ (d * e)) (sym f) u.0;
       value = v;
       size = sym (unsigned_abs-scaled (d * e) c) ∙ ap unsigned_abs v ∙ unsigned_abs-mul (scaled d a) (scaled e b)
           ∙ ap₂ ◌*◌ (unsigned_abs-scaled d a) (unsigned_abs-scaled e b);
     }
 
--- ---- one after another
-
-pub AreCleared-nothing : (q : ℕ) → AreCleared q []
-AreCleared-nothing q e = subst (λ n. 1 ∣ n) (let m : q * 1 ≡ q = omega arith in m) (dvd-mul_left 1 q)
-
-pub Gains-none : {is_label : List ℕ → Bool} (q : ℕ) (old : Terms (List ℕ)) → AreCleared q old → GainsCleared is_label q old [] old
-Gains-none q old cleared = record { table = λ is. is; cleared = cleared; gains = gains_none (over q old) }
-
-pub Gains-as : {is_label : List ℕ → Bool} (q : ℕ) (old : Terms (List ℕ)) (g h : WholeTerms) (new : Terms (List ℕ)) → ((φ : List ℕ → ℤ) → sum_over φ g ≡ sum_over φ h)
-    → GainsCleared is_label q old g new → GainsCleared is_label q old h new
-Gains-as q old g h new e a = record { table = a.table; cleared = a.cleared; gains = gains_as (over q old) g h (over q new) e a.gains }
+-- ---- multiples
 
 -- a multiple of a multiple
 pub scaled_twice : {L : Type 0} (c d : ℤ) (xs : WholeTermsOf L) → multiple (c *ℤ d) xs ≡ multiple c (multiple d xs ++ [])
 scaled_twice c d [] = refl
 scaled_twice {L} c d (t ∷ xs) = ap (λ z. (t.0, z) ∷ multiple (c *ℤ d) xs) (product_assoc c d t.1) ∙ ap (λ (l : WholeTermsOf L). (t.0, c *ℤ (d *ℤ t.1)) ∷ l) (scaled_twice c d xs)
-
-pub Gains-both : {is_label : List ℕ → Bool} (q : ℕ) (old : Terms (List ℕ)) (g : WholeTerms) (mid : Terms (List ℕ)) (h : WholeTerms) (new : Terms (List ℕ))
-    → GainsCleared is_label q old g mid → GainsCleared is_label q mid h new → GainsCleared is_label q old (g ++ h) new
-Gains-both q old g mid h new a b = record {
-  table = λ is. b.table (a.table is);
-  cleared = b.cleared;
-  gains = gains_both (over q old) g (over q mid) h (over q new) a.gains b.gains;
-}
-
--- what is added for a list is what is added for its pieces
-module _ {A : Type 0} (gained : List A → WholeTerms) (pieces : (xs ys : List A) → gained (xs ++ ys) ≡ gained xs ++ gained ys)
-    {is_label : List ℕ → Bool} (q : ℕ) (done : List A) (p : A) (old cur : Terms (List ℕ)) (so_far : GainsCleared is_label q old (gained done) cur) where
-  pub Gains-next : (next : List A) (new : Terms (List ℕ)) → done ++ p ∷ [] ≡ next → GainsCleared is_label q cur (gained (p ∷ [])) new → GainsCleared is_label q old (gained next) new
-  Gains-next next new pushed more =
-      subst (λ l. GainsCleared is_label q old l new) (sym (pieces done (p ∷ [])) ∙ ap gained pushed) (Gains-both q old (gained done) cur (gained (p ∷ [])) new so_far more)
-
-  pub Overflows-next : (rest : List A) → OverflowsCleared q cur (gained (p ∷ [])) → OverflowsCleared q old (gained (done ++ p ∷ rest))
-  Overflows-next rest large = pairs_overflow gained pieces done p (over q old) (over q cur) so_far.gains (pointwise nat_eq) rest (done ++ p ∷ rest) refl large

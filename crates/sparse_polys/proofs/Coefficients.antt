@@ -7,7 +7,6 @@ use Rattle.sym_model.specs.Expansion.{Fraction}
 use Rattle.coeff_rings.specs.Fractions.{whole}
 pub use Rattle.linear_combinations.proofs.LowestTerms.{nat_abs-is, lowest-is_reduced, product-zero}
 pub use Rattle.linear_combinations.proofs.Steps.{if_answered}
-use Rattle.sym_model.specs.WholeTerms.{WholeTerms, numerators}
 use Rattle.sparse_polys.specs.Combination.{terms_of, coefficient}
 
 pub lookup-terms_of : {L R : Type 0} (value : R → Fraction) (test : L → Bool) (es : List (L × R)) → lookup test (terms_of value es) ≡ option_map value (lookup test es)
@@ -36,7 +35,3 @@ coefficient-terms_of {R = R} eq value es label = ap (λ (o : Option Fraction). u
     by : (o : Option R) → unwrap_or (option_map value o) (pos 0, 1) ≡ value_at value o
     by None = refl
     by (Some c) = refl
-
-pub numerators-terms : (xs : WholeTerms) → numerators (terms_of whole xs) ≡ xs
-numerators-terms [] = refl
-numerators-terms (x ∷ xs) = ap (λ l. x ∷ l) (numerators-terms xs)

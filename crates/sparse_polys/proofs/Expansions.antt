@@ -19,13 +19,12 @@ use Rattle.sym_model.specs.Partition.{IsPartition, size}
 use Rattle.sym_model.specs.Expansion.{Basis, Fraction, Terms, denominators, value, IsExpansionOf}
 use Rattle.sym_model.specs.Canonical.{is_label}
 use Rattle.sym_model.proofs.Ring.{product_assoc, one-product}
-use Rattle.sym_model.proofs.Sums.{Among-map}
+use Rattle.sym_model.proofs.Sums.{Among-map, Among_from_map}
 use Rattle.sym_model.specs.Expression.{lcm}
 use Rattle.sym_model.specs.ListWeight.{common_denominator}
-use Rattle.sym_model.specs.WholeTerms.{WholeTerms, AreWhole}
+use Rattle.sym_model.specs.WholeTerms.{WholeTerms}
 use Rattle.monomial_laws.proofs.WeightBounds.{lcm-left, lcm-right, lcm-positive}
 use Rattle.std.proofs.lemmas.Nat.Gcd.{dvd_trans}
-use Rattle.sym_model.proofs.CanonicalLists.{each_term-among}
 use Rattle.sym_model.proofs.Orders.{is_reduced-tells, is_label-tells}
 use Rattle.coeff_rings.specs.Fractions.{whole, scaled}
 use Rattle.sparse_polys.specs.Combination.{terms_of, IsPartitionTable}
@@ -37,13 +36,13 @@ use Rattle.monomial_laws.proofs.DividedTerms.{labels_of, over-missing, over-ther
 use Rattle.linear_combinations.specs.Gains.{over as sum_over, only}
 use Rattle.linear_combinations.proofs.Masses.{labels_gained}
 use Rattle.sparse_polys.specs.MonomialProducts.{AreSums, products}
-use Rattle.sparse_polys.proofs.Steps.{IsCombination-empty}
-use Rattle.sparse_polys.proofs.Coefficients.{numerators-terms}
+use Rattle.sparse_polys.proofs.Tables.{table_gained, term-tests}
 use Rattle.sparse_polys.proofs.ValueLists.{among_values}
 use Rattle.sparse_polys.proofs.ClearedSums.{found_over, table_over}
 use Rattle.linear_combinations.proofs.Found.{coefficient_over as coefficient_of_over}
 use Rattle.sparse_polys.proofs.ProductLists.{products_coefficient, products_sizes}
-use Rattle.sparse_polys.specs.Products.{IsCommonDenominator, coefficient_at, GainsCleared}
+use Rattle.linear_combinations.specs.Cleared.{IsCommonDenominator, GainsCleared}
+use Rattle.sparse_polys.specs.Products.{coefficient_at}
 use native.Mathlib.Nat.{mul-pos, dvd-mul_left}
 use lib.IntN.{+ℤ_idl, *ℤ_comm}
 
@@ -88,7 +87,7 @@ once_labels (t ∷ terms) is =
 -- ---- common denominators
 
 reduced_at : (terms : Terms (List ℕ)) → IsPartitionTable terms → (t : List ℕ × Fraction) → Among t terms → (0 < t.1.1) × (0 < nat_abs t.1.0)
-reduced_at terms is t m = let r = is_reduced-tells t.1 (and_parts _ _ (each_term-among _ terms is.proper t m)).0 in (r.denominator, r.nonzero)
+reduced_at terms is t m = let r = is_reduced-tells t.1 (term-tests terms is t m).0 in (r.denominator, r.nonzero)
 
 pub denominators-positive : (terms : Terms (List ℕ)) → ((t : List ℕ × Fraction) → Among t terms → 0 < t.1.1) → 0 < denominators terms
 denominators-positive [] h = omega arith
@@ -101,7 +100,7 @@ common-denominators terms is = record {
 }
 
 partition_at : (terms : Terms (List ℕ)) → IsPartitionTable terms → (t : List ℕ × Fraction) → Among t terms → IsPartition t.0
-partition_at terms is t m = (is_label-tells t.0 (and_parts _ _ (each_term-among _ terms is.proper t m)).1).partition
+partition_at terms is t m = (is_label-tells t.0 (term-tests terms is t m).1).partition
 
 -- what divides at each partition divides each term
 pub divides_terms : (q : ℕ) (product : Terms (List ℕ)) → IsPartitionTable product → ((ν : List ℕ) → IsPartition ν → (coefficient_at product ν).1 ∣ q)
@@ -122,12 +121,15 @@ cancel num D den r e = ap (λ n. num *ℤ pos n) (sym e) ∙ sym (product_assoc 
 abbrev pub IsClearedProduct : Terms (List ℕ) → Terms (List ℕ) → Terms (List ℕ) → Type 0
 IsClearedProduct left right product =
     (d e : ℕ) → IsCommonDenominator d left → IsCommonDenominator e right
-    → GainsCleared is_label (d * e) [] (products (over d left) (over e right)) product
+    → GainsCleared (pointwise nat_eq) is_label (d * e) [] (products (over d left) (over e right))
+    product
 
-table_from : (q : ℕ) (g : WholeTerms) (product : Terms (List ℕ)) → GainsCleared is_label q [] g product → IsPartitionTable product
-table_from q g product a = a.table (IsCombination-empty (pointwise nat_eq) is_label)
+table_from : (q : ℕ) (g : WholeTerms) (product : Terms (List ℕ))
+    → GainsCleared (pointwise nat_eq) is_label q [] g product → IsPartitionTable product
+table_from q g product a = table_gained q g product a
 
-sums_from : (q : ℕ) (f g : WholeTerms) (product : Terms (List ℕ)) → GainsCleared is_label q [] (products f g) product
+sums_from : (q : ℕ) (f g : WholeTerms) (product : Terms (List ℕ))
+    → GainsCleared (pointwise nat_eq) is_label q [] (products f g) product
     → (ν : List ℕ) → IsPartition ν → scaled q (coefficient_at product ν) ≡ product_coefficient f g ν
 sums_from q f g product a ν p =
     sym (found_over q product (table_from q (products f g) product a) ν) ∙ a.gains.sums (only (pointwise nat_eq) ν)
@@ -139,7 +141,9 @@ expansion_product left right product il ir cleared =
     let D = denominators left * denominators right in
     let f = over (denominators left) left in
     let g = over (denominators right) right in
-    let adds : GainsCleared is_label D [] (products f g) product = cleared (denominators left) (denominators right) (common-denominators left il) (common-denominators right ir) in
+    let adds : GainsCleared (pointwise nat_eq) is_label D [] (products f g) product = cleared
+    (denominators left) (denominators right) (common-denominators left il)
+    (common-denominators right ir) in
     let ip : IsPartitionTable product = table_from D (products f g) product adds in
     expansion_divided D (over D product) product (λ n. times (value Basis.monomials left n) (value Basis.monomials right n))
     (record {
@@ -173,7 +177,8 @@ expansion_nothing left [] product n d e h =
 
 -- the size of each label is the sum of two sizes
 pub sums_of_sizes : (d e : ℕ) (left right product : Terms (List ℕ)) → 0 < d * e
-    → GainsCleared is_label (d * e) [] (products (over d left) (over e right)) product → AreSums left right product
+    → GainsCleared (pointwise nat_eq) is_label (d * e) [] (products (over d left) (over e right))
+    product → AreSums left right product
 sums_of_sizes d e left right product some adds t m =
     let q = d * e in
     let ip : IsPartitionTable product = table_from q (products (over d left) (over e right)) product adds in
@@ -218,12 +223,10 @@ pub over-one : (terms : WholeTerms) → over 1 (terms_of whole terms) ≡ terms
 over-one [] = refl
 over-one (t ∷ terms) = ap₂ (λ (z : ℤ) (l : WholeTerms). (t.0, z) ∷ l) (*ℤ_comm t.1 (pos 1) ∙ one-product t.1) (over-one terms)
 
-pub AreWhole-terms_of : (pairs : List (List ℕ × ℤ)) → AreWhole (terms_of whole pairs)
-AreWhole-terms_of [] = tt
-AreWhole-terms_of (p ∷ pairs) = (refl, AreWhole-terms_of pairs)
-
 pub whole_product : (left right product : WholeTerms)
-    → GainsCleared is_label 1 [] (products (over 1 (terms_of whole left)) (over 1 (terms_of whole right))) (terms_of whole product)
+    → GainsCleared (pointwise nat_eq) is_label 1 []
+    (products (over 1 (terms_of whole left)) (over 1 (terms_of whole right)))
+    (terms_of whole product)
     → (ν : List ℕ) → IsPartition ν → coefficient product ν ≡ product_coefficient left right ν
 whole_product left right product adds ν p =
     let f = over 1 (terms_of whole left) in
@@ -233,13 +236,21 @@ whole_product left right product adds ν p =
     ∙ sums_from 1 f g (terms_of whole product) adds ν p
     ∙ ap₂ (λ (l r : WholeTerms). product_coefficient l r ν) (over-one left) (over-one right)
 
--- the sizes of labels, seen with whole coefficients
-pub whole_sums : (left right product : WholeTerms) → AreSums (terms_of whole left) (terms_of whole right) (terms_of whole product) → AreSums left right product
-whole_sums left right product h t m =
-    let s = h (t.0, whole t.1) (among_values whole t product m) in
-    ((s.0.0, s.0.1.0), (s.1.0, s.1.1.0), among left s.0 s.2, among right s.1 s.3, s.4)
-  where
-    among : (terms : WholeTerms) (u : List ℕ × Fraction) → Among u (terms_of whole terms) → Among (u.0, u.1.0) terms
-    among terms u m =
-        subst (λ (l : WholeTerms). Among (u.0, u.1.0) l) (numerators-terms terms)
-        (Among-map (λ (v : List ℕ × Fraction). (v.0, v.1.0)) u (terms_of whole terms) m)
+-- ---- the sizes of labels
+
+-- a term of the values is that of an entry with the same label
+label_among : {R : Type 0} (value : R → Fraction) (entries : List (List ℕ × R)) (u : List ℕ × Fraction)
+    → Among u (terms_of value entries) → (t : List ℕ × R) × Among t entries × (size t.0 ≡ size u.0)
+label_among {R = R} value entries u m =
+    let v = Among_from_map (λ (p : List ℕ × R). (p.0, value p.1)) u entries m in
+    (v.0, v.1, ap (λ (w : List ℕ × Fraction). size w.0) (sym v.2))
+
+-- the sizes of labels do not depend on the coefficients
+pub sums_values : {R : Type 0} (value : R → Fraction) (left right product : List (List ℕ × R))
+    → AreSums (terms_of value left) (terms_of value right) (terms_of value product)
+    → AreSums left right product
+sums_values value left right product h t m =
+    let s = h (t.0, value t.1) (among_values value t product m) in
+    let l = label_among value left s.0 s.2 in
+    let r = label_among value right s.1 s.3 in
+    (l.0, r.0, l.1, r.1, ap₂ (λ a b. a + b) l.2 r.2 ∙ s.4)

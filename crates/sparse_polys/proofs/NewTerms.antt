@@ -11,11 +11,10 @@ use Rattle.std.proofs.lemmas.Slice.Eq.{bytes_eq-Decides}
 use Rattle.sym_model.specs.Sum.{Among}
 use Rattle.sym_model.specs.Expansion.{Fraction, Terms}
 use Rattle.sym_model.specs.Partition.{without_last_zeros}
-use Rattle.sym_model.specs.LabelLimits.{is_monomial_label}
-use Rattle.sym_model.proofs.CanonicalLists.{each_term-among}
 use Rattle.sym_model.proofs.Exponents.{same_true}
 use Rattle.sym_model.proofs.Sums.{Among-append_left, Among-append_right}
 use Rattle.coeff_rings.specs.Fractions.{whole, fraction_sum, InLowestTerms}
+use Rattle.sparse_polys.proofs.Tables.{term-tests}
 use Rattle.sparse_polys.proofs.Coefficients.{lowest-is_reduced}
 use Rattle.sparse_polys.specs.Combination.{terms_of, HasMoreAt, IsPolynomialTable}
 use Rattle.sparse_polys.specs.Labels.{same_partition}
@@ -47,11 +46,11 @@ missed (u ∷ terms) k none t m e = by (pointwise nat_eq k u.0) refl none (misse
 
 -- the coefficient of a term is in lowest terms
 pub lowest_among : (terms : Terms (List ℕ)) → IsPolynomialTable terms → (t : List ℕ × Fraction) → Among t terms → InLowestTerms t.1
-lowest_among terms is t m = lowest-is_reduced t.1 (and_parts _ (is_monomial_label t.0) (each_term-among _ terms is.proper t m)).0
+lowest_among terms is t m = lowest-is_reduced t.1 (term-tests terms is t m).0
 
 trimmed_at : (terms : Terms (List ℕ)) → IsPolynomialTable terms → (t : List ℕ × Fraction) → Among t terms → without_last_zeros t.0 ≡ t.0
 trimmed_at terms is t m =
-    let label = (and_parts _ (is_monomial_label t.0) (each_term-among _ terms is.proper t m)).1 in
+    let label = (term-tests terms is t m).1 in
     same_true (without_last_zeros t.0) t.0 (and_parts _ _ (and_parts _ _ label).0).0
 
 module _ {R : Type 0} (value : R → Fraction) (r : ℕ) (done rest : List (List ℕ × R)) (k : List ℕ) (v : R) (terms cur : Terms (List ℕ))

@@ -10,7 +10,7 @@ use Rattle.std.specs.List.{IsDistinct}
 use Rattle.std.specs.Map.{lookup, keys_of}
 use Rattle.std.specs.Option.{unwrap_or}
 use Rattle.std.specs.Cmp.Lexicographic.{pointwise, nat_list_eq_equiv}
-use Rattle.std.proofs.lemmas.Bool.{and_parts, cases_lt}
+use Rattle.std.proofs.lemmas.Bool.{cases_lt}
 use Rattle.std.proofs.lemmas.Map.{lookup-none}
 use Rattle.std.proofs.lemmas.Map.Keys.{IsDistinct-tail}
 use Rattle.std.proofs.lemmas.Map.Entries.{none_past_head}
@@ -21,7 +21,6 @@ use Rattle.sym_model.specs.Polynomial.{Poly, Term, coefficient, join, pair, time
 use Rattle.sym_model.specs.DividedDifference.{x_to, x_to_in, variable_in}
 use Rattle.sym_model.specs.Expansion.{Fraction, Terms, Represents, denominators, cleared}
 use Rattle.sym_model.specs.ListWeight.{common_denominator, absolute_sum, list_weight}
-use Rattle.sym_model.proofs.CanonicalLists.{each_term-among}
 use Rattle.sym_model.proofs.Exponents.{join_comm, resize-join, fits_in-join}
 use Rattle.sym_model.proofs.Orders.{is_reduced-tells}
 use Rattle.sym_model.proofs.Polynomials.{pair_ext, pair_plus, pair_scale, pair_times, pair_restrict, same_from_pair}
@@ -34,8 +33,10 @@ use Rattle.linear_combinations.specs.Gains.{mass}
 use Rattle.linear_combinations.proofs.Masses.{mass_append, overflow_mass}
 use Rattle.monomial_laws.specs.ExpressionTerms.{over}
 use Rattle.sparse_polys.specs.Combination.{IsPolynomialTable}
-use Rattle.sparse_polys.specs.Products.{value_in, coefficient_at, times_variable, AreCleared, IsCommonDenominator, OverflowsCleared}
+use Rattle.linear_combinations.specs.Cleared.{AreCleared, IsCommonDenominator, OverflowsCleared}
+use Rattle.sparse_polys.specs.Products.{value_in, coefficient_at, times_variable}
 use Rattle.sparse_polys.specs.Raised.{raised}
+use Rattle.sparse_polys.proofs.Tables.{term-tests}
 use Rattle.sparse_polys.proofs.ClearedSums.{over_sum, mass_over}
 use Rattle.sparse_polys.proofs.Expansions.{denominators-positive, least-positive, least-multiple, times_nothing}
 use native.Mathlib.Nat.{mul-pos, mul-le-mul_left}
@@ -70,7 +71,7 @@ found_at terms is t m = ap (λ (o : Option Fraction). unwrap_or o (pos 0, 1)) (b
         ] refl
 
 positive_at : (terms : Terms (List ℕ)) → IsPolynomialTable terms → (t : List ℕ × Fraction) → Among t terms → 0 < t.1.1
-positive_at terms is t m = (is_reduced-tells t.1 (and_parts _ _ (each_term-among _ terms is.proper t m)).0).denominator
+positive_at terms is t m = (is_reduced-tells t.1 (term-tests terms is t m).0).denominator
 
 pub common-denominators : (terms : Terms (List ℕ)) → IsPolynomialTable terms → IsCommonDenominator (denominators terms) terms
 common-denominators terms is = record {
@@ -142,7 +143,9 @@ two_denominators d q ψ terms h k =
     ∙ total_scale (pos q) (λ (t : List ℕ × Fraction). scaled d t.1 *ℤ ψ t.0) terms
     ∙ ap (λ z. pos q *ℤ z) (sym (over_sum d ψ terms))
 
-pub represents : (terms : Terms (List ℕ)) (d n : ℕ) (f : Poly) → IsPolynomialTable terms → AreCleared d terms → ((φ : List ℕ → ℤ) → pair (over d terms) (restricted_test n φ) ≡ pair f φ)
+pub represents : (terms : Terms (List ℕ)) (d n : ℕ) (f : Poly) → IsPolynomialTable terms
+    → AreCleared (pointwise nat_eq) d terms
+    → ((φ : List ℕ → ℤ) → pair (over d terms) (restricted_test n φ) ≡ pair f φ)
     → Represents (λ e. x_to_in e n) terms f d
 represents terms d n f is clear sums =
     let q = denominators terms in
@@ -233,7 +236,9 @@ mass_times (s ∷ f) g =
     let d : (nat_abs s.1 + mass f) * mass g ≡ nat_abs s.1 * mass g + mass f * mass g = omega arith in
     omega arith
 
-pub product_overflows : (d e : ℕ) (left right : Terms (List ℕ)) → OverflowsCleared (d * e) [] (times (over d left) (over e right)) → 2 ^ 127 ≤ absolute_sum d left * absolute_sum e right
+pub product_overflows : (d e : ℕ) (left right : Terms (List ℕ))
+    → OverflowsCleared (pointwise nat_eq) (d * e) [] (times (over d left) (over e right))
+    → 2 ^ 127 ≤ absolute_sum d left * absolute_sum e right
 product_overflows d e left right o =
     let l = overflow_mass (pointwise nat_eq) [] (times (over d left) (over e right)) o in
     let p = mass_times (over d left) (over e right) in

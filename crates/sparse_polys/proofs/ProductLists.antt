@@ -32,8 +32,8 @@ use Rattle.linear_combinations.proofs.Masses.{mass_at_scaled, labels_replaced}
 use Rattle.sparse_polys.specs.declared.search.Counted.{Counted}
 use Rattle.sparse_polys.specs.Search.{count_at, AreCounted}
 use Rattle.sparse_polys.specs.MonomialProducts.{product_terms, products}
-use Rattle.sparse_polys.specs.Products.{GainsCleared, OverflowsCleared}
-use Rattle.sparse_polys.proofs.ClearedSums.{Gains-as}
+use Rattle.linear_combinations.specs.Cleared.{GainsCleared, OverflowsCleared}
+use Rattle.linear_combinations.proofs.Cleared.{Gains-as}
 use Rattle.sparse_polys.proofs.ExactCounts.{all_among}
 
 -- each label of a list has the property, or the list has nothing there
@@ -138,12 +138,16 @@ module _ (l r : List ℕ) (counted : List Counted) (labels : AreCounted (size l 
       ∙ sym (counts_at (pointwise nat_eq) ν (product_terms l r) (terms_counts l r)) ∙ sym (coefficient_over (product_terms l r) ν))
       φ
 
-  pub counted_gains : (z : ℤ) (q : ℕ) (old new : Terms (List ℕ)) → GainsCleared is_label q old (scaled z (counted_terms counted)) new → GainsCleared is_label q old (scaled z (product_terms l r)) new
+  pub counted_gains : (z : ℤ) (q : ℕ) (old new : Terms (List ℕ))
+      → GainsCleared (pointwise nat_eq) is_label q old (scaled z (counted_terms counted)) new
+      → GainsCleared (pointwise nat_eq) is_label q old (scaled z (product_terms l r)) new
   counted_gains z q old new =
       Gains-as q old (scaled z (counted_terms counted)) (scaled z (product_terms l r)) new
       (λ φ. scaled_over z φ (counted_terms counted) ∙ ap (λ y. z *ℤ y) (counted_same φ) ∙ sym (scaled_over z φ (product_terms l r)))
 
-  pub counted_overflows : (z : ℤ) (q : ℕ) (old : Terms (List ℕ)) → OverflowsCleared q old (scaled z (counted_terms counted)) → OverflowsCleared q old (scaled z (product_terms l r))
+  pub counted_overflows : (z : ℤ) (q : ℕ) (old : Terms (List ℕ))
+      → OverflowsCleared (pointwise nat_eq) q old (scaled z (counted_terms counted))
+      → OverflowsCleared (pointwise nat_eq) q old (scaled z (product_terms l r))
   counted_overflows z q old =
       overflows_as (pointwise nat_eq) (over q old) (scaled z (counted_terms counted)) (scaled z (product_terms l r))
       (λ ν.

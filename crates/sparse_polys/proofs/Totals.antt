@@ -7,19 +7,18 @@ use Rattle.sym_model.specs.Expansion.{Fraction, Terms}
 use Rattle.linear_combinations.proofs.Totals
 pub use Rattle.linear_combinations.proofs.Totals.{once}
 use Rattle.sparse_polys.specs.Combination.{coefficient, IsCombination, HasMoreAt, HasSameCoefficients}
-use Rattle.sparse_polys.proofs.Tables.{combination-fractions}
 
 module _ {L : Type 0} {eq : L → L → Bool} (laws : IsEquivalence eq) (same : (x y : L) → eq x y ≡ true → x ≡ y) where
   module _ {is_label : L → Bool} where
     -- a term stands in each list that has its coefficient
     pub carried : (first second : Terms L) → IsCombination eq is_label first → (t : L × Fraction) → Among t first → coefficient eq second t.0 ≡ coefficient eq first t.0 → Among t second
-    carried first second is = Totals.carried laws same (whole (pos 0)) (λ (r : Fraction). r) refl first second (combination-fractions is_label eq first is)
+    carried first second is = Totals.carried laws same (whole (pos 0)) (λ (r : Fraction). r) refl first second is
 
     module _ (first second : Terms L) (is : IsCombination eq is_label first) (also : IsCombination eq is_label second) where
       -- two combinations with the same coefficients have the same sums
       pub total_same : (f : L × Fraction → ℤ) → HasSameCoefficients eq first second → total f first ≡ total f second
       total_same =
-          Totals.total_same laws same (whole (pos 0)) (λ (r : Fraction). r) refl first second (combination-fractions is_label eq first is) (combination-fractions is_label eq second also)
+          Totals.total_same laws same (whole (pos 0)) (λ (r : Fraction). r) refl first second is also
       -- and not fewer terms
 
   -- a sum over a list with more at a label: what it has more is what the label has more
@@ -27,4 +26,4 @@ module _ {L : Type 0} {eq : L → L → Bool} (laws : IsEquivalence eq) (same : 
       → IsCombination eq is_label old → IsCombination eq is_label new → (c : Fraction) → HasMoreAt eq old k c new
       → total (λ (t : L × Fraction). f t.0 t.1) new +ℤ f k (coefficient eq old k) ≡ total (λ (t : L × Fraction). f t.0 t.1) old +ℤ f k (coefficient eq new k)
   total-more f empty k {is_label} old new is also =
-      Totals.total-more laws same (whole (pos 0)) f empty k (λ (r : Fraction). r) fraction_sum refl old new (combination-fractions is_label eq old is) (combination-fractions is_label eq new also)
+      Totals.total-more laws same (whole (pos 0)) f empty k (λ (r : Fraction). r) fraction_sum refl old new is also

@@ -19,15 +19,14 @@ ghost use Rattle.monomial_laws.specs.ExpressionTerms.{over, absolute};
 ghost use Rattle.linear_combinations.specs.Gains.{replaced, scaled as multiple};
 ghost use Rattle.sparse_polys.specs.MonomialProducts.{greatest_size, product_terms, products};
 ghost use Rattle.sparse_polys.specs.MonomialProducts.{AreSums, IsTooLarge};
-ghost use Rattle.sparse_polys.specs.Products.{AreDenominators, IsCommonDenominator};
-ghost use Rattle.sparse_polys.specs.Products.{AreCleared, GainsCleared, OverflowsCleared};
+ghost use Rattle.linear_combinations.specs.Cleared.{IsDenominator, IsCommonDenominator};
+ghost use Rattle.linear_combinations.specs.Cleared.{AreCleared, GainsCleared, OverflowsCleared};
 
 use crate::Lin;
 use crate::counts::exact_product;
 use crate::search::Counted;
 use calc_base::SumFault;
 use coeff_rings::{Int, Ring};
-use linear_combinations::Lin as Table;
 use partitions::Partition;
 use std::alloc::Global;
 
@@ -35,11 +34,12 @@ use std::alloc::Global;
 fn times_count<R: Ring>(left: R, right: R, count: u128) -> Option<R>
     requires { count < 2 ^ 127 }
     ensures value { IfSome result
-        (λ c. (d e : ℕ) → AreDenominators d e (R.value left) (R.value right)
+        (λ c. (d e : ℕ) → IsDenominator d (R.value left) × IsDenominator e (R.value right)
         → ((R.value c).1 ∣ (d * e))
         × (scaled (d * e) (R.value c)
         ≡ scaled d (R.value left) *ℤ scaled e (R.value right) *ℤ pos count)) }
-    ensures none { result ≡ None → (d e : ℕ) → AreDenominators d e (R.value left) (R.value right)
+    ensures none { result ≡ None → (d e : ℕ) → IsDenominator d (R.value left) × IsDenominator e
+        (R.value right)
         → d * e < 2 ^ 127
         → 0 < count → 2 ^ 127 ≤ magnitude d (R.value left) * magnitude e (R.value right) * count }
     ensures held { IfSome result R.is_held }
@@ -58,17 +58,18 @@ fn add_count<R: Ring>(
 ) -> Result<(), SumFault>
     requires limits { IsWithinLimits term.now.parts.items }
     requires small { term.now.count < 2 ^ 127 }
-    ensures ok { OnOk result ((d e : ℕ) → AreDenominators d e (R.value left) (R.value right)
-        → AreCleared (d * e) sum.old
-        → GainsCleared is_label (d * e) sum.old ((
+    ensures ok { OnOk result ((d e : ℕ) → IsDenominator d (R.value left) × IsDenominator e
+        (R.value right)
+        → AreCleared (pointwise nat_eq) (d * e) (terms_of R.value sum.old)
+        → GainsCleared (pointwise nat_eq) is_label (d * e) (terms_of R.value sum.old) ((
           term.now.parts.items,
           scaled d (R.value left)
               *ℤ scaled e (R.value right) *ℤ pos term.now.count,
-        ) ∷ []) sum.new) }
+        ) ∷ []) (terms_of R.value sum.new)) }
     ensures large { IsErrOf result SumFault.Large → (d e : ℕ)
-        → AreDenominators d e (R.value left) (R.value right)
-        → d * e < 2 ^ 127 → AreCleared (d * e) sum.old
-        → OverflowsCleared (d * e) sum.old ((
+        → IsDenominator d (R.value left) × IsDenominator e (R.value right)
+        → d * e < 2 ^ 127 → AreCleared (pointwise nat_eq) (d * e) (terms_of R.value sum.old)
+        → OverflowsCleared (pointwise nat_eq) (d * e) (terms_of R.value sum.old) ((
           term.now.parts.items,
           scaled d (R.value left)
               *ℤ scaled e (R.value right) *ℤ pos term.now.count,
@@ -94,16 +95,17 @@ fn add_pair<R: Ring>(
     sum: &mut Lin<Partition, R>,
 ) -> Result<(), SumFault>
     requires sizes { size label.now + size other.now ≤ 512 }
-    ensures ok { OnOk result ((d e : ℕ) → AreDenominators d e (R.value left) (R.value right)
-        → AreCleared (d * e) sum.old
-        → GainsCleared is_label (d * e) sum.old
+    ensures ok { OnOk result ((d e : ℕ) → IsDenominator d (R.value left) × IsDenominator e
+        (R.value right)
+        → AreCleared (pointwise nat_eq) (d * e) (terms_of R.value sum.old)
+        → GainsCleared (pointwise nat_eq) is_label (d * e) (terms_of R.value sum.old)
         (multiple (scaled d (R.value left) *ℤ scaled e (R.value right))
-        (product_terms label.now other.now)) sum.new) }
+        (product_terms label.now other.now)) (terms_of R.value sum.new)) }
     ensures large { IsErrOf result SumFault.Large → (d e : ℕ)
-        → AreDenominators d e (R.value left) (R.value right)
+        → IsDenominator d (R.value left) × IsDenominator e (R.value right)
         → d * e < 2 ^ 127 → 0 < magnitude d (R.value left) → 0 < magnitude e (R.value right)
-        → AreCleared (d * e) sum.old
-        → OverflowsCleared (d * e) sum.old
+        → AreCleared (pointwise nat_eq) (d * e) (terms_of R.value sum.old)
+        → OverflowsCleared (pointwise nat_eq) (d * e) (terms_of R.value sum.old)
         (multiple (scaled d (R.value left) *ℤ scaled e (R.value right))
         (product_terms label.now other.now)) }
 {
@@ -120,19 +122,23 @@ fn add_row<R: Ring>(
     alloc: Global,
     label: &Partition,
     left: R,
-    right: &Table<Partition, R>,
+    right: &Lin<Partition, R>,
     sum: &mut Lin<Partition, R>,
 ) -> Result<(), SumFault>
     requires sizes { size label.now + greatest_size right.now ≤ 512 }
-    ensures ok { OnOk result ((d e : ℕ) → 0 < d → (R.value left).1 ∣ d
+    ensures ok { OnOk result ((d e : ℕ) → IsDenominator d (R.value left)
         → IsCommonDenominator e (terms_of R.value right.now)
-        → AreCleared (d * e) sum.old
-        → GainsCleared is_label (d * e) sum.old (multiple (scaled d (R.value left))
-        (replaced (product_terms label.now) (over e (terms_of R.value right.now)))) sum.new) }
-    ensures large { IsErrOf result SumFault.Large → (d e : ℕ) → 0 < d → (R.value left).1 ∣ d
+        → AreCleared (pointwise nat_eq) (d * e) (terms_of R.value sum.old)
+        → GainsCleared (pointwise nat_eq) is_label (d * e) (terms_of R.value sum.old)
+        (multiple (scaled d (R.value left))
+        (replaced (product_terms label.now) (over e (terms_of R.value right.now))))
+        (terms_of R.value sum.new)) }
+    ensures large { IsErrOf result SumFault.Large → (d e : ℕ) → IsDenominator d (R.value left)
         → IsCommonDenominator e (terms_of R.value right.now)
-        → d * e < 2 ^ 127 → 0 < magnitude d (R.value left) → AreCleared (d * e) sum.old
-        → OverflowsCleared (d * e) sum.old (multiple (scaled d (R.value left))
+        → d * e < 2 ^ 127 → 0 < magnitude d (R.value left)
+        → AreCleared (pointwise nat_eq) (d * e) (terms_of R.value sum.old)
+        → OverflowsCleared (pointwise nat_eq) (d * e) (terms_of R.value sum.old)
+        (multiple (scaled d (R.value left))
         (replaced (product_terms label.now) (over e (terms_of R.value right.now)))) }
 {
     for (other, c) in right.iter() {
@@ -144,15 +150,16 @@ fn add_row<R: Ring>(
 /// The product of two lists, its coefficients times any common denominators of the two.
 fn cleared_product<R: Ring>(
     alloc: Global,
-    left: &Table<Partition, R>,
-    right: &Table<Partition, R>,
+    left: &Lin<Partition, R>,
+    right: &Lin<Partition, R>,
 ) -> Result<Lin<Partition, R>, SumFault>
     requires sizes { greatest_size left.now + greatest_size right.now ≤ 512 }
     ensures cleared { IfOk result (λ product. (d e : ℕ)
         → IsCommonDenominator d (terms_of R.value left.now)
         → IsCommonDenominator e (terms_of R.value right.now)
-        → GainsCleared is_label (d * e) [] (products (over d (terms_of R.value left.now))
-        (over e (terms_of R.value right.now))) product) }
+        → GainsCleared (pointwise nat_eq) is_label (d * e) []
+        (products (over d (terms_of R.value left.now))
+        (over e (terms_of R.value right.now))) (terms_of R.value product)) }
     ensures large { IsErrOf result SumFault.Large → (d e : ℕ)
         → IsCommonDenominator d (terms_of R.value left.now)
         → IsCommonDenominator e (terms_of R.value right.now)
@@ -180,16 +187,19 @@ pub fn times_in_m<R: Ring>(
     right: &Lin<Partition, R>,
 ) -> Result<Lin<Partition, R>, SumFault>
     requires sizes { greatest_size left.now + greatest_size right.now ≤ 512 }
-    ensures value { IfOk result (λ product. (n : ℕ) → IsExpansionOf monomials product n
-        (times (value monomials left.now n) (value monomials right.now n))
-        (denominators left.now * denominators right.now)) }
+    ensures value { IfOk result (λ product. (n : ℕ) → IsExpansionOf monomials
+        (terms_of R.value product) n
+        (times (value monomials (terms_of R.value left.now) n)
+        (value monomials (terms_of R.value right.now) n))
+        (denominators (terms_of R.value left.now) * denominators (terms_of R.value right.now))) }
     ensures labels { IfOk result (AreSums left.now right.now) }
-    ensures large { IsErrOf result SumFault.Large → IsTooLarge left.now right.now }
+    ensures large { IsErrOf result SumFault.Large → IsTooLarge (terms_of R.value left.now)
+        (terms_of R.value right.now) }
 {
     if right.len() == 0 {
         return Ok(Lin::new(alloc));
     }
-    cleared_product(alloc, left.as_table(), right.as_table())
+    cleared_product(alloc, left, right)
 }
 
 /// The product of two expansions in m with whole coefficients: what `times_in_m` gives.
@@ -198,9 +208,9 @@ pub fn times_in_m<R: Ring>(
 /// absolute values as coefficients is 2^127 or more.
 pub fn times_whole_in_m(
     alloc: Global,
-    left: &Table<Partition, Int>,
-    right: &Table<Partition, Int>,
-) -> Result<Table<Partition, Int>, SumFault>
+    left: &Lin<Partition, Int>,
+    right: &Lin<Partition, Int>,
+) -> Result<Lin<Partition, Int>, SumFault>
     requires sizes { greatest_size left.now + greatest_size right.now ≤ 512 }
     ensures coefficients { IfOk result (λ product. (ν : List ℕ) → IsPartition ν
         → coefficient product ν ≡ product_coefficient left.now right.now ν) }
@@ -209,6 +219,5 @@ pub fn times_whole_in_m(
     ensures large { IsErrOf result SumFault.Large → (ν : List ℕ) × IsPartition ν
         × (pos (2 ^ 127) ≤ℤ product_coefficient (absolute left.now) (absolute right.now) ν) }
 {
-    let product = cleared_product(alloc, left, right)?;
-    Ok(product.into_table())
+    cleared_product(alloc, left, right)
 }

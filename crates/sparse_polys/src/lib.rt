@@ -11,11 +11,9 @@
 //!
 //! What is proved:
 //!
-//! `Lin` and `Terms` are those of `linear_combinations` seen as fractions, with the same facts; the
-//! way from the one to the other copies nothing. Labels are partitions, permutations, monomials,
-//! `Pair`, `Power` and `Shifted` (a permutation with a monomial in y). `Monomial` is its list of
-//! exponents without zeros at the end: `from_exponents` has each refusal with its exact cause,
-//! `degree` is the sum of the exponents,
+//! Labels are partitions, permutations, monomials, `Pair`, `Power` and `Shifted` (a permutation
+//! with a monomial in y). `Monomial` is its list of exponents without zeros at the end:
+//! `from_exponents` has each refusal with its exact cause, `degree` is the sum of the exponents,
 //! `cmp_printed` is the printed order, and monomials are labels of tables. `Monomial::times` adds
 //! the exponents, and `Monomial::times_var` raises one. `times`, over every ring: the product of
 //! two polynomials, in every number of variables; `Large` only where the weights of the two lists
@@ -29,7 +27,6 @@
 mod counts;
 mod expansion_products;
 mod fault;
-mod lin;
 mod monomial;
 mod monomial_label;
 mod pair;
@@ -41,16 +38,13 @@ mod products;
 mod search;
 mod shifted;
 mod states;
-mod terms;
 
 pub use expansion_products::{times_in_m, times_whole_in_m};
 pub use fault::MonoFault;
-pub use lin::Lin;
-pub use linear_combinations::Label;
+pub use linear_combinations::{Label, Lin, Terms};
 pub use monomial::Monomial;
 pub use pair::Pair;
 pub use poly::Poly;
 pub use power::Power;
 pub use products::{times, times_var};
 pub use shifted::Shifted;
-pub use terms::Terms;

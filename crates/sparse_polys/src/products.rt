@@ -1,7 +1,6 @@
 //! Products of polynomials.
 ghost use Rattle.std.specs.Prelude.{◌≡◌, ℕ, ◌*◌, ◌^◌, ◌<◌, ◌≤◌, ◌*ℤ◌, pos, nat_eq, List, [], ◌∷◌};
 ghost use Rattle.std.specs.Prelude.{IfOk, OnOk, IsErrOf};
-ghost use Rattle.std.specs.Int.{◌∣◌};
 ghost use Rattle.std.specs.Cmp.Lexicographic.{pointwise};
 ghost use Rattle.sym_model.specs.DividedDifference.{variable_in, x_to_in};
 ghost use Rattle.sym_model.specs.Expansion.{Fraction, Represents, denominators};
@@ -11,11 +10,11 @@ ghost use Rattle.sym_model.specs.Polynomial.{join, times};
 ghost use Rattle.sym_model.specs.Sum.{Among};
 ghost use Rattle.monomial_laws.specs.ExpressionTerms.{over};
 ghost use Rattle.coeff_rings.specs.Fractions.{scaled, whole};
-ghost use Rattle.sparse_polys.specs.Combination.{HasMoreAt, IsPolynomialTable};
+ghost use Rattle.sparse_polys.specs.Combination.{terms_of, HasMoreAt, IsPolynomialTable};
 ghost use Rattle.sparse_polys.specs.Limits.{IsWithinLimits};
 ghost use Rattle.sparse_polys.specs.Products.{value_in, coefficient_at, FitTogether, HasRoom};
-ghost use Rattle.sparse_polys.specs.Products.{AreCleared, IsCommonDenominator, AreDenominators};
-ghost use Rattle.sparse_polys.specs.Products.{GainsCleared, OverflowsCleared};
+ghost use Rattle.linear_combinations.specs.Cleared.{AreCleared, IsCommonDenominator, IsDenominator};
+ghost use Rattle.linear_combinations.specs.Cleared.{GainsCleared, OverflowsCleared};
 
 use crate::poly::Poly;
 use crate::{Lin, Monomial};
@@ -32,13 +31,15 @@ fn add_product<R: Ring>(
     b: R,
 ) -> Result<(), SumFault>
     requires { IsWithinLimits (join left.now right.now) }
-    ensures ok { OnOk result ((d e : ℕ) → AreDenominators d e (R.value a) (R.value b)
-        → AreCleared (d * e) sum.old
-        → GainsCleared is_monomial_label (d * e) sum.old
-        ((join left.now right.now, scaled d (R.value a) *ℤ scaled e (R.value b)) ∷ []) sum.new) }
+    ensures ok { OnOk result ((d e : ℕ) → IsDenominator d (R.value a) × IsDenominator e (R.value b)
+        → AreCleared (pointwise nat_eq) (d * e) (terms_of R.value sum.old)
+        → GainsCleared (pointwise nat_eq) is_monomial_label (d * e) (terms_of R.value sum.old)
+        ((join left.now right.now, scaled d (R.value a) *ℤ scaled e (R.value b)) ∷ [])
+        (terms_of R.value sum.new)) }
     ensures large { IsErrOf result SumFault.Large → (d e : ℕ)
-        → AreDenominators d e (R.value a) (R.value b)
-        → d * e < 2 ^ 127 → AreCleared (d * e) sum.old → OverflowsCleared (d * e) sum.old
+        → IsDenominator d (R.value a) × IsDenominator e (R.value b)
+        → d * e < 2 ^ 127 → AreCleared (pointwise nat_eq) (d * e) (terms_of R.value sum.old)
+        → OverflowsCleared (pointwise nat_eq) (d * e) (terms_of R.value sum.old)
         ((join left.now right.now, scaled d (R.value a) *ℤ scaled e (R.value b)) ∷ []) }
 {
     let Some(c) = a.mul(b) else {
@@ -54,15 +55,19 @@ fn add_row<R: Ring>(
     a: R,
     right: &Poly<R>,
 ) -> Result<(), SumFault>
-    requires { (t : List ℕ × Fraction) → Among t right.now → IsWithinLimits (join left.now t.0) }
-    ensures ok { OnOk result ((d e : ℕ) → 0 < d → (R.value a).1 ∣ d
-        → IsCommonDenominator e right.now → AreCleared (d * e) sum.old
-        → GainsCleared is_monomial_label (d * e) sum.old
-        (times ((left.now, scaled d (R.value a)) ∷ []) (over e right.now)) sum.new) }
-    ensures large { IsErrOf result SumFault.Large → (d e : ℕ) → 0 < d → (R.value a).1 ∣ d
-        → IsCommonDenominator e right.now
-        → d * e < 2 ^ 127 → AreCleared (d * e) sum.old → OverflowsCleared (d * e) sum.old
-        (times ((left.now, scaled d (R.value a)) ∷ []) (over e right.now)) }
+    requires { (t : List ℕ × Fraction) → Among t (terms_of R.value right.now)
+        → IsWithinLimits (join left.now t.0) }
+    ensures ok { OnOk result ((d e : ℕ) → IsDenominator d (R.value a)
+        → IsCommonDenominator e (terms_of R.value right.now)
+        → AreCleared (pointwise nat_eq) (d * e) (terms_of R.value sum.old)
+        → GainsCleared (pointwise nat_eq) is_monomial_label (d * e) (terms_of R.value sum.old)
+        (times ((left.now, scaled d (R.value a)) ∷ []) (over e (terms_of R.value right.now)))
+        (terms_of R.value sum.new)) }
+    ensures large { IsErrOf result SumFault.Large → (d e : ℕ) → IsDenominator d (R.value a)
+        → IsCommonDenominator e (terms_of R.value right.now)
+        → d * e < 2 ^ 127 → AreCleared (pointwise nat_eq) (d * e) (terms_of R.value sum.old)
+        → OverflowsCleared (pointwise nat_eq) (d * e) (terms_of R.value sum.old)
+        (times ((left.now, scaled d (R.value a)) ∷ []) (over e (terms_of R.value right.now))) }
 {
     for (monomial, b) in right.iter() {
         add_product(sum, left, a, monomial, *b)?;
@@ -77,12 +82,14 @@ fn add_row<R: Ring>(
 /// It is refused as `Large` only where the weights of the two lists have a product of 2^127 or
 /// more.
 pub fn times<R: Ring>(alloc: Global, left: &Poly<R>, right: &Poly<R>) -> Result<Poly<R>, SumFault>
-    requires { FitTogether left.now right.now }
-    ensures value { IfOk result (λ product. (n : ℕ) → Represents (λ e. x_to_in e n) product
-        (times (value_in left.now n) (value_in right.now n))
-        (denominators left.now * denominators right.now)) }
+    requires { FitTogether (terms_of R.value left.now) (terms_of R.value right.now) }
+    ensures value { IfOk result (λ product. (n : ℕ) → Represents (λ e. x_to_in e n)
+        (terms_of R.value product)
+        (times (value_in (terms_of R.value left.now) n) (value_in (terms_of R.value right.now) n))
+        (denominators (terms_of R.value left.now) * denominators (terms_of R.value right.now))) }
     ensures large { IsErrOf result SumFault.Large
-        → 2 ^ 127 ≤ list_weight left.now * list_weight right.now }
+        → 2 ^ 127
+        ≤ list_weight (terms_of R.value left.now) * list_weight (terms_of R.value right.now) }
 {
     if right.len() == 0 {
         return Ok(Lin::new(alloc));
@@ -100,9 +107,10 @@ pub fn times<R: Ring>(alloc: Global, left: &Poly<R>, right: &Poly<R>) -> Result<
 pub fn times_var<R: Ring>(alloc: Global, list: Poly<R>, r: u16) -> Result<Poly<R>, NoMemory>
     requires first { 1 ≤ r }
     requires last { r ≤ 255 }
-    requires room { HasRoom r list }
-    ensures { IfOk result (λ product. (n : ℕ) → Represents (λ e. x_to_in e n) product
-        (times (variable_in r n) (value_in list n)) (denominators list)) }
+    requires room { HasRoom r (terms_of R.value list) }
+    ensures { IfOk result (λ product. (n : ℕ) → Represents (λ e. x_to_in e n)
+        (terms_of R.value product) (times (variable_in r n) (value_in (terms_of R.value list) n))
+        (denominators (terms_of R.value list))) }
 {
     let mut product = Lin::new(alloc);
     for (monomial, c) in list.iter() {
@@ -113,10 +121,11 @@ pub fn times_var<R: Ring>(alloc: Global, list: Poly<R>, r: u16) -> Result<Poly<R
 
 /// Adds a term with a monomial that is not there, which no ring refuses.
 fn add_new<R: Ring>(sum: &mut Poly<R>, monomial: Monomial, c: R) -> Result<(), NoMemory>
-    requires { coefficient_at sum.old monomial ≡ whole (pos 0) }
-    ensures more { OnOk result (HasMoreAt (pointwise nat_eq) sum.old monomial (R.value c) sum.new) }
-    ensures was { IsPolynomialTable sum.old }
-    ensures combination { IsPolynomialTable sum.new }
+    requires { coefficient_at (terms_of R.value sum.old) monomial ≡ whole (pos 0) }
+    ensures more { OnOk result (HasMoreAt (pointwise nat_eq) (terms_of R.value sum.old) monomial
+        (R.value c) (terms_of R.value sum.new)) }
+    ensures was { IsPolynomialTable (terms_of R.value sum.old) }
+    ensures combination { IsPolynomialTable (terms_of R.value sum.new) }
 {
     match sum.add_term(monomial, c) {
         Ok(()) => Ok(()),

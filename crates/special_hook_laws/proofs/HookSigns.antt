@@ -3,7 +3,7 @@ use Rattle.std.proofs.Common.{◌≡◌, ℕ, suc, ◌+◌, ◌-◌, ◌<◌, �
 use Rattle.std.proofs.lemmas.Int.{ints}
 use Rattle.std.proofs.lemmas.Bool.{true≢false, false≢true, not-true, and_parts, and_from, le-leb, lt-leb, leb-true, leb-false, cases_lt}
 use Rattle.std.proofs.lemmas.List.{length-map}
-use Rattle.sym_model.specs.Sum.{total, Once}
+use Rattle.sym_model.specs.Sum.{total}
 use Rattle.sym_model.specs.Partition.{Falls, ArePositive, IsPartition, size, rows, without_last_zeros}
 use Rattle.sym_model.specs.PartitionList.{partitions_of}
 use Rattle.sym_model.specs.Polynomial.{resize}
@@ -12,7 +12,7 @@ use Rattle.sym_model.proofs.Ring.{ring, product-one}
 use Rattle.sym_model.proofs.Sums.{total_ext, total_map, total_cond, total_none, total_select, total_scale, total_exchange, total_only}
 use Rattle.sym_model.proofs.Exponents.{resize_same, length-resize}
 use Rattle.sym_model.proofs.Parts.{without_last_zeros-positive}
-use Rattle.sym_model.proofs.PartitionLists.{partitions_of-tells, Among-partitions_of, FallsLexicographically-partitions_within, Once-FallsLexicographically}
+use Rattle.sym_model.proofs.PartitionLists.{partitions_of-tells, Among-partitions_of, Once-partitions_of}
 use Rattle.alternant_laws.proofs.FallingAlternants.{resize-without_last_zeros, without_last_zeros-resize}
 use Rattle.product_laws.proofs.StripShapes.{size-padded}
 use Rattle.special_hook_laws.specs.SpecialHooks.{SpecialHook, below_row, special_hooks}
@@ -202,9 +202,6 @@ covered_elsewhere outer a bs o p s other = elim (cases_lt (suc (length bs)) (row
 
 -- ---- the sum over all shapes of the size
 
-pub partitions_once : (d : ℕ) → Once (partitions_of d)
-partitions_once d = Once-FallsLexicographically (partitions_of d) (FallsLexicographically-partitions_within d d d)
-
 factor_out : (s : ℤ) (b : Bool) (z : ℤ) → s *ℤ cond b z (pos 0) ≡ z *ℤ (s *ℤ indicator b)
 factor_out s true z = simp ring (omega (arith, ints))
 factor_out s false z = simp ring (omega (arith, ints))
@@ -225,7 +222,7 @@ signed_sum F a bs p =
     ∙ total_exchange (λ (h : SpecialHook) (ν : List ℕ). F ν *ℤ (h.sign *ℤ indicator (covers (length bs) ν h.rest))) (special_hooks (a ∷ bs)) shapes
     ∙ total_ext (λ (ν : List ℕ). total (λ (h : SpecialHook). F ν *ℤ (h.sign *ℤ indicator (covers (length bs) ν h.rest))) (special_hooks (a ∷ bs))) (λ (ν : List ℕ). F ν *ℤ signs_covered ν a bs)
     (λ ν. total_scale (F ν) (λ (h : SpecialHook). h.sign *ℤ indicator (covers (length bs) ν h.rest)) (special_hooks (a ∷ bs))) shapes
-    ∙ total_only (λ (ν : List ℕ). F ν *ℤ signs_covered ν a bs) (a ∷ bs) shapes (partitions_once d) (Among-partitions_of d (a ∷ bs) p refl)
+    ∙ total_only (λ (ν : List ℕ). F ν *ℤ signs_covered ν a bs) (a ∷ bs) shapes (Once-partitions_of d) (Among-partitions_of d (a ∷ bs) p refl)
     (λ ν m other. let q = partitions_of-tells d ν m in ap (λ z. F ν *ℤ z) (covered_elsewhere ν a bs q.0 p q.1 other) ∙ *ℤ-zero (F ν))
     ∙ ap (λ z. F (a ∷ bs) *ℤ z) (covered_here a bs p)
     ∙ product-one (F (a ∷ bs))

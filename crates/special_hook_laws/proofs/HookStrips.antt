@@ -9,14 +9,14 @@ use Rattle.sym_model.specs.Strip.{IsHorizontalStrip}
 use Rattle.sym_model.proofs.Sums.{Among-select, Among_from_select, Once-select}
 use Rattle.sym_model.proofs.Exponents.{length-resize}
 use Rattle.sym_model.proofs.Parts.{get_or-without_last_zeros, past_end, positive-at}
-use Rattle.sym_model.proofs.PartitionLists.{partitions_of-tells, Among-partitions_of}
+use Rattle.sym_model.proofs.PartitionLists.{partitions_of-tells, Among-partitions_of, Once-partitions_of}
 use Rattle.strip_laws.proofs.Strips.{horizontal_from_rows, horizontal_rows}
 use Rattle.strip_laws.proofs.Containment.{Holds-get_or}
 use Rattle.alternant_laws.proofs.FallingAlternants.{without_last_zeros-resize}
 use Rattle.product_laws.specs.StripLists.{ListsEach, AddsHorizontalStrip}
 use Rattle.special_hook_laws.specs.SpecialHooks.{SpecialHook, special_hooks}
 use Rattle.special_hook_laws.proofs.HookShapes.{hook_rest}
-use Rattle.special_hook_laws.proofs.HookSigns.{between, interlaces, covers, partitions_once}
+use Rattle.special_hook_laws.proofs.HookSigns.{between, interlaces, covers}
 
 -- ---- interlacing by places
 
@@ -122,7 +122,7 @@ covering a bs h = filter (λ ν. covers (length bs) ν h.rest) (partitions_of (s
 pub covering_listed : (a : ℕ) (bs : List ℕ) (h : SpecialHook) → IsPartition (a ∷ bs) → Among h (special_hooks (a ∷ bs))
     → ListsEach (AddsHorizontalStrip h.cells h.rest) (covering a bs h)
 covering_listed a bs h p m =
-    record { once = Once-select (λ ν. covers (length bs) ν h.rest) (partitions_of d) (partitions_once d); members = λ ν. (tells ν, lists ν) }
+    record { once = Once-select (λ ν. covers (length bs) ν h.rest) (partitions_of d) (Once-partitions_of d); members = λ ν. (tells ν, lists ν) }
   where
     d : ℕ
     d = size (a ∷ bs)

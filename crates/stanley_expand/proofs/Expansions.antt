@@ -23,7 +23,7 @@ use Rattle.sym_model.proofs.Sums.{Among_from_map}
 use Rattle.sym_model.proofs.Polynomials.{pair_determined}
 use Rattle.sym_model.proofs.Integers.{is_past-tells, is_past-from}
 use Rattle.coeff_rings.specs.Fractions.{whole}
-use Rattle.linear_combinations.specs.Entries.{HasSameCoefficients}
+use Rattle.linear_combinations.specs.Entries.{HasSameCoefficients, IsWholeTable}
 use Rattle.linear_combinations.specs.Gains.{over, only}
 use Rattle.linear_combinations.specs.Labels.{same_partition}
 use Rattle.linear_combinations.proofs.Gains.{over_at}
@@ -32,7 +32,7 @@ use Rattle.linear_combinations.proofs.Totals.{carried}
 use Rattle.stanley_laws.specs.SchurPositive.{schur_test}
 use Rattle.stanley_laws.proofs.Behind.{schubert_behind}
 use Rattle.stanley_laws.proofs.SchurPositive.{schur_coefficient_is}
-use Rattle.stanley_expand.specs.Walk.{AreShapes, IsTable, walked, HasLargeShape}
+use Rattle.stanley_expand.specs.Walk.{AreShapes, walked, HasLargeShape}
 use Rattle.stanley_expand.proofs.Steps.{over_schurs}
 use lib.IntN.{+ℤ_idr}
 
@@ -68,7 +68,7 @@ module _ (m : ℕ) (w start : List ℕ) (o : IsOneLine w) (e : start ≡ kept (b
         absurd (omega (arith, ints))
 
 -- the labels of a list with the same coefficients
-pub labels_within : (m : ℕ) (sum terms : WholeTerms) → AreShapes m sum → IsTable terms → HasSameCoefficients (pointwise nat_eq) (pos 0) sum terms
+pub labels_within : (m : ℕ) (sum terms : WholeTerms) → AreShapes m sum → IsWholeTable terms → HasSameCoefficients (pointwise nat_eq) (pos 0) sum terms
     → (t : List ℕ × Fraction) → Among t (as_fractions terms) → rows t.0 ≤ m
 labels_within m sum terms is also same t k =
     let c = Among_from_map (λ (u : List ℕ × ℤ). (u.0, (u.1, 1))) t terms k in

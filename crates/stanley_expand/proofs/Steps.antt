@@ -29,12 +29,13 @@ use Rattle.stanley_laws.specs.Grassmannian.{IsRising, front_shape}
 use Rattle.stanley_laws.specs.SchurPositive.{schur_test}
 use Rattle.stanley_laws.proofs.FirstPlaces.{dropped, leaf}
 use Rattle.stanley_laws.proofs.SchurPositive.{front_partition, front_rows, rising_covers, schur_positive, schur_pairs, natural}
-use Rattle.stanley_expand.specs.Walk.{AreRising, AreShapes, IsHeld, IsTable, walked, HasLargeShape}
+use Rattle.stanley_expand.specs.Walk.{AreRising, AreShapes, IsHeld, walked, HasLargeShape}
+use Rattle.linear_combinations.specs.Entries.{IsWholeTable}
 
 -- ---- Schur coefficients
 
 -- the Schur coefficient at κ of a sum of Schur polynomials is what stands at κ
-pub over_schurs : (m : ℕ) (κ : List ℕ) (terms : WholeTerms) → IsTable terms → IsPartition κ → rows κ ≤ m
+pub over_schurs : (m : ℕ) (κ : List ℕ) (terms : WholeTerms) → IsWholeTable terms → IsPartition κ → rows κ ≤ m
     → over (λ ν. pair (schur ν m) (schur_test m κ)) terms ≡ over (only (pointwise nat_eq) κ) terms
 over_schurs m κ terms is q few =
     total_among (λ (t : List ℕ × ℤ). t.1 *ℤ pair (schur t.0 m) (schur_test m κ)) (λ (t : List ℕ × ℤ). t.1 *ℤ at_only κ t.0) terms
@@ -44,7 +45,7 @@ over_schurs m κ terms is q few =
 -- ---- the sum so far
 
 -- one shape more
-pub more_shapes : (m : ℕ) (κ : List ℕ) (old new : WholeTerms) → rows κ ≤ m → Gains old ((κ, pos 1) ∷ []) new → IsTable new → IsHeld new → AreShapes m old → AreShapes m new
+pub more_shapes : (m : ℕ) (κ : List ℕ) (old new : WholeTerms) → rows κ ≤ m → Gains old ((κ, pos 1) ∷ []) new → IsWholeTable new → IsHeld new → AreShapes m old → AreShapes m new
 more_shapes m κ old new few gains table held was = record {
   table = table;
   held = held;

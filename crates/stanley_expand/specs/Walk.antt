@@ -2,15 +2,13 @@
 use Rattle.std.specs.Prelude.{ℕ, ◌^◌, ◌≤◌, ◌≤ℤ◌, ◌+ℤ◌, ℤ, pos, nat_eq, FitsSigned, List}
 use Rattle.std.specs.Int.{w128}
 use Rattle.std.specs.Cmp.Lexicographic.{pointwise}
-use Rattle.coeff_rings.specs.Fractions.{whole}
-use Rattle.sym_model.specs.LabelLimits.{is_label}
 use Rattle.sym_model.specs.Sum.{total, Among}
 use Rattle.sym_model.specs.Partition.{IsPartition, rows}
 use Rattle.sym_model.specs.Polynomial.{pair}
 use Rattle.sym_model.specs.Schur.{schur}
 use Rattle.sym_model.specs.Schubert.{schubert_in}
 use Rattle.sym_model.specs.WholeTerms.{WholeTerms}
-use Rattle.linear_combinations.specs.Entries.{AreHeld, IsCombination}
+use Rattle.linear_combinations.specs.Entries.{AreHeld, IsWholeTable}
 use Rattle.linear_combinations.specs.Gains.{over, only, HaveLabels}
 use Rattle.stanley_laws.specs.Grassmannian.{IsRising}
 use Rattle.stanley_laws.specs.SchurPositive.{schur_test}
@@ -19,17 +17,13 @@ use Rattle.stanley_laws.specs.SchurPositive.{schur_test}
 abbrev pub AreRising : ℕ → ℕ → List (List ℕ) → Type 0
 AreRising m n todo = (p : List ℕ) → Among p todo → IsRising m n p
 
--- each partition is in the list once, with a coefficient that is not 0
-abbrev pub IsTable : WholeTerms → Type 0
-IsTable sum = IsCombination (pointwise nat_eq) is_label whole sum
-
 -- each coefficient is a number of 128 bits
 abbrev pub IsHeld : WholeTerms → Type 0
 IsHeld sum = AreHeld (pointwise nat_eq) (pos 0) (FitsSigned w128) sum
 
 -- a table of partitions with at most m rows, without negative coefficients
 pub record AreShapes (m : ℕ) (sum : WholeTerms) : Type 0 where
-  pub table : IsTable sum
+  pub table : IsWholeTable sum
   pub held : IsHeld sum
   pub few : HaveLabels (λ κ. rows κ ≤ m) sum
   pub natural : (κ : List ℕ) → pos 0 ≤ℤ over (only (pointwise nat_eq) κ) sum

@@ -10,8 +10,9 @@ ghost use Rattle.linear_combinations.specs.Gains.{Gains, Overflows};
 ghost use Rattle.transition_walk.specs.Todo.{weigh};
 ghost use Rattle.transition_walk.specs.Transitions.{IsShort, weight};
 ghost use Rattle.stanley_laws.specs.Grassmannian.{IsRising, front_beta, front_shape};
-ghost use Rattle.stanley_expand.specs.Walk.{AreRising, AreShapes, IsHeld, IsTable, walked};
+ghost use Rattle.stanley_expand.specs.Walk.{AreRising, AreShapes, IsHeld, walked};
 ghost use Rattle.stanley_expand.specs.Walk.{HasLargeShape};
+ghost use Rattle.linear_combinations.specs.Entries.{IsWholeTable};
 
 use crate::letters::has_more_before;
 use calc_base::{NoMemory, SumFault};
@@ -140,7 +141,7 @@ fn add_shape(alloc: Global, sum: &mut Schurs, perm: &Perm, rows: u16) -> Result<
     requires few { rows ≤ 64 }
     requires limits { IsWithinLimits (front_shape rows perm.now) }
     ensures gains { OnOk result (Gains sum.old ((front_shape rows perm.now, pos 1) ∷ []) sum.new) }
-    ensures table { OnOk result (IsTable sum.new) }
+    ensures table { OnOk result (IsWholeTable sum.new) }
     ensures held { OnOk result (IsHeld sum.new) }
     ensures large { IsErrOf result SumFault.Large
         → Overflows (pointwise nat_eq) sum.old ((front_shape rows perm.now, pos 1) ∷ []) }

@@ -20,14 +20,12 @@ use Rattle.sym_model.specs.Expression.{lcm}
 use Rattle.sym_model.specs.ListWeight.{common_denominator, absolute_sum, list_weight}
 use Rattle.sym_model.specs.WholeTerms.{WholeTerms}
 use Rattle.sym_model.proofs.GreatestCommonDivisors.{IsGcd-gcd}
-use Rattle.sym_model.proofs.CanonicalLists.{each_term-among}
 use Rattle.sym_model.proofs.Orders.{is_reduced-tells, is_label-tells}
 use Rattle.sym_model.proofs.Sums.{Among-map, Among_from_map}
-use Rattle.monomial_laws.specs.ExpressionTerms.{over as numerators_over}
 use Rattle.monomial_laws.proofs.WeightBounds.{lcm-positive}
-use Rattle.coeff_rings.specs.Fractions.{scaled as numerator_over, whole, InLowestTerms}
+use Rattle.coeff_rings.specs.Fractions.{scaled as numerator_over, InLowestTerms}
 use Rattle.coeff_rings.specs.Proved.Divisors.{divides_other_factor, coprime_without, divisor_positive}
-use Rattle.linear_combinations.specs.Entries.{IsCombination}
+use Rattle.linear_combinations.specs.Entries.{IsCombination, IsWholeTable}
 use Rattle.linear_combinations.specs.Gains.{over, mass, mass_at, scaled as gained_times, HaveLabels}
 use Rattle.linear_combinations.specs.Labels.{same_partition}
 use Rattle.linear_combinations.proofs.Gains.{all_pairs, next_among, over_append, gains_mass, mass_at_append, overflows_both, scaled_over}
@@ -36,14 +34,16 @@ use Rattle.linear_combinations.proofs.Totals.{term-among}
 use Rattle.linear_combinations.proofs.Masses.{mass_append, mass_scaled, mass_at_scaled, labels_append, labels_scaled, labels_gained}
 use Rattle.sparse_polys.specs.Combination.{terms_of}
 use Rattle.sparse_polys.specs.MonomialProducts.{greatest_size}
-use Rattle.sparse_polys.specs.Products.{GainsCleared}
 use Rattle.sparse_polys.proofs.ListSteps.{over_pieces}
-use Rattle.sparse_polys.proofs.Steps.{IsCombination-empty}
-use Rattle.sparse_polys.proofs.ClearedSums.{AreCleared-nothing, Gains-none, Gains-both, mass_over, table_over}
+use Rattle.sparse_polys.proofs.Tables.{table_gained, term-tests}
+use Rattle.linear_combinations.proofs.Cleared.{AreCleared-nothing, Gains-none, Gains-both}
+use Rattle.sparse_polys.proofs.ClearedSums.{mass_over, table_over}
 use Rattle.sparse_polys.proofs.Expansions.{divides_terms, least-denominators}
 use Rattle.sparse_polys.proofs.Rows.{greatest_size-among}
-use Rattle.whole_lists.specs.Tables.{IsTable}
-use Rattle.strip_rules.specs.Adding.{IsDenominator, Adds, Exceeds, IsProduct}
+use Rattle.whole_lists.specs.Tables.{IsFractionTable}
+use Rattle.linear_combinations.specs.Cleared.{IsDenominator, GainsMultiple, OverflowsMultiple}
+use Rattle.linear_combinations.specs.Cleared.{numerators_over, GainsCleared}
+use Rattle.strip_rules.specs.Adding.{IsProduct}
 use Rattle.strip_rules.specs.Room.{AreWithin}
 use native.Mathlib.Nat.{mul-le-mul_left, pow-zero, le-div_iff_mul-le}
 use lib.IntN.{+ℤ_idr}
@@ -53,7 +53,7 @@ use lib.IntN.{+ℤ_idr}
 -- the sum has, times q, the products of f and the terms of the list so far
 pub record AddsList (f : ℕ → Poly) (k q : ℕ) (list done sum : Terms (List ℕ)) : Type 0 where
   pub gained : WholeTerms
-  pub gains : GainsCleared is_label q [] gained sum
+  pub gains : GainsCleared (pointwise nat_eq) is_label q [] gained sum
   pub value : (n : ℕ) (φ : List ℕ → ℤ) → over (λ ν. pair (schur ν n) φ) gained ≡ over (λ label. pair (times (f n) (schur label n)) φ) (numerators_over q done)
   pub once : (ν : List ℕ) → mass_at (pointwise nat_eq) ν gained ≤ mass (numerators_over q done)
   pub few : mass gained ≤ mass (numerators_over q done) * (greatest_size list + k) ^ k
@@ -62,7 +62,7 @@ pub record AddsList (f : ℕ → Poly) (k q : ℕ) (list done sum : Terms (List 
 pub AddsList-none : (f : ℕ → Poly) (k q : ℕ) (list : Terms (List ℕ)) → AddsList f k q list [] []
 AddsList-none f k q list = record {
   gained = [];
-  gains = Gains-none q [] (AreCleared-nothing q);
+  gains = Gains-none q [] (AreCleared-nothing (pointwise nat_eq) q);
   value = λ n φ. refl;
   once = λ ν. omega arith;
   few = omega arith;
@@ -85,7 +85,9 @@ module _ {R : Type 0} (value : R → Fraction) (f : ℕ → Poly) (k q : ℕ) (d
       ≡ mass (numerators_over q (terms_of value done)) + (nat_abs (numerator_over q (value v)) + mass (numerators_over q (terms_of value rest)))
   mass_next rest = ap mass (over_pieces value q done ((label, v) ∷ rest)) ∙ mass_append (numerators_over q (terms_of value done)) (numerators_over q (terms_of value ((label, v) ∷ rest)))
 
-  pub AddsList-next : (new : Terms (List ℕ)) → Among (label, value v) list → IsDenominator q (value v) → Adds (value v) terms cur new
+  pub AddsList-next : (new : Terms (List ℕ)) → Among (label, value v) list
+      → IsDenominator q (value v) → GainsMultiple (pointwise nat_eq) is_label (value v) terms cur
+      new
       → AddsList f k q list (terms_of value (done ++ (label, v) ∷ [])) new
   AddsList-next new among d a =
       let z = numerator_over q (value v) in
@@ -131,7 +133,7 @@ module _ {R : Type 0} (value : R → Fraction) (f : ℕ → Poly) (k q : ℕ) (d
 
   -- where one term is refused, the absolute values come to 2^127 or more
   pub refused_large : (rest : List (List ℕ × R)) → terms_of value (done ++ (label, v) ∷ rest) ≡ list → IsDenominator q (value v) → q < 2 ^ 127
-      → Exceeds (value v) terms cur → 2 ^ 127 ≤ absolute_sum q list
+      → OverflowsMultiple (pointwise nat_eq) (value v) terms cur → 2 ^ 127 ≤ absolute_sum q list
   refused_large rest whole d small e =
       let o =
       overflows_both (pointwise nat_eq) [] h.gained (numerators_over q cur) (gained_times (numerator_over q (value v)) terms) h.gains.gains (e q d small h.gains.cleared) in
@@ -144,14 +146,14 @@ module _ {R : Type 0} (value : R → Fraction) (f : ℕ → Poly) (k q : ℕ) (d
 -- ---- the whole list
 
 module _ {f : ℕ → Poly} {k q : ℕ} {list done sum : Terms (List ℕ)} (some : 0 < q) (a : AddsList f k q list done sum) where
-  pub list_table : IsTable sum
-  list_table = a.gains.table (IsCombination-empty (pointwise nat_eq) is_label)
+  pub list_table : IsFractionTable sum
+  list_table = table_gained q a.gained sum a.gains
 
   -- q clears each term
   pub list_divides : (t : List ℕ × Fraction) → Among t sum → t.1.1 ∣ q
   list_divides = divides_terms q sum list_table (λ ν p. a.gains.cleared ν)
 
-  table : IsCombination (pointwise nat_eq) is_label whole (numerators_over q sum)
+  table : IsWholeTable (numerators_over q sum)
   table = table_over q sum list_table some list_divides
 
   pub list_sums : (n : ℕ) (φ : List ℕ → ℤ) → pair (numerators_over q sum) (λ ν. pair (schur ν n) φ) ≡ pair (numerators_over q done) (λ label. pair (times (f n) (schur label n)) φ)
@@ -198,7 +200,7 @@ pair_here done rest left begun items all p steps so_far given is =
 -- ---- weights
 
 -- where absolute values are large, the weight is
-pub list_large : (terms : Terms (List ℕ)) → IsTable terms → (common_denominator terms < 2 ^ 127 → 2 ^ 127 ≤ absolute_sum (common_denominator terms) terms) → 2 ^ 127 ≤ list_weight terms
+pub list_large : (terms : Terms (List ℕ)) → IsFractionTable terms → (common_denominator terms < 2 ^ 127 → 2 ^ 127 ≤ absolute_sum (common_denominator terms) terms) → 2 ^ 127 ≤ list_weight terms
 list_large terms is h = by (absolute_sum (common_denominator terms) terms) (common_denominator terms) (least-denominators terms is).positive h
   where
     by : (a d : ℕ) → 0 < d → (d < 2 ^ 127 → 2 ^ 127 ≤ a) → 2 ^ 127 ≤ max 1 a * d
@@ -243,14 +245,14 @@ absolute_within c d (t ∷ terms) h positive =
     let m = mul-le-mul_left (nat_abs t.1.0) q in
     omega arith
 
-positive_at : (terms : Terms (List ℕ)) → IsTable terms → (t : List ℕ × Fraction) → Among t terms → 0 < t.1.1
-positive_at terms is t m = (is_reduced-tells t.1 (and_parts _ _ (each_term-among _ terms is.proper t m)).0).denominator
+positive_at : (terms : Terms (List ℕ)) → IsFractionTable terms → (t : List ℕ × Fraction) → Among t terms → 0 < t.1.1
+positive_at terms is t m = (is_reduced-tells t.1 (term-tests terms is t m).0).denominator
 
 power_positive : (n k : ℕ) → 1 ≤ (n + k) ^ k
 power_positive n zero = let e = pow-zero (n + zero) in omega arith
 power_positive n (suc k) = one-le-pow (suc k) (n + suc k) (omega arith)
 
-pub weight_within : (list product : Terms (List ℕ)) (most k : ℕ) → IsTable list → IsTable product
+pub weight_within : (list product : Terms (List ℕ)) (most k : ℕ) → IsFractionTable list → IsFractionTable product
     → ((t : List ℕ × Fraction) → Among t product → t.1.1 ∣ common_denominator list)
     → absolute_sum (common_denominator list) product ≤ absolute_sum (common_denominator list) list * (most + k) ^ k
     → list_weight product ≤ list_weight list * (most + k) ^ k

@@ -13,7 +13,8 @@ use Rattle.beta_list_laws.proofs.NeighbourExchanges.{parity_of}
 use Rattle.coeff_rings.specs.Room.{magnitude}
 use Rattle.coeff_rings.specs.Answers.{AnswersNegation}
 use Rattle.coeff_rings.specs.Proved.Divisors.{quotient_positive}
-use Rattle.strip_rules.specs.Adding.{IsDenominator, IsSigned}
+use Rattle.linear_combinations.specs.Cleared.{IsDenominator}
+use Rattle.strip_rules.specs.Adding.{IsSigned}
 use Rattle.sym_model.proofs.Ring.{product-one, product-negation, negation-product}
 use Rattle.coeff_rings.specs.Fractions.{scaled, fraction_negation}
 use native.Mathlib.Nat.{mul-le-mul_left}

@@ -32,7 +32,7 @@ use Rattle.product_laws.proofs.StripCounts.{horizontal_count, vertical_count, ho
 use Rattle.skew_shapes.specs.HorizontalStrips.{AreHorizontalStrips}
 use Rattle.skew_shapes.specs.VerticalStrips.{AreVerticalStrips}
 use Rattle.skew_shapes.specs.HookLists.{AreHooksAdded}
-use Rattle.whole_lists.specs.Tables.{IsTable}
+use Rattle.whole_lists.specs.Tables.{IsFractionTable}
 use Rattle.strip_rules.specs.Adding.{with_signs, IsProduct}
 use Rattle.strip_rules.proofs.ShapeLists.{IsAround, rows_around, horizontal_list, vertical_list, hook_list, horizontal_around, vertical_around, hook_around}
 use Rattle.sym_model.proofs.Integers.{sign_size}
@@ -158,7 +158,7 @@ list_value f n terms φ =
 
 -- ---- what a list stands for
 
-pub expansion : (terms : Terms (List ℕ)) (d n : ℕ) (f : Poly) → IsTable terms → ((t : List ℕ × Fraction) → Among t terms → t.1.1 ∣ d)
+pub expansion : (terms : Terms (List ℕ)) (d n : ℕ) (f : Poly) → IsFractionTable terms → ((t : List ℕ × Fraction) → Among t terms → t.1.1 ∣ d)
     → ((φ : List ℕ → ℤ) → pair (over d terms) (λ ν. pair (schur ν n) φ) ≡ pair f φ) → IsExpansionOf Basis.schurs terms n f d
 expansion terms d n f is divides sums =
     let q = denominators terms in

@@ -1,5 +1,7 @@
 //! Expansions in s times h_k, e_k and p_k.
-ghost use Rattle.std.specs.Prelude.{◌≡◌, ◌+◌, ◌*◌, ◌^◌, ◌≤◌, ℕ, IfOk, OnOk, IsErrOf};
+ghost use Rattle.std.specs.Prelude.{◌≡◌, ◌+◌, ◌*◌, ◌^◌, ◌≤◌, ℕ, nat_eq, IfOk, OnOk, IsErrOf};
+ghost use Rattle.std.specs.Cmp.Lexicographic.{pointwise};
+ghost use Rattle.sym_model.specs.Canonical.{is_label};
 ghost use Rattle.sym_model.specs.Bases.{complete_of, elementary_of, power_sum_of};
 ghost use Rattle.sym_model.specs.Expansion.{denominators, value, IsExpansionOf};
 ghost use Rattle.sym_model.specs.Expansion.Basis.{schurs};
@@ -11,11 +13,11 @@ ghost use Rattle.coeff_rings.specs.Fractions.{InLowestTerms};
 ghost use Rattle.sparse_polys.specs.Combination.{terms_of};
 ghost use Rattle.sparse_polys.specs.MonomialProducts.{greatest_size};
 ghost use Rattle.whole_lists.specs.Families.{polynomial_of};
-ghost use Rattle.whole_lists.specs.Tables.{IsTable};
-ghost use Rattle.strip_rules.specs.Adding.{IsProduct, Adds, Exceeds};
+ghost use Rattle.linear_combinations.specs.Cleared.{GainsMultiple, OverflowsMultiple};
+ghost use Rattle.strip_rules.specs.Adding.{IsProduct};
 ghost use Rattle.strip_rules.specs.Room.{AreWithin, HasRoom};
 
-use crate::shapes::{add_each, add_each_hook};
+use crate::shapes::{add_shapes, add_signed_shapes};
 use calc_base::SumFault;
 use coeff_rings::Ring;
 use linear_combinations::Lin;
@@ -25,7 +27,7 @@ use std::alloc::Global;
 use whole_lists::Family;
 
 /// Adds the product of a term and e_k, h_k or p_k.
-fn add_product<R: Ring>(
+fn add_strips<R: Ring>(
     alloc: Global,
     sum: &mut Lin<Partition, R>,
     family: Family,
@@ -40,17 +42,18 @@ fn add_product<R: Ring>(
     requires rows { rows label.now + k ≤ 512 }
     ensures ok { OnOk result ((terms : WholeTerms)
         × IsProduct (polynomial_of family k) k label.now terms
-        × Adds (R.value c) terms (terms_of R.value sum.old) (terms_of R.value sum.new)) }
+        × GainsMultiple (pointwise nat_eq) is_label (R.value c) terms (terms_of R.value sum.old)
+        (terms_of R.value sum.new)) }
     ensures large { IsErrOf result SumFault.Large → (terms : WholeTerms)
         × IsProduct (polynomial_of family k) k label.now terms
-        × Exceeds (R.value c) terms (terms_of R.value sum.old) }
+        × OverflowsMultiple (pointwise nat_eq) (R.value c) terms (terms_of R.value sum.old) }
 {
     match family {
-        Family::Elementary => add_each(sum, with_vertical_strip(alloc, label, k)?, c),
-        Family::Complete => add_each(sum, with_horizontal_strip(alloc, label, k)?, c),
+        Family::Elementary => add_shapes(sum, with_vertical_strip(alloc, label, k)?, c),
+        Family::Complete => add_shapes(sum, with_horizontal_strip(alloc, label, k)?, c),
         Family::PowerSum => {
             let mut hooks = HooksAdded::new(alloc, label, k)?;
-            add_each_hook(alloc, sum, &mut hooks, c)
+            add_signed_shapes(alloc, sum, &mut hooks, c)
         }
     }
 }
@@ -80,7 +83,7 @@ pub fn times_family<R: Ring>(
 {
     let mut sum = Lin::new(alloc);
     for (label, c) in list.iter() {
-        add_product(alloc, &mut sum, family, k, label, *c)?;
+        add_strips(alloc, &mut sum, family, k, label, *c)?;
     }
     Ok(sum)
 }

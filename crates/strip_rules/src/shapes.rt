@@ -1,5 +1,7 @@
 //! The shapes of one term of an expansion in s times h_k, e_k or p_k, added to a table.
-ghost use Rattle.std.specs.Prelude.{◌≡◌, ◌-◌, ◌^◌, ◌≤◌, ℕ, pos, List, IfOk, OnOk, IsErrOf};
+ghost use Rattle.std.specs.Prelude.{◌-◌, ◌^◌, ◌≤◌, ℕ, nat_eq, pos, List, IfOk, OnOk, IsErrOf};
+ghost use Rattle.std.specs.Cmp.Lexicographic.{pointwise};
+ghost use Rattle.sym_model.specs.Canonical.{is_label};
 ghost use Rattle.sym_model.specs.Partition.{IsPartition};
 ghost use Rattle.sym_model.specs.PlaceOrders.{minus_one_to};
 ghost use Rattle.sym_model.specs.Strip.{height};
@@ -8,8 +10,9 @@ ghost use Rattle.coeff_rings.specs.Fractions.{InLowestTerms};
 ghost use Rattle.coeff_rings.specs.Room.{magnitude};
 ghost use Rattle.partitions.specs.Limits.{IsWithinLimits};
 ghost use Rattle.sparse_polys.specs.Combination.{terms_of};
-ghost use Rattle.whole_lists.specs.Tables.{IsTable};
-ghost use Rattle.strip_rules.specs.Adding.{IsDenominator, IsSigned, with_signs, Adds, Exceeds};
+ghost use Rattle.linear_combinations.specs.Cleared.{IsDenominator, GainsMultiple};
+ghost use Rattle.linear_combinations.specs.Cleared.{OverflowsMultiple};
+ghost use Rattle.strip_rules.specs.Adding.{IsSigned, with_signs};
 
 use calc_base::{Lister, SumFault};
 use coeff_rings::Ring;
@@ -19,17 +22,19 @@ use skew_shapes::HooksAdded;
 use std::alloc::Global;
 
 /// Adds a coefficient at each of the shapes.
-pub(crate) fn add_each<R: Ring>(
+pub(crate) fn add_shapes<R: Ring>(
     sum: &mut Lin<Partition, R>,
     shapes: Vec<Partition>,
     c: R,
 ) -> Result<(), SumFault>
     requires lowest { InLowestTerms (R.value c) }
     requires partitions { (ν : List ℕ) → Among ν shapes.items → IsPartition ν }
-    ensures ok { OnOk result (Adds (R.value c) (with_signs (λ ν. pos 1) shapes.items)
+    ensures ok { OnOk result (GainsMultiple (pointwise nat_eq) is_label (R.value c)
+        (with_signs (λ ν. pos 1) shapes.items)
         (terms_of R.value sum.old) (terms_of R.value sum.new)) }
     ensures large { IsErrOf result SumFault.Large
-        → Exceeds (R.value c) (with_signs (λ ν. pos 1) shapes.items) (terms_of R.value sum.old) }
+        → OverflowsMultiple (pointwise nat_eq) (R.value c) (with_signs (λ ν. pos 1) shapes.items)
+        (terms_of R.value sum.old) }
 {
     for shape in shapes {
         sum.add_term(shape, c)?;
@@ -58,7 +63,7 @@ fn signed<R: Ring>(c: R, height: u16) -> Result<R, SumFault>
 
 /// Adds a coefficient with its sign at each of the partitions that rim hooks make and that are
 /// still to come.
-pub(crate) fn add_each_hook<R: Ring>(
+pub(crate) fn add_signed_shapes<R: Ring>(
     alloc: Global,
     sum: &mut Lin<Partition, R>,
     hooks: &mut HooksAdded,
@@ -67,11 +72,11 @@ pub(crate) fn add_each_hook<R: Ring>(
     requires lowest { InLowestTerms (R.value c) }
     requires limits { (ν : List ℕ) → Among ν hooks.old.rest → IsWithinLimits ν }
     requires heights { (ν : List ℕ) → Among ν hooks.old.rest → 1 ≤ height ν hooks.old.base }
-    ensures ok { OnOk result (Adds (R.value c)
+    ensures ok { OnOk result (GainsMultiple (pointwise nat_eq) is_label (R.value c)
         (with_signs (λ ν. minus_one_to (height ν hooks.old.base - 1)) hooks.old.rest)
         (terms_of R.value sum.old) (terms_of R.value sum.new)) }
     ensures large { IsErrOf result SumFault.Large
-        → Exceeds (R.value c) (with_signs
+        → OverflowsMultiple (pointwise nat_eq) (R.value c) (with_signs
         (λ ν. minus_one_to (height ν hooks.old.base - 1)) hooks.old.rest)
         (terms_of R.value sum.old) }
 {

@@ -16,6 +16,13 @@ pub times_in-append : (k : ℕ) (v w : List ℕ) → times_in k (v ++ w) ≡ tim
 times_in-append k [] w = omega arith
 times_in-append k (a ∷ v) w = omega (arith, times_in-append k v w)
 
+-- a last letter
+pub times_in-last : (k c : ℕ) (v : List ℕ) → c ≡ k → times_in k (v ++ c ∷ []) ≡ times_in k v + 1
+times_in-last k c v e = omega (arith, times_in-append k v (c ∷ []), times_in-here k c [] e)
+
+pub times_in-last_other : (k c : ℕ) (v : List ℕ) → (c ≡ k → ⊥) → times_in k (v ++ c ∷ []) ≡ times_in k v
+times_in-last_other k c v n = omega (arith, times_in-append k v (c ∷ []), times_in-other k c [] n)
+
 pub map-zeros : (m n : ℕ) → map {A = ℕ} {B = ℕ} (λ (k : ℕ). 0) (after m n) ≡ replicate n 0
 map-zeros m zero = refl
 map-zeros m (suc n) = ap (λ (l : List ℕ). 0 ∷ l) (map-zeros (m + 1) n)

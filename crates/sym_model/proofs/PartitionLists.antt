@@ -175,6 +175,10 @@ Once-FallsLexicographically [] f = tt
 Once-FallsLexicographically (x ∷ xs) f =
     (λ m. falling_lexicographic-itself x (f.0 x m), Once-FallsLexicographically xs f.1)
 
+pub Once-partitions_of : (d : ℕ) → Once (partitions_of d)
+Once-partitions_of d =
+    Once-FallsLexicographically (partitions_of d) (FallsLexicographically-partitions_within d d d)
+
 -- ---- how many rows are allowed makes no difference where it is enough
 
 each-among :

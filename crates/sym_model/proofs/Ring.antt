@@ -1,6 +1,6 @@
 -- The integers are a commutative ring: what std's laws of the sum lack about products and negations.
 --     ring      the set for `simp`: a polynomial identity over the integers is `simp ring (omega (arith, ints))`
-use Rattle.std.proofs.Common.{◌≡◌, ◌*◌, sym, ◌∙◌, ap, arith, ℤ, pos, ◌+ℤ◌, ◌*ℤ◌, neg_ℤ}
+use Rattle.std.proofs.Common.{◌≡◌, ℕ, ◌+◌, ◌*◌, Bool, true, false, cond, sym, ◌∙◌, ap, arith, ℤ, pos, ◌+ℤ◌, ◌*ℤ◌, neg_ℤ}
 use Rattle.std.proofs.lemmas.Int.{ints}
 use borrow.Author.Differences.{up, down, sum_is_lem, product_is, neg_is}
 use lib.IntN.{*ℤ_comm, zero-*ℤ, *ℤ-zero}
@@ -42,6 +42,13 @@ product-one a = omega (arith, ints)
 
 pub one-product : (a : ℤ) → pos 1 *ℤ a ≡ a
 one-product a = *ℤ_comm (pos 1) a ∙ product-one a
+
+-- a number times one more where a test holds
+pub counted-product : (b : Bool) (n : ℕ) (z : ℤ)
+    → pos (cond b 1 0 + n) *ℤ z ≡ cond b z (pos 0) +ℤ pos n *ℤ z
+counted-product true n z =
+    distributes_right (pos 1) (pos n) z ∙ ap (λ y. y +ℤ pos n *ℤ z) (one-product z)
+counted-product false n z = omega (arith, ints)
 
 -- products written out over sums and negations, with their factors in one order
 pub ruleset ring = (distributes_left, distributes_right, product_assoc, product-negation, negation-product, product_left_comm, *ℤ_comm, zero-*ℤ, *ℤ-zero, product-one, one-product)

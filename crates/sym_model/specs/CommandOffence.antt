@@ -1,6 +1,5 @@
 -- What the words of a command can offend by, list by list, at which word and byte,
--- and which offence comes first
---.
+-- and which offence comes first.
 use Rattle.std.specs.Prelude.{◌≡◌, ◌⊎◌, ◌<◌, ℕ, ◌+◌, ◌-◌, ◌*◌, ◌==◌, nat_le, nat_lt, Bool, false}
 use Rattle.std.specs.Prelude.{◌&&◌, ◌||◌, cond, List, [], ◌∷◌, ◌++◌, map, length, drop, slice_get}
 use Rattle.std.specs.Prelude.{Option, Some, None, flat_map}

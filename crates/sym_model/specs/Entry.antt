@@ -1,6 +1,5 @@
 -- Commands by the forms of their words: what a list of words spells, begins and first offends by,
--- for any list of commands
---.
+-- for any list of commands.
 use Rattle.std.specs.Prelude.{◌≡◌, ℕ, List, Option, None}
 use Rattle.sym_model.specs.Form.{Form, Written, SomeOf, Has, Begins, Awaits}
 use Rattle.sym_model.specs.Command.{Command}

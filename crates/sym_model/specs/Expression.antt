@@ -1,6 +1,5 @@
 -- Expressions of symmetric functions: their trees,
--- and what a tree stands for with its fractions cleared
---.
+-- and what a tree stands for with its fractions cleared.
 use Rattle.std.specs.Prelude.{ℕ, ◌+◌, ◌*◌, ◌/◌, pos, max, List}
 use Rattle.sym_model.specs.Polynomial.{Poly, one, plus, scale, negate, times}
 use Rattle.sym_model.specs.Partition.{size}

@@ -1,6 +1,5 @@
 -- The grammar of commands: for each command the form of its words,
--- what they say and what they offend by
---.
+-- what they say and what they offend by.
 use Rattle.std.specs.Prelude.{ℕ, ◌+◌, cond, List, [], ◌∷◌, ◌++◌, map, length, codes, Option, Some}
 use Rattle.std.specs.Prelude.{None}
 use Rattle.std.proofs.Common.{inl, inr}

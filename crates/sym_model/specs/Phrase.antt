@@ -1,6 +1,5 @@
 -- Expressions as words: the grammar, as the phrases that it allows,
--- what each one spells and the tree that it stands for
---.
+-- what each one spells and the tree that it stands for.
 use Rattle.std.specs.Prelude.{◌≡◌, ℕ, List, ◌++◌, map, codes}
 use Rattle.sym_model.specs.Expansion.{Basis, monomials, elementaries, completes, power_sums, schurs}
 use Rattle.sym_model.specs.Partition.{without_last_zeros}

@@ -63,7 +63,8 @@ impl Board {
     ) -> Result<Board, NoMemory>
         requires rows { rows start.now ≤ letters }
         requires few { letters ≤ 4096 }
-        requires small { size start.now + length (cells shape.now.0 shape.now.1) ≤ 4096 }
+        requires small { 0 < size start.now
+            → size start.now + length (cells shape.now.0 shape.now.1) ≤ 4096 }
         ensures { IfOk result (λ b. IsNewBoard rule counts.now start.now letters shape.now.0
             shape.now.1 b) }
     {

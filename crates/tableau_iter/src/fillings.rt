@@ -38,8 +38,6 @@ impl Fillings {
             ≡ tableau_readings n shape.now.0 shape.now.1) }
         ensures item { IfOk result (λ f. ⟦<Fillings as Lister>⟧.item f ≡ None) }
     {
-        // This tells the proof that the shape has no more cells than its outer partition.
-        shape.cells();
         let board = Board::new(alloc, shape, &[], n, Rule::Free, &[])?;
         Ok(Fillings {
             walker: Walker::at(board, Stage::New),

@@ -51,8 +51,6 @@ fn is_listed(alloc: Global, shape: Skew, reading: &[u16]) -> Result<bool, NoMemo
     requires { length reading.now ≡ length (cells shape.0 shape.1) }
     ensures { IfOk result (λ b. b ≡ is_among reading.now (lattice_readings shape.0 shape.1)) }
 {
-    // This tells the proof that the shape has no more cells than the outer one.
-    shape.cells();
     let letters = shape.outer().rows();
     if !is_semistandard(alloc, shape, reading)? {
         return Ok(false);

@@ -27,7 +27,7 @@ use Rattle.monomial_laws.specs.Majorant as majorant
 use Rattle.monomial_laws.specs.ExpressionTerms.{IsList, IsCleared}
 use Rattle.monomial_laws.proofs.DividedTerms.{expansion_divided}
 use Rattle.monomial_laws.proofs.Majorants.{bounded_value, coefficient_bound, coefficient-higher}
-use Rattle.whole_lists.specs.Tables.{IsTable}
+use Rattle.whole_lists.specs.Tables.{IsFractionTable}
 use Rattle.whole_lists.specs.LabelSizes.{AreWithin}
 use Rattle.whole_lists.proofs.WholeLists.{found-among}
 use Rattle.whole_lists.proofs.Bounds.{coefficient-list}
@@ -37,7 +37,7 @@ use native.Mathlib.Nat.{mul-pos}
 use lib.IntN.{*ℤ_comm, *ℤ-zero}
 
 -- the list is W divided by D·k, and W is k times the polynomials f, of which each is bounded
-module _ (N top D k : ℕ) (W : WholeTerms) (terms : Terms (List ℕ)) (f : ℕ → Poly) (some : 0 < D) (more : 0 < k) (is : IsTable terms) (q : Quotients (D * k) terms W)
+module _ (N top D k : ℕ) (W : WholeTerms) (terms : Terms (List ℕ)) (f : ℕ → Poly) (some : 0 < D) (more : 0 < k) (is : IsFractionTable terms) (q : Quotients (D * k) terms W)
     (h : IsList W (λ n. scale (pos k) (f n))) (b : (n : ℕ) → majorant.IsBounded N top n (f n)) where
   tests : (t : List ℕ × Fraction) → Among t terms → (is_reduced t.1 ≡ true) × (is_label t.0 ≡ true)
   tests t m = let p = and_parts (is_reduced t.1) (is_label t.0) (each_term-among _ terms is.proper t m) in (p.0, p.1)
@@ -82,7 +82,7 @@ module _ (N top D k : ℕ) (W : WholeTerms) (terms : Terms (List ℕ)) (f : ℕ 
       )
 
 -- the list is an expression, divided by its denominator
-module _ (e : Tree) (W : WholeTerms) (terms : Terms (List ℕ)) (d : ℕ) (some : 0 < d) (is : IsTable terms) (q : Quotients d terms W) (h : IsCleared W e) (den : d ≡ denominator e) where
+module _ (e : Tree) (W : WholeTerms) (terms : Terms (List ℕ)) (d : ℕ) (some : 0 < d) (is : IsFractionTable terms) (q : Quotients d terms W) (h : IsCleared W e) (den : d ≡ denominator e) where
   pub expansion-quotients : (n : ℕ) → IsExpansionOf Basis.monomials terms n (cleared_value e n) (denominator e)
   expansion-quotients n =
       subst (λ k. IsExpansionOf Basis.monomials terms n (cleared_value e n) k) den

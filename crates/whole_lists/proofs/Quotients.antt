@@ -1,7 +1,7 @@
 -- Whole numbers divided by one positive number, in lowest terms.
 --     Quotients-next         a table of quotients with one more
 --     IsDivided-quotients    such a table is the list divided by the number
-use Rattle.std.proofs.Common.{◌≡◌, ◌⊎◌, ℕ, ◌*◌, ◌<◌, true, cond, List, [], ◌∷◌, ◌++◌, sym, ◌∙◌, ap, subst, inl, inr, arith, ℤ, pos, ◌+ℤ◌, ◌*ℤ◌}
+use Rattle.std.proofs.Common.{◌≡◌, ◌⊎◌, ℕ, ◌*◌, ◌<◌, true, cond, List, [], ◌∷◌, ◌++◌, refl, sym, ◌∙◌, ap, subst, inl, inr, arith, ℤ, pos, ◌+ℤ◌, ◌*ℤ◌}
 use Rattle.std.proofs.lemmas.Int.{ints}
 use Rattle.std.proofs.lemmas.List.{map-append}
 use Rattle.coeff_rings.specs.Fractions.{whole, lowest_terms, fraction_sum}
@@ -21,10 +21,11 @@ use Rattle.sym_model.proofs.Orders.{is_reduced-tells}
 use Rattle.sym_model.proofs.Polynomials.{coefficient_plus}
 use Rattle.std.proofs.lemmas.Bool.{and_parts}
 use Rattle.sparse_polys.specs.Combination.{are_terms, HasMoreAt}
-use Rattle.sparse_polys.specs.Refusal.{IsRefused}
+use Rattle.linear_combinations.specs.Entries.{IsRefused}
+use Rattle.sparse_polys.proofs.ValueLists.{refused_values}
 use Rattle.sparse_polys.proofs.Steps.{fits-zero_left}
 use Rattle.monomial_laws.proofs.DividedTerms.{IsDivided}
-use Rattle.whole_lists.specs.Tables.{equal, found, IsTable, IsWholeTable}
+use Rattle.whole_lists.specs.Tables.{equal, found, IsFractionTable, IsWholeTable}
 use Rattle.whole_lists.proofs.WholeLists.{equal_from, equal_apart, found-among, found-absent, Once-keys, Once-labels}
 use Rattle.whole_lists.proofs.PartitionTerms.{once_before}
 use lib.IntN.{+ℤ_idr}
@@ -83,10 +84,11 @@ coefficient-before terms is done rest k v e =
     once : Once (labels done ++ (k ∷ labels rest))
     once = subst (λ (ls : List (List ℕ)). Once ls) (ap labels (sym e) ∙ map-append (λ (u : Term). u.0) done ((k, v) ∷ rest)) (Once-labels terms is)
 
-pub not_refused_quotient : (d : ℕ) (a b : Fraction) (z : ℤ) → 0 < d → z ≡ pos 0 → a ≡ lowest_terms z d → IsRefused IsFraction (λ (r : Fraction). r) checked_fraction_sum a b → ⊥
+pub not_refused_quotient : (d : ℕ) (a b : Fraction) (z : ℤ) → 0 < d → z ≡ pos 0 → a ≡ lowest_terms z d → IsRefused IsFraction checked_fraction_sum a b → ⊥
 not_refused_quotient d a b z h e q r =
     fits-zero_left {is_held = IsFraction} {value = λ (r : Fraction). r} {checked = checked_fraction_sum} sum_answers_fraction a b
-    (q ∙ ap (λ z. lowest_terms z d) e ∙ lowest-zero d h) r
+    (q ∙ ap (λ z. lowest_terms z d) e ∙ lowest-zero d h)
+    (refused_values (λ (r : Fraction). r) IsFraction checked_fraction_sum a b a b refl refl r)
 
 -- ---- the list divided
 
@@ -97,7 +99,7 @@ denominators-positive (t ∷ terms) h =
     let r = and_parts (is_reduced t.1) (is_label t.0) p.0 in
     mul-pos ((is_reduced-tells t.1 r.0).denominator) (denominators-positive terms p.1)
 
-pub IsDivided-quotients : (d : ℕ) (W : WholeTerms) (terms : Terms (List ℕ)) → 0 < d → IsTable terms → Quotients d terms W → IsDivided d W terms
+pub IsDivided-quotients : (d : ℕ) (W : WholeTerms) (terms : Terms (List ℕ)) → 0 < d → IsFractionTable terms → Quotients d terms W → IsDivided d W terms
 IsDivided-quotients d W terms h is q = record {
   once = Once-keys terms is;
   positive = denominators-positive terms is.proper;

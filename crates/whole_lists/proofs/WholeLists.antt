@@ -33,7 +33,7 @@ use Rattle.linear_combinations.proofs.Found.{coefficient_found, sums_same}
 use Rattle.linear_combinations.proofs.Gains.{gains_labels}
 use Rattle.linear_combinations.proofs.Steps.{fits-zero_left}
 use Rattle.linear_combinations.proofs.Totals.{found-among as look_up-among, term-among}
-use Rattle.whole_lists.specs.Tables.{equal, found, IsTable, IsWholeTable}
+use Rattle.whole_lists.specs.Tables.{equal, found, IsFractionTable, IsWholeTable}
 use lib.IntN.{+ℤ_idl, +ℤ_idr}
 
 pub equal_from : (a b : List ℕ) → a ≡ b → equal a b ≡ true
@@ -57,7 +57,7 @@ Once-distinct : (ks : List (List ℕ)) → IsDistinct equal ks → Once ks
 Once-distinct [] d = tt
 Once-distinct (k ∷ ks) d = (all-apart k ks (IsDistinct-head equal k ks d), Once-distinct ks (IsDistinct-tail equal k ks d))
 
-pub Once-keys : (terms : Terms (List ℕ)) → IsTable terms → Once (map (λ (t : List ℕ × Fraction). t.0) terms)
+pub Once-keys : (terms : Terms (List ℕ)) → IsFractionTable terms → Once (map (λ (t : List ℕ × Fraction). t.0) terms)
 Once-keys terms is = Once-distinct (keys_of terms) is.distinct
 
 pub Once-labels : (terms : WholeTerms) → IsWholeTable terms → Once (labels terms)

@@ -2,13 +2,13 @@
 ghost use Rattle.std.specs.Prelude.{◌≡◌, ℕ, List, ◌<◌, ◌^◌, IfOk, IsErrOf};
 ghost use Rattle.coeff_rings.specs.Fractions.{lowest_terms};
 ghost use Rattle.sym_model.specs.Polynomial.{coefficient};
-ghost use Rattle.whole_lists.specs.Tables.{found, IsTable};
+ghost use Rattle.whole_lists.specs.Tables.{found, IsFractionTable};
 
 use crate::whole::Whole;
 use calc_base::SumFault;
 use coeff_rings::Frac;
+use linear_combinations::Lin;
 use partitions::Partition;
-use sparse_polys::Lin;
 use std::alloc::Global;
 use whole_numbers::quotient_of;
 
@@ -18,7 +18,7 @@ pub fn divided(alloc: Global, terms: &Whole, den: u128) -> Result<Lin<Partition,
     requires { (0 < den) × (den < 2 ^ 127) }
     ensures value { IfOk result (λ list. (label : List ℕ)
         → found list label ≡ lowest_terms (coefficient terms.now label) den) }
-    ensures table { IfOk result IsTable }
+    ensures table { IfOk result IsFractionTable }
     ensures small { ¬ IsErrOf result SumFault.Large }
 {
     let mut list = Lin::new(alloc);

@@ -1,8 +1,9 @@
-use Rattle.std.proofs.Common.{ap, refl, ◌∙◌}
+use Rattle.std.proofs.Common.{ap, refl, sym, ◌∙◌}
 use Rattle.std.specs.Prelude.{Err}
 use Rattle.std.proofs.lemmas.Result.{err_from_is_err_and}
 use Rattle.sym_model.specs.Answer.{answer}
 use Rattle.sym_model.specs.Kind.{expansion}
+use Rattle.sparse_polys.proofs.Tables.{terms-fractions}
 use Rattle.block_reader.proofs.BlockReadings.{read-terms, reading-refused}
 use Rattle.block_reader.proofs.read.read_expansion.Goals as goal
 
@@ -15,6 +16,6 @@ returns-in_err-terms c =
 pub returns : goal.returns
 returns c = (
   refl,
-  λ terms e. ap (answer expansion) (c.in_ok-terms.ensures.ok ∙ read-terms expansion
-      c.args.text.now terms e),
+  λ terms e. ap (answer expansion) (sym (terms-fractions c.in_ok-terms.terms)
+      ∙ c.in_ok-terms.ensures.ok ∙ read-terms expansion c.args.text.now terms e),
 )

@@ -1,4 +1,4 @@
-use Rattle.std.proofs.Common.{◌≡◌, List, ℕ, length, sym, ap, ◌∙◌, subst, arith}
+use Rattle.std.proofs.Common.{◌≡◌, List, ℕ, sym, ap, ◌∙◌, subst, arith}
 use Rattle.sym_model.specs.Partition.{Holds, size}
 use Rattle.sym_model.specs.TableauText.{readings_text}
 use Rattle.lr_product.proofs.GoodCounts.{contains-false}
@@ -17,11 +17,6 @@ returns-in_default c =
     (subst Q (sym c.in_ok-copy-2.ensures.ok) holds)) in cc) in
     rw (c.told.ensures) (ap (readings_text outer inner)
     (sym (none_after outer inner c.args.after.now outside)))
-
-pub listed-requires-clause-rows : goal.listed-requires-clause-rows
-listed-requires-clause-rows c =
-    c.rows.ensures.value ∙ ap length (sym c.in_ok-copy.ensures.ok) ∙ ap (λ (s : List ℕ × List ℕ).
-    length s.0) (sym c.in-Some.ensures.value)
 
 pub listed-requires-clause-small : goal.listed-requires-clause-small
 listed-requires-clause-small c =

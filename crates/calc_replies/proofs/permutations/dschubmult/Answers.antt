@@ -1,19 +1,14 @@
 use Rattle.std.proofs.Common.{refl, sym, subst}
 use Rattle.std.specs.Prelude.{Ok}
-use Rattle.sym_model.specs.Answer.{answer}
 use Rattle.sym_model.specs.Command as commands
-use Rattle.sym_model.specs.Kind.{shifts}
-use Rattle.sym_model.specs.Target.{Meets}
 use Rattle.calc_replies.specs.Computed.{IsReplyTo}
 use Rattle.calc_replies.proofs.permutations.dschubmult.Goals as goal
 
 pub returns-in-Ok : goal.returns-in-Ok
 returns-in-Ok c =
     let command = commands.dschubmult c.args.left.now c.args.right.now in
-    let meets = subst (λ ts. Meets command (answer shifts ts)) (sym c.from_list.ensures)
-    c.in-Ok.ensures.meets in
     subst (λ outcome. IsReplyTo command (Ok outcome)) (sym c.as_block.ensures) (
       (λ m. absurd m.1),
-      meets,
+      c.in-Ok.ensures.meets,
       refl,
     )

@@ -1,16 +1,11 @@
 use Rattle.std.proofs.Common.{refl, sym, subst}
 use Rattle.std.specs.Prelude.{Ok}
-use Rattle.sym_model.specs.Answer.{answer}
 use Rattle.sym_model.specs.Command as commands
-use Rattle.sym_model.specs.Kind.{product}
-use Rattle.sym_model.specs.Target.{Meets}
 use Rattle.calc_replies.specs.Computed.{IsReplyTo}
 use Rattle.calc_replies.proofs.permutations.stanley.Goals as goal
 
 pub returns-in-Ok : goal.returns-in-Ok
 returns-in-Ok c =
     let command = commands.stanley c.args.rows c.args.perm.now in
-    let meets = subst (λ ts. Meets command (answer product ts)) (sym c.from_list.ensures)
-    c.in-Ok.ensures.meets in
     subst (λ outcome. IsReplyTo command (Ok outcome)) (sym c.as_block.ensures)
-    (c.in-Ok.ensures.fits, meets, refl)
+    (c.in-Ok.ensures.fits, c.in-Ok.ensures.meets, refl)

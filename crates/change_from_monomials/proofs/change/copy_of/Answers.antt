@@ -7,7 +7,7 @@ use Rattle.sym_model.specs.Bases.{monomial}
 use Rattle.sym_model.specs.LabelLimits.{is_label}
 use Rattle.sparse_polys.proofs.Steps.{IsCombination-empty}
 use Rattle.sparse_polys.proofs.Values.{represents-same_coefficients}
-use Rattle.whole_lists.specs.Tables.{equal, IsTable}
+use Rattle.whole_lists.specs.Tables.{equal, IsFractionTable}
 use Rattle.change_from_monomials.proofs.change.copy_of.Goals as goal
 
 same : (x y : List ℕ) → equal x y ≡ true → x ≡ y
@@ -31,7 +31,7 @@ returns-clause-value c n f q h =
     (λ label. monomial label n) f q h
 
 pub returns-then-len-eq0-clause-table : goal.returns-then-len-eq0-clause-table
-returns-then-len-eq0-clause-table c = subst IsTable (sym c.new.ensures)
+returns-then-len-eq0-clause-table c = subst IsFractionTable (sym c.new.ensures)
     (IsCombination-empty equal is_label)
 
 pub returns-clause-table : goal.returns-clause-table

@@ -3,11 +3,12 @@ use Rattle.std.proofs.Common.{arith}
 use Rattle.std.specs.Map.Iter.{deref_pair}
 use Rattle.std.proofs.lemmas.List.{map-append}
 use Rattle.sym_model.specs.Partition.{size}
-use Rattle.sym_model.specs.Expansion.{Fraction, Terms}
-use Rattle.sparse_polys.proofs.Steps.{all_done}
-use Rattle.sparse_polys.proofs.Rows.{list_whole, list_among}
+use Rattle.sym_model.specs.Expansion.{Terms}
+use Rattle.sym_model.specs.Sum.{Among}
+use Rattle.linear_combinations.proofs.Gains.{all_pairs, next_among}
+use Rattle.linear_combinations.proofs.Steps.{all_done}
 use Rattle.whole_lists.specs.LabelSizes.{AreWithin}
-use Rattle.change_from_monomials.proofs.Bounds.{itself, AreWithin-push}
+use Rattle.change_from_monomials.proofs.Bounds.{AreWithin-push}
 use Rattle.change_from_monomials.proofs.clearing.greatest_size.Goals as goal
 
 pub loop-label-preserved-then-size-greatest : goal.loop-label-preserved-then-size-greatest
@@ -23,12 +24,11 @@ loop-label-preserved-then-size-greatest c =
     sym (map-append deref_pair c.loop-label.yielded ((c.in-Some.label, c.in-Some.field-0-1) ∷ []))
     in
     let whole =
-    list_whole (λ (r : Fraction). r) (map deref_pair c.loop-label.yielded) c.next.new.self
-    c.loop-label.label-iterator _ _ c.in-Some.label.now c.in-Some.field-0-1.now c.args.list.now
+    all_pairs done rest c.loop-label.label-iterator _ _ c.args.list.now (k, v)
     c.in-Some.ensures.steps c.loop-label.invariant.so_far
     c.into_iter-label-iterator.ensures.into_iter_gives c.iter-label-items.ensures.rest in
-    let here = list_among (λ (r : Fraction). r) (map deref_pair c.loop-label.yielded)
-    c.next.new.self c.in-Some.label.now c.in-Some.field-0-1.now c.args.list.now whole in
+    let here = subst (λ (es : Terms (List ℕ)). Among (k, v) es) whole (next_among done (k, v) rest)
+    in
     let s : c.size-size.result ≡ size c.in-Some.label.now = c.size-size.ensures.value in
     let g = c.if-size-greatest.true in
     record {
@@ -70,10 +70,9 @@ loop-label-preserved c =
 pub returns-clause-within : goal.returns-clause-within
 returns-clause-within c =
     let is : map deref_pair c.loop-label.yielded ≡ c.args.list.now =
-    sym (itself (map deref_pair c.loop-label.yielded))
-    ∙ ap (λ es. map (λ p. (p.0, p.1)) es) (all_done (map deref_pair c.loop-label.yielded)
+    all_done (map deref_pair c.loop-label.yielded)
     c.loop-label.label-iterator _ _ c.in-None.ensures.steps.0 c.loop-label.invariant.so_far
-    c.into_iter-label-iterator.ensures.into_iter_gives)
+    c.into_iter-label-iterator.ensures.into_iter_gives
     ∙ c.iter-label-items.ensures.rest in
     subst (λ es. AreWithin c.loop-label.greatest es) is c.loop-label.invariant.within
 

@@ -4,13 +4,13 @@ use Rattle.std.proofs.lemmas.List.{map-append}
 use Rattle.coeff_rings.specs.Fractions.{whole}
 use Rattle.sym_model.specs.Expansion.{Fraction, Terms}
 use Rattle.sym_model.specs.LabelLimits.{is_pair_label}
-use Rattle.sparse_polys.proofs.Rows.{list_whole, list_among}
+use Rattle.sym_model.specs.Sum.{Among}
 use Rattle.linear_combinations.specs.Gains.{Gains}
-use Rattle.linear_combinations.proofs.Gains.{gains_none, pairs_gain, pairs_overflow, so_far_next}
+use Rattle.linear_combinations.proofs.Gains.{all_pairs, gains_none, next_among, pairs_gain}
+use Rattle.linear_combinations.proofs.Gains.{pairs_overflow, so_far_next}
 use Rattle.linear_combinations.proofs.Steps.{all_done, error_is, IsCombination-empty}
 use Rattle.change_from_monomials.specs.AugmentedProducts.{MixedLabel, equal, IsMixedTable}
 use Rattle.change_from_monomials.specs.Clearing.{cleared_number, cleared_terms}
-use Rattle.change_from_monomials.proofs.Bounds.{itself}
 use Rattle.change_from_monomials.proofs.clearing.in_augmented.Goals as goal
 
 cleared-append : (den factor : ℕ) (xs ys : Terms (List ℕ)) → cleared_terms den factor (xs ++ ys)
@@ -28,14 +28,15 @@ loop-label-init c = record {
 
 pub add_cleared-requires-clause-multiplicities : goal.add_cleared-requires-clause-multiplicities
 add_cleared-requires-clause-multiplicities c =
+    let done = map deref_pair c.loop-label.yielded in
+    let rest = c.next.new.self in
+    let x : List ℕ × Fraction = (c.in-Some.label.now, c.in-Some.c.now) in
     let whole =
-    list_whole (λ (r : Fraction). r) (map deref_pair c.loop-label.yielded) c.next.new.self
-    c.loop-label.label-iterator _ _ c.in-Some.label.now c.in-Some.c.now c.args.list.now
-    c.in-Some.ensures.steps c.loop-label.invariant.so_far
-    c.into_iter-label-iterator.ensures.into_iter_gives c.iter-label-items.ensures.rest in
-    c.requires.multiplicities (c.in-Some.label.now, c.in-Some.c.now)
-    (list_among (λ (r : Fraction). r) (map deref_pair c.loop-label.yielded) c.next.new.self
-    c.in-Some.label.now c.in-Some.c.now c.args.list.now whole)
+    all_pairs done rest c.loop-label.label-iterator _ _ c.args.list.now x c.in-Some.ensures.steps
+    c.loop-label.invariant.so_far c.into_iter-label-iterator.ensures.into_iter_gives
+    c.iter-label-items.ensures.rest in
+    c.requires.multiplicities x
+    (subst (λ (es : Terms (List ℕ)). Among x es) whole (next_among done x rest))
 
 pub loop-label-preserved : goal.loop-label-preserved
 loop-label-preserved c =
@@ -62,23 +63,19 @@ returns-in_err-add_cleared-clause-large c err =
     let rest = c.next.new.self in
     let x : List ℕ × Fraction = (c.in-Some.label.now, c.in-Some.c.now) in
     let whole =
-    list_whole (λ (r : Fraction). r) done rest c.loop-label.label-iterator _ _ c.in-Some.label.now
-    c.in-Some.c.now c.args.list.now
-    c.in-Some.ensures.steps inv.so_far c.into_iter-label-iterator.ensures.into_iter_gives
-    c.iter-label-items.ensures.rest in
+    all_pairs done rest c.loop-label.label-iterator _ _ c.args.list.now x c.in-Some.ensures.steps
+    inv.so_far c.into_iter-label-iterator.ensures.into_iter_gives c.iter-label-items.ensures.rest in
     pairs_overflow (cleared_terms c.args.den c.args.factor)
     (cleared-append c.args.den c.args.factor) done x [] c.loop-label.sum inv.gains equal rest
-    c.args.list.now
-    (sym (itself (done ++ (x ∷ rest))) ∙ whole)
+    c.args.list.now whole
     (c.in_err-add_cleared.ensures.large (ap Err (error_is _ _ _ c.from_residual.ensures.1 err)))
 
 pub returns-clause-gains : goal.returns-clause-gains
 returns-clause-gains c =
     let is : map deref_pair c.loop-label.yielded ≡ c.args.list.now =
-    sym (itself (map deref_pair c.loop-label.yielded))
-    ∙ ap (λ es. map (λ p. (p.0, p.1)) es) (all_done (map deref_pair c.loop-label.yielded)
+    all_done (map deref_pair c.loop-label.yielded)
     c.loop-label.label-iterator _ _ c.in-None.ensures.steps.0 c.loop-label.invariant.so_far
-    c.into_iter-label-iterator.ensures.into_iter_gives)
+    c.into_iter-label-iterator.ensures.into_iter_gives
     ∙ c.iter-label-items.ensures.rest in
     subst (λ (es : Terms (List ℕ)). Gains [] (cleared_terms c.args.den c.args.factor es)
     c.loop-label.sum) is c.loop-label.invariant.gains

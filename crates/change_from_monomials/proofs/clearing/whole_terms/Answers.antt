@@ -9,18 +9,15 @@ use Rattle.sym_model.specs.ListWeight.{absolute_sum}
 use Rattle.sym_model.specs.Polynomial.{Same}
 use Rattle.sym_model.specs.LabelLimits.{is_label}
 use Rattle.monomial_laws.specs.ExpressionTerms.{over}
-use Rattle.sparse_polys.specs.Combination.{terms_of}
-use Rattle.sparse_polys.proofs.Rows.{list_whole}
 use Rattle.linear_combinations.specs.Gains.{Gains, Overflows}
 use Rattle.linear_combinations.specs.Labels.{same_partition}
 use Rattle.linear_combinations.proofs.Found.{gains_same}
-use Rattle.linear_combinations.proofs.Gains.{gains_none, overflows_alone, pairs_gain}
+use Rattle.linear_combinations.proofs.Gains.{all_pairs, gains_none, overflows_alone, pairs_gain}
 use Rattle.linear_combinations.proofs.Gains.{pairs_overflow, so_far_next}
 use Rattle.linear_combinations.proofs.Masses.{overflow_mass}
 use Rattle.linear_combinations.proofs.Steps.{all_done, error_is, IsCombination-empty}
 use Rattle.whole_lists.specs.Tables.{equal, IsWholeTable}
 use Rattle.family_lists.proofs.Totals.{absolute-over}
-use Rattle.change_from_monomials.proofs.Bounds.{itself}
 use Rattle.change_from_monomials.proofs.clearing.whole_terms.Goals as goal
 
 over-append : (m : ℕ) (xs ys : Terms (List ℕ)) → over m (xs ++ ys) ≡ over m xs ++ over m ys
@@ -47,13 +44,11 @@ returns-in_default-clause-large c err =
     let rest = c.next.new.self in
     let x : List ℕ × Fraction = (c.in-Some.label.now, c.in-Some.c.now) in
     let list =
-    list_whole (λ (r : Fraction). r) done rest c.loop-label.label-iterator _ _ c.in-Some.label.now
-    c.in-Some.c.now c.args.list.now
-    c.in-Some.ensures.steps inv.so_far c.into_iter-label-iterator.ensures.into_iter_gives
-    c.iter-label-items.ensures.rest in
+    all_pairs done rest c.loop-label.label-iterator _ _ c.args.list.now x c.in-Some.ensures.steps
+    inv.so_far c.into_iter-label-iterator.ensures.into_iter_gives c.iter-label-items.ensures.rest in
     past den c.args.list.now
     (pairs_overflow (over den) (over-append den) done x [] c.loop-label.terms inv.gains equal rest
-    c.args.list.now (sym (itself (done ++ (x ∷ rest))) ∙ list)
+    c.args.list.now list
     (overflows_alone nat_list_eq_equiv same_partition c.loop-label.terms c.in-Some.label.now
     (scaled den c.in-Some.c.now) c.in_default.ensures))
 
@@ -87,13 +82,11 @@ returns-in_err-add_at_label-clause-large c err =
     let rest = c.next.new.self in
     let x : List ℕ × Fraction = (c.in-Some.label.now, c.in-Some.c.now) in
     let list =
-    list_whole (λ (r : Fraction). r) done rest c.loop-label.label-iterator _ _ c.in-Some.label.now
-    c.in-Some.c.now c.args.list.now
-    c.in-Some.ensures.steps inv.so_far c.into_iter-label-iterator.ensures.into_iter_gives
-    c.iter-label-items.ensures.rest in
+    all_pairs done rest c.loop-label.label-iterator _ _ c.args.list.now x c.in-Some.ensures.steps
+    inv.so_far c.into_iter-label-iterator.ensures.into_iter_gives c.iter-label-items.ensures.rest in
     past den c.args.list.now
     (pairs_overflow (over den) (over-append den) done x [] c.loop-label.terms inv.gains equal rest
-    c.args.list.now (sym (itself (done ++ (x ∷ rest))) ∙ list)
+    c.args.list.now list
     (subst (λ z. Overflows equal c.loop-label.terms ((c.in-Some.label.now, z) ∷ []))
     c.in-Some-scaled_number.ensures
     (c.in_err-add_at_label.ensures.large (ap Err (error_is _ _ _ c.from_residual.ensures.1 err)))))
@@ -104,7 +97,6 @@ returns-clause-value c =
     let entries = all_done done c.loop-label.label-iterator _ _ c.in-None.ensures.steps.0
     c.loop-label.invariant.so_far c.into_iter-label-iterator.ensures.into_iter_gives in
     let all : map deref_pair c.loop-label.yielded ≡ c.args.list.now =
-    sym (itself (map deref_pair c.loop-label.yielded)) ∙ ap (terms_of (λ (r : Fraction). r)) entries
-    ∙ c.iter-label-items.ensures.rest in
+    entries ∙ c.iter-label-items.ensures.rest in
     subst (λ (es : Terms (List ℕ)). Same c.loop-label.terms (over c.args.den es)) all
     (gains_same [] (over c.args.den done) c.loop-label.terms c.loop-label.invariant.gains)

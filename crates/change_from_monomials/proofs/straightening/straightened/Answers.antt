@@ -1,19 +1,19 @@
-use Rattle.std.proofs.Common.{◌≡◌, ◌++◌, ◌∷◌, [], ℕ, List, map, refl, sym, ◌∙◌, ap, subst, arith}
+use Rattle.std.proofs.Common.{◌≡◌, ◌++◌, ◌∷◌, [], ℕ, List, map, refl, sym, ap, subst, arith}
 use Rattle.std.proofs.Common.{Err, inl, inr}
 use Rattle.std.specs.Map.Iter.{deref_pair}
 use Rattle.std.proofs.lemmas.List.{map-append, append-nil}
 use Rattle.sym_model.specs.Partition.{size}
-use Rattle.sym_model.specs.Expansion.{Fraction}
-use Rattle.sparse_polys.proofs.Steps.{error_is}
-use Rattle.sparse_polys.proofs.Rows.{list_whole, list_among}
+use Rattle.sym_model.specs.Expansion.{Fraction, Terms}
+use Rattle.sym_model.specs.Sum.{Among}
 use Rattle.coeff_rings.specs.Fractions.{scaled}
 use Rattle.linear_combinations.specs.Gains.{Gains, Overflows}
-use Rattle.linear_combinations.proofs.Gains.{gains_none, pairs_gain, pairs_overflow, so_far_next}
+use Rattle.linear_combinations.proofs.Gains.{all_pairs, gains_none, next_among, pairs_gain}
+use Rattle.linear_combinations.proofs.Gains.{pairs_overflow, so_far_next}
+use Rattle.linear_combinations.proofs.Steps.{error_is}
 use Rattle.whole_lists.specs.Tables.{equal}
 use Rattle.change_from_monomials.specs.Arranging.{straight_terms}
 use Rattle.change_from_monomials.specs.Straightening.{straightened_list}
 use Rattle.change_from_monomials.specs.KeptLists.{IsStraightened, AreKept}
-use Rattle.change_from_monomials.proofs.Bounds.{itself}
 use Rattle.change_from_monomials.proofs.KeptLists.{gains-multiple, overflows-multiple}
 use Rattle.change_from_monomials.proofs.StraightTerms.{straightened_list-append}
 use Rattle.change_from_monomials.proofs.straightening.straightened.Goals as goal
@@ -27,25 +27,27 @@ loop-label-init c = record {
 
 pub returns-in_default-clause-large : goal.returns-in_default-clause-large
 returns-in_default-clause-large c err =
+    let done = map deref_pair c.loop-label.yielded in
+    let rest = c.next.new.self in
+    let x : List ℕ × Fraction = (c.in-Some.label.now, c.in-Some.c.now) in
     let whole =
-    list_whole (λ (r : Fraction). r) (map deref_pair c.loop-label.yielded) c.next.new.self
-    c.loop-label.label-iterator _ _ c.in-Some.label.now c.in-Some.c.now c.args.list.now
-    c.in-Some.ensures.steps c.loop-label.invariant.so_far
-    c.into_iter-label-iterator.ensures.into_iter_gives c.iter-label-items.ensures.rest in
-    let here = list_among (λ (r : Fraction). r) (map deref_pair c.loop-label.yielded)
-    c.next.new.self c.in-Some.label.now c.in-Some.c.now c.args.list.now whole in
-    inl ((c.in-Some.label.now, c.in-Some.c.now), here, c.in_default.ensures)
+    all_pairs done rest c.loop-label.label-iterator _ _ c.args.list.now x c.in-Some.ensures.steps
+    c.loop-label.invariant.so_far c.into_iter-label-iterator.ensures.into_iter_gives
+    c.iter-label-items.ensures.rest in
+    let here = subst (λ (es : Terms (List ℕ)). Among x es) whole (next_among done x rest) in
+    inl (x, here, c.in_default.ensures)
 
 pub straightened_parts-requires-clause-low : goal.straightened_parts-requires-clause-low
 straightened_parts-requires-clause-low c =
+    let done = map deref_pair c.loop-label.yielded in
+    let rest = c.next.new.self in
+    let x : List ℕ × Fraction = (c.in-Some.label.now, c.in-Some.c.now) in
     let whole =
-    list_whole (λ (r : Fraction). r) (map deref_pair c.loop-label.yielded) c.next.new.self
-    c.loop-label.label-iterator _ _ c.in-Some.label.now c.in-Some.c.now c.args.list.now
-    c.in-Some.ensures.steps c.loop-label.invariant.so_far
-    c.into_iter-label-iterator.ensures.into_iter_gives c.iter-label-items.ensures.rest in
-    let s = c.requires.sizes (c.in-Some.label.now, c.in-Some.c.now)
-    (list_among (λ (r : Fraction). r) (map deref_pair c.loop-label.yielded) c.next.new.self
-    c.in-Some.label.now c.in-Some.c.now c.args.list.now whole) in
+    all_pairs done rest c.loop-label.label-iterator _ _ c.args.list.now x c.in-Some.ensures.steps
+    c.loop-label.invariant.so_far c.into_iter-label-iterator.ensures.into_iter_gives
+    c.iter-label-items.ensures.rest in
+    let s = c.requires.sizes x
+    (subst (λ (es : Terms (List ℕ)). Among x es) whole (next_among done x rest)) in
     let v = ap size c.parts.ensures.value in
     let p = c.requires.low in
     omega arith
@@ -61,12 +63,10 @@ loop-label-preserved c =
     (c.loop-label.yielded ++ (c.in-Some.label, c.in-Some.c) ∷ []) =
     sym (map-append deref_pair c.loop-label.yielded ((c.in-Some.label, c.in-Some.c) ∷ [])) in
     let whole =
-    list_whole (λ (r : Fraction). r) done rest c.loop-label.label-iterator _ _ c.in-Some.label.now
-    c.in-Some.c.now c.args.list.now
-    c.in-Some.ensures.steps inv.so_far c.into_iter-label-iterator.ensures.into_iter_gives
-    c.iter-label-items.ensures.rest in
-    let low = c.requires.sizes x (list_among (λ (r : Fraction). r) done rest c.in-Some.label.now
-    c.in-Some.c.now c.args.list.now whole) in
+    all_pairs done rest c.loop-label.label-iterator _ _ c.args.list.now x c.in-Some.ensures.steps
+    inv.so_far c.into_iter-label-iterator.ensures.into_iter_gives c.iter-label-items.ensures.rest in
+    let low = c.requires.sizes x
+    (subst (λ (es : Terms (List ℕ)). Among x es) whole (next_among done x rest)) in
     let kept = subst (λ (x : List ℕ). IsStraightened x c.in_ok-straight.straight)
     c.parts.ensures.value c.in_ok-straight.ensures.list in
     let here : Gains c.loop-label.sum (straightened_list c.args.den c.args.places
@@ -96,12 +96,10 @@ returns-in_err-add_multiple-clause-large c err =
     let k = c.in-Some.label.now in
     let x : List ℕ × Fraction = (c.in-Some.label.now, c.in-Some.c.now) in
     let whole =
-    list_whole (λ (r : Fraction). r) done rest c.loop-label.label-iterator _ _ c.in-Some.label.now
-    c.in-Some.c.now c.args.list.now
-    c.in-Some.ensures.steps inv.so_far c.into_iter-label-iterator.ensures.into_iter_gives
-    c.iter-label-items.ensures.rest in
-    let low = c.requires.sizes x (list_among (λ (r : Fraction). r) done rest c.in-Some.label.now
-    c.in-Some.c.now c.args.list.now whole) in
+    all_pairs done rest c.loop-label.label-iterator _ _ c.args.list.now x c.in-Some.ensures.steps
+    inv.so_far c.into_iter-label-iterator.ensures.into_iter_gives c.iter-label-items.ensures.rest in
+    let low = c.requires.sizes x
+    (subst (λ (es : Terms (List ℕ)). Among x es) whole (next_among done x rest)) in
     let kept = subst (λ (x : List ℕ). IsStraightened x c.in_ok-straight.straight)
     c.parts.ensures.value c.in_ok-straight.ensures.list in
     let here : Overflows equal c.loop-label.sum (straightened_list c.args.den c.args.places
@@ -117,5 +115,4 @@ returns-in_err-add_multiple-clause-large c err =
     (ap Err (error_is _ _ _ c.from_residual-in_err-add_multiple.ensures.1 err))))) in
     inr (pairs_overflow (straightened_list c.args.den c.args.places)
     (straightened_list-append c.args.den c.args.places) done x [] c.loop-label.sum inv.gains
-    equal rest c.args.list.now
-    (sym (itself (done ++ (x ∷ rest))) ∙ whole) here)
+    equal rest c.args.list.now whole here)

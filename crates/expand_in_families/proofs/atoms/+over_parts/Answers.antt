@@ -1,18 +1,19 @@
-use Rattle.std.proofs.Common.{◌≡◌, ℕ, ◌+◌, ◌-◌, ◌*◌, ◌<◌, ◌≤◌, ◌^◌, ◌++◌, List, [], ◌∷◌, length}
+use Rattle.std.proofs.Common.{◌≡◌, ℕ, ◌+◌, ◌-◌, ◌*◌, ◌<◌, ◌≤◌, ◌^◌, List, [], ◌∷◌, length}
 use Rattle.std.proofs.Common.{get_or, take, drop, ap, subst, sym, arith, Err, refl}
-use Rattle.std.specs.Prelude.{nat_abs}
 use Rattle.sym_model.specs.Partition.{IsPartition, size}
 use Rattle.sym_model.specs.Bases.{product_over}
 use Rattle.sym_model.specs.Expansion.{completes}
-use Rattle.sym_model.specs.Polynomial.{Same, scale}
+use Rattle.sym_model.specs.Polynomial.{scale}
 use Rattle.sym_model.specs.Weight.{factorial, growth}
-use Rattle.sym_model.specs.WholeTerms.{WholeTerms, absolute_total}
+use Rattle.sym_model.specs.WholeTerms.{WholeTerms}
 use Rattle.sym_model.proofs.Parts.{split_first}
 use Rattle.sym_model.proofs.SortedParts.{IsPartition_tail}
+use Rattle.linear_combinations.specs.Gains.{Gains, Overflows}
 use Rattle.linear_combinations.proofs.Steps.{error_is}
 use Rattle.basis_change_laws.specs.JoinedLists.{joined, Stands}
 use Rattle.basis_change_laws.proofs.GrowthBounds.{grown-mono}
 use Rattle.whole_lists.specs.Families.{polynomial_of}
+use Rattle.whole_lists.specs.Tables.{equal}
 use Rattle.whole_lists.proofs.Families.{In-family}
 use Rattle.family_lists.specs.FactorLists.{over_number}
 use Rattle.family_lists.proofs.FactorSteps.{factor-loose}
@@ -117,11 +118,11 @@ returns-in_err-add_products-clause-large t c = λ large.
     (get_or c.args.parts.now 0 0)) (take (length c.args.parts.now - 1)
     (drop 1 c.args.parts.now)) c.in_ok-list.list c.in_ok-others.others c.whole_of-ways.result
     c.whole_of-ways.ensures many w v
-    (λ m l o.
-    subst (λ (ts : WholeTerms). 2 ^ 127 ≤ absolute_total ts + nat_abs c.whole_of-ways.result
-    * absolute_total c.in_ok-list.list * m) c.new-product.ensures
+    (subst (λ (ts : WholeTerms). Overflows equal ts
+    (joined (scale c.whole_of-ways.result c.in_ok-list.list) c.in_ok-others.others))
+    c.new-product.ensures
     (c.in_err-add_products.ensures.large
-    (ap Err (error_is _ _ _ c.from_residual-in_err-add_products.ensures.1 large)) m l o)))
+    (ap Err (error_is _ _ _ c.from_residual-in_err-add_products.ensures.1 large)))))
 
 pub returns-clause-value : goal.returns-clause-value
 returns-clause-value t c =
@@ -150,9 +151,9 @@ returns-clause-value t c =
     (over_number c.args.family (get_or c.args.parts.now 0 0))
     (take (length c.args.parts.now - 1) (drop 1 c.args.parts.now)) c.in_ok-list.list
     c.in_ok-others.others c.add_products.new.sum many w v c.in_ok-add_products.ensures.table
-    (subst (λ z. Same c.add_products.new.sum
-    (joined (scale z c.in_ok-list.list) c.in_ok-others.others)) c.whole_of-ways.ensures
-    (subst (λ (ts : WholeTerms). Same c.add_products.new.sum
-    (ts ++ joined (scale c.whole_of-ways.result c.in_ok-list.list) c.in_ok-others.others))
-    c.new-product.ensures
-    c.in_ok-add_products.ensures.value)))
+    (subst (λ z. Gains [] (joined (scale z c.in_ok-list.list) c.in_ok-others.others)
+    c.add_products.new.sum) c.whole_of-ways.ensures
+    (subst (λ (ts : WholeTerms). Gains ts
+    (joined (scale c.whole_of-ways.result c.in_ok-list.list) c.in_ok-others.others)
+    c.add_products.new.sum) c.new-product.ensures
+    c.in_ok-add_products.ensures.gains)))

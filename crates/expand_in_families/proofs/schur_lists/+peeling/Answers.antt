@@ -201,7 +201,7 @@ list_of-loop-row-preserved t c =
           c.list_at.result.1.now c.requires.partition c.loop-row-test.true c.in_ok-rest.ensures
           many sign w v
           c.loop-row.sum c.add_products.new.sum c.in_ok-add_products.ensures.table
-          c.loop-row.invariant.stands c.in_ok-add_products.ensures.value;
+          c.loop-row.invariant.stands c.in_ok-add_products.ensures.gains;
       table = c.in_ok-add_products.ensures.table;
       store = c.in_ok-at.ensures.store;
     }

@@ -1,14 +1,12 @@
-use Rattle.std.proofs.Common.{◌≡◌, ◌++◌, ◌∷◌, [], List, ℕ, map, sym, ◌∙◌, ap, subst, refl}
-use Rattle.std.proofs.Common.{append_assoc, arith}
+use Rattle.std.proofs.Common.{◌≡◌, ◌++◌, ◌∷◌, [], List, ℕ, map, sym, ◌∙◌, ap, subst, refl, arith}
 use Rattle.std.specs.Map.Iter.{deref_pair}
 use Rattle.std.proofs.lemmas.List.{map-append}
-use Rattle.sym_model.specs.Expansion.{Fraction, Terms}
+use Rattle.sym_model.specs.Expansion.{Terms}
 use Rattle.sym_model.specs.Expression.{lcm}
-use Rattle.sparse_polys.specs.Combination.{terms_of}
+use Rattle.linear_combinations.specs.Cleared.{IsCommonDenominator}
+use Rattle.linear_combinations.proofs.Gains.{so_far_next}
 use Rattle.sparse_polys.proofs.Steps.{all_done}
-use Rattle.change_from_monomials.proofs.Bounds.{itself}
 use Rattle.expand_in_schurs.proofs.InMonomials.{common-none, common-next}
-use Rattle.sparse_polys.specs.Products.{IsCommonDenominator}
 use Rattle.expand_in_schurs.proofs.monomials.denominator_of_all.Goals as goal
 
 pub loop-c-init : goal.loop-c-init
@@ -35,18 +33,15 @@ loop-c-preserved c =
           c.denominator_of.ensures.positive
           (next.0 ∙ ap (lcm c.loop-c.den) c.denominator_of.ensures.value)
           c.loop-c.invariant.common);
-      so_far =
-          ap (λ es. es ++ rest) (sym pushed) ∙ append_assoc done ((k, v) ∷ []) rest
-          ∙ ap (λ es. done ++ es) (sym c.in-Some.ensures.steps) ∙ c.loop-c.invariant.so_far;
+      so_far = so_far_next done rest c.loop-c.c-iterator _ _ (k, v) pushed
+          c.in-Some.ensures.steps c.loop-c.invariant.so_far;
     }
 
 pub returns : goal.returns
 returns c =
-    let entries = all_done (map deref_pair c.loop-c.yielded) c.loop-c.c-iterator _ _
-    c.in-None.ensures.steps.0 c.loop-c.invariant.so_far
-    c.into_iter-c-iterator.ensures.into_iter_gives in
     let all : map deref_pair c.loop-c.yielded ≡ c.args.list.now =
-    sym (itself (map deref_pair c.loop-c.yielded)) ∙ ap (terms_of (λ (r : Fraction). r)) entries
+    all_done (map deref_pair c.loop-c.yielded) c.loop-c.c-iterator _ _ c.in-None.ensures.steps.0
+    c.loop-c.invariant.so_far c.into_iter-c-iterator.ensures.into_iter_gives
     ∙ c.iter-c-items.ensures.rest in (
       c.loop-c.invariant.low,
       subst (λ (es : Terms (List ℕ)). IsCommonDenominator c.loop-c.den es)

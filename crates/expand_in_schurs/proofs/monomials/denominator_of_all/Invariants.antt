@@ -1,6 +1,6 @@
 use Rattle.std.proofs.Common.{◌≡◌, ◌<◌, ◌^◌, ◌++◌, map}
 use Rattle.std.specs.Map.Iter.{deref_pair}
-use Rattle.sparse_polys.specs.Products.{IsCommonDenominator}
+use Rattle.linear_combinations.specs.Cleared.{IsCommonDenominator}
 use Rattle.expand_in_schurs.proofs.monomials.denominator_of_all.Given as goal
 
 -- the number is a common denominator of the terms so far, and they and the rest are all

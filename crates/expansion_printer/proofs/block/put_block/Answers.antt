@@ -1,14 +1,26 @@
+use Rattle.std.proofs.Common.{ap}
+use Rattle.sym_model.specs.Kind.{label_rules, expansion}
 use Rattle.sym_model.specs.LabelLimits.{is_label, is_pair_label, is_power_label}
 use Rattle.sym_model.specs.LabelLimits.{is_permutation_label, is_monomial_label, is_shifted_label}
+use Rattle.sym_model.specs.PrintedBlock.{block_by}
 use Rattle.sym_model.specs.PrintedOrder.{printed_order, pair_order, power_order, permutation_order}
 use Rattle.sym_model.specs.PrintedOrder.{shifted_order}
+use Rattle.sparse_polys.proofs.Tables.{terms-fractions}
+use Rattle.expansion_printer.proofs.GatheringLaws.{Gathers-as}
 use Rattle.expansion_printer.proofs.PrintableTerms.{whole-printable, fractions-printable}
 use Rattle.expansion_printer.proofs.block.put_block.Goals as goal
+
+pub returns-in-Expansion-clause-goes : goal.returns-in-Expansion-clause-goes
+returns-in-Expansion-clause-goes g c =
+    rw c.in-Expansion.is
+    (Gathers-as (ap (block_by (label_rules expansion)) (terms-fractions c.in-Expansion.terms))
+    c.put_terms.ensures.goes)
 
 pub returns-in-Expansion-clause-printable : goal.returns-in-Expansion-clause-printable
 returns-in-Expansion-clause-printable g c =
     let e = c.put_terms.ensures in
-    rw c.in-Expansion.is (e.canonical, fractions-printable c.in-Expansion.terms e.held)
+    rw c.in-Expansion.is (fractions-printable printed_order is_label c.in-Expansion.terms e.held
+    e.canonical)
 
 pub returns-in-Product-clause-printable : goal.returns-in-Product-clause-printable
 returns-in-Product-clause-printable g c =

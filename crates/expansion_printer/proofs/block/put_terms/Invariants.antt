@@ -1,15 +1,18 @@
 use Rattle.std.proofs.Common.{◌≡◌, ◌++◌, map}
+use Rattle.std.specs.List.{All}
 use Rattle.expansion_printer.specs.Gathering.{Gathers}
 use Rattle.sym_model.specs.PrintedBlock.{lines_by}
 use Rattle.sparse_polys.specs.Combination.{terms_of}
-use Rattle.expansion_printer.specs.HeldTerms.{AreHeld}
 use Rattle.expansion_printer.proofs.block.put_terms.Given as goal
 
 -- the lines of the terms so far went to the sink
 abbrev pub invariant-loop-label : goal.invariant-loop-label
 invariant-loop-label g l = record {
   goes : Gathers l.fn.text (g.K.Sink.seen l.fn.sink) l.text (g.K.Sink.seen l.sink)
-      (lines_by g.L.Named.line_rules (terms_of g.R.Scalar.value (map (λ item. item.now) l.yielded)));
-  held : AreHeld g.R.Scalar.value g.R.Scalar.is_held (terms_of g.R.Scalar.value (map (λ item. item.now) l.yielded));
-  so_far : map (λ item. item.now) l.yielded ++ l.label-iterator.rest.now ≡ l.initial.label-iterator.rest.now;
+      (lines_by g.L.Named.line_rules
+      (terms_of g.R.Scalar.value (map (λ item. item.now) l.yielded)));
+  held : All (λ (t : g.row.L.Denot × g.row.R.Denot). g.R.Scalar.is_held t.1)
+      (map (λ item. item.now) l.yielded);
+  so_far : map (λ item. item.now) l.yielded ++ l.label-iterator.rest.now
+      ≡ l.initial.label-iterator.rest.now;
 }

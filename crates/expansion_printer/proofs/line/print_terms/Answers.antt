@@ -1,6 +1,6 @@
-use Rattle.expansion_printer.proofs.GatheringLaws.{Gathers-prints}
+use Rattle.expansion_printer.proofs.GatheringLaws.{Gathers-then, Gathers-prints}
 use Rattle.expansion_printer.proofs.line.print_terms.Goals as goal
 
 pub returns-clause-prints : goal.returns-clause-prints
 returns-clause-prints g c = Gathers-prints c.finish.result c.new-text.ensures
-    c.put_line.ensures.goes c.finish.ensures
+    (Gathers-then c.put.ensures c.put_line.ensures.goes) c.finish.ensures

@@ -1,14 +1,15 @@
 use Rattle.std.proofs.Common.{Iter, ◌≡◌, ◌<◌, ℕ, List, [], ◌∷◌, ◌++◌, map, length, refl, sym, ap}
-use Rattle.std.proofs.Common.{◌∙◌, subst, rules, tests, append_assoc}
+use Rattle.std.proofs.Common.{◌∙◌, subst, arith, rules, tests, append_assoc}
 use Rattle.std.specs.Prelude.{codes}
+use Rattle.std.specs.List.{All}
 use Rattle.std.proofs.lemmas.List.{map-append}
-use Rattle.sym_model.specs.Expansion.{Fraction, Terms}
+use Rattle.std.proofs.lemmas.List.Elements.{All-nil, All-push}
+use Rattle.sym_model.specs.Expansion.{Fraction}
 use Rattle.sym_model.proofs.Lists.{all_read}
 use Rattle.expansion_printer.proofs.GatheringLaws.{Gathers-then, Gathers-as, Gathers-nothing}
 use Rattle.expression_reading.specs.Trees.{basis_of}
 use Rattle.sparse_polys.specs.Combination.{terms_of}
-use Rattle.expansion_printer.specs.HeldTerms.{AreHeld}
-use Rattle.expansion_printer.proofs.PrintableTerms.{AreHeld-push}
+use Rattle.sparse_polys.proofs.ValueLists.{length_values}
 use Rattle.expansion_printer.specs.SignedTerms.{signed_terms, is_empty}
 use Rattle.expansion_printer.proofs.LineTexts.{signed_terms-push, is_empty-push, one_line-some}
 use Rattle.expansion_printer.proofs.line.put_line.Goals as goal
@@ -17,13 +18,14 @@ pub loop-label-init : goal.loop-label-init
 loop-label-init g c = record {
   goes = Gathers-nothing c.args.text.now (g.K.Sink.seen c.args.sink.now);
   first = refl;
-  held = tt;
+  held = All-nil (λ (t : List ℕ × g.row.R.Denot). g.R.Scalar.is_held t.1);
   so_far = refl;
 }
 
 pub loop-label-preserved : goal.loop-label-preserved
 loop-label-preserved g c =
     let value = g.R.Scalar.value in
+    let is_held = λ (t : List ℕ × g.row.R.Denot). g.R.Scalar.is_held t.1 in
     let basis = basis_of c.args.basis in
     let inv = c.loop-label.invariant in
     let done : List (List ℕ × g.row.R.Denot) = map (λ item. item.now) c.loop-label.yielded in
@@ -42,24 +44,26 @@ loop-label-preserved g c =
           inv.first ∙ ap (signed_terms basis) terms)
           (Gathers-then inv.goes c.put_term.ensures.goes);
       first = is_empty-push (terms_of value done) t ∙ ap is_empty terms;
-      held = subst (AreHeld value g.R.Scalar.is_held) terms (AreHeld-push value g.R.Scalar.is_held
-          (terms_of value done) t inv.held
-          (record { scalar = p.1; same = refl; held = c.put_term.ensures.held }));
+      held = subst (All is_held) pushed
+          (All-push is_held done p inv.held c.put_term.ensures.held);
       so_far = ap (λ t. t ++ rest) (sym pushed) ∙ append_assoc done (p ∷ []) rest
           ∙ ap (λ t. done ++ t) (sym c.in-Some.ensures.steps) ∙ inv.so_far;
     }
 
 pub returns-clause-goes : goal.returns-clause-goes
 returns-clause-goes g c =
+    let value = g.R.Scalar.value in
     let basis = basis_of c.args.basis in
+    let length_is = length_values value c.args.terms.now in
     let some : 0 < length c.args.terms.now = search (rules, tests) in
     let done : List (List ℕ × g.row.R.Denot) = map (λ item. item.now) c.loop-label.yielded in
-    let all : terms_of g.R.Scalar.value done ≡ c.args.terms.now =
-    ap (terms_of g.R.Scalar.value) (all_read done _ _ c.in-None.ensures.steps.0
+    let all : done ≡ c.args.terms.now =
+    all_read done _ _ c.in-None.ensures.steps.0
     (c.loop-label.invariant.so_far
     ∙ ap (λ (it : Iter (List ℕ × g.row.R.Denot)). it.rest.now)
-    c.into_iter-label-iterator.ensures.into_iter_gives))
-    ∙ c.iter-label-items.ensures.rest in
-    Gathers-as (ap (λ (ts : Terms (List ℕ)). signed_terms basis ts ++ codes "\n") all
-    ∙ one_line-some basis c.args.terms.now some)
+    c.into_iter-label-iterator.ensures.into_iter_gives
+    ∙ c.iter-label-items.ensures.rest) in
+    Gathers-as (ap (λ (ts : List (List ℕ × g.row.R.Denot)).
+    signed_terms basis (terms_of value ts) ++ codes "\n") all
+    ∙ one_line-some basis (terms_of value c.args.terms.now) (omega (arith, length_is, some)))
     (Gathers-then c.loop-label.invariant.goes c.put-2.ensures)

@@ -1,7 +1,9 @@
-use Rattle.std.proofs.Common.{arith}
+use Rattle.std.proofs.Common.{subst, arith}
+use Rattle.linear_combinations.specs.Gains.{Gains, Overflows}
 use Rattle.linear_combinations.proofs.Steps.{on_ok}
+use Rattle.whole_lists.specs.Tables.{equal}
 use Rattle.sparse_polys.proofs.Rows.{greatest_size-among}
-use Rattle.family_lists.proofs.RowSteps.{products-same, large-products}
+use Rattle.family_lists.proofs.RowSteps.{products-gained}
 use Rattle.family_lists.proofs.products.add_products.Goals as goal
 
 pub add_by-requires : goal.add_by-requires
@@ -9,13 +11,14 @@ add_by-requires c t m =
     let a = greatest_size-among c.args.left.now t m in
     omega (arith, c.requires)
 
-pub returns-clause-value : goal.returns-clause-value
-returns-clause-value c =
+pub returns-clause-gains : goal.returns-clause-gains
+returns-clause-gains c =
     on_ok c.add_by.result c.add_by.ensures.gains
-    (λ more. products-same c.args.sum.now c.add_by.new.self c.args.c c.args.left.now
-    c.args.right.now more)
+    (λ more. subst (λ l. Gains c.args.sum.now l c.add_by.new.self)
+    (products-gained c.args.c c.args.left.now c.args.right.now) more)
 
 pub returns-clause-large : goal.returns-clause-large
-returns-clause-large c err m few one =
-    large-products c.args.sum.now c.args.c c.args.left.now c.args.right.now m
-    (c.add_by.ensures.large err) few
+returns-clause-large c err =
+    subst (λ l. Overflows equal c.args.sum.now l)
+    (products-gained c.args.c c.args.left.now c.args.right.now)
+    (c.add_by.ensures.large err)

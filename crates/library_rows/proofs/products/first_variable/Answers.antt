@@ -1,16 +1,17 @@
-use Rattle.std.proofs.Common.{ap, ◌∙◌, arith}
-use Rattle.sym_model.specs.LabelLimits.{is_monomial_label}
+use Rattle.std.proofs.Common.{◌≡◌, ◌∷◌, [], ap, ◌∙◌, arith}
+use Rattle.std.specs.Cmp.Lexicographic.{nat_list_eq_equiv}
 use Rattle.sym_model.specs.Partition.{size}
+use Rattle.sparse_polys.specs.Labels.{same_partition}
 use Rattle.sparse_polys.specs.Raised.{raised}
-use Rattle.library_rows.proofs.Labels.{only_label}
+use Rattle.library_rows.proofs.Labels.{only_has}
 use Rattle.library_rows.proofs.products.first_variable.Goals as goal
 
 pub times_var-requires-clause-room : goal.times_var-requires-clause-room
 times_var-requires-clause-room c = let e = ap size c.one.ensures in omega arith
 
 pub returns : goal.returns
-returns c t m =
-    only_label is_monomial_label _ _ _ _ c.new-sum.ensures
+returns c =
+    only_has nat_list_eq_equiv same_partition _ _ _ _ c.new-sum.ensures
     c.in_ok-add_term.ensures.was c.in_ok-add_term.ensures.combination
-    c.in_ok-add_term.ensures.ok t m
-    ∙ c.in_ok-times_var.ensures ∙ ap (raised 1) c.one.ensures
+    c.in_ok-add_term.ensures.ok (λ e. e ≡ 1 ∷ [])
+    (c.in_ok-times_var.ensures ∙ ap (raised 1) c.one.ensures)

@@ -1,6 +1,7 @@
 use Rattle.std.proofs.Common.{◌≡◌, ℕ, List, ◌+◌, length, take, ap, sym, ◌∙◌, subst, inl, inr, arith}
 use Rattle.std.proofs.Common.{pos, flat_map}
 use Rattle.std.specs.Prelude.{None, Err, false}
+use Rattle.std.proofs.lemmas.List.{take_all}
 use Rattle.coeff_rings.specs.Fractions.{whole}
 use Rattle.sym_model.specs.Sum.{Among}
 use Rattle.sym_model.specs.Polynomial.{Same}
@@ -20,7 +21,7 @@ use Rattle.linear_combinations.specs.Entries.{IsCanonicalList}
 use Rattle.linear_combinations.proofs.Steps.{error_is}
 use Rattle.lr_coproduct.specs.PairTerms.{pair_sum, pair_coefficient, HavePairCounts, AreBefore}
 use Rattle.lr_coproduct.specs.SkewLists.{HaveSkewLists}
-use Rattle.lr_coproduct.proofs.Prefixes.{IsAt, at_among, take_next, take_past, either_at}
+use Rattle.lr_coproduct.proofs.Prefixes.{IsAt, at_among, take_next, either_at}
 use Rattle.lr_coproduct.proofs.SortedShapes.{earlier_before}
 use Rattle.lr_coproduct.proofs.Lookups.{not_before}
 use Rattle.lr_coproduct.proofs.Answering.{sum_next, coproduct_meets, past_of_inner, none_past}
@@ -106,7 +107,7 @@ returns-clause-meets c =
     let items = c.in_ok-inners.inners.items in
     let shape = c.args.shape.now in
     let list = c.loop-at.pairs.items in
-    let all : take c.loop-at.at items ≡ items = take_past items c.loop-at.at
+    let all : take c.loop-at.at items ≡ items = take_all c.loop-at.at items
     (omega (arith, c.loop-at.invariant.end, c.loop-at-test.false)) in
     subst (λ terms. Meets (coprod shape) (answer pairs (as_fractions terms)))
     (sym (unwrapped (IsCanonicalList pair_order is_pair_label whole list) c.from_pairs.result
@@ -121,7 +122,7 @@ returns-clause-counts c =
     let items = c.in_ok-inners.inners.items in
     let shape = c.args.shape.now in
     let list = c.loop-at.pairs.items in
-    let all : take c.loop-at.at items ≡ items = take_past items c.loop-at.at
+    let all : take c.loop-at.at items ≡ items = take_all c.loop-at.at items
     (omega (arith, c.loop-at.invariant.end, c.loop-at-test.false)) in
     subst (HavePairCounts shape)
     (sym (unwrapped (IsCanonicalList pair_order is_pair_label whole list) c.from_pairs.result
@@ -132,7 +133,7 @@ returns-clause-counts c =
 pub returns-clause-fits : goal.returns-clause-fits
 returns-clause-fits c =
     let items = c.in_ok-inners.inners.items in
-    let all : take c.loop-at.at items ≡ items = take_past items c.loop-at.at
+    let all : take c.loop-at.at items ≡ items = take_all c.loop-at.at items
     (omega (arith, c.loop-at.invariant.end, c.loop-at-test.false)) in
     none_past c.args.shape.now items c.in_ok-inners.ensures.listed
     (λ i m. c.loop-at.invariant.fits i (subst (λ l. Among i l) (sym all) m))

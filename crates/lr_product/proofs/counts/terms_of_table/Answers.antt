@@ -1,12 +1,13 @@
 use Rattle.std.proofs.Common.{◌≡◌, ℕ, ◌+◌, pos, List, length, take, drop, subst, sym, ap, ◌∙◌}
 use Rattle.std.proofs.Common.{arith}
 use Rattle.std.specs.Prelude.{Some, Err, slice_get}
+use Rattle.std.proofs.lemmas.List.{take_all}
 use Rattle.sym_model.specs.Partition.{without_last_zeros}
 use Rattle.partitions.specs.Limits.{IsWithinLimits}
 use Rattle.lr_product.specs.WeighedSum.{weighed, unreached, comes_to}
 use Rattle.lr_product.proofs.Steps.{IsReached, reached-tells, weighed-none}
 use Rattle.lr_product.proofs.CountedLists.{Finds, counted, counted-zero, counted-long, finds_next}
-use Rattle.lr_product.proofs.CountedLists.{finds_same, held_small, past_next, sum_within, take_past}
+use Rattle.lr_product.proofs.CountedLists.{finds_same, held_small, past_next, sum_within}
 use Rattle.lr_product.proofs.CountedLists.{has_counts}
 use Rattle.linear_combinations.proofs.Steps.{error_is}
 use Rattle.lr_product.proofs.counts.terms_of_table.Goals as goal
@@ -76,7 +77,7 @@ pub returns-clause-counts : goal.returns-clause-counts
 returns-clause-counts c =
     let n = c.args.letters in
     let es = c.args.table.entries in
-    let all : take c.loop-at.at es ≡ es = take_past es c.loop-at.at
+    let all : take c.loop-at.at es ≡ es = take_all c.loop-at.at es
     (omega (arith, c.loop-at.invariant.end, c.loop-at-test.false)) in
     has_counts n (λ parts. weighed n (comes_to parts) es) c.in_ok-sorted_terms.field-0
     c.in_ok-sorted_terms.ensures.combination
@@ -90,7 +91,7 @@ pub returns-clause-fits : goal.returns-clause-fits
 returns-clause-fits c =
     let n = c.args.letters in
     let es = c.args.table.entries in
-    let all : take c.loop-at.at es ≡ es = take_past es c.loop-at.at
+    let all : take c.loop-at.at es ≡ es = take_all c.loop-at.at es
     (omega (arith, c.loop-at.invariant.end, c.loop-at-test.false)) in
     held_small c.in_ok-sorted_terms.field-0 (λ parts. weighed n (comes_to parts) es)
     c.in_ok-sorted_terms.ensures.held

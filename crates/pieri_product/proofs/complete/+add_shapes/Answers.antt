@@ -7,8 +7,9 @@ use Rattle.linear_combinations.proofs.Steps.{on_ok}
 use Rattle.pieri_product.specs.Rows.{AddsBelow, HasAdded}
 use Rattle.pieri_product.proofs.AddedCells.{added-none, rows-none, rows-next, rows-all}
 use Rattle.pieri_product.proofs.AddedCells.{limits_behind, partition_below, falls_below}
-use Rattle.pieri_product.proofs.AddedCells.{first_below, fewer_left, size-first}
+use Rattle.pieri_product.proofs.AddedCells.{fewer_left, size-first}
 use Rattle.pieri_product.proofs.complete.+add_shapes.Goals as goal
+use Rattle.sym_model.proofs.SortedParts.{Falls_first}
 
 pub returns-then-left-eq0-clause-shapes : goal.returns-then-left-eq0-clause-shapes
 returns-then-left-eq0-clause-shapes t c =
@@ -27,7 +28,7 @@ loop-row-init t c =
       added =
           rows-none c.args.most c.args.left c.args.inner.now c.args.above.now.items c.max-row.result
           c.args.shapes.now.items (omega arith)
-          (c.max-row.ensures ∙ ap (λ (n : ℕ). max n 1) c.first_row-first.ensures);
+          (c.max-row.ensures ∙ ap (λ (n : ℕ). max n 1) c.first_and_below-first.ensures.first);
     }
 
 pub add_shapes-requires : goal.add_shapes-requires
@@ -35,8 +36,8 @@ add_shapes-requires t c =
     let inner = c.args.inner.now in
     let row = c.loop-row.row in
     let above = c.args.above.now.items in
-    let first = c.first_row-first.ensures in
-    let below = c.below_first-below.ensures in
+    let first = c.first_and_below-first.ensures.first in
+    let below = c.first_and_below-first.ensures.below in
     let from = c.loop-row.auto.row in
     let within = c.loop-row-test.true in
     let start = c.max-row.ensures in
@@ -63,8 +64,9 @@ add_shapes-requires t c =
                 (limits_behind c.args.most c.args.left row inner c.requires.inner least positive
                 (omega arith) (omega arith) above rest c.requires.limits
                 (subst (λ (n : ℕ). AddsBelow row (n + c.args.left - row) (drop 1 inner) rest) first
-                (subst (λ (l : List ℕ). AddsBelow row (c.first_row-first.result + c.args.left - row)
-                l rest) below a))),
+                (subst (λ (l : List ℕ).
+                AddsBelow row (c.first_and_below-first.result.0 + c.args.left - row) l rest)
+                below a))),
           ),
         ),
       ),
@@ -75,8 +77,8 @@ loop-row-preserved t c =
     let inner = c.args.inner.now in
     let row = c.loop-row.row in
     let above = c.args.above.now.items in
-    let first = c.first_row-first.ensures in
-    let below = c.below_first-below.ensures in
+    let first = c.first_and_below-first.ensures.first in
+    let below = c.first_and_below-first.ensures.below in
     let from = c.loop-row.auto.row in
     let within = c.loop-row-test.true in
     let start = c.max-row.ensures in
@@ -96,17 +98,17 @@ loop-row-preserved t c =
           (subst (λ (n : ℕ). HasAdded (AddsBelow row (n + c.args.left - row) (drop 1 inner))
           c.push.new.self.items c.loop-row.shapes.items c.add_shapes.new.shapes.items) first
           (subst (λ (l : List ℕ).
-          HasAdded (AddsBelow row (c.first_row-first.result + c.args.left - row) l)
+          HasAdded (AddsBelow row (c.first_and_below-first.result.0 + c.args.left - row) l)
           c.push.new.self.items c.loop-row.shapes.items c.add_shapes.new.shapes.items) below
           c.in_ok-add_shapes.ensures.shapes));
     }
 
 pub returns-clause-shapes : goal.returns-clause-shapes
 returns-clause-shapes t c =
-    let first = c.first_row-first.ensures in
+    let first = c.first_and_below-first.ensures.first in
     let start = c.max-row.ensures in
     let most = c.min-row-end.ensures in
-    let least = first_below c.args.most c.args.inner.now c.requires.falls in
+    let least = Falls_first c.args.most c.args.inner.now c.requires.falls in
     let order : c.max-row.result ≤ c.min-row-end.result + 1 = omega arith in
     let end = c.loop-row.auto.row-end order in
     rows-all c.args.most c.args.left c.loop-row.row c.args.inner.now c.args.above.now.items

@@ -11,8 +11,8 @@ use Rattle.linear_combinations.proofs.Gains.{gains_none, overflows_alone, pairs_
 use Rattle.linear_combinations.proofs.Gains.{pairs_overflow}
 use Rattle.linear_combinations.proofs.Steps.{error_is}
 use Rattle.pieri_product.specs.Rows.{with_placings}
-use Rattle.std.proofs.lemmas.List.{take_more}
-use Rattle.pieri_product.proofs.RowTables.{terms_append, take_split, take_every}
+use Rattle.std.proofs.lemmas.List.{take_more, take_all}
+use Rattle.pieri_product.proofs.RowTables.{terms_append, take_split}
 use Rattle.pieri_product.proofs.complete.add_placings.Goals as goal
 
 -- a shape's term, with the lists of parts that the calls took
@@ -47,7 +47,7 @@ returns-in_default-clause-large c = λ large.
     (take_split c.args.shapes.now at shape (omega arith) c.shape-item.is)
     (subst (λ (z : ℤ). Overflows (pointwise nat_eq) c.loop-shape.sum ((shape, z) ∷ [])) is
     (overflows_alone nat_list_eq_equiv same_partition c.loop-shape.sum shape number
-    (c.in_default.ensures.none refl)))
+    c.in_default.ensures))
 
 pub returns-in_err-add_at_label-clause-large : goal.returns-in_err-add_at_label-clause-large
 returns-in_err-add_at_label-clause-large c = λ large.
@@ -55,7 +55,7 @@ returns-in_err-add_at_label-clause-large c = λ large.
     let shape = c.shape-item.result in
     let is = term c.args.label.now shape c.parts.result.now c.parts-in-loop-shape.result.now
     c.args.c c.in-Some.product c.parts.ensures.value c.parts-in-loop-shape.ensures.value
-    c.in-Some.ensures.some in
+    c.in-Some.ensures in
     pairs_overflow (λ shapes. scaled c.args.c (with_placings c.args.label.now shapes))
     (terms_append c.args.c c.args.label.now) (take at c.args.shapes.now) shape
     c.args.sum.now c.loop-shape.sum c.loop-shape.invariant (pointwise nat_eq)
@@ -70,7 +70,7 @@ loop-shape-preserved c =
     let shape = c.shape-item.result in
     let is = term c.args.label.now shape c.parts.result.now c.parts-in-loop-shape.result.now
     c.args.c c.in-Some.product c.parts.ensures.value c.parts-in-loop-shape.ensures.value
-    c.in-Some.ensures.some in
+    c.in-Some.ensures in
     pairs_gain (λ shapes. scaled c.args.c (with_placings c.args.label.now shapes))
     (terms_append c.args.c c.args.label.now) (take at c.args.shapes.now) shape
     c.args.sum.now c.loop-shape.sum c.loop-shape.invariant (take (at + 1) c.args.shapes.now)
@@ -83,4 +83,4 @@ pub returns-clause-gains : goal.returns-clause-gains
 returns-clause-gains c =
     subst (λ (l : List (List ℕ)). Gains c.args.sum.now
     (scaled c.args.c (with_placings c.args.label.now l)) c.loop-shape.sum)
-    (take_every c.args.shapes.now c.loop-shape.shape-index (omega arith)) c.loop-shape.invariant
+    (take_all c.loop-shape.shape-index c.args.shapes.now (omega arith)) c.loop-shape.invariant

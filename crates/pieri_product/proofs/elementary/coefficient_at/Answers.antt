@@ -1,12 +1,11 @@
-use Rattle.std.proofs.Common.{◌≡◌, ◌+◌, ◌<◌, length, get_or, suc, sym, ◌∙◌, ap, subst, arith, pos}
+use Rattle.std.proofs.Common.{◌≡◌, ℕ, suc, ◌+◌, ◌^◌, ◌<◌, pos, List, length, get_or, SomeIff}
+use Rattle.std.proofs.Common.{sym, ◌∙◌, ap, subst, arith}
 use Rattle.pieri_product.proofs.ColumnRows.{IsRow, IsCounted, so_far, counted-none, row_is}
 use Rattle.pieri_product.proofs.ColumnRows.{fraction, row_raised, row_kept, next_shorter, next_same}
 use Rattle.pieri_product.proofs.ColumnRows.{rises, at_end}
 use Rattle.pieri_product.proofs.elementary.coefficient_at.Goals.{then-row_at-row+in_ok-count}
 use Rattle.pieri_product.proofs.elementary.coefficient_at.Goals.{else-row_at-row, then-row_at-row-2}
 use Rattle.pieri_product.proofs.elementary.coefficient_at.Goals.{else-row_at-row-2}
-use Rattle.std.specs.Int.{w128}
-use mir.Facts.{to_z_pos}
 use Rattle.pieri_product.proofs.elementary.coefficient_at.Goals as goal
 
 pub loop-at-init : goal.loop-at-init
@@ -19,8 +18,7 @@ loop-at-preserved c =
     let inv = c.loop-at.invariant in
     let p = c.parts-shorter.ensures.limits.partition in
     let q = c.parts-rows.ensures.limits.partition in
-    let row = row_is c.args.outer.now c.parts-rows.result.now c.loop-at.at c.row_at-row.result
-    c.parts-rows.ensures.value c.row_at-row.ensures in
+    let row = ap (λ (l : List ℕ). get_or l c.loop-at.at 0) c.parts-rows.ensures.value in
     let inner = row_is c.args.inner.now c.parts-shorter.result.now c.loop-at.at c.row_at.result
     c.parts-shorter.ensures.value c.row_at.ensures in
     let on : suc c.loop-at.at ≡ c.loop-at.at + 1 = omega arith in
@@ -38,12 +36,10 @@ loop-at-preserved c =
       | then-row_at-row+in_ok-count w ↦
           let e = fraction μ ν p q c.requires c.loop-at.at c.loop-at.count c.loop-at.run
           c.loop-at.longer inv (omega (arith, row, inner, w.if-row_at-row.true)) in
-          let a = w.in_ok-count.ensures (so_far c.args.inner.now c.args.outer.now
-          (suc c.loop-at.at)) e in
+          let is = w.in_ok-count.ensures (so_far μ ν (suc c.loop-at.at)) e in
           rw (w.count-is, w.longer-is)
           (row_raised μ ν p q c.requires c.loop-at.at c.loop-at.count c.loop-at.run c.loop-at.longer
-          w.in_ok-count.count inv (omega (arith, row, inner, w.if-row_at-row.true)) a.0
-          (omega (arith, a.0, a.1)))
+          w.in_ok-count.count inv (omega (arith, row, inner, w.if-row_at-row.true)) is.1)
       | else-row_at-row w ↦
           rw (w.count-is, w.longer-is)
           (row_kept μ ν p q c.requires c.loop-at.at c.loop-at.count c.loop-at.run c.loop-at.longer
@@ -68,8 +64,7 @@ returns-in_err-count c = λ k e.
     let inv = c.loop-at.invariant in
     let p = c.parts-shorter.ensures.limits.partition in
     let q = c.parts-rows.ensures.limits.partition in
-    let row = row_is c.args.outer.now c.parts-rows.result.now c.loop-at.at c.row_at-row.result
-    c.parts-rows.ensures.value c.row_at-row.ensures in
+    let row = ap (λ (l : List ℕ). get_or l c.loop-at.at 0) c.parts-rows.ensures.value in
     let inner = row_is c.args.inner.now c.parts-shorter.result.now c.loop-at.at c.row_at.result
     c.parts-shorter.ensures.value c.row_at.ensures in
     let more : c.loop-at.at < length c.args.outer.now = omega (
@@ -84,14 +79,14 @@ returns-in_err-count c = λ k e.
     let r = rises μ ν p q c.requires (suc c.loop-at.at) (length c.args.outer.now)
     (omega (arith, more)) (omega arith) in
     let a = at_end μ ν p q c.requires k e in
-    rw c.from_residual.ensures (omega (arith, large, r, a))
+    rw c.from_residual.ensures (λ few. large (omega (arith, few, r, a)))
 
 pub returns : goal.returns
 returns c = λ k e.
-    let inv = c.loop-at.invariant in
     let last : c.loop-at.at ≡ length c.args.outer.now =
     omega (arith, ap length c.parts-rows.ensures.value) in
     let a = at_end c.args.inner.now c.args.outer.now c.parts-shorter.ensures.limits.partition
     c.parts-rows.ensures.limits.partition c.requires k e in
-    c.new.ensures ∙ to_z_pos w128 inv.small
-    ∙ ap pos (inv.count_is ∙ ap (so_far c.args.inner.now c.args.outer.now) last ∙ a)
+    let is = c.loop-at.invariant.count_is
+    ∙ ap (so_far c.args.inner.now c.args.outer.now) last ∙ a in
+    subst (λ n. SomeIff c.coefficient_of.result (n < 2 ^ 127) (pos n)) is c.coefficient_of.ensures

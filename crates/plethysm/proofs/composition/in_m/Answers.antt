@@ -4,7 +4,7 @@ use Rattle.sym_model.specs.Sum.{Among}
 use Rattle.sym_model.specs.Expansion.{Fraction}
 use Rattle.sym_model.specs.Polynomial.{Same}
 use Rattle.sym_model.specs.Weight.{factorial}
-use Rattle.sym_model.specs.WholeTerms.{numerators, combined}
+use Rattle.sym_model.specs.WholeTerms.{combined}
 use Rattle.monomial_laws.specs.ExpressionTerms.{in_monomials, over}
 use Rattle.monomial_laws.proofs.Growths.{factorial-positive}
 use Rattle.sparse_polys.specs.MonomialProducts.{greatest_size}
@@ -68,10 +68,10 @@ returns-in_err-sum-clause-large c err K b k h =
     c.in-Some.ensures.1 ∙ ap (λ f. c.args.bound.den * f) (c.factorial-factor.ensures ∙ ap factorial
     e) in
     past-weight c.args.bound.num c.args.bound.den (greatest_size c.args.outer.now) K b
-    c.in_ok-terms.terms (numerators c.args.inner.now)
+    c.in_ok-terms.terms c.args.inner.now
     c.requires.positive.0 c.requires.positive.1 k c.in_ok-terms.ensures.table
     (c.in_ok-terms.ensures.cleared tt) h
-    (subst (λ m. IsPastPath m (K * (b + 1)) b (numerators c.args.inner.now) c.in_ok-terms.terms) den
+    (subst (λ m. IsPastPath m (K * (b + 1)) b c.args.inner.now c.in_ok-terms.terms) den
     (c.in_err-sum.ensures.large (ap Err (error_is _ _ _ c.from_residual-in_err-sum.ensures.1 err))
     (K * (b + 1)) b h))
 
@@ -93,9 +93,8 @@ returns-clause-value c =
     in
     if_ok_both c.divided.result c.divided.ensures.value c.divided.ensures.table
     (λ list quotients table K b h.
-    plethysm-answer c.in-Some.den K b c.args.outer.now c.args.inner.now c.in_ok-terms.terms list
-    c.in_ok-sum.sum
-    (subst (λ m. 0 < m) (sym den) some) c.in_ok-terms.ensures.table table c.requires.natural
+    plethysm-answer c.in-Some.den K b c.args.outer.now c.in_ok-terms.terms list c.args.inner.now
+    c.in_ok-sum.sum (subst (λ m. 0 < m) (sym den) some) c.in_ok-terms.ensures.table table
     (subst (λ m. (t : List ℕ × Fraction) → Among t c.in_ok-terms.terms → m % t.1.1 ≡ 0) (sym den)
     (c.in_ok-terms.ensures.cleared tt).whole)
     h c.in_ok-sum.ensures.value quotients c.in_ok-terms.ensures.value)
@@ -103,7 +102,6 @@ returns-clause-value c =
 pub returns-clause-bounded : goal.returns-clause-bounded
 returns-clause-bounded c =
     let a = greatest_size c.args.outer.now in
-    let W = numerators c.args.inner.now in
     let e = greatest_is c.greatest_size-size.result c.args.outer.now
     c.greatest_size-size.ensures.within c.greatest_size-size.ensures.least in
     let den : c.in-Some.den ≡ c.args.bound.den * factorial (greatest_size c.args.outer.now) =
@@ -112,13 +110,13 @@ returns-clause-bounded c =
     if_ok_both c.divided.result c.divided.ensures.value c.divided.ensures.table
     (λ list quotients table K b h.
     finished c.args.bound.num c.args.bound.den a (factorial (greatest_size c.args.outer.now)) K b
-    c.args.outer.now c.in_ok-terms.terms list W c.in_ok-sum.sum
+    c.args.outer.now c.in_ok-terms.terms list c.args.inner.now c.in_ok-sum.sum
     c.requires.positive.1 (factorial-positive (greatest_size c.args.outer.now))
     c.greatest_size-size.ensures.table c.in_ok-terms.ensures.table table
     c.requires.bounded (λ t m. greatest_size-among c.args.outer.now t m)
     (c.in_ok-terms.ensures.cleared tt).whole h
     (subst (λ m. (n : ℕ) → Same (in_monomials c.in_ok-sum.sum n) (combined (λ label. power_sum_in
-    (numerators c.args.inner.now) label n) (over m c.in_ok-terms.terms))) den
+    c.args.inner.now label n) (over m c.in_ok-terms.terms))) den
     c.in_ok-sum.ensures.value)
     c.in_ok-terms.ensures.value
     (subst (λ m. Quotients m list c.in_ok-sum.sum) den quotients))

@@ -1,22 +1,22 @@
-use Rattle.std.proofs.Common.{◌*◌, ◌+◌, ap, ◌∙◌, sym, subst, arith, Err}
-use Rattle.sym_model.specs.Expansion.{Basis}
+use Rattle.std.proofs.Common.{◌*◌, ◌+◌, ℕ, List, length, ap, ◌∙◌, sym, subst, arith, Err}
+use Rattle.sym_model.specs.Expansion.{Basis, IsExpansionOf}
 use Rattle.sym_model.specs.ListWeight.{IsBounded}
-use Rattle.sym_model.specs.Plethysm.{plethysm, repeated_monomials}
-use Rattle.sym_model.specs.WholeTerms.{numerators}
+use Rattle.sym_model.specs.Plethysm.{plethysm, repeated_monomials, substitute}
 use Rattle.monomial_laws.specs.ExpressionTerms.{in_monomials}
 use Rattle.expression_reading.specs.Trees.{basis_of}
 use Rattle.sparse_polys.specs.MonomialProducts.{greatest_size}
-use Rattle.linear_combinations.proofs.Steps.{if_answered}
+use Rattle.linear_combinations.proofs.Steps.{if_answered, error_is}
 use Rattle.sparse_polys.proofs.Rows.{greatest_size-among}
-use Rattle.linear_combinations.proofs.Steps.{error_is}
 use Rattle.whole_lists.proofs.Bounds.{greatest-within}
 use Rattle.change_from_monomials.proofs.ClearedAnswers.{greatest_is}
 use Rattle.plethysm_laws.proofs.RepeatedMonomials.{repeated-places}
 use Rattle.plethysm_laws.proofs.PathWeights.{weight-finished, weight-number, weight-rises}
 use Rattle.plethysm.proofs.Constants.{constant-expansion}
 use Rattle.plethysm.proofs.FinishedNumbers.{finished_as, positive-bound, most_cells-ten}
-use Rattle.plethysm.proofs.InnerLists.{bounded_sum, inner-expansion}
+use Rattle.plethysm.proofs.InnerLists.{bounded_sum, inner-value, within-inner}
+use Rattle.plethysm.proofs.PlethysmAnswers.{repeated_same}
 use Rattle.plethysm.proofs.composition.plethysm.Goals as goal
+use native.Mathlib.Nat.{mul-le-mul_left}
 
 pub finished_number-requires : goal.finished_number-requires
 finished_number-requires c =
@@ -46,19 +46,24 @@ pub in_m-requires-clause-size : goal.in_m-requires-clause-size
 in_m-requires-clause-size c = omega (arith, c.requires.sizes.0)
 
 pub in_m-requires-clause-low : goal.in_m-requires-clause-low
-in_m-requires-clause-low c = omega (arith, c.requires.sizes.2)
+in_m-requires-clause-low c =
+    let w = greatest-within (greatest_size c.args.inner.now) c.in_ok-whole.whole
+    (within-inner c.args.inner.now c.in_ok-whole.whole c.in_ok-whole.ensures.value
+    c.greatest_size-b.ensures.table c.in_ok-whole.ensures.table) in
+    let p = mul-le-mul_left (greatest_size c.args.outer.now) w in
+    omega (arith, c.requires.sizes.2)
 
 pub returns-in_err-finished-clause-large : goal.returns-in_err-finished-clause-large
 returns-in_err-finished-clause-large c err a b v w =
     let x = greatest_size c.args.outer.now in
     let y = greatest_size c.args.inner.now in
     let h =
-    bounded_sum c.args.inner_bound.num y c.args.inner.now c.requires.positive.2
-    c.greatest_size-b.ensures.table c.requires.natural
-    (λ t m. greatest_size-among c.args.inner.now t m)
-    (subst (λ d. IsBounded c.args.inner_bound.num d c.args.inner.now) c.requires.whole
-    c.requires.inner) in
-    let l = c.in_err-finished.ensures.large (ap Err (error_is _ _ _ c.from_residual.ensures.1 err))
+    bounded_sum c.args.inner.now c.in_ok-whole.whole c.in_ok-whole.ensures.value
+    c.greatest_size-b.ensures.table c.in_ok-whole.ensures.table c.args.inner_bound.num
+    c.args.inner_bound.den y c.requires.positive.2 c.requires.whole c.requires.natural
+    (λ t m. greatest_size-among c.args.inner.now t m) c.requires.inner in
+    let l = c.in_err-finished.ensures.large
+    (ap Err (error_is _ _ _ c.from_residual-in_err-finished.ensures.1 err))
     c.args.inner_bound.num y c.requires.positive.2 h in
     let more =
     weight-rises c.args.outer_bound.num c.args.outer_bound.den x a c.args.inner_bound.num y b
@@ -74,11 +79,10 @@ to_basis-requires-clause-bounded c =
     c.greatest_size-b.ensures.least in
     let y = greatest_size c.args.inner.now in
     let h =
-    bounded_sum c.args.inner_bound.num y c.args.inner.now c.requires.positive.2
-    c.greatest_size-b.ensures.table c.requires.natural
-    (λ t m. greatest_size-among c.args.inner.now t m)
-    (subst (λ d. IsBounded c.args.inner_bound.num d c.args.inner.now) c.requires.whole
-    c.requires.inner) in
+    bounded_sum c.args.inner.now c.in_ok-whole.whole c.in_ok-whole.ensures.value
+    c.greatest_size-b.ensures.table c.in_ok-whole.ensures.table c.args.inner_bound.num
+    c.args.inner_bound.den y c.requires.positive.2 c.requires.whole c.requires.natural
+    (λ t m. greatest_size-among c.args.inner.now t m) c.requires.inner in
     subst (λ k. IsBounded k c.args.outer_bound.den c.in_ok-finished.finished)
     (sym (c.in-Some.ensures ∙ finished_as c.args.outer_bound.num c.args.inner_bound.num
     c.greatest_size-a.result (greatest_size c.args.outer.now) c.greatest_size-b.result
@@ -95,11 +99,10 @@ pub to_basis-requires-clause-sizes : goal.to_basis-requires-clause-sizes
 to_basis-requires-clause-sizes c t m =
     let y = greatest_size c.args.inner.now in
     let h =
-    bounded_sum c.args.inner_bound.num y c.args.inner.now c.requires.positive.2
-    c.greatest_size-b.ensures.table c.requires.natural
-    (λ t m. greatest_size-among c.args.inner.now t m)
-    (subst (λ d. IsBounded c.args.inner_bound.num d c.args.inner.now) c.requires.whole
-    c.requires.inner) in
+    bounded_sum c.args.inner.now c.in_ok-whole.whole c.in_ok-whole.ensures.value
+    c.greatest_size-b.ensures.table c.in_ok-whole.ensures.table c.args.inner_bound.num
+    c.args.inner_bound.den y c.requires.positive.2 c.requires.whole c.requires.natural
+    (λ t m. greatest_size-among c.args.inner.now t m) c.requires.inner in
     let s = (c.in_ok-finished.ensures.bounded (c.args.inner_bound.num * (y + 1)) y h).1 t m in
     let ten = most_cells-ten (basis_of c.args.target) in
     omega (arith, c.requires.sizes.2)
@@ -113,11 +116,10 @@ returns-clause-large c err a b v w =
     let x = greatest_size c.args.outer.now in
     let y = greatest_size c.args.inner.now in
     let h =
-    bounded_sum c.args.inner_bound.num y c.args.inner.now c.requires.positive.2
-    c.greatest_size-b.ensures.table c.requires.natural
-    (λ t m. greatest_size-among c.args.inner.now t m)
-    (subst (λ d. IsBounded c.args.inner_bound.num d c.args.inner.now) c.requires.whole
-    c.requires.inner) in
+    bounded_sum c.args.inner.now c.in_ok-whole.whole c.in_ok-whole.ensures.value
+    c.greatest_size-b.ensures.table c.in_ok-whole.ensures.table c.args.inner_bound.num
+    c.args.inner_bound.den y c.requires.positive.2 c.requires.whole c.requires.natural
+    (λ t m. greatest_size-among c.args.inner.now t m) c.requires.inner in
     let e =
     c.in-Some.ensures ∙ finished_as c.args.outer_bound.num c.args.inner_bound.num
     c.greatest_size-a.result (greatest_size c.args.outer.now) c.greatest_size-b.result
@@ -139,28 +141,32 @@ returns-clause-value c =
     if_answered c.to_basis.result c.to_basis.ensures.value
     (λ answer changed b w n f g q x y.
     let h =
-    bounded_sum c.args.inner_bound.num b c.args.inner.now c.requires.positive.2
-    c.greatest_size-b.ensures.table c.requires.natural w
-    (subst (λ d. IsBounded c.args.inner_bound.num d c.args.inner.now) c.requires.whole
-    c.requires.inner) in
-    changed n (plethysm f b n g) q (c.in_ok-finished.ensures.value
-    (c.args.inner_bound.num * (b + 1)) b h n f g q x y))
+    bounded_sum c.args.inner.now c.in_ok-whole.whole c.in_ok-whole.ensures.value
+    c.greatest_size-b.ensures.table c.in_ok-whole.ensures.table c.args.inner_bound.num
+    c.args.inner_bound.den b c.requires.positive.2 c.requires.whole c.requires.natural
+    w c.requires.inner in
+    let e =
+    inner-value c.args.inner.now c.in_ok-whole.whole c.in_ok-whole.ensures.value
+    (λ t m. (c.requires.natural t m).0) n g y in
+    changed n (plethysm f b n g) q
+    (subst (λ (γs : List (List ℕ)). IsExpansionOf Basis.monomials c.in_ok-finished.finished n
+    (substitute n γs (f (length γs))) q)
+    (sym (repeated_same b n g (in_monomials c.in_ok-whole.whole n) e))
+    (c.in_ok-finished.ensures.value (c.args.inner_bound.num * (b + 1)) b h n f q x)))
 
 pub returns-clause-constant : goal.returns-clause-constant
 returns-clause-constant c =
     if_answered c.to_basis.result c.to_basis.ensures.value
     (λ answer changed none n b q f g x.
-    let d = greatest_size c.args.inner.now in
+    let y = greatest_size c.args.inner.now in
     let h =
-    bounded_sum c.args.inner_bound.num d c.args.inner.now c.requires.positive.2
-    c.greatest_size-b.ensures.table c.requires.natural
-    (λ t m. greatest_size-among c.args.inner.now t m)
-    (subst (λ d. IsBounded c.args.inner_bound.num d c.args.inner.now) c.requires.whole
-    c.requires.inner) in
-    let own = in_monomials (numerators c.args.inner.now) n in
+    bounded_sum c.args.inner.now c.in_ok-whole.whole c.in_ok-whole.ensures.value
+    c.greatest_size-b.ensures.table c.in_ok-whole.ensures.table c.args.inner_bound.num
+    c.args.inner_bound.den y c.requires.positive.2 c.requires.whole c.requires.natural
+    (λ t m. greatest_size-among c.args.inner.now t m) c.requires.inner in
+    let own = in_monomials c.in_ok-whole.whole n in
     changed n (plethysm f b n g) q
     (constant-expansion c.args.outer.now f q c.greatest_size-a.ensures.table none x Basis.monomials
-    c.in_ok-finished.finished n (repeated_monomials d n own) (repeated_monomials b n g)
-    (repeated-places d n own) (repeated-places b n g)
-    (c.in_ok-finished.ensures.value (c.args.inner_bound.num * (d + 1)) d h n f own q x
-    (inner-expansion c.args.inner.now n (λ t m. (c.requires.natural t m).0)))))
+    c.in_ok-finished.finished n (repeated_monomials y n own) (repeated_monomials b n g)
+    (repeated-places y n own) (repeated-places b n g)
+    (c.in_ok-finished.ensures.value (c.args.inner_bound.num * (y + 1)) y h n f q x)))

@@ -1,11 +1,9 @@
 use Rattle.std.proofs.Common.{◌≡◌, ◌+◌, ◌-◌, ◌*◌, ◌<◌, ◌≤◌, List, ℕ, length, get_or, take, drop}
 use Rattle.std.proofs.Common.{sym, subst, ap, arith, Err}
 use Rattle.sym_model.specs.Partition.{ArePositive, size}
-use Rattle.sym_model.specs.WholeTerms.{numerators}
 use Rattle.sym_model.proofs.Parts.{split_first}
 use Rattle.sparse_polys.specs.MonomialProducts.{greatest_size}
-use Rattle.linear_combinations.proofs.Steps.{if_answered}
-use Rattle.linear_combinations.proofs.Steps.{error_is}
+use Rattle.linear_combinations.proofs.Steps.{if_answered, error_is}
 use Rattle.whole_lists.proofs.Bounds.{greatest-within}
 use Rattle.whole_lists.proofs.WholeLists.{Once-labels}
 use Rattle.plethysm.specs.PathSums.{IsProductPast}
@@ -27,8 +25,7 @@ split_size parts b h =
 pub returns-in_default-clause-value : goal.returns-in_default-clause-value
 returns-in_default-clause-value t c =
     if_answered c.single.result c.single.ensures.value
-    (λ list e. list-none (numerators c.args.inner.now) list c.args.parts.now
-    c.in_default.len_below e)
+    (λ list e. list-none c.args.inner.now list c.args.parts.now c.in_default.len_below e)
 
 pub returns-in_default-clause-labels : goal.returns-in_default-clause-labels
 returns-in_default-clause-labels t c =
@@ -61,7 +58,7 @@ dilated-requires-clause-low t c =
 pub returns-in_err-others-clause-large : goal.returns-in_err-others-clause-large
 returns-in_err-others-clause-large t c = λ large K b h.
     subst (IsProductPast K b) (split_first c.args.parts.now c.in-len1-up.len_at_least)
-    (large-later (numerators c.args.inner.now) K b h
+    (large-later c.args.inner.now K b h
     (get_or c.args.parts.now 0 0) (take (length c.args.parts.now - 1) (drop 1 c.args.parts.now))
     (c.in_err-others.ensures.large (ap Err (error_is _ _ _ c.from_residual.ensures.1 large)) K b h))
 
@@ -94,25 +91,23 @@ returns-clause-labels t c =
 
 pub returns-clause-value : goal.returns-clause-value
 returns-clause-value t c =
-    let W = numerators c.args.inner.now in
     let k = get_or c.args.parts.now 0 0 in
     let rest = take (length c.args.parts.now - 1) (drop 1 c.args.parts.now) in
     let p = split_positive c.args.parts.now c.in-len1-up.len_at_least c.requires.positive in
     if_answered c.times_whole_in_m.result c.times_whole_in_m.ensures.coefficients
-    (λ list e. list-more W k rest c.args.parts.now c.in_ok-first.first c.in_ok-others.others list
-    (split_first c.args.parts.now c.in-len1-up.len_at_least)
-    (list-dilated k W c.in_ok-first.first p.0 c.in_ok-first.ensures.value)
+    (λ list e. list-more c.args.inner.now k rest c.args.parts.now c.in_ok-first.first
+    c.in_ok-others.others list (split_first c.args.parts.now c.in-len1-up.len_at_least)
+    (list-dilated k c.args.inner.now c.in_ok-first.first p.0 c.in_ok-first.ensures.value)
     c.in_ok-others.ensures.value e)
 
 pub returns-clause-large : goal.returns-clause-large
 returns-clause-large t c = λ large K b h.
-    let W = numerators c.args.inner.now in
     let k = get_or c.args.parts.now 0 0 in
     let rest = take (length c.args.parts.now - 1) (drop 1 c.args.parts.now) in
     let p = split_positive c.args.parts.now c.in-len1-up.len_at_least c.requires.positive in
     subst (IsProductPast K b) (split_first c.args.parts.now c.in-len1-up.len_at_least)
-    (large-factor W K b h k rest c.in_ok-first.first c.in_ok-others.others p.0 p.1
+    (large-factor c.args.inner.now K b h k rest c.in_ok-first.first c.in_ok-others.others p.0 p.1
     (Once-labels c.in_ok-first.first c.in_ok-first.ensures.table)
     (Once-labels c.in_ok-others.others c.in_ok-others.ensures.table)
-    (list-dilated k W c.in_ok-first.first p.0 c.in_ok-first.ensures.value)
+    (list-dilated k c.args.inner.now c.in_ok-first.first p.0 c.in_ok-first.ensures.value)
     c.in_ok-others.ensures.value (c.times_whole_in_m.ensures.large large))

@@ -1,6 +1,5 @@
 use Rattle.std.proofs.Common.{◌≡◌, ◌++◌, map}
 use Rattle.std.specs.Map.Iter.{deref_pair}
-use Rattle.sym_model.specs.WholeTerms.{numerators}
 use Rattle.whole_lists.specs.Tables.{IsWholeTable}
 use Rattle.whole_lists.proofs.WholeLists.{Finds}
 use Rattle.plethysm_laws.specs.PowerSumPlethysm.{dilated}
@@ -9,7 +8,7 @@ use Rattle.plethysm.proofs.factors.dilated.Given as goal
 -- the table has the terms so far with every part times k, and they and the rest are all
 abbrev pub invariant-loop-label : goal.invariant-loop-label
 invariant-loop-label l = record {
-  finds : Finds l.list (dilated l.k (numerators (map deref_pair l.yielded)));
+  finds : Finds l.list (dilated l.k (map deref_pair l.yielded));
   table : IsWholeTable l.list;
   so_far : map deref_pair l.yielded ++ l.label-iterator ≡ l.initial.label-iterator;
 }

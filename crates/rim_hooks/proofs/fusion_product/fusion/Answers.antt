@@ -6,7 +6,8 @@ use Rattle.sym_model.specs.ReductionSteps.{IsReflectedInSteps}
 use Rattle.sym_model.specs.Target.{Meets}
 use Rattle.sym_model.specs.WholeTerms.{as_fractions}
 use Rattle.linear_combinations.proofs.Steps.{if_answered}
-use Rattle.rim_hooks.proofs.FusionSteps.{fusion_none, fusion_led, fusion_heavy, fusion_meets}
+use Rattle.product_laws.proofs.FusionSteps.{fusion_steps_answer}
+use Rattle.rim_hooks.proofs.FusionSteps.{fusion_none, fusion_led, fusion_heavy}
 use Rattle.rim_hooks.proofs.fusion_product.fusion.Goals as goal
 
 pub returns-then-has_long-clause-steps : goal.returns-then-has_long-clause-steps
@@ -32,7 +33,7 @@ returns-clause-meets c =
     let some = c.requires.variables.0 in
     let l = c.has_long.ensures.limits in
     if_answered c.product_in_steps.result c.product_in_steps.ensures.steps
-    (λ terms led. fusion_meets c.args.rows (c.args.rows + c.args.level) c.args.factors.now terms
+    (λ terms led. fusion_steps_answer c.args.rows c.args.level c.args.factors.now terms
     (omega arith) l.least l.small.partitions
     (fusion_led c.args.rows (c.args.rows + c.args.level) c.args.factors.now terms led))
 
@@ -47,7 +48,7 @@ returns-then-has_long-clause-meets c =
     if_answered c.no_terms.result c.no_terms.ensures.none
     (λ terms none. subst (λ ts. Meets (fusion c.args.rows c.args.level c.args.factors.now)
     (answer product (as_fractions ts))) (sym none)
-    (fusion_meets c.args.rows (c.args.rows + c.args.level) c.args.factors.now _ (omega arith)
+    (fusion_steps_answer c.args.rows c.args.level c.args.factors.now _ (omega arith)
     l.least l.small.partitions
     (fusion_none c.args.rows (c.args.rows + c.args.level) c.args.factors.now l.least
     l.small.partitions (c.has_long.ensures.long c.if-has_long.true))))

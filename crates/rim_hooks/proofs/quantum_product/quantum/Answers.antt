@@ -3,13 +3,12 @@ use Rattle.sym_model.specs.Answer.{answer}
 use Rattle.sym_model.specs.Command.{quantum}
 use Rattle.sym_model.specs.Kind.{powers}
 use Rattle.sym_model.specs.ReductionSteps.{IsReducedInSteps}
-use Rattle.sym_model.specs.Target.{Meets, classical_product, reduced_terms}
+use Rattle.sym_model.specs.Target.{Meets}
 use Rattle.sym_model.specs.WholeTerms.{as_fractions}
-use Rattle.linear_combinations.proofs.Found.{numerators-as_fractions}
 use Rattle.linear_combinations.proofs.Steps.{if_answered}
-use Rattle.reduction_laws.specs.AnyOrder.{HaveSameSums}
-use Rattle.reduction_laws.proofs.AnyReductions.{any_reductions}
-use Rattle.rim_hooks.proofs.QuantumSteps.{quantum_none, quantum_led, quantum_heavy, quantum_meets}
+use Rattle.product_laws.proofs.QuantumSteps.{quantum_steps_answer}
+use Rattle.reduction_laws.proofs.AnyReductions.{any_whole_reductions}
+use Rattle.rim_hooks.proofs.QuantumSteps.{quantum_none, quantum_led, quantum_heavy}
 use Rattle.rim_hooks.proofs.quantum_product.quantum.Goals as goal
 
 pub returns-then-has_long-clause-steps : goal.returns-then-has_long-clause-steps
@@ -29,7 +28,7 @@ returns-then-has_long-clause-meets c =
     if_answered c.no_terms.result c.no_terms.ensures.none
     (λ terms none. subst (λ ts. Meets (quantum c.args.rows c.args.cols c.args.factors.now)
     (answer powers (as_fractions ts))) (sym none)
-    (quantum_meets c.args.rows (c.args.rows + c.args.cols) c.args.factors.now _ (omega arith)
+    (quantum_steps_answer c.args.rows c.args.cols c.args.factors.now _ (omega arith)
     l.least l.small.partitions
     (quantum_none c.args.rows (c.args.rows + c.args.cols) c.args.factors.now (omega arith) l.least
     l.small.partitions (c.has_long.ensures.long c.if-has_long.true))))
@@ -48,7 +47,7 @@ returns-clause-meets c =
     let some = c.requires.variables.0 in
     let l = c.has_long.ensures.limits in
     if_answered c.product_in_steps.result c.product_in_steps.ensures.steps
-    (λ terms led. quantum_meets c.args.rows (c.args.rows + c.args.cols) c.args.factors.now terms
+    (λ terms led. quantum_steps_answer c.args.rows c.args.cols c.args.factors.now terms
     (omega arith) l.least l.small.partitions
     (quantum_led c.args.rows (c.args.rows + c.args.cols) c.args.factors.now terms led))
 
@@ -62,17 +61,13 @@ returns-then-has_long-clause-only c =
     let some = c.requires.variables.0 in
     if_answered c.no_terms.result (returns-then-has_long-clause-meets c)
     (λ terms meets reductions reduce.
-    subst (λ ts. HaveSameSums ts (reduced_terms (classical_product c.args.rows c.args.factors.now)
-    reductions)) (numerators-as_fractions terms)
-    (any_reductions c.args.rows (c.args.rows + c.args.cols) c.args.factors.now (as_fractions terms)
-    reductions (omega arith) reduce meets))
+    any_whole_reductions c.args.rows (c.args.rows + c.args.cols) c.args.factors.now terms
+    reductions (omega arith) reduce meets)
 
 pub returns-clause-only : goal.returns-clause-only
 returns-clause-only c =
     let some = c.requires.variables.0 in
     if_answered c.product_in_steps.result (returns-clause-meets c)
     (λ terms meets reductions reduce.
-    subst (λ ts. HaveSameSums ts (reduced_terms (classical_product c.args.rows c.args.factors.now)
-    reductions)) (numerators-as_fractions terms)
-    (any_reductions c.args.rows (c.args.rows + c.args.cols) c.args.factors.now (as_fractions terms)
-    reductions (omega arith) reduce meets))
+    any_whole_reductions c.args.rows (c.args.rows + c.args.cols) c.args.factors.now terms
+    reductions (omega arith) reduce meets)

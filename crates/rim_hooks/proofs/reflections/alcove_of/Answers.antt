@@ -12,13 +12,14 @@ window_start-requires-clause-few c =
     let a = c.requires.cells.0 in
     let b = c.requires.cells.1 in
     entries_few c.args.k c.args.shape.now c.as_slice.result.now c.requires.rows.1 (omega arith)
-    (c.as_slice.ensures ∙ c.in_ok-entries.ensures)
+    (c.as_slice.ensures ∙ c.in_ok-entries.ensures.value)
 
 pub returns-in_default-clause-value : goal.returns-in_default-clause-value
 returns-in_default-clause-value c =
     let a = c.requires.cells.0 in
     alcove_equal c.args.k c.args.n c.args.shape.now c.as_slice.result.now (omega arith)
-    c.requires.rows.0 c.size.ensures.limits (c.as_slice.ensures ∙ c.in_ok-entries.ensures)
+    c.requires.rows.0 c.in_ok-entries.ensures.limits
+    (c.as_slice.ensures ∙ c.in_ok-entries.ensures.value)
     c.in_default.ensures
 
 pub raised_entries-requires : goal.raised_entries-requires
@@ -28,7 +29,8 @@ raised_entries-requires c =
       omega arith,
       window_small c.args.k c.args.n c.in-Some.start c.args.shape.now
           c.as_slice.result.now (omega arith) b c.requires.rows.1 (omega arith) c.requires.rows.0
-          c.size.ensures.limits (c.as_slice.ensures ∙ c.in_ok-entries.ensures) c.in-Some.ensures,
+          c.in_ok-entries.ensures.limits
+          (c.as_slice.ensures ∙ c.in_ok-entries.ensures.value) c.in-Some.ensures,
     )
 
 pub from_beta-requires-clause-few : goal.from_beta-requires-clause-few
@@ -39,8 +41,8 @@ from_beta-requires-clause-few c =
     let s = subst (λ b. Sorts c.in_ok-sorted.sorted (map (up c.args.n c.in-Some.start) b)) same
     c.in_ok-sorted.ensures in
     let w = holds_window c.args.k c.args.n c.in-Some.start c.args.shape.now c.as_slice.result.now
-    c.as_slice-3.result.now c.in_ok-sorted.sorted (c.as_slice.ensures ∙ c.in_ok-entries.ensures)
-    c.in-Some.ensures s c.as_slice-3.ensures in
+    c.as_slice-3.result.now c.in_ok-sorted.sorted
+    (c.as_slice.ensures ∙ c.in_ok-entries.ensures.value) c.in-Some.ensures s c.as_slice-3.ensures in
     alcove_few c.args.k c.args.n c.in-Some.start c.args.shape.now c.as_slice.result.now
     c.as_slice-3.result.now c.in_ok-sorted.sorted.is_odd (omega arith) w
 
@@ -52,16 +54,16 @@ from_beta-requires-clause-limits c =
     let s = subst (λ b. Sorts c.in_ok-sorted.sorted (map (up c.args.n c.in-Some.start) b)) same
     c.in_ok-sorted.ensures in
     let w = holds_window c.args.k c.args.n c.in-Some.start c.args.shape.now c.as_slice.result.now
-    c.as_slice-3.result.now c.in_ok-sorted.sorted (c.as_slice.ensures ∙ c.in_ok-entries.ensures)
-    c.in-Some.ensures s c.as_slice-3.ensures in
+    c.as_slice-3.result.now c.in_ok-sorted.sorted
+    (c.as_slice.ensures ∙ c.in_ok-entries.ensures.value) c.in-Some.ensures s c.as_slice-3.ensures in
     alcove_limits c.args.k c.args.n c.in-Some.start c.args.shape.now c.as_slice.result.now
     c.as_slice-3.result.now c.in_ok-sorted.sorted.is_odd (omega arith) (omega arith)
-    c.requires.rows.0 c.size.ensures.limits w
+    c.requires.rows.0 c.in_ok-entries.ensures.limits w
 
 pub returns-in_default-clause-remainders : goal.returns-in_default-clause-remainders
 returns-in_default-clause-remainders c =
     ap (λ b. has_equal_entries (remainders c.args.n b))
-    (sym (c.as_slice.ensures ∙ c.in_ok-entries.ensures)) ∙ c.in_default.ensures
+    (sym (c.as_slice.ensures ∙ c.in_ok-entries.ensures.value)) ∙ c.in_default.ensures
 
 pub returns-clause-value : goal.returns-clause-value
 returns-clause-value c =
@@ -71,12 +73,12 @@ returns-clause-value c =
     let s = subst (λ b. Sorts c.in_ok-sorted.sorted (map (up c.args.n c.in-Some.start) b)) same
     c.in_ok-sorted.ensures in
     let w = holds_window c.args.k c.args.n c.in-Some.start c.args.shape.now c.as_slice.result.now
-    c.as_slice-3.result.now c.in_ok-sorted.sorted (c.as_slice.ensures ∙ c.in_ok-entries.ensures)
-    c.in-Some.ensures s c.as_slice-3.ensures in
+    c.as_slice-3.result.now c.in_ok-sorted.sorted
+    (c.as_slice.ensures ∙ c.in_ok-entries.ensures.value) c.in-Some.ensures s c.as_slice-3.ensures in
     alcove_some c.args.k c.args.n c.in-Some.start c.args.shape.now c.as_slice.result.now
     c.as_slice-3.result.now c.in_ok-end.end c.in_ok-sorted.sorted.is_odd
     (to_z w8 (of_z w8 c.sign.result))
-    (omega arith) c.requires.rows.0 c.size.ensures.limits w c.in_ok-end.ensures
+    (omega arith) c.requires.rows.0 c.in_ok-entries.ensures.limits w c.in_ok-end.ensures
     (ap (λ v. to_z w8 (of_z w8 v)) c.sign.ensures ∙ kept_sign c.in_ok-sorted.sorted.is_odd)
 
 pub returns-clause-remainders : goal.returns-clause-remainders
@@ -87,10 +89,10 @@ returns-clause-remainders c =
     let s = subst (λ b. Sorts c.in_ok-sorted.sorted (map (up c.args.n c.in-Some.start) b)) same
     c.in_ok-sorted.ensures in
     let w = holds_window c.args.k c.args.n c.in-Some.start c.args.shape.now c.as_slice.result.now
-    c.as_slice-3.result.now c.in_ok-sorted.sorted (c.as_slice.ensures ∙ c.in_ok-entries.ensures)
-    c.in-Some.ensures s c.as_slice-3.ensures in
+    c.as_slice-3.result.now c.in_ok-sorted.sorted
+    (c.as_slice.ensures ∙ c.in_ok-entries.ensures.value) c.in-Some.ensures s c.as_slice-3.ensures in
     alcove_told c.args.k c.args.n c.in-Some.start c.args.shape.now c.as_slice.result.now
     c.as_slice-3.result.now c.in_ok-end.end c.in_ok-sorted.sorted.is_odd
     (to_z w8 (of_z w8 c.sign.result))
-    (omega arith) c.size.ensures.limits w c.in_ok-end.ensures
+    (omega arith) c.in_ok-entries.ensures.limits w c.in_ok-end.ensures
     (ap (λ v. to_z w8 (of_z w8 v)) c.sign.ensures ∙ kept_sign c.in_ok-sorted.sorted.is_odd)

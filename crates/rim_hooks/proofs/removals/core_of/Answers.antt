@@ -10,13 +10,13 @@ use Rattle.rim_hooks.proofs.removals.core_of.Goals as goal
 pub lowest_entries-requires-clause-strict : goal.lowest_entries-requires-clause-strict
 lowest_entries-requires-clause-strict c =
     entries_strict c.args.k c.args.shape.now c.as_slice.result.now c.size-cells.ensures.limits
-    (c.as_slice.ensures ∙ c.in_ok-entries.ensures)
+    (c.as_slice.ensures ∙ c.in_ok-entries.ensures.value)
 
 pub from_beta-requires-clause-few : goal.from_beta-requires-clause-few
 from_beta-requires-clause-few c =
     let w = holds c.args.k c.args.n c.args.shape.now c.as_slice.result.now c.as_slice-2.result.now
-    c.in_ok-lowest.lowest (c.as_slice.ensures ∙ c.in_ok-entries.ensures) c.in_ok-lowest.ensures
-    c.as_slice-2.ensures in
+    c.in_ok-lowest.lowest (c.as_slice.ensures ∙ c.in_ok-entries.ensures.value)
+    c.in_ok-lowest.ensures c.as_slice-2.ensures in
     let a = c.requires.cells.0 in
     let b = c.requires.cells.1 in
     core_few c.args.k c.args.n c.args.shape.now c.as_slice-2.result.now c.in_ok-lowest.lowest.is_odd
@@ -25,8 +25,8 @@ from_beta-requires-clause-few c =
 pub from_beta-requires-clause-limits : goal.from_beta-requires-clause-limits
 from_beta-requires-clause-limits c =
     let w = holds c.args.k c.args.n c.args.shape.now c.as_slice.result.now c.as_slice-2.result.now
-    c.in_ok-lowest.lowest (c.as_slice.ensures ∙ c.in_ok-entries.ensures) c.in_ok-lowest.ensures
-    c.as_slice-2.ensures in
+    c.in_ok-lowest.lowest (c.as_slice.ensures ∙ c.in_ok-entries.ensures.value)
+    c.in_ok-lowest.ensures c.as_slice-2.ensures in
     let a = c.requires.cells.0 in
     let b = c.requires.cells.1 in
     core_limits c.args.k c.args.n c.args.shape.now c.as_slice-2.result.now
@@ -36,8 +36,8 @@ from_beta-requires-clause-limits c =
 pub returns-then-from-clause-reduces : goal.returns-then-from-clause-reduces
 returns-then-from-clause-reduces c =
     let w = holds c.args.k c.args.n c.args.shape.now c.as_slice.result.now c.as_slice-2.result.now
-    c.in_ok-lowest.lowest (c.as_slice.ensures ∙ c.in_ok-entries.ensures) c.in_ok-lowest.ensures
-    c.as_slice-2.ensures in
+    c.in_ok-lowest.lowest (c.as_slice.ensures ∙ c.in_ok-entries.ensures.value)
+    c.in_ok-lowest.ensures c.as_slice-2.ensures in
     let a = c.requires.cells.0 in
     let p = c.part.ensures.value in
     let x = c.from.ensures in
@@ -52,8 +52,8 @@ returns-then-from-clause-reduces c =
 pub returns-then-from-clause-only : goal.returns-then-from-clause-only
 returns-then-from-clause-only c =
     let w = holds c.args.k c.args.n c.args.shape.now c.as_slice.result.now c.as_slice-2.result.now
-    c.in_ok-lowest.lowest (c.as_slice.ensures ∙ c.in_ok-entries.ensures) c.in_ok-lowest.ensures
-    c.as_slice-2.ensures in
+    c.in_ok-lowest.lowest (c.as_slice.ensures ∙ c.in_ok-entries.ensures.value)
+    c.in_ok-lowest.ensures c.as_slice-2.ensures in
     let a = c.requires.cells.0 in
     let p = c.part.ensures.value in
     let x = c.from.ensures in
@@ -67,8 +67,8 @@ returns-then-from-clause-only c =
 pub overflow_sub-power : goal.overflow_sub-power
 overflow_sub-power c =
     let w = holds c.args.k c.args.n c.args.shape.now c.as_slice.result.now c.as_slice-2.result.now
-    c.in_ok-lowest.lowest (c.as_slice.ensures ∙ c.in_ok-entries.ensures) c.in_ok-lowest.ensures
-    c.as_slice-2.ensures in
+    c.in_ok-lowest.lowest (c.as_slice.ensures ∙ c.in_ok-entries.ensures.value)
+    c.in_ok-lowest.ensures c.as_slice-2.ensures in
     let a = c.requires.cells.0 in
     let x = c.size-cells.ensures.value in
     let y = c.size.ensures.value in
@@ -80,8 +80,8 @@ overflow_sub-power c =
 pub returns-clause-reduces : goal.returns-clause-reduces
 returns-clause-reduces c =
     let w = holds c.args.k c.args.n c.args.shape.now c.as_slice.result.now c.as_slice-2.result.now
-    c.in_ok-lowest.lowest (c.as_slice.ensures ∙ c.in_ok-entries.ensures) c.in_ok-lowest.ensures
-    c.as_slice-2.ensures in
+    c.in_ok-lowest.lowest (c.as_slice.ensures ∙ c.in_ok-entries.ensures.value)
+    c.in_ok-lowest.ensures c.as_slice-2.ensures in
     let a = c.requires.cells.0 in
     let p = c.part.ensures.value in
     let x = c.from.ensures in
@@ -106,8 +106,8 @@ returns-clause-reduces c =
 pub returns-clause-only : goal.returns-clause-only
 returns-clause-only c =
     let w = holds c.args.k c.args.n c.args.shape.now c.as_slice.result.now c.as_slice-2.result.now
-    c.in_ok-lowest.lowest (c.as_slice.ensures ∙ c.in_ok-entries.ensures) c.in_ok-lowest.ensures
-    c.as_slice-2.ensures in
+    c.in_ok-lowest.lowest (c.as_slice.ensures ∙ c.in_ok-entries.ensures.value)
+    c.in_ok-lowest.ensures c.as_slice-2.ensures in
     let a = c.requires.cells.0 in
     let p = c.part.ensures.value in
     let x = c.from.ensures in
@@ -132,8 +132,8 @@ returns-clause-only c =
 pub returns-then-from-clause-remainders : goal.returns-then-from-clause-remainders
 returns-then-from-clause-remainders c =
     let w = holds c.args.k c.args.n c.args.shape.now c.as_slice.result.now c.as_slice-2.result.now
-    c.in_ok-lowest.lowest (c.as_slice.ensures ∙ c.in_ok-entries.ensures) c.in_ok-lowest.ensures
-    c.as_slice-2.ensures in
+    c.in_ok-lowest.lowest (c.as_slice.ensures ∙ c.in_ok-entries.ensures.value)
+    c.in_ok-lowest.ensures c.as_slice-2.ensures in
     let a = c.requires.cells.0 in
     let p = c.part.ensures.value in
     let x = c.from.ensures in
@@ -147,8 +147,8 @@ returns-then-from-clause-remainders c =
 pub returns-clause-remainders : goal.returns-clause-remainders
 returns-clause-remainders c =
     let w = holds c.args.k c.args.n c.args.shape.now c.as_slice.result.now c.as_slice-2.result.now
-    c.in_ok-lowest.lowest (c.as_slice.ensures ∙ c.in_ok-entries.ensures) c.in_ok-lowest.ensures
-    c.as_slice-2.ensures in
+    c.in_ok-lowest.lowest (c.as_slice.ensures ∙ c.in_ok-entries.ensures.value)
+    c.in_ok-lowest.ensures c.as_slice-2.ensures in
     let a = c.requires.cells.0 in
     let p = c.part.ensures.value in
     let x = c.from.ensures in

@@ -17,8 +17,8 @@ use Rattle.rim_hooks.proofs.ReducedProducts.{few_at, room_next, gains_first, hea
 use Rattle.rim_hooks.proofs.ReducedProducts.{leads_sorted}
 use Rattle.rim_hooks.proofs.steps.product_in_steps.Goals as goal
 
-pub add_product-requires-clause-cells : goal.add_product-requires-clause-cells
-add_product-requires-clause-cells g c =
+pub add_reduced_product-requires-clause-cells : goal.add_reduced_product-requires-clause-cells
+add_reduced_product-requires-clause-cells g c =
     let first = c.factor_at.result.now in
     let e = first_two c.args.factors.now first c.factor_at-2.result.now c.factor_at.ensures
     c.factor_at-2.ensures in
@@ -27,8 +27,8 @@ add_product-requires-clause-cells g c =
     let s = ap g.R.Reduction.cells c.in_ok-start.ensures ∙ (g.met.R.Reduction.start_is first).1 in
     omega arith
 
-pub add_product-requires-clause-few : goal.add_product-requires-clause-few
-add_product-requires-clause-few g c =
+pub add_reduced_product-requires-clause-few : goal.add_reduced_product-requires-clause-few
+add_reduced_product-requires-clause-few g c =
     let first = c.factor_at.result.now in
     let k = g.R.Reduction.variables c.args.rule.now in
     let s = ap g.R.Reduction.shape c.in_ok-start.ensures ∙ (g.met.R.Reduction.start_is first).0 in (
@@ -38,16 +38,18 @@ add_product-requires-clause-few g c =
           c.factor_at-2.ensures c.requires.few,
     )
 
-pub add_product-requires-clause-nonzero : goal.add_product-requires-clause-nonzero
-add_product-requires-clause-nonzero g c = let e = ap nat_abs c.one.ensures.one in omega arith
+pub add_reduced_product-requires-clause-nonzero : goal.add_reduced_product-requires-clause-nonzero
+add_reduced_product-requires-clause-nonzero g c =
+    let e = ap nat_abs c.one.ensures.one in omega arith
 
-pub add_product-requires-clause-table : goal.add_product-requires-clause-table
-add_product-requires-clause-table g c =
+pub add_reduced_product-requires-clause-table : goal.add_reduced_product-requires-clause-table
+add_reduced_product-requires-clause-table g c =
     subst (IsCombination g.L.PartialEq.eq g.L.Label.is_label whole) (sym c.new-terms.ensures)
     (IsCombination-empty g.L.PartialEq.eq g.L.Label.is_label whole)
 
-pub returns-in_err-add_product-clause-large : goal.returns-in_err-add_product-clause-large
-returns-in_err-add_product-clause-large g c err =
+pub returns-in_err-add_reduced_product-clause-large
+    : goal.returns-in_err-add_reduced_product-clause-large
+returns-in_err-add_reduced_product-clause-large g c err =
     let first = c.factor_at.result.now in
     let second = c.factor_at-2.result.now in
     let k = g.R.Reduction.variables c.args.rule.now in
@@ -58,8 +60,8 @@ returns-in_err-add_product-clause-large g c err =
     let o = subst (λ old. OverflowsWithin g.L.PartialEq.eq old
     (nat_abs c.one.result * classical_weight k (shape c.in_ok-start.start ∷ second ∷ [])))
     c.new-terms.ensures
-    (c.in_err-add_product.ensures.large
-    (ap Err (error_is _ _ _ c.from_residual-in_err-add_product.ensures.1 err))) in
+    (c.in_err-add_reduced_product.ensures.large
+    (ap Err (error_is _ _ _ c.from_residual-in_err-add_reduced_product.ensures.1 err))) in
     let heavy = subst (λ l. 2 ^ 127 ≤ step_weight shape k second ((l, pos 1) ∷ []))
     c.in_ok-start.ensures
     (heavy_first k shape (g.R.Reduction.reduced c.args.rule.now) c.in_ok-start.start second
@@ -83,15 +85,17 @@ loop-at-init g c =
     let start = g.R.Reduction.start in
     let rest = drop 2 c.args.factors.now in
     let e = first_two c.args.factors.now first second c.factor_at.ensures c.factor_at-2.ensures in
-    let table = c.in_ok-add_product.ensures.table in
+    let table = c.in_ok-add_reduced_product.ensures.table in
     let gains = subst (λ l. Gains [] (multiplied k shape reduced second ((l, pos 1) ∷ []))
-    c.add_product.new.sums) c.in_ok-start.ensures
+    c.add_reduced_product.new.sums) c.in_ok-start.ensures
     (gains_first k shape reduced c.in_ok-start.start second c.one.result c.one.ensures.one
-    c.add_product.new.sums
+    c.add_reduced_product.new.sums
     (subst (λ old. Gains old
     (scaled c.one.result (products k shape reduced second c.in_ok-start.start))
-    c.add_product.new.sums) c.new-terms.ensures c.in_ok-add_product.ensures.gains)) in
-    let made = g.met.R.Reduction.made rule second ((start first, pos 1) ∷ []) c.add_product.new.sums
+    c.add_reduced_product.new.sums) c.new-terms.ensures
+    c.in_ok-add_reduced_product.ensures.gains)) in
+    let made = g.met.R.Reduction.made rule second ((start first, pos 1) ∷ [])
+    c.add_reduced_product.new.sums
     c.requires.rule table gains in
     let is = g.met.R.Reduction.start_is first in
     let cells = ap cells_of e in
@@ -113,15 +117,16 @@ loop-at-init g c =
       room = room_next k shape reduced (g.met.R.Reduction.light rule) g.R.Reduction.cells
           (λ l μ. g.met.R.Reduction.room rule l μ c.requires.rule) g.met.L.Eq.laws
           g.met.L.Label.same_label
-          second (cells_of rest) ((start first, pos 1) ∷ []) c.add_product.new.sums single gains
+          second (cells_of rest) ((start first, pos 1) ∷ []) c.add_reduced_product.new.sums
+          single gains
           table;
       leads = λ last lead. subst (λ f. LeadsTo step start f last) (sym e) (
-        c.add_product.new.sums,
+        c.add_reduced_product.new.sums,
         made,
         lead,
       );
       heavy = λ h. subst (λ f. IsHeavyFrom shape step start k f) (sym e)
-          (h.0, inr (c.add_product.new.sums, made, h.1), h.2);
+          (h.0, inr (c.add_reduced_product.new.sums, made, h.1), h.2);
     }
 
 pub times_factor-requires-clause-room : goal.times_factor-requires-clause-room

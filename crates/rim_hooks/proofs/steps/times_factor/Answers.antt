@@ -1,4 +1,4 @@
-use Rattle.std.proofs.Common.{◌≡◌, ◌+◌, [], ◌∷◌, ◌++◌, append-nil, map, refl, sym, ap, subst, ◌∙◌}
+use Rattle.std.proofs.Common.{◌≡◌, [], ◌∷◌, ◌++◌, append-nil, map, refl, sym, ap, subst, ◌∙◌}
 use Rattle.std.specs.Prelude.{Err}
 use Rattle.std.specs.Map.Iter.{deref_pair}
 use Rattle.std.proofs.lemmas.List.{map-append}
@@ -21,8 +21,8 @@ loop-label-init g c = record {
   so_far = refl;
 }
 
-pub add_product-requires-clause-cells : goal.add_product-requires-clause-cells
-add_product-requires-clause-cells g c =
+pub add_reduced_product-requires-clause-cells : goal.add_reduced_product-requires-clause-cells
+add_reduced_product-requires-clause-cells g c =
     let done = map deref_pair c.loop-label.yielded in
     let all = all_pairs done c.next.new.self c.loop-label.label-iterator _ _ c.args.terms.now
     (c.in-Some.label.now, c.in-Some.c.now) c.in-Some.ensures.steps c.loop-label.invariant.so_far
@@ -31,8 +31,8 @@ add_product-requires-clause-cells g c =
     (subst (λ l. Among (c.in-Some.label.now, c.in-Some.c.now) l) all
     (next_among done (c.in-Some.label.now, c.in-Some.c.now) c.next.new.self))).1
 
-pub add_product-requires-clause-few : goal.add_product-requires-clause-few
-add_product-requires-clause-few g c =
+pub add_reduced_product-requires-clause-few : goal.add_reduced_product-requires-clause-few
+add_reduced_product-requires-clause-few g c =
     let done = map deref_pair c.loop-label.yielded in
     let all = all_pairs done c.next.new.self c.loop-label.label-iterator _ _ c.args.terms.now
     (c.in-Some.label.now, c.in-Some.c.now) c.in-Some.ensures.steps c.loop-label.invariant.so_far
@@ -43,8 +43,8 @@ add_product-requires-clause-few g c =
       c.requires.few,
     )
 
-pub add_product-requires-clause-nonzero : goal.add_product-requires-clause-nonzero
-add_product-requires-clause-nonzero g c =
+pub add_reduced_product-requires-clause-nonzero : goal.add_reduced_product-requires-clause-nonzero
+add_reduced_product-requires-clause-nonzero g c =
     let done = map deref_pair c.loop-label.yielded in
     let all = all_pairs done c.next.new.self c.loop-label.label-iterator _ _ c.args.terms.now
     (c.in-Some.label.now, c.in-Some.c.now) c.in-Some.ensures.steps c.loop-label.invariant.so_far
@@ -66,18 +66,19 @@ loop-label-preserved g c =
       gains = pairs_gain (multiplied (g.R.Reduction.variables c.args.rule.now) g.R.Reduction.shape
           (g.R.Reduction.reduced c.args.rule.now) c.args.factor.now) (replaced_append image)
           done (c.in-Some.label.now, c.in-Some.c.now) [] c.loop-label.sums
-          c.loop-label.invariant.gains _ c.add_product.new.sums pushed
-          (subst (λ l. Gains c.loop-label.sums l c.add_product.new.sums)
+          c.loop-label.invariant.gains _ c.add_reduced_product.new.sums pushed
+          (subst (λ l. Gains c.loop-label.sums l c.add_reduced_product.new.sums)
           (sym (append-nil (scaled c.in-Some.c.now (image c.in-Some.label.now))))
-          c.in_ok-add_product.ensures.gains);
-      table = c.in_ok-add_product.ensures.table;
+          c.in_ok-add_reduced_product.ensures.gains);
+      table = c.in_ok-add_reduced_product.ensures.table;
       so_far = so_far_next done c.next.new.self c.loop-label.label-iterator _ _
           (c.in-Some.label.now, c.in-Some.c.now) pushed c.in-Some.ensures.steps
           c.loop-label.invariant.so_far;
     }
 
-pub returns-in_err-add_product-clause-large : goal.returns-in_err-add_product-clause-large
-returns-in_err-add_product-clause-large g c err =
+pub returns-in_err-add_reduced_product-clause-large
+    : goal.returns-in_err-add_reduced_product-clause-large
+returns-in_err-add_reduced_product-clause-large g c err =
     let done = map deref_pair c.loop-label.yielded in
     let all = all_pairs done c.next.new.self c.loop-label.label-iterator _ _ c.args.terms.now
     (c.in-Some.label.now, c.in-Some.c.now) c.in-Some.ensures.steps c.loop-label.invariant.so_far
@@ -87,7 +88,8 @@ returns-in_err-add_product-clause-large g c err =
     g.L.PartialEq.eq c.args.factor.now done
     (c.in-Some.label.now, c.in-Some.c.now) c.next.new.self c.args.terms.now c.loop-label.sums all
     c.loop-label.invariant.gains
-    (c.in_err-add_product.ensures.large (ap Err (error_is _ _ _ c.from_residual.ensures.1 err)))
+    (c.in_err-add_reduced_product.ensures.large
+    (ap Err (error_is _ _ _ c.from_residual.ensures.1 err)))
 
 pub returns-clause-gains : goal.returns-clause-gains
 returns-clause-gains g c =

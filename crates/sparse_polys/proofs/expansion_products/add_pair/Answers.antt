@@ -2,6 +2,8 @@ use Rattle.std.proofs.Common.{◌≡◌, ℕ, ◌+◌, ◌*◌, ◌^◌, ◌<◌
 use Rattle.std.proofs.Common.{subst, arith, ◌*ℤ◌, sym}
 use Rattle.std.specs.Prelude.{Err}
 use Rattle.std.proofs.lemmas.List.{take_all}
+use Rattle.std.specs.Prelude.{nat_eq}
+use Rattle.std.specs.Cmp.Lexicographic.{pointwise}
 use Rattle.sym_model.specs.Canonical.{is_label}
 use Rattle.sym_model.specs.Partition.{IsPartition, size}
 use Rattle.sym_model.proofs.SortedParts.{rows_within_size}
@@ -9,12 +11,13 @@ use Rattle.coeff_rings.specs.Fractions.{scaled}
 use Rattle.linear_combinations.specs.Gains.{scaled as multiple}
 use Rattle.sparse_polys.proofs.Steps.{error_is}
 use Rattle.monomial_laws.specs.MonomialProduct.{arrangements}
+use Rattle.sparse_polys.specs.Combination.{terms_of}
 use Rattle.sparse_polys.specs.declared.search.Counted.{Counted}
 use Rattle.sparse_polys.specs.Search.{AreCounted}
 use Rattle.sparse_polys.specs.MonomialProducts.{product_terms, AreSmall}
-use Rattle.sparse_polys.specs.Products.{GainsCleared, OverflowsCleared}
+use Rattle.linear_combinations.specs.Cleared.{GainsCleared, OverflowsCleared}
 use Rattle.sparse_polys.proofs.Accumulating.{Overflows-many}
-use Rattle.sparse_polys.proofs.ClearedSums.{Gains-none, Gains-next, Overflows-next}
+use Rattle.linear_combinations.proofs.Cleared.{Gains-none, Gains-next, Overflows-next}
 use Rattle.sparse_polys.proofs.ExactCounts.{among_at, all_among}
 use Rattle.sparse_polys.proofs.ProductLists.{counted_terms, counted_pieces, counted_gains}
 use Rattle.sparse_polys.proofs.ProductLists.{counted_overflows, take_here, take_rest}
@@ -34,7 +37,8 @@ exact_product-requires g c =
 
 pub returns-in_err-terms-clause-large : goal.returns-in_err-terms-clause-large
 returns-in_err-terms-clause-large g c err d e h small a b cleared =
-    Overflows-many d e (g.R.Scalar.value c.args.left) (g.R.Scalar.value c.args.right) c.args.sum.now
+    Overflows-many d e (g.R.Scalar.value c.args.left) (g.R.Scalar.value c.args.right)
+    (terms_of g.R.Scalar.value c.args.sum.now)
     c.args.label.now c.args.other.now a b
     (subst (λ l. (ν : List ℕ) × IsPartition ν × (2 ^ 127 ≤ arrangements l c.args.other.now ν))
     c.parts.ensures.value
@@ -43,7 +47,8 @@ returns-in_err-terms-clause-large g c err d e h small a b cleared =
     (c.in_err-terms.ensures.large (ap Err (error_is _ _ _ c.from_residual.ensures.1 err)))))
 
 pub loop-term-init : goal.loop-term-init
-loop-term-init g c d e h cleared = Gains-none (d * e) c.args.sum.now cleared
+loop-term-init g c d e h cleared =
+    Gains-none (d * e) (terms_of g.R.Scalar.value c.args.sum.now) cleared
 
 pub add_count-requires : goal.add_count-requires
 add_count-requires g c =
@@ -82,7 +87,8 @@ loop-term-preserved g c d e h cleared =
     let t = c.term-item.result in
     let before = c.loop-term.invariant d e h cleared in
     Gains-next (λ xs. multiple z (counted_terms xs)) (counted_pieces z) (d * e) (take i entries) t
-    c.args.sum.now c.loop-term.sum before (take (i + 1) entries) c.add_count.new.sum
+    (terms_of g.R.Scalar.value c.args.sum.now) (terms_of g.R.Scalar.value c.loop-term.sum) before
+    (take (i + 1) entries) (terms_of g.R.Scalar.value c.add_count.new.sum)
     (take_here entries i t c.loop-term-test.true c.term-item.is)
     (c.in_ok-add_count.ensures.ok d e h before.cleared)
 
@@ -95,17 +101,23 @@ returns-in_err-add_count-clause-large g c err d e h small a b cleared =
     let before = c.loop-term.invariant d e h cleared in
     let over =
     Overflows-next (λ xs. multiple z (counted_terms xs)) (counted_pieces z) (d * e) (take i entries)
-    t c.args.sum.now c.loop-term.sum before (drop (suc i) entries)
+    t (terms_of g.R.Scalar.value c.args.sum.now) (terms_of g.R.Scalar.value c.loop-term.sum) before
+    (drop (suc i) entries)
     (c.in_err-add_count.ensures.large
     (ap Err (error_is _ _ _ c.from_residual-in_err-add_count.ensures.1 err)) d e h small
     before.cleared) in
-    subst (λ l. OverflowsCleared (d * e) c.args.sum.now
+    subst (λ l. OverflowsCleared (pointwise nat_eq) (d * e)
+    (terms_of g.R.Scalar.value c.args.sum.now)
     (multiple z (product_terms l c.args.other.now))) c.parts.ensures.value
-    (subst (λ r. OverflowsCleared (d * e) c.args.sum.now
+    (subst (λ r. OverflowsCleared (pointwise nat_eq) (d * e)
+    (terms_of g.R.Scalar.value c.args.sum.now)
     (multiple z (product_terms c.parts.result.now r))) c.parts-2.ensures.value
     (counted_overflows c.parts.result.now c.parts-2.result.now c.in_ok-terms.terms.items
-    c.in_ok-terms.ensures.labels c.in_ok-terms.ensures.counts z (d * e) c.args.sum.now
-    (subst (λ l. OverflowsCleared (d * e) c.args.sum.now (multiple z (counted_terms l)))
+    c.in_ok-terms.ensures.labels c.in_ok-terms.ensures.counts z (d * e)
+    (terms_of g.R.Scalar.value c.args.sum.now)
+    (subst (λ l. OverflowsCleared (pointwise nat_eq) (d * e)
+    (terms_of g.R.Scalar.value c.args.sum.now)
+    (multiple z (counted_terms l)))
     (take_rest entries i t c.loop-term-test.true c.term-item.is
     ∙ c.as_slice-entries.ensures.value) over)))
 
@@ -114,14 +126,21 @@ returns-clause-ok g c d e h cleared =
     let z = scaled d (g.R.Scalar.value c.args.left) *ℤ scaled e (g.R.Scalar.value c.args.right) in
     let entries = c.as_slice-entries.result.now in
     let i = c.loop-term.term-index in
-    subst (λ l. GainsCleared is_label (d * e) c.args.sum.now
-    (multiple z (product_terms l c.args.other.now)) c.loop-term.sum) c.parts.ensures.value
-    (subst (λ r. GainsCleared is_label (d * e) c.args.sum.now
-    (multiple z (product_terms c.parts.result.now r)) c.loop-term.sum) c.parts-2.ensures.value
+    subst (λ l. GainsCleared (pointwise nat_eq) is_label (d * e)
+    (terms_of g.R.Scalar.value c.args.sum.now)
+    (multiple z (product_terms l c.args.other.now)) (terms_of g.R.Scalar.value c.loop-term.sum))
+    c.parts.ensures.value
+    (subst (λ r. GainsCleared (pointwise nat_eq) is_label (d * e)
+    (terms_of g.R.Scalar.value c.args.sum.now)
+    (multiple z (product_terms c.parts.result.now r)) (terms_of g.R.Scalar.value c.loop-term.sum))
+    c.parts-2.ensures.value
     (counted_gains c.parts.result.now c.parts-2.result.now c.in_ok-terms.terms.items
-    c.in_ok-terms.ensures.labels c.in_ok-terms.ensures.counts z (d * e) c.args.sum.now
-    c.loop-term.sum
-    (subst (λ l. GainsCleared is_label (d * e) c.args.sum.now (multiple z (counted_terms l))
-    c.loop-term.sum) (take_all i entries c.loop-term-test.false
+    c.in_ok-terms.ensures.labels c.in_ok-terms.ensures.counts z (d * e)
+    (terms_of g.R.Scalar.value c.args.sum.now)
+    (terms_of g.R.Scalar.value c.loop-term.sum)
+    (subst (λ l. GainsCleared (pointwise nat_eq) is_label (d * e)
+    (terms_of g.R.Scalar.value c.args.sum.now)
+    (multiple z (counted_terms l))
+    (terms_of g.R.Scalar.value c.loop-term.sum)) (take_all i entries c.loop-term-test.false
     ∙ c.as_slice-entries.ensures.value)
     (c.loop-term.invariant d e h cleared))))

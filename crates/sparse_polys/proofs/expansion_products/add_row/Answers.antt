@@ -11,11 +11,13 @@ use Rattle.monomial_laws.specs.ExpressionTerms.{over}
 use Rattle.linear_combinations.specs.Gains.{replaced, scaled as multiple}
 use Rattle.sparse_polys.specs.Combination.{terms_of}
 use Rattle.sparse_polys.specs.MonomialProducts.{product_terms}
-use Rattle.sparse_polys.specs.Products.{GainsCleared, OverflowsCleared}
+use Rattle.linear_combinations.specs.Cleared.{GainsCleared, OverflowsCleared}
 use Rattle.sparse_polys.proofs.Steps.{all_done, error_is}
 use Rattle.sparse_polys.proofs.ValueLists.{combination_values}
 use Rattle.sparse_polys.proofs.Accumulating.{magnitude-positive}
-use Rattle.sparse_polys.proofs.ClearedSums.{Gains-none, Gains-next, Overflows-next, scaled_twice}
+use Rattle.linear_combinations.proofs.Cleared.{denominator_among, Gains-none, Gains-next}
+use Rattle.linear_combinations.proofs.Cleared.{Overflows-next}
+use Rattle.sparse_polys.proofs.ClearedSums.{scaled_twice}
 use Rattle.sparse_polys.proofs.ListSteps.{terms_pieces}
 use Rattle.sparse_polys.proofs.Rows.{greatest_size-among, greatest_size-values, list_whole}
 use Rattle.sparse_polys.proofs.Rows.{list_among}
@@ -23,8 +25,8 @@ use Rattle.sparse_polys.proofs.expansion_products.add_row.Goals as goal
 
 pub loop-other-init : goal.loop-other-init
 loop-other-init g c = record {
-  gains = λ d e some den common cleared. Gains-none
-      (d * e) c.args.sum.now cleared;
+  gains = λ d e den common cleared. Gains-none
+      (d * e) (terms_of g.R.Scalar.value c.args.sum.now) cleared;
   so_far = refl;
 }
 
@@ -68,26 +70,23 @@ loop-other-preserved g c =
     sym (map-append deref_pair c.loop-other.yielded ((c.in-Some.other, c.in-Some.c) ∷ [])) in
     record {
       gains =
-          λ d e some den common cleared.
+          λ d e den common cleared.
           let z = scaled d (value c.args.left) in
-          let before = c.loop-other.invariant.gains d e some den common cleared in
-          subst (λ es. GainsCleared is_label (d * e) c.args.sum.now
+          let before = c.loop-other.invariant.gains d e den common cleared in
+          subst (λ es. GainsCleared (pointwise nat_eq) is_label (d * e)
+          (terms_of value c.args.sum.now)
           (multiple z (replaced (product_terms label) (over e (terms_of value es))))
-          c.add_pair.new.sum) pushed
+          (terms_of value c.add_pair.new.sum)) pushed
           (Gains-next (λ es. multiple z (replaced (product_terms label)
           (over e (terms_of value es)))) (terms_pieces value z label e) (d * e) done
-          (k, v) c.args.sum.now c.loop-other.sum before
-          (done ++ (k, v) ∷ []) c.add_pair.new.sum refl
-          (subst (λ l. GainsCleared is_label (d * e) c.loop-other.sum l c.add_pair.new.sum)
+          (k, v) (terms_of value c.args.sum.now) (terms_of value c.loop-other.sum) before
+          (done ++ (k, v) ∷ []) (terms_of value c.add_pair.new.sum) refl
+          (subst (λ l. GainsCleared (pointwise nat_eq) is_label (d * e)
+          (terms_of value c.loop-other.sum) l
+          (terms_of value c.add_pair.new.sum))
           (scaled_twice z (scaled e (value v)) (product_terms label k))
           (c.in_ok-add_pair.ensures.ok d e
-          (record {
-            left_positive = some;
-            right_positive = common.positive;
-            left = den;
-            right =
-                common.multiple (k, (value v)) here;
-          })
+          (den, denominator_among common (k, value v) here)
           before.cleared)));
       so_far =
           ap (λ es. es ++ rest) (sym pushed) ∙ append_assoc done ((k, v) ∷ []) rest
@@ -95,7 +94,7 @@ loop-other-preserved g c =
     }
 
 pub returns-in_err-add_pair-clause-large : goal.returns-in_err-add_pair-clause-large
-returns-in_err-add_pair-clause-large g c err d e some den common small a cleared =
+returns-in_err-add_pair-clause-large g c err d e den common small a cleared =
     let whole =
     list_whole g.R.Scalar.value (map deref_pair c.loop-other.yielded) c.next.new.self
     c.loop-other.other-iterator _ _ c.in-Some.other.now c.in-Some.c.now
@@ -112,33 +111,36 @@ returns-in_err-add_pair-clause-large g c err d e some den common small a cleared
     let v = c.in-Some.c.now in
     let label = c.args.label.now in
     let z = scaled d (value c.args.left) in
-    let before = c.loop-other.invariant.gains d e some den common cleared in
+    let before = c.loop-other.invariant.gains d e den common cleared in
     let vd = common.multiple (k, (value v)) here in
-    subst (λ l. OverflowsCleared (d * e) c.args.sum.now
+    subst (λ l. OverflowsCleared (pointwise nat_eq) (d * e) (terms_of value c.args.sum.now)
     (multiple z (replaced (product_terms label) (over e l)))) whole
     (Overflows-next (λ es. multiple z (replaced (product_terms label) (over e (terms_of value es))))
-    (terms_pieces value z label e) (d * e) done (k, v) c.args.sum.now c.loop-other.sum before
+    (terms_pieces value z label e) (d * e) done (k, v) (terms_of value c.args.sum.now)
+    (terms_of value c.loop-other.sum) before
     rest
-    (subst (λ l. OverflowsCleared (d * e) c.loop-other.sum l) (scaled_twice z (scaled e (value v))
+    (subst (λ l. OverflowsCleared (pointwise nat_eq) (d * e) (terms_of value c.loop-other.sum) l)
+    (scaled_twice z (scaled e (value v))
     (product_terms label k))
     (c.in_err-add_pair.ensures.large (ap Err (error_is _ _ _ c.from_residual.ensures.1 err)) d e
-    (record { left_positive = some; right_positive = common.positive; left = den; right = vd })
+    (den, denominator_among common (k, value v) here)
     small a
-    (magnitude-positive e (terms_of g.R.Scalar.value c.args.right.now) (k, (value v))
-    (combination_values g.R.Scalar.value (pointwise nat_eq) is_label c.args.right.now
+    (magnitude-positive e (terms_of value c.args.right.now) (k, (value v))
+    (combination_values value (pointwise nat_eq) is_label c.args.right.now
     c.iter-other-items.ensures.combination) here common.positive vd)
     before.cleared)))
 
 pub returns-clause-ok : goal.returns-clause-ok
-returns-clause-ok g c d e some den common cleared =
+returns-clause-ok g c d e den common cleared =
     let value = g.R.Scalar.value in
     let done = map deref_pair c.loop-other.yielded in
-    let is : terms_of value done ≡ (terms_of g.R.Scalar.value c.args.right.now) =
+    let is : terms_of value done ≡ (terms_of value c.args.right.now) =
     ap (terms_of value)
     (all_done done c.loop-other.other-iterator _ _ c.in-None.ensures.steps.0
     c.loop-other.invariant.so_far c.into_iter-other-iterator.ensures.into_iter_gives)
-    ∙ (ap (terms_of g.R.Scalar.value) c.iter-other-items.ensures.rest) in
-    subst (λ (l : Terms (List ℕ)). GainsCleared is_label (d * e) c.args.sum.now
+    ∙ (ap (terms_of value) c.iter-other-items.ensures.rest) in
+    subst (λ (l : Terms (List ℕ)). GainsCleared (pointwise nat_eq) is_label (d * e)
+    (terms_of value c.args.sum.now)
     (multiple (scaled d (value c.args.left)) (replaced (product_terms c.args.label.now)
-    (over e l))) c.loop-other.sum) is
-    (c.loop-other.invariant.gains d e some den common cleared)
+    (over e l))) (terms_of value c.loop-other.sum)) is
+    (c.loop-other.invariant.gains d e den common cleared)

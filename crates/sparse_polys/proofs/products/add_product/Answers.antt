@@ -2,17 +2,16 @@ use Rattle.std.proofs.Common.{◌*◌, subst}
 use Rattle.std.specs.Prelude.{nat_eq}
 use Rattle.std.specs.Cmp.Lexicographic.{pointwise}
 use Rattle.sym_model.specs.Polynomial.{join}
-use Rattle.sparse_polys.specs.Combination.{HasMoreAt}
-use Rattle.sparse_polys.specs.Refusal.{IsRefused}
-use Rattle.sparse_polys.specs.Products.{coefficient_at}
-use Rattle.sparse_polys.proofs.ClearedSums.{on_ok, cleared-product, Gains-term, Overflows-term}
+use Rattle.linear_combinations.specs.Entries.{coefficient, HasMoreAt, IsRefused}
+use Rattle.sparse_polys.specs.Combination.{terms_of}
+use Rattle.sparse_polys.proofs.ClearedSums.{on_ok, cleared-product, Gains-entry, Overflows-entry}
 use Rattle.sparse_polys.proofs.Accumulating.{Overflows-product}
 use Rattle.sparse_polys.proofs.products.add_product.Goals as goal
 
 pub returns-in_default-clause-large : goal.returns-in_default-clause-large
 returns-in_default-clause-large g c err d e h small cleared =
     Overflows-product g.R.Scalar.value c.args.a c.args.b d e c.in_default.ensures.answer h small
-    c.args.sum.now (join c.args.left.now c.args.right.now)
+    (terms_of g.R.Scalar.value c.args.sum.now) (join c.args.left.now c.args.right.now)
 
 pub returns-clause-ok : goal.returns-clause-ok
 returns-clause-ok g c =
@@ -24,11 +23,12 @@ returns-clause-ok g c =
     let p = cleared-product d e (value c.args.a) (value c.args.b) (value c.in-Some.c)
     (lowest c.args.a c.mul.ensures.held.0) (lowest c.args.b c.mul.ensures.held.1)
     c.in-Some.ensures.answer.value h in
-    Gains-term (d * e) old c.add_term.new.self (join c.args.left.now c.args.right.now)
-    (value c.in-Some.c) c.add_term.ensures.was c.add_term.ensures.combination
-    (lowest c.in-Some.c c.in-Some.ensures.held_product) p.positive p.divides cleared
-    (subst (λ l. HasMoreAt (pointwise nat_eq) old l (value c.in-Some.c) c.add_term.new.self)
-    c.in_ok-times.ensures more)
+    Gains-entry value g.R.Scalar.zero g.met.R.Scalar.zero_value.0 (d * e) old
+    (join c.args.left.now c.args.right.now) c.in-Some.c c.add_term.ensures.was p.positive p.divides
+    cleared g.R.Scalar.sum g.met.R.Scalar.sum_value c.add_term.new.self
+    (lowest c.in-Some.c c.in-Some.ensures.held_product) c.add_term.ensures.combination
+    (subst (λ l. HasMoreAt (pointwise nat_eq) g.R.Scalar.zero g.R.Scalar.sum old l c.in-Some.c
+    c.add_term.new.self) c.in_ok-times.ensures more)
     _ p.value)
 
 pub returns-clause-large : goal.returns-clause-large
@@ -39,9 +39,9 @@ returns-clause-large g c err d e h small cleared =
     let p = cleared-product d e (value c.args.a) (value c.args.b) (value c.in-Some.c)
     (lowest c.args.a c.mul.ensures.held.0) (lowest c.args.b c.mul.ensures.held.1)
     c.in-Some.ensures.answer.value h in
-    Overflows-term g.R.Scalar.is_held value g.R.Scalar.checked_sum g.met.R.Scalar.sum_answers
-    (d * e) old
-    (join c.args.left.now c.args.right.now) (value c.in-Some.c)
-    (subst (λ l. IsRefused g.R.Scalar.is_held value g.R.Scalar.checked_sum (coefficient_at old l)
-    (value c.in-Some.c)) c.in_ok-times.ensures (c.add_term.ensures.large.0 err))
-    p.positive small p.divides cleared c.add_term.ensures.was _ p.value
+    Overflows-entry value g.R.Scalar.zero g.met.R.Scalar.zero_value.0 (d * e) old
+    (join c.args.left.now c.args.right.now) c.in-Some.c c.add_term.ensures.was p.positive p.divides
+    cleared g.R.Scalar.is_held g.R.Scalar.checked_sum g.met.R.Scalar.sum_answers small
+    (subst (λ l. IsRefused g.R.Scalar.is_held g.R.Scalar.checked_sum
+    (coefficient (pointwise nat_eq) g.R.Scalar.zero old l) c.in-Some.c) c.in_ok-times.ensures
+    (c.add_term.ensures.large.0 err)) _ p.value

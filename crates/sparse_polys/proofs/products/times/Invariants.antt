@@ -1,17 +1,23 @@
 use Rattle.std.proofs.Common.{◌≡◌, ℕ, ◌*◌, ◌++◌, [], map}
 use Rattle.std.specs.Map.Iter.{deref_pair}
+use Rattle.std.specs.Prelude.{nat_eq}
+use Rattle.std.specs.Cmp.Lexicographic.{pointwise}
 use Rattle.sym_model.specs.LabelLimits.{is_monomial_label}
 use Rattle.sym_model.specs.Polynomial.{times}
 use Rattle.monomial_laws.specs.ExpressionTerms.{over}
 use Rattle.sparse_polys.specs.Combination.{terms_of}
-use Rattle.sparse_polys.specs.Products.{IsCommonDenominator, GainsCleared}
+use Rattle.linear_combinations.specs.Cleared.{IsCommonDenominator, GainsCleared}
 use Rattle.sparse_polys.proofs.products.times.Given as goal
 
 -- the products of the terms so far are added
 abbrev pub invariant-loop-monomial : goal.invariant-loop-monomial
 invariant-loop-monomial g l = record {
   gains :
-      (d e : ℕ) → IsCommonDenominator d l.left → IsCommonDenominator e l.right
-      → GainsCleared is_monomial_label (d * e) [] (times (over d (terms_of g.R.Scalar.value (map deref_pair l.yielded))) (over e l.right)) l.sum;
+      (d e : ℕ) → IsCommonDenominator d (terms_of g.R.Scalar.value l.left)
+      → IsCommonDenominator e (terms_of g.R.Scalar.value l.right)
+      → GainsCleared (pointwise nat_eq) is_monomial_label (d * e) []
+      (times (over d (terms_of g.R.Scalar.value (map deref_pair l.yielded)))
+      (over e (terms_of g.R.Scalar.value l.right)))
+      (terms_of g.R.Scalar.value l.sum);
   so_far : map deref_pair l.yielded ++ l.monomial-iterator ≡ l.initial.monomial-iterator;
 }

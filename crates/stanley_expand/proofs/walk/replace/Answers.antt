@@ -7,11 +7,12 @@ use Rattle.stanley_expand.proofs.Steps.{walked_expand, rising_expand, more_shape
 use Rattle.stanley_expand.proofs.Steps.{large_shape}
 use Rattle.stanley_laws.specs.Grassmannian.{front_shape}
 use Rattle.stanley_laws.proofs.SchurPositive.{front_rows}
-use Rattle.stanley_expand.specs.Walk.{IsHeld, IsTable}
+use Rattle.stanley_expand.specs.Walk.{IsHeld}
 use Rattle.stanley_expand.proofs.ShapeLimits.{shape_limits}
 use Rattle.stanley_expand.proofs.Weights.{weights_expand}
 use Rattle.stanley_expand.proofs.walk.replace.Goals.{in-Some+else-r-rows, in-None}
 use Rattle.stanley_expand.proofs.walk.replace.Goals as goal
+use Rattle.linear_combinations.specs.Entries.{IsWholeTable}
 
 pub returns-then-r-rows-clause-value : goal.returns-then-r-rows-clause-value
 returns-then-r-rows-clause-value c φ =
@@ -53,7 +54,7 @@ returns-clause-value c =
 
 pub returns-clause-shapes : goal.returns-clause-shapes
 returns-clause-shapes c =
-    on_both {Q = IsTable c.add_shape.new.sum × IsHeld c.add_shape.new.sum} c.add_shape.result
+    on_both {Q = IsWholeTable c.add_shape.new.sum × IsHeld c.add_shape.new.sum} c.add_shape.result
     c.add_shape.ensures.gains
     (on_both c.add_shape.result c.add_shape.ensures.table c.add_shape.ensures.held (λ table held.
     (table, held)))

@@ -7,6 +7,7 @@ use Rattle.sym_model.specs.Sum.{Among}
 use Rattle.sym_model.specs.Canonical.{is_label}
 use Rattle.sym_model.specs.Expansion.{Terms, denominators}
 use Rattle.sym_model.specs.ListWeight.{common_denominator}
+use Rattle.linear_combinations.proofs.Cleared.{denominator_among}
 use Rattle.linear_combinations.proofs.Gains.{all_pairs, so_far_next}
 use Rattle.linear_combinations.proofs.Steps.{all_done, error_is}
 use Rattle.sparse_polys.specs.Combination.{terms_of}
@@ -35,28 +36,28 @@ loop-label-init g c =
       so_far = refl;
     }
 
-pub add_product-requires-clause-partition : goal.add_product-requires-clause-partition
-add_product-requires-clause-partition g c =
+pub add_strips-requires-clause-partition : goal.add_strips-requires-clause-partition
+add_strips-requires-clause-partition g c =
     (entry_term g.R.Scalar.value _ c.iter-label-items.ensures.combination _
     (pair_here (map deref_pair c.loop-label.yielded) _ _ _ _ _ _ c.in-Some.ensures.steps
     c.loop-label.invariant.so_far
     c.into_iter-label-iterator.ensures.into_iter_gives c.iter-label-items.ensures.rest)).0
 
-pub add_product-requires-clause-lowest : goal.add_product-requires-clause-lowest
-add_product-requires-clause-lowest g c =
+pub add_strips-requires-clause-lowest : goal.add_strips-requires-clause-lowest
+add_strips-requires-clause-lowest g c =
     (entry_term g.R.Scalar.value _ c.iter-label-items.ensures.combination _
     (pair_here (map deref_pair c.loop-label.yielded) _ _ _ _ _ _ c.in-Some.ensures.steps
     c.loop-label.invariant.so_far
     c.into_iter-label-iterator.ensures.into_iter_gives c.iter-label-items.ensures.rest)).1
 
-pub add_product-requires-clause-cells : goal.add_product-requires-clause-cells
-add_product-requires-clause-cells g c =
+pub add_strips-requires-clause-cells : goal.add_strips-requires-clause-cells
+add_strips-requires-clause-cells g c =
     (c.requires.room _ (pair_here (map deref_pair c.loop-label.yielded) _ _ _ _ _ _
     c.in-Some.ensures.steps c.loop-label.invariant.so_far
     c.into_iter-label-iterator.ensures.into_iter_gives c.iter-label-items.ensures.rest)).0
 
-pub add_product-requires-clause-rows : goal.add_product-requires-clause-rows
-add_product-requires-clause-rows g c =
+pub add_strips-requires-clause-rows : goal.add_strips-requires-clause-rows
+add_strips-requires-clause-rows g c =
     (c.requires.room _ (pair_here (map deref_pair c.loop-label.yielded) _ _ _ _ _ _
     c.in-Some.ensures.steps c.loop-label.invariant.so_far
     c.into_iter-label-iterator.ensures.into_iter_gives c.iter-label-items.ensures.rest)).1
@@ -78,8 +79,8 @@ loop-label-preserved g c =
     let k = c.args.k in
     let f = polynomial_of c.args.family k in
     let cur = terms_of value c.loop-label.sum in
-    let new = terms_of value c.add_product.new.sum in
-    let made = c.in_ok-add_product.ensures.ok in
+    let new = terms_of value c.add_strips.new.sum in
+    let made = c.in_ok-add_strips.ensures.ok in
     let pushed : done ++ (label, v) ∷ [] ≡ map deref_pair (c.loop-label.yielded ++ (
       c.in-Some.label,
       c.in-Some.c,
@@ -91,14 +92,14 @@ loop-label-preserved g c =
           subst (λ es. AddsList f k q (terms_of value list) (terms_of value es) new) pushed
           (AddsList-next value f k q done (terms_of value list) cur label v
           (c.loop-label.invariant.sums q common) made.0 made.1 new among
-          (record { positive = common.positive; multiple = common.multiple (label, value v) among })
+          (denominator_among common (label, value v) among)
           made.2);
       so_far = so_far_next done rest c.loop-label.label-iterator _ _ (label, v) pushed
           c.in-Some.ensures.steps c.loop-label.invariant.so_far;
     }
 
-pub returns-in_err-add_product-clause-large : goal.returns-in_err-add_product-clause-large
-returns-in_err-add_product-clause-large g c err =
+pub returns-in_err-add_strips-clause-large : goal.returns-in_err-add_strips-clause-large
+returns-in_err-add_strips-clause-large g c err =
     let value = g.R.Scalar.value in
     let done = map deref_pair c.loop-label.yielded in
     let rest = c.next.new.self in
@@ -117,14 +118,14 @@ returns-in_err-add_product-clause-large g c err =
     let terms = terms_of value list in
     let q = common_denominator terms in
     let common = least-denominators terms is in
-    let refused = c.in_err-add_product.ensures.large
+    let refused = c.in_err-add_strips.ensures.large
     (ap Err (error_is _ _ _ c.from_residual.ensures.1 err)) in
     list_large terms is
     (λ small.
     refused_large value (polynomial_of c.args.family k) k q done terms
     (terms_of value c.loop-label.sum) label v (c.loop-label.invariant.sums q common)
     refused.0 refused.1 rest (ap (terms_of value) whole)
-    (record { positive = common.positive; multiple = common.multiple (label, value v) among })
+    (denominator_among common (label, value v) among)
     small refused.2)
 
 pub returns-clause-value : goal.returns-clause-value

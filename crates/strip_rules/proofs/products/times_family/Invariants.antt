@@ -1,7 +1,7 @@
 use Rattle.std.proofs.Common.{◌≡◌, ℕ, ◌++◌, map}
 use Rattle.std.specs.Map.Iter.{deref_pair}
 use Rattle.sparse_polys.specs.Combination.{terms_of}
-use Rattle.sparse_polys.specs.Products.{IsCommonDenominator}
+use Rattle.linear_combinations.specs.Cleared.{IsCommonDenominator}
 use Rattle.whole_lists.specs.Families.{polynomial_of}
 use Rattle.strip_rules.proofs.ListProducts.{AddsList}
 use Rattle.strip_rules.proofs.products.times_family.Given as goal

@@ -7,7 +7,7 @@ use Rattle.sym_model.specs.LabelLimits.{is_label}
 use Rattle.sparse_polys.specs.Combination.{HasMoreAt}
 use Rattle.sparse_polys.proofs.Steps.{all_done, error_is, IsCombination-empty}
 use Rattle.linear_combinations.proofs.Gains.{all_pairs, so_far_next}
-use Rattle.whole_lists.specs.Tables.{equal, found, IsTable}
+use Rattle.whole_lists.specs.Tables.{equal, found, IsFractionTable}
 use Rattle.whole_lists.proofs.Quotients.{Quotients, Quotients-none, Quotients-next}
 use Rattle.whole_lists.proofs.Quotients.{coefficient-before, not_refused_quotient}
 use Rattle.whole_lists.proofs.division.divided.Goals as goal
@@ -16,7 +16,7 @@ pub loop-label-init : goal.loop-label-init
 loop-label-init c = record {
   quotients = subst (λ terms. Quotients c.args.den terms []) (sym c.new-list.ensures)
       (Quotients-none c.args.den c.requires.0);
-  table = subst IsTable (sym c.new-list.ensures) (IsCombination-empty equal is_label);
+  table = subst IsFractionTable (sym c.new-list.ensures) (IsCombination-empty equal is_label);
   so_far = refl;
 }
 

@@ -35,8 +35,8 @@ bounds-self-from c =
     let from = c.from.ensures in
     omega arith
 
-pub add_products-requires-clause-sizes : goal.add_products-requires-clause-sizes
-add_products-requires-clause-sizes c =
+pub add_mixed-requires-clause-sizes : goal.add_mixed-requires-clause-sizes
+add_mixed-requires-clause-sizes c =
     let factors = c.args.self.now.factors.now in
     let p = ended c.in-Some.last.now c.in-Some.rest.now c.label.inside.second
     (sym c.parts.ensures.value ∙ c.in-Some.ensures.cases.0) c.parts.ensures.limits.partition in
@@ -57,8 +57,8 @@ add_products-requires-clause-sizes c =
     is
     (λ t m. let k = (small.low t m).low in omega arith)
 
-pub add_products-requires-clause-augmented : goal.add_products-requires-clause-augmented
-add_products-requires-clause-augmented c =
+pub add_mixed-requires-clause-augmented : goal.add_mixed-requires-clause-augmented
+add_mixed-requires-clause-augmented c =
     let p = ended c.in-Some.last.now c.in-Some.rest.now c.label.inside.second
     (sym c.parts.ensures.value ∙ c.in-Some.ensures.cases.0) c.parts.ensures.limits.partition in
     let r = subst (IsReady (length c.args.self.now.factors.now) c.args.self.now.rows)
@@ -91,8 +91,8 @@ take_raised-requires-clause-small c =
     let lists = c.requires.lists in
     omega arith
 
-pub returns-in_err-add_products-clause-large : goal.returns-in_err-add_products-clause-large
-returns-in_err-add_products-clause-large c err =
+pub returns-in_err-add_mixed-clause-large : goal.returns-in_err-add_mixed-clause-large
+returns-in_err-add_mixed-clause-large c err =
     let factors = c.args.self.now.factors.now in
     let rest = c.in-Some.rest.now in
     let first = c.label.inside.first in
@@ -123,7 +123,7 @@ returns-in_err-add_products-clause-large c err =
     (subst (λ l. Overflows equal c.args.sum.now
     (scaled c.args.c (products (get_or c.args.self.now.factors.now (c.from.result - 1)
     c.index-self-from.result) l c.in-Some.rest.now))) c.parts-2.ensures.value
-    (c.in_err-add_products.ensures.large (ap Err (error_is _ _ _ c.from_residual.ensures.1 err)))))
+    (c.in_err-add_mixed.ensures.large (ap Err (error_is _ _ _ c.from_residual.ensures.1 err)))))
 
 pub returns-clause-gains : goal.returns-clause-gains
 returns-clause-gains c =
@@ -154,12 +154,12 @@ returns-clause-gains c =
     subst (λ (l : Mixed). Gains c.args.sum.now l c.take_raised.new.sum) all
     (gains_both c.args.sum.now
     (scaled z (products (get_or c.args.self.now.factors.now (c.from.result - 1)
-    c.index-self-from.result) first rest)) c.add_products.new.sum
+    c.index-self-from.result) first rest)) c.add_mixed.new.sum
     (each_with (neg_ℤ z) (raised first c.in-Some.last.now rest rest)) c.take_raised.new.sum
     (subst (λ l. Gains c.args.sum.now
     (scaled c.args.c (products (get_or c.args.self.now.factors.now (c.from.result - 1)
-    c.index-self-from.result) l c.in-Some.rest.now)) c.add_products.new.sum)
-    c.parts-2.ensures.value c.in_ok-add_products.ensures.gains)
+    c.index-self-from.result) l c.in-Some.rest.now)) c.add_mixed.new.sum)
+    c.parts-2.ensures.value c.in_ok-add_mixed.ensures.gains)
     more))
 
 pub returns-clause-large : goal.returns-clause-large
@@ -189,10 +189,10 @@ returns-clause-large c err =
     subst (λ (l : Mixed). Overflows equal c.args.sum.now l) all
     (overflows_both equal c.args.sum.now
     (scaled z (products (get_or c.args.self.now.factors.now (c.from.result - 1)
-    c.index-self-from.result) first rest)) c.add_products.new.sum
+    c.index-self-from.result) first rest)) c.add_mixed.new.sum
     (each_with (neg_ℤ z) (raised first c.in-Some.last.now rest rest))
     (subst (λ l. Gains c.args.sum.now
     (scaled c.args.c (products (get_or c.args.self.now.factors.now (c.from.result - 1)
-    c.index-self-from.result) l c.in-Some.rest.now)) c.add_products.new.sum)
-    c.parts-2.ensures.value c.in_ok-add_products.ensures.gains)
+    c.index-self-from.result) l c.in-Some.rest.now)) c.add_mixed.new.sum)
+    c.parts-2.ensures.value c.in_ok-add_mixed.ensures.gains)
     (c.take_raised.ensures.large err))

@@ -1,11 +1,12 @@
-use Rattle.std.proofs.Common.{◌+◌, ◌*◌, ◌<◌, ◌≤◌, ◌^◌, ◌++◌, arith, ap, subst, refl, Err}
-use Rattle.std.specs.Prelude.{nat_abs}
+use Rattle.std.proofs.Common.{◌*◌, ◌<◌, ◌^◌, [], arith, ap, subst, refl, Err}
 use Rattle.sym_model.specs.Expression.{product}
-use Rattle.sym_model.specs.Polynomial.{Same, scale}
-use Rattle.sym_model.specs.WholeTerms.{WholeTerms, absolute_total}
+use Rattle.sym_model.specs.Polynomial.{scale}
+use Rattle.sym_model.specs.WholeTerms.{WholeTerms}
 use Rattle.basis_change_laws.specs.JoinedLists.{joined}
+use Rattle.linear_combinations.specs.Gains.{Gains, Overflows}
 use Rattle.expression_evaluation.proofs.Making.{failed, done, refused}
 use Rattle.whole_lists.specs.Families.{polynomial_of}
+use Rattle.whole_lists.specs.Tables.{equal}
 use Rattle.whole_lists.proofs.Families.{In-family}
 use Rattle.expand_in_families.specs.Nodes.{ClearsTo, IsHeavy}
 use Rattle.expand_in_families.proofs.Nodes.{node-greatest, clears-product, large-product}
@@ -27,10 +28,9 @@ returns-in_err-add_products c e f t h k =
     large-product (polynomial_of c.args.self.now.family) e f c.args.left c.args.right
     c.binomial.result c.whole_of-ways.result t.plain.0 t.plain.1 c.whole_of-ways.ensures
     c.binomial.ensures.value h k
-    (λ m l o.
-    subst (λ (ts : WholeTerms). 2 ^ 127 ≤ absolute_total ts + nat_abs c.whole_of-ways.result
-    * absolute_total c.args.left.terms * m) c.new-terms.ensures
-    (c.in_err-add_products.ensures.large (ap Err large) m l o)))
+    (subst (λ (ts : WholeTerms). Overflows equal ts
+    (joined (scale c.whole_of-ways.result c.args.left.terms) c.args.right.terms))
+    c.new-terms.ensures (c.in_err-add_products.ensures.large (ap Err large))))
 
 pub returns : goal.returns
 returns c e f t h k =
@@ -38,12 +38,12 @@ returns c e f t h k =
     (clears-product (polynomial_of c.args.self.now.family) (In-family c.args.self.now.family) e f
     c.args.left c.args.right _ c.binomial.result c.in-Some.ensures.1 refl
     c.binomial.ensures.value
-    (subst (λ z. Same c.add_products.new.sum
-    (joined (scale z c.args.left.terms) c.args.right.terms)) c.whole_of-ways.ensures
-    (subst (λ (ts : WholeTerms). Same c.add_products.new.sum
-    (ts ++ joined (scale c.whole_of-ways.result c.args.left.terms) c.args.right.terms))
-    c.new-terms.ensures
-    c.in_ok-add_products.ensures.value))
+    (subst (λ z. Gains [] (joined (scale z c.args.left.terms) c.args.right.terms)
+    c.add_products.new.sum) c.whole_of-ways.ensures
+    (subst (λ (ts : WholeTerms). Gains ts
+    (joined (scale c.whole_of-ways.result c.args.left.terms) c.args.right.terms)
+    c.add_products.new.sum) c.new-terms.ensures
+    c.in_ok-add_products.ensures.gains))
     h k)
 
 pub binomial-requires : goal.binomial-requires

@@ -4,12 +4,7 @@ use Rattle.tableau_iter.proofs.Starts.{tableau-list}
 use Rattle.tableau_iter.proofs.fillings.Fillings.all.Goals as goal
 
 pub new-requires-clause-small : goal.new-requires-clause-small
-new-requires-clause-small c = omega (
-  arith,
-  c.cells.ensures.value,
-  c.cells.ensures.sizes,
-  c.cells.ensures.limits.outside.small,
-)
+new-requires-clause-small c = λ p. absurd (omega (arith, p))
 
 pub returns-clause-rest : goal.returns-clause-rest
 returns-clause-rest c =

@@ -1,6 +1,0 @@
-use Rattle.expansion_printer.proofs.GatheringLaws.{Gathers-prints}
-use Rattle.expansion_printer.proofs.block.print.Goals as goal
-
-pub returns-clause-prints : goal.returns-clause-prints
-returns-clause-prints g c = Gathers-prints c.finish.result c.new-text.ensures
-    c.put_block.ensures.goes c.finish.ensures
