@@ -1,14 +1,10 @@
 -- Numbers mixed one by one.
-use Rattle.std.proofs.Common.{◌≡◌, ℕ, zero, suc, ◌+◌, ◌*◌, ◌%◌, ◌^◌, ◌<◌, ◌≤◌, List, [], ◌∷◌, length, drop, get_or, refl, sym, ap, ◌∙◌, arith}
+use Rattle.std.proofs.Common.{◌≡◌, ℕ, zero, suc, ◌+◌, ◌*◌, ◌%◌, ◌^◌, ◌<◌, ◌≤◌, List, [], ◌∷◌, length, drop, get_or, refl, ap, ◌∙◌, arith}
 use Rattle.calc_base.specs.Mixing.{mixed}
-
-drop-none : (xs : List ℕ) → drop 0 xs ≡ xs
-drop-none [] = refl
-drop-none (x ∷ xs) = refl
 
 pub mixed_next : (xs : List ℕ) (i sum : ℕ) → i < length xs → mixed sum (drop i xs) ≡ mixed (((sum * 1000003) % 2 ^ 64 + get_or xs i 0) % 2 ^ 64) (drop (i + 1) xs)
 mixed_next [] i sum l = absurd (omega arith)
-mixed_next (x ∷ xs) zero sum l = ap (mixed (((sum * 1000003) % 2 ^ 64 + x) % 2 ^ 64)) (sym (drop-none xs))
+mixed_next (x ∷ xs) zero sum l = refl
 mixed_next (x ∷ xs) (suc i) sum l =
     let e : suc (i + 1) ≡ suc i + 1 = omega arith in
     mixed_next xs i sum (omega arith) ∙ ap (λ j. mixed (((sum * 1000003) % 2 ^ 64 + get_or xs i 0) % 2 ^ 64) (drop j (x ∷ xs))) e

@@ -5,7 +5,7 @@
 //!
 //! `task_of`: what is to be done for words, with the whole answer of their command, that it is too
 //! large, or their refusal. `reply_to` and `reply_by`: the outcome of a command, without and with a
-//! store of Schubert polynomials. `put_text` puts the text that is defined for an outcome, behind a
+//! store of Schubert polynomials. `put_text` puts the text that is defined for an outcome, after a
 //! text that is given, and a block that can be read back; `status_if_put` is its status.
 #![tactic(auto)]
 

@@ -13,7 +13,7 @@
 //! `print_tableau` their lines: whole, or after a fault a prefix with no further put. Every answer
 //! is canonical with numbers of 128 bits. `print_one_line`: an expansion or a product on one line
 //! with the atoms of a basis, put to any sink, with the fault clauses of `print`; any other answer
-//! gets its block. `print_after`, `print_one_line_after`: the same, behind a text that is given.
+//! gets its block. `print_after`, `print_one_line_after`: the same, after a text that is given.
 #![tactic(auto)]
 
 mod answer;

@@ -15,6 +15,7 @@ use Rattle.insertion_laws.proofs.InsertedWords.{inserted_word, first-tableau}
 use Rattle.growth_laws.proofs.Cells.{grown-cell, shape-last, corner-mirrored}
 use Rattle.growth_laws.proofs.LocalRules.{AreDifferent, AreGrown, alone, ended, extends, grown-shape, shape_at, shapes_grown, tableau_of}
 use Rattle.sym_model.specs.Bounded.{AreBelow}
+use Rattle.sym_model.proofs.Contents.{times_in-none}
 
 -- ---- the grid of the inverse
 
@@ -49,17 +50,11 @@ mirrored v w h =
 
 -- ---- permutations
 
-none_among : (k : ℕ) (w : List ℕ) → (Among k w → ⊥) → times_in k w ≡ 0
-none_among k [] h = refl
-none_among k (a ∷ w) h =
-    let d : a ≡ k → ⊥ = λ e. h (inl (sym e)) in
-    omega (arith, ap {B = ℕ} (λ t. cond t 1 0) (ne_eqb a k d), none_among k w (λ m. h (inr m)))
-
 once_different : (w : List ℕ) → Once w → AreDifferent w
 once_different [] h k = omega arith
 once_different (a ∷ w) h k = elim (cases_eq a k) [
   | inl e ↦
-      omega (arith, ap {B = ℕ} (λ t. cond t 1 0) (eq-eqb a k e), none_among k w (λ m. h.0 (subst (λ x. Among x w) (sym e) m)))
+      omega (arith, ap {B = ℕ} (λ t. cond t 1 0) (eq-eqb a k e), times_in-none k w (λ m. h.0 (subst (λ x. Among x w) (sym e) m)))
   | inr d ↦ omega (arith, ap {B = ℕ} (λ t. cond t 1 0) (ne_eqb a k d), once_different w h.1 k)
 ]
 
@@ -134,7 +129,7 @@ no_letters (suc a ∷ w) h =
 pub perm_from : (w : List ℕ) → IsOneLine w → IsPerm w
 perm_from w h =
     let d = once_different w h.once in
-    let z : times_in 0 w ≡ 0 = none_among 0 w (λ m. let l = (h.letters 0 m).0 in absurd (omega arith)) in
+    let z : times_in 0 w ≡ 0 = times_in-none 0 w (λ m. let l = (h.letters 0 m).0 in absurd (omega arith)) in
     let most = among_at_most (length w) w (λ a m. (h.letters a m).1) in
     let f = λ (j : ℕ). length (at_most j w) in
     let steps : (j : ℕ) → length (at_most j w) ≡ j → length (at_most (suc j) w) ≡ suc j → times_in (suc j) w ≡ 1 =

@@ -1,5 +1,5 @@
 -- What a table of whole numbers has at a label, and the lists that have its sums.
-use Rattle.std.proofs.Common.{◌≡◌, ◌⊎◌, inl, inr, ℕ, ◌+◌, ◌*◌, Bool, true, false, cond, List, [], ◌∷◌, ◌++◌, refl, sym, ap, ◌∙◌, arith, ℤ, pos, negsuc, ◌+ℤ◌, ◌*ℤ◌}
+use Rattle.std.proofs.Common.{◌≡◌, ◌⊎◌, inl, inr, ℕ, ◌+◌, ◌^◌, ◌≤◌, Bool, true, false, cond, List, [], ◌∷◌, ◌++◌, refl, sym, ap, ◌∙◌, arith, ℤ, pos, negsuc, ◌+ℤ◌, ◌*ℤ◌}
 use Rattle.std.specs.Prelude.{Option, nat_abs, nat_eq, ◌≤ℤ◌}
 use Rattle.std.specs.Cmp.Lexicographic.{pointwise, nat_list_eq_equiv}
 use Rattle.std.specs.Option.{unwrap_or}
@@ -8,20 +8,21 @@ use Rattle.std.specs.Map.{keys_of}
 use Rattle.std.proofs.lemmas.Int.{ints}
 use Rattle.std.proofs.lemmas.Bool.{both_ways}
 use Rattle.sym_model.specs.Sum.{Among}
+use Rattle.sym_model.specs.WholeTerms.{AreCounts}
 use Rattle.sym_model.specs.Polynomial.{Same, same, coefficient as coefficient_of}
 use Rattle.sym_model.proofs.Sums.{total_ext}
 use Rattle.sym_model.proofs.Ring.{product-one}
 use Rattle.sym_model.proofs.Exponents.{same_from, same_apart, same_or_not}
 use Rattle.sym_model.proofs.Polynomials.{at_only, coefficient_pair, same_from_pair, pair_determined}
 use Rattle.linear_combinations.specs.Entries.{coefficient}
-use Rattle.linear_combinations.specs.Gains.{WholeTermsOf, over, only, mass_at, Gains}
+use Rattle.linear_combinations.specs.Gains.{WholeTermsOf, over, only, mass_at, Gains, Overflows}
 use Rattle.linear_combinations.specs.Labels.{same_partition}
 use Rattle.linear_combinations.proofs.Gains.{over_at, over_append}
 use Rattle.linear_combinations.proofs.Totals.{found-among}
-use lib.IntN.{*ℤ-zero}
+use lib.IntN.{*ℤ-zero, +ℤ_idl}
 
 -- where no number is negative, those at a label add up to what they come to
-pub counts_at : {L : Type 0} (eq : L → L → Bool) (x : L) (g : WholeTermsOf L) → ((t : L × ℤ) → Among t g → pos 0 ≤ℤ t.1) → over (only eq x) g ≡ pos (mass_at eq x g)
+pub counts_at : {L : Type 0} (eq : L → L → Bool) (x : L) (g : WholeTermsOf L) → AreCounts g → over (only eq x) g ≡ pos (mass_at eq x g)
 counts_at eq x [] h = refl
 counts_at {L} eq x (t ∷ g) h = by (eq x t.0) t.1 (h t (inl refl)) (counts_at eq x g (λ u m. h u (inr m)))
   where
@@ -66,3 +67,19 @@ sums_same f g e φ = pair_determined f g φ e
 -- what a table has gained is added to it
 pub gains_same : (old gained new : WholeTermsOf (List ℕ)) → Gains old gained new → Same new (old ++ gained)
 gains_same old gained new a = same_sums new (old ++ gained) (λ φ. a.sums φ ∙ sym (over_append φ old gained))
+
+-- ---- a table that was empty at first
+
+pub coefficient_gained : (old gained new : WholeTermsOf (List ℕ)) (x : List ℕ) → old ≡ [] → Gains old gained new
+    → coefficient_of new x ≡ over (only (pointwise nat_eq) x) gained
+coefficient_gained old gained new x none a =
+    coefficient_over new x ∙ a.sums (only (pointwise nat_eq) x)
+    ∙ ap (λ ts. over (only (pointwise nat_eq) x) ts +ℤ over (only (pointwise nat_eq) x) gained) none
+    ∙ +ℤ_idl (over (only (pointwise nat_eq) x) gained)
+
+pub mass_overflows : {L : Type 0} (eq : L → L → Bool) (old gained : WholeTermsOf L) → old ≡ [] → Overflows eq old gained
+    → (x : L) × (2 ^ 127 ≤ mass_at eq x gained)
+mass_overflows eq old gained none o =
+    let e = ap (λ ts. nat_abs (over (only eq o.0) ts)) none in
+    let l = o.1 in
+    (o.0, omega (arith, e, l))

@@ -1,12 +1,13 @@
 -- What is gained by a table of whole numbers, one thing after another (specs/Gains).
-use Rattle.std.proofs.Common.{◌≡◌, ◌⊎◌, ℕ, suc, zero, ◌+◌, ◌*◌, ◌^◌, ◌<◌, ◌≤◌, Bool, true, false, cond, List, [], ◌∷◌, ◌++◌, length, take, drop, get_or, refl, sym, ap, ap₂, ◌∙◌, subst, inl, inr, arith, append_assoc, ℤ, pos, negsuc, ◌+ℤ◌, ◌*ℤ◌}
+use Rattle.std.proofs.Common.{◌≡◌, ◌⊎◌, ℕ, suc, ◌+◌, ◌*◌, ◌^◌, ◌<◌, ◌≤◌, Bool, true, false, cond, List, [], ◌∷◌, ◌++◌, length, take, drop, get_or, refl, sym, ap, ap₂, ◌∙◌, subst, inl, inr, arith, append_assoc, ℤ, pos, negsuc, ◌+ℤ◌, ◌*ℤ◌}
 use Rattle.std.specs.Prelude.{Option, Some, None, nat_abs, ◌≤ℤ◌}
 use Rattle.std.specs.Cmp.{IsEquivalence}
 use Rattle.std.specs.Option.{unwrap_or}
 use Rattle.std.specs.List.{IsDistinct}
 use Rattle.std.specs.Map.{lookup, keys_of}
 use Rattle.std.proofs.lemmas.Int.{ints}
-use Rattle.std.proofs.lemmas.List.{map-append}
+use Rattle.std.proofs.lemmas.List.{map-append, take_all, take_more}
+use Rattle.std.proofs.Math.Seq.{split_at}
 use Rattle.std.proofs.lemmas.Map.{lookup-none}
 use Rattle.std.proofs.lemmas.Map.Keys.{IsDistinct-tail}
 use Rattle.std.proofs.lemmas.Map.Entries.{none_past_head}
@@ -193,25 +194,12 @@ module _ {L : Type 0} where
 
   -- ---- lists that are gained, piece by piece
 
-  pub each_take : (c : ℤ) (xs : List L) (i : ℕ) (x : L) → i < length xs → x ≡ get_or xs i x → each_with c (take (i + 1) xs) ≡ each_with c (take i xs) ++ (x, c) ∷ []
-  each_take c [] i x h e = absurd (omega arith)
-  each_take c (y ∷ xs) zero x h e = ap (λ z. (z, c) ∷ []) (sym e)
-  each_take c (y ∷ xs) (suc i) x h e =
-      let n : suc i + 1 ≡ suc (i + 1) = omega arith in
-      ap (λ k. each_with c (take k (y ∷ xs))) n ∙ ap (λ l. (y, c) ∷ l) (each_take c xs i x (omega arith) e)
-
-  pub each_split : (c : ℤ) (xs : List L) (i : ℕ) (x : L) → i < length xs → x ≡ get_or xs i x → each_with c (take i xs) ++ (x, c) ∷ each_with c (drop (i + 1) xs) ≡ each_with c xs
-  each_split c [] i x h e = absurd (omega arith)
-  each_split c (y ∷ xs) zero x h e = ap (λ z. (z, c) ∷ each_with c xs) e
-  each_split c (y ∷ xs) (suc i) x h e =
-      let n : suc i + 1 ≡ suc (i + 1) = omega arith in
-      ap (λ k. each_with c (take (suc i) (y ∷ xs)) ++ (x, c) ∷ each_with c (drop k (y ∷ xs))) n ∙ ap (λ l. (y, c) ∷ l) (each_split c xs i x (omega arith) e)
+  pub each_append : (c : ℤ) (xs ys : List L) → each_with c (xs ++ ys) ≡ each_with c xs ++ each_with c ys
+  each_append c [] ys = refl
+  each_append c (x ∷ xs) ys = ap (λ l. (x, c) ∷ l) (each_append c xs ys)
 
   pub each_all : (c : ℤ) (xs : List L) (i : ℕ) → length xs ≤ i → each_with c (take i xs) ≡ each_with c xs
-  each_all c [] zero h = refl
-  each_all c [] (suc i) h = refl
-  each_all c (y ∷ xs) zero h = absurd (omega arith)
-  each_all c (y ∷ xs) (suc i) h = ap (λ l. (y, c) ∷ l) (each_all c xs i (omega arith))
+  each_all c xs i h = ap (each_with c) (take_all i xs h)
 
   pub scaled_append : (c : ℤ) (xs ys : WholeTermsOf L) → scaled c (xs ++ ys) ≡ scaled c xs ++ scaled c ys
   scaled_append c xs ys = map-append (λ (t : L × ℤ). (t.0, c *ℤ t.1)) xs ys
@@ -253,17 +241,7 @@ pub replaced_over : {K L : Type 0} (image : K → WholeTermsOf L) (φ : L → �
 replaced_over image φ [] = refl
 replaced_over image φ (t ∷ terms) = over_append φ (scaled t.1 (image t.0)) (replaced image terms) ∙ ap₂ (λ x y. x +ℤ y) (scaled_over t.1 φ (image t.0)) (replaced_over image φ terms)
 
--- ---- loops in which gains are added up: over labels, and over the pairs of a table
-
-module _ {L : Type 0} (c : ℤ) (xs : List L) (i : ℕ) (x : L) (inside : i < length xs) (here : x ≡ get_or xs i x) (old cur : WholeTermsOf L) (so_far : Gains old (each_with c (take i xs)) cur) where
-  pub labels_gain : (new : WholeTermsOf L) → Gains cur ((x, c) ∷ []) new → Gains old (each_with c (take (i + 1) xs)) new
-  labels_gain new more = subst (λ l. Gains old l new) (sym (each_take c xs i x inside here)) (gains_both old (each_with c (take i xs)) cur ((x, c) ∷ []) new so_far more)
-
-  pub labels_overflow : (eq : L → L → Bool) → Overflows eq cur ((x, c) ∷ []) → Overflows eq old (each_with c xs)
-  labels_overflow eq large =
-      subst (Overflows eq old) (append_assoc (each_with c (take i xs)) ((x, c) ∷ []) (each_with c (drop (i + 1) xs)) ∙ each_split c xs i x inside here)
-      (overflows_more eq old (each_with c (take i xs) ++ (x, c) ∷ []) (each_with c (drop (i + 1) xs))
-      (overflows_both eq old (each_with c (take i xs)) cur ((x, c) ∷ []) so_far large))
+-- ---- loops in which gains are added up: over the pairs of a table, and over a list by place
 
 -- what is added for a list is what is added for its pieces
 module _ {A L : Type 0} (gained : List A → WholeTermsOf L) (pieces : (xs ys : List A) → gained (xs ++ ys) ≡ gained xs ++ gained ys)
@@ -276,3 +254,22 @@ module _ {A L : Type 0} (gained : List A → WholeTermsOf L) (pieces : (xs ys : 
   pairs_overflow eq rest all is large =
       subst (Overflows eq old) (ap (λ l. l ++ gained rest) (sym (pieces done (p ∷ []))) ∙ sym (pieces (done ++ p ∷ []) rest) ∙ ap gained (append_assoc done (p ∷ []) rest ∙ is))
       (overflows_more eq old (gained done ++ gained (p ∷ [])) (gained rest) (overflows_both eq old (gained done) cur (gained (p ∷ [])) so_far large))
+
+module _ {A L : Type 0} (gained : List A → WholeTermsOf L) (pieces : (xs ys : List A) → gained (xs ++ ys) ≡ gained xs ++ gained ys)
+    (xs : List A) (i : ℕ) (x : A) (inside : i < length xs) (here : x ≡ get_or xs i x) (old cur : WholeTermsOf L) (so_far : Gains old (gained (take i xs)) cur) where
+  pub places_gain : (new : WholeTermsOf L) → Gains cur (gained (x ∷ [])) new → Gains old (gained (take (i + 1) xs)) new
+  places_gain new more =
+      pairs_gain gained pieces (take i xs) x old cur so_far (take (i + 1) xs) new
+      (ap (λ (y : A). take i xs ++ y ∷ []) here ∙ sym (take_more xs i x inside)) more
+
+  pub places_overflow : (eq : L → L → Bool) → Overflows eq cur (gained (x ∷ [])) → Overflows eq old (gained xs)
+  places_overflow eq large =
+      pairs_overflow gained pieces (take i xs) x old cur so_far eq (drop (suc i) xs) xs
+      (ap (λ (y : A). take i xs ++ y ∷ drop (suc i) xs) here ∙ sym (split_at xs i x inside)) large
+
+module _ {L : Type 0} (c : ℤ) (xs : List L) (i : ℕ) (x : L) (inside : i < length xs) (here : x ≡ get_or xs i x) (old cur : WholeTermsOf L) (so_far : Gains old (each_with c (take i xs)) cur) where
+  pub labels_gain : (new : WholeTermsOf L) → Gains cur ((x, c) ∷ []) new → Gains old (each_with c (take (i + 1) xs)) new
+  labels_gain new more = places_gain (each_with c) (each_append c) xs i x inside here old cur so_far new more
+
+  pub labels_overflow : (eq : L → L → Bool) → Overflows eq cur ((x, c) ∷ []) → Overflows eq old (each_with c xs)
+  labels_overflow eq large = places_overflow (each_with c) (each_append c) xs i x inside here old cur so_far eq large

@@ -11,4 +11,5 @@ pub mod Gains
 pub mod Cleared
 pub mod Masses
 pub mod Found
+pub mod Counted
 pub mod Inserted

@@ -1,5 +1,5 @@
 -- Masses, labels and values of lists that are gained, of any labels.
-use Rattle.std.proofs.Common.{◌≡◌, ℕ, ◌+◌, ◌*◌, ◌^◌, ◌≤◌, max, Bool, true, false, cond, List, [], ◌∷◌, ◌++◌, length, refl, sym, ap, ◌∙◌, subst, inl, inr, arith, ℤ, pos, ◌*ℤ◌}
+use Rattle.std.proofs.Common.{◌≡◌, ℕ, ◌+◌, ◌*◌, ◌^◌, ◌<◌, ◌≤◌, max, Bool, true, false, cond, List, [], ◌∷◌, ◌++◌, length, refl, sym, ap, ◌∙◌, subst, inl, inr, arith, ℤ, pos, ◌*ℤ◌}
 use Rattle.std.specs.Prelude.{nat_abs, Result, Ok, Err, OnOk}
 use Rattle.std.proofs.lemmas.Bool.{and_parts}
 use Rattle.std.specs.Cmp.{IsEquivalence}
@@ -69,6 +69,16 @@ module _ {L : Type 0} where
   labels_scaled P c [] h t m = absurd m
   labels_scaled P c (x ∷ xs) h t (inl e) = subst P (sym (ap (λ (u : L × ℤ). u.0) e)) (h x (inl refl))
   labels_scaled P c (x ∷ xs) h t (inr m) = labels_scaled P c xs (λ u n. h u (inr n)) t m
+
+  -- where something stands at a label, the label has what the labels of the list have
+  pub label_held : (eq : L → L → Bool) → ((x y : L) → eq x y ≡ true → x ≡ y) → (P : L → Type 0) (terms : WholeTermsOf L) (x : L)
+      → HaveLabels P terms → 0 < mass_at eq x terms → P x
+  label_held eq same P [] x h l = absurd (omega arith)
+  label_held eq same P (t ∷ terms) x h l = by (eq x t.0) refl (label_held eq same P terms x (λ u m. h u (inr m))) l
+    where
+      by : (b : Bool) → eq x t.0 ≡ b → (0 < mass_at eq x terms → P x) → 0 < cond b (nat_abs t.1) 0 + mass_at eq x terms → P x
+      by true e rest l = subst P (sym (same x t.0 e)) (h t (inl refl))
+      by false e rest l = rest (omega (arith, l))
 
   -- an overflow at a label is one of the masses
   pub overflow_mass : (eq : L → L → Bool) (old g : WholeTermsOf L) → Overflows eq old g → 2 ^ 127 ≤ mass old + mass g

@@ -26,7 +26,8 @@ numerators_over {L} q terms = map (λ (t : L × Fraction). (t.0, numerator_over 
 abbrev pub AreCleared : {L : Type 0} → (L → L → Bool) → ℕ → Terms L → Type 0
 AreCleared {L} eq q terms = (label : L) → (coefficient eq (pos 0, 1) terms label).1 ∣ q
 
--- VALUE: the new list, over the denominator q, has gained these, and is a table where the old one is
+-- VALUE: the new list, over the denominator q, has gained these, and is a table where the old one
+-- is
 pub record GainsCleared {L : Type 0} (eq : L → L → Bool) (is_label : L → Bool) (q : ℕ)
     (old : Terms L) (gained : WholeTermsOf L) (new : Terms L) : Type 0 where
   pub table : IsCombination eq is_label (λ (c : Fraction). c) old

@@ -28,6 +28,10 @@ abbrev pub each_with : {L : Type 0} → ℤ → List L → WholeTermsOf L
 each_with c [] = []
 each_with c (label ∷ labels) = (label, c) ∷ each_with c labels
 
+-- the labels, each with its count
+abbrev pub counted : {L : Type 0} → (L → ℕ) → List L → WholeTermsOf L
+counted {L} count labels = map (λ (x : L). (x, pos (count x))) labels
+
 -- what each label stands for, times its coefficient
 abbrev pub replaced : {K L : Type 0} → (K → WholeTermsOf L) → WholeTermsOf K → WholeTermsOf L
 replaced image [] = []

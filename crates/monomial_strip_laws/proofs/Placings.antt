@@ -62,6 +62,14 @@ placed-taken d j rest ν (v ∷ μ) t h =
     ap₂ ◌*◌ (let f : count_from v rest - j ≡ count_from v ν - suc j = omega arith in f)
     (placed-taken d (suc j) rest ν μ t (λ w m. h w (inr m)))
 
+-- a row that is as long as each part takes one place
+pub placed-first : (x j : ℕ) (ν μ : List ℕ) → ((w : ℕ) → Among w μ → w ≤ x) → placed (suc j) (x ∷ ν) μ ≡ placed j ν μ
+placed-first x j ν [] h = refl
+placed-first x j ν (w ∷ μ) h =
+    let l = ap (λ b. cond b 1 0 + count_from w ν) (le-leb w x (h w (inl refl))) in
+    let e : count_from w (x ∷ ν) - suc j ≡ count_from w ν - j = omega arith in
+    ap₂ ◌*◌ e (placed-first x (suc j) ν μ (λ u m. h u (inr m)))
+
 placings-none : (ν : List ℕ) → sorted_total (λ x y. at_only [] x) ν ≡ pos 1
 placings-none [] = refl
 placings-none (c ∷ ν) =

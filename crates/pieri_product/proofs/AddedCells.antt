@@ -6,52 +6,15 @@ use Rattle.std.proofs.Common.{◌≡◌, ◌⊎◌, ℕ, zero, suc, ◌+◌, ◌
 use Rattle.std.proofs.lemmas.Bool.{cases_lt}
 use Rattle.std.proofs.lemmas.List.{map-append}
 use Rattle.sym_model.specs.Sum.{Among}
-use Rattle.sym_model.specs.Partition.{IsPartition, ArePositive, Falls, Holds, part, size}
+use Rattle.sym_model.specs.Partition.{IsPartition, Falls, Holds, part, size}
 use Rattle.sym_model.proofs.Sums.{Among-append_left, Among-append_right, Among_from_append, Among-map, Among_from_map, Once-append, Once-map}
-use Rattle.sym_model.proofs.SortedParts.{IsPartition_tail}
+use Rattle.sym_model.proofs.SortedParts.{IsPartition_tail, Falls_from_size}
+use Rattle.sym_model.proofs.Parts.{size-first, first_positive}
 use Rattle.partitions.specs.Limits.{IsWithinLimits}
 use Rattle.product_laws.specs.StripLists.{ListsEach}
 use Rattle.sym_model.proofs.SortedParts.{rows_within_size}
-use Rattle.strip_laws.proofs.Containment.{Holds-get_or}
+use Rattle.strip_laws.proofs.Containment.{Holds-get_or, Holds_below, Holds-size, Holds-same_size}
 use Rattle.pieri_product.specs.Rows.{AddsBelow, AddsCells, HasAdded}
-
--- ---- a shape that contains another
-
--- without the first rows
-pub holds_below : (outer inner : List ℕ) → Holds outer inner → Holds (drop 1 outer) (drop 1 inner)
-holds_below outer inner h i = subst (λ (n : ℕ). n ≤ get_or (drop 1 outer) (i - 1) 0) (sym (at inner (i - 1))) (subst (λ (n : ℕ). get_or inner (suc (i - 1)) 0 ≤ n) (sym (at outer (i - 1))) (Holds-get_or outer inner h (suc (i - 1))))
-  where
-    at : (parts : List ℕ) (n : ℕ) → get_or (drop 1 parts) n 0 ≡ get_or parts (suc n) 0
-    at [] zero = refl
-    at [] (suc n) = refl
-    at (a ∷ parts) n = refl
-
-pub size-first : (parts : List ℕ) → size parts ≡ part parts 1 + size (drop 1 parts)
-size-first [] = refl
-size-first (a ∷ parts) = refl
-
-holds_size : (outer inner : List ℕ) → Holds outer inner → size inner ≤ size outer
-holds_size outer [] h = omega arith
-holds_size outer (v ∷ μ) h = omega (arith, h 1, holds_size (drop 1 outer) μ (holds_below outer (v ∷ μ) h), size-first outer)
-
-same_shape : (outer inner : List ℕ) → ArePositive outer → ArePositive inner → Holds outer inner → size outer ≡ size inner → outer ≡ inner
-same_shape [] [] p q h e = refl
-same_shape [] (v ∷ μ) p q h e = absurd (omega (arith, q.0))
-same_shape (x ∷ ν) [] p q h e = absurd (omega (arith, p.0))
-same_shape (x ∷ ν) (v ∷ μ) p q h e =
-    let b = holds_below (x ∷ ν) (v ∷ μ) h in
-    let l = holds_size ν μ b in
-    let f = h 1 in
-    ap₂ ◌∷◌ (omega arith) (same_shape ν μ p.1 q.1 b (omega arith))
-
-pub partition_below : (parts : List ℕ) → IsPartition parts → IsPartition (drop 1 parts)
-partition_below [] p = p
-partition_below (a ∷ parts) p = IsPartition_tail a parts p
-
-pub falls_below : (row : ℕ) (parts : List ℕ) → IsPartition parts → part parts 1 ≤ row → Falls (row ∷ drop 1 parts)
-falls_below row [] p h = tt
-falls_below row (a ∷ []) p h = tt
-falls_below row (a ∷ b ∷ parts) p h = (omega (arith, p.falls.0), p.falls.1)
 
 -- the rows after the first one are fewer, or cells have been used
 pub fewer_left : (k row : ℕ) (parts : List ℕ) → 0 < k → 1 ≤ row → part parts 1 ≤ row → length (drop 1 parts) + (part parts 1 + k - row) < length parts + k
@@ -75,16 +38,12 @@ added-none most inner above old new p f e = record {
     there ν (inr m) = absurd m
 
     back : (ν : List ℕ) → AddsBelow most 0 inner ν → Among ν (inner ∷ [])
-    back ν a = inl (same_shape ν inner a.0.0.positive p.positive a.0.2 (let e = a.0.1 in omega arith))
+    back ν a = inl (Holds-same_size ν inner a.0.0.positive p.positive a.0.2 (let e = a.0.1 in omega arith))
 
 -- ---- first rows below a length
 
 abbrev pub HasRow : ℕ → ℕ → List ℕ → ℕ → List ℕ → Type 0
 HasRow most k inner row ν = AddsBelow most k inner ν × (part ν 1 < row)
-
-first_positive : (ν : List ℕ) → ArePositive ν → 0 < size ν → 0 < part ν 1
-first_positive [] p h = absurd (omega arith)
-first_positive (x ∷ ν) p h = p.0
 
 pub rows-none : (most k : ℕ) (inner above : List ℕ) (row : ℕ) (old : List (List ℕ)) → 0 < k → row ≡ max (part inner 1) 1 → HasAdded (HasRow most k inner row) above old old
 rows-none most k inner above row old some e = record {
@@ -127,7 +86,7 @@ module _ (most k row : ℕ) (inner : List ℕ) (p : IsPartition inner) (least : 
       let s = a.0.1 in
       let t = size-first inner in
       let cells : size ν ≡ size (drop 1 inner) + (part inner 1 + k - row) = omega arith in
-      let below = holds_below (x ∷ ν) inner a.0.2 in
+      let below = Holds_below (x ∷ ν) inner a.0.2 in
       (ν, ap (λ y. y ∷ ν) e, ((IsPartition_tail x ν a.0.0, cells, below), subst (λ (y : ℕ). Falls (y ∷ ν)) e a.0.0.falls))
 
   pub limits_behind : (above rest : List ℕ) → ((ν : List ℕ) → AddsBelow most k inner ν → IsWithinLimits (above ++ ν)) → AddsBelow row (part inner 1 + k - row) (drop 1 inner) rest → IsWithinLimits ((above ++ row ∷ []) ++ rest)
@@ -188,15 +147,11 @@ rows-all most k row inner above old new e s = record {
     within (x ∷ ν) a =
         let f = a.1.0 in
         let t = a.0.1 in
-        let l = holds_size ν (drop 1 inner) (holds_below (x ∷ ν) inner a.0.2) in
+        let l = Holds-size ν (drop 1 inner) (Holds_below (x ∷ ν) inner a.0.2) in
         let u = size-first inner in
         omega arith
 
 -- ---- all of them
-
-pub falls_under : (most : ℕ) (ν : List ℕ) → IsPartition ν → size ν ≤ most → Falls (most ∷ ν)
-falls_under most [] p h = tt
-falls_under most (x ∷ ν) p h = (omega arith, p.falls)
 
 pub limits_all : (most k : ℕ) (inner ν : List ℕ) → size inner + k ≤ 512 → AddsBelow most k inner ν → IsWithinLimits ν
 limits_all most k inner ν h a =
@@ -209,7 +164,7 @@ all_added k most inner above old new a b e s =
     (sym (s.listed ∙ ap₂ (λ xs ys. xs ++ map (λ ν. ys ++ ν) s.added) b a ∙ same s.added))
     (record {
       once = s.each.once;
-      members = λ ν. ((λ m. ((s.each.members ν).0 m).0), λ h. (s.each.members ν).1 (h, falls_under most ν h.0 (let t = h.1 in omega arith)));
+      members = λ ν. ((λ m. ((s.each.members ν).0 m).0), λ h. (s.each.members ν).1 (h, Falls_from_size most ν h.0 (let t = h.1 in omega arith)));
     })
   where
     same : (xs : List (List ℕ)) → map (λ (ν : List ℕ). ν) xs ≡ xs

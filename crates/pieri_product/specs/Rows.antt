@@ -1,10 +1,11 @@
 -- The product of a monomial symmetric polynomial with h_k: which partitions are in it, and how
 -- often (Macdonald, I.2).
-use Rattle.std.specs.Prelude.{◌≡◌, ℕ, ◌+◌, pos, List, ◌∷◌, ◌++◌, map}
+use Rattle.std.specs.Prelude.{◌≡◌, ℕ, ◌+◌, List, ◌∷◌, ◌++◌, map}
 use Rattle.sym_model.specs.Partition.{IsPartition, Falls, Holds, size}
 use Rattle.sym_model.specs.PartitionList.{partitions_of}
 use Rattle.sym_model.specs.WholeTerms.{WholeTerms}
 use Rattle.monomial_strip_laws.specs.StripProduct.{placings}
+use Rattle.linear_combinations.specs.Gains.{counted}
 use Rattle.product_laws.specs.StripLists.{ListsEach}
 
 -- ν is a partition that contains μ and has k cells more
@@ -24,7 +25,7 @@ pub record HasAdded (P : List ℕ → Type 0) (above : List ℕ) (old new : List
 
 -- the shapes, each with the number of placings of the parts of μ in its rows
 abbrev pub with_placings : List ℕ → List (List ℕ) → WholeTerms
-with_placings μ shapes = map (λ ν. (ν, pos (placings μ ν))) shapes
+with_placings μ shapes = counted (placings μ) shapes
 
 -- m_μ·h_k: all partitions of k cells more with their placings
 abbrev pub row_terms : ℕ → List ℕ → WholeTerms

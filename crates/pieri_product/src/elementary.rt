@@ -5,12 +5,11 @@ ghost use Rattle.sym_model.specs.Partition.{IsPartition, size};
 ghost use Rattle.sym_model.specs.Polynomial.{coefficient};
 ghost use Rattle.sym_model.specs.Strip.{IsVerticalStrip};
 ghost use Rattle.monomial_laws.specs.ExpressionTerms.{elementary_terms};
-ghost use Rattle.monomial_laws.specs.MonomialProduct.{arrangements, product_coefficient};
-ghost use Rattle.monomial_strip_laws.specs.StripProduct.{column};
-ghost use Rattle.linear_combinations.specs.Gains.{Gains, Overflows, scaled, HaveLabels};
+ghost use Rattle.monomial_laws.specs.MonomialProduct.{product_coefficient};
+ghost use Rattle.linear_combinations.specs.Gains.{Gains, Overflows, counted, scaled, HaveLabels};
 ghost use Rattle.whole_lists.specs.Large.{ProductIsLarge};
 ghost use Rattle.whole_lists.specs.Tables.{equal, IsWholeTable};
-ghost use Rattle.pieri_product.specs.Columns.{HasRoom, column_term};
+ghost use Rattle.pieri_product.specs.Columns.{HasRoom, column_count};
 
 use crate::counts::{coefficient_of, times_quotient};
 use calc_base::SumFault;
@@ -33,8 +32,8 @@ fn row_at(rows: &[u16], at: usize) -> u16
 fn coefficient_at(inner: &Partition, outer: &Partition) -> Option<Int>
     requires { IsVerticalStrip outer.now inner.now }
     ensures { (k : ℕ) → size outer.now ≡ size inner.now + k
-        → SomeIff result (arrangements inner.now (column k) outer.now < 2 ^ 127)
-        (pos (arrangements inner.now (column k) outer.now)) }
+        → SomeIff result (column_count k inner.now outer.now < 2 ^ 127)
+        (pos (column_count k inner.now outer.now)) }
 {
     let shorter = inner.parts();
     let rows = outer.parts();
@@ -61,9 +60,9 @@ fn coefficient_at(inner: &Partition, outer: &Partition) -> Option<Int>
 fn add_shape(label: &Partition, shape: &Partition, c: Int, sum: &mut Whole) -> Result<(), SumFault>
     requires { IsVerticalStrip shape.now label.now }
     ensures gains { OnOk result ((k : ℕ) → size shape.now ≡ size label.now + k
-        → Gains sum.old (scaled c (column_term k label.now shape.now ∷ [])) sum.new) }
+        → Gains sum.old (scaled c (counted (column_count k label.now) (shape.now ∷ []))) sum.new) }
     ensures large { IsErrOf result SumFault.Large → (k : ℕ) → size shape.now ≡ size label.now + k
-        → Overflows equal sum.old (scaled c (column_term k label.now shape.now ∷ [])) }
+        → Overflows equal sum.old (scaled c (counted (column_count k label.now) (shape.now ∷ []))) }
 {
     if c.is_zero() {
         return Ok(());

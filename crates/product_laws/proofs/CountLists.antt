@@ -9,7 +9,7 @@ use Rattle.sym_model.proofs.Sums.{total_none, Among-map, Among_from_map, Among_f
 use Rattle.sym_model.proofs.Exponents.{same_from, same_apart, same_or_not}
 use Rattle.sym_model.proofs.Polynomials.{coefficient_plus}
 use Rattle.sym_model.proofs.Integers.{product-nonnegative, cond-nonnegative}
-use Rattle.product_laws.specs.CountedProducts.{AreCounts}
+use Rattle.sym_model.specs.WholeTerms.{AreCounts}
 use lib.IntN.{+ℤ_idl, +ℤ_idr}
 
 -- ---- coefficients of lists of counts

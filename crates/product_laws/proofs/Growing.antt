@@ -22,7 +22,8 @@ use Rattle.alternant_laws.proofs.ClassicalProducts.{classical_product-coefficien
 use Rattle.alternant_laws.proofs.CountedTerms.{schur_coefficient_of_schur, product_coefficients, coefficient_counts, no_long_labels}
 use Rattle.product_laws.specs.FactorSteps.{multiplied}
 use Rattle.product_laws.proofs.ManyFactors.{classical_step, are_more}
-use Rattle.product_laws.specs.CountedProducts.{AreCounts, Reaches}
+use Rattle.product_laws.specs.CountedProducts.{Reaches}
+use Rattle.sym_model.specs.WholeTerms.{AreCounts}
 use Rattle.product_laws.proofs.CountLists.{counts-coefficient, counts-scale, counts-each, coefficient-each, some_term, coefficient_of_once}
 use Rattle.product_laws.proofs.SomeLabel.{some_label}
 

@@ -12,13 +12,13 @@ use Rattle.sym_model.specs.Schur.{schur}
 use Rattle.sym_model.specs.Alternant.{alternant, staircase}
 use Rattle.sym_model.specs.GoodTableau.{is_falling}
 use Rattle.sym_model.proofs.Sums.{total_ext, total_among, total_select, Among_from_select}
+use Rattle.sym_model.proofs.FirstPlaces.{Falls-resize}
 use Rattle.sym_model.proofs.Exponents.{join_comm, join_assoc, length-resize}
 use Rattle.sym_model.proofs.Polynomials.{pair_monomials}
 use Rattle.sym_model.proofs.Monomials.{coefficient-monomials, members_of-exponent_lists, In-monomials}
 use Rattle.monomial_laws.proofs.SchurMajorants.{In-schur}
 use Rattle.beta_list_laws.proofs.NeighbourExchanges.{length-exchange, size-exchange}
-use Rattle.tableau_laws.proofs.ColumnCounts.{falling-resize}
-use Rattle.alternant_laws.proofs.FallingAlternants.{join_padded, falls_from_test}
+use Rattle.alternant_laws.proofs.FallingAlternants.{join_padded}
 use Rattle.alternant_laws.proofs.SortedAlternants.{alternant-equal}
 use Rattle.product_laws.specs.StripLists.{ListsEach, AddsHorizontalStrip, AddsVerticalStrip}
 use Rattle.product_laws.proofs.StripShapes.{keeps_below, adds_column, shapes_total, horizontal_sound, horizontal_complete, vertical_sound, vertical_complete}
@@ -71,9 +71,6 @@ strips_total n k parts p few test S sound complete held list l φ =
     ap (λ β. pair (alternant β) φ) (join_padded n ν (leb-true (rows ν) n (Among_from_select (λ (ν : List ℕ). nat_le (rows ν) n) ν list i).1))
     ∙ once_times (pair (alternant (join ν (staircase n))) φ))
 
-falls-padded : (n : ℕ) (parts : List ℕ) → Falls parts → Falls (resize n parts)
-falls-padded n parts f = falls_from_test (resize n parts) (falling-resize n parts f)
-
 pub horizontal : (n k : ℕ) (parts : List ℕ) (list : List (List ℕ)) → IsPartition parts
     → ListsEach (AddsHorizontalStrip k parts) list
     → Same (times (complete_of k n) (schur parts n)) (flat_map (λ ν. schur ν n) list)
@@ -85,7 +82,7 @@ horizontal n k parts list p l =
     ∙ total_select (λ (α : List ℕ). pair (alternant (join (join parts (staircase n)) α)) φ) (λ (α : List ℕ). true) (exponent_lists n k)
     ∙ total_ext (λ (α : List ℕ). pair (alternant (join (join parts (staircase n)) α)) φ) (λ (α : List ℕ). pair (alternant (join (join (resize n parts) (staircase n)) α)) φ)
     (λ α. ap (λ β. pair (alternant (join β α)) φ) (sym (join_padded n parts few))) (exponent_lists n k)
-    ∙ strips_remain n (resize n parts) (λ β. pair (alternant β) φ) (length-resize n parts) (falls-padded n parts p.falls) (alternants_turn φ) k
+    ∙ strips_remain n (resize n parts) (λ β. pair (alternant β) φ) (length-resize n parts) (Falls-resize n parts p.falls) (alternants_turn φ) k
     ∙ strips_total n k parts p few (keeps_below (resize n parts)) (λ ν. IsHorizontalStrip ν parts)
     (λ α e t. horizontal_sound n parts α few e t) (λ α e f s. horizontal_complete n parts α p.falls few e f s) (λ ν s. s.holds) list l φ)
 
@@ -112,7 +109,7 @@ vertical n k parts list p l =
         total_select F at_most_one (exponent_lists n k)
         ∙ total_among (λ (α : List ℕ). cond (at_most_one α) (F α) (pos 0)) (λ (α : List ℕ). cond (adds_column m α) (F α) (pos 0)) (exponent_lists n k)
         (λ α i. by (at_most_one α) (is_falling (join m α)) (F α) (λ o e. alternant-equal (join (join m (staircase n)) α) φ
-        (equal_found n m α (length-resize n parts) (members_of-exponent_lists α n k i).0 (falls-padded n parts p.falls) o e)))
+        (equal_found n m α (length-resize n parts) (members_of-exponent_lists α n k i).0 (Falls-resize n parts p.falls) o e)))
         ∙ sym (total_select F (adds_column m) (exponent_lists n k))
       where
         F : List ℕ → ℤ

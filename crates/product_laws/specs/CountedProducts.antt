@@ -1,13 +1,8 @@
 -- Products of Schur polynomials as lists of counts.
-use Rattle.std.specs.Prelude.{◌≡◌, ℕ, ◌≤◌, ℤ, pos, ◌≤ℤ◌, List, Option, Some, None}
-use Rattle.sym_model.specs.Sum.{Among}
+use Rattle.std.specs.Prelude.{◌≡◌, ℕ, ◌≤◌, pos, ◌≤ℤ◌, List, Option, Some, None}
 use Rattle.sym_model.specs.Polynomial.{coefficient}
 use Rattle.sym_model.specs.Partition.{IsPartition, rows}
 use Rattle.sym_model.specs.WholeTerms.{WholeTerms}
-
--- no coefficient is negative
-abbrev pub AreCounts : WholeTerms → Type 0
-AreCounts terms = (t : List ℕ × ℤ) → Among t terms → pos 0 ≤ℤ t.1
 
 -- at some partition with at most k rows the coefficient is c or more
 pub record Reaches (k c : ℕ) (terms : WholeTerms) : Type 0 where

@@ -2,9 +2,12 @@
 --     contains-tells, contains-from      the test and the parts
 --     cells-from, cells-tell             the parts and the cells
 --     cell                               a place between the parts of a row is a cell
-use Rattle.std.proofs.Common.{◌≡◌, ℕ, zero, suc, ◌+◌, ◌-◌, ◌<◌, ◌≤◌, true, List, [], ◌∷◌, get_or, leb, eqb, subst, refl, inl, inr, arith, ◌&&◌, ap, ◌∙◌}
-use Rattle.std.proofs.lemmas.Bool.{cases_lt, eq-eqb, eqb-true, leb-true, le-leb, and_parts, and_from}
-use Rattle.sym_model.specs.Partition.{part, Holds, IsCell}
+--     Holds_below, Holds-..              the rows after the first ones, sizes, and how many rows are long
+use Rattle.std.proofs.Common.{◌≡◌, ◌⊎◌, ℕ, zero, suc, ◌+◌, ◌-◌, ◌<◌, ◌≤◌, true, cond, List, [], ◌∷◌, drop, get_or, leb, eqb, subst, refl, sym, inl, inr, arith, ◌&&◌, ap, ap₂, ◌∙◌}
+use Rattle.std.proofs.lemmas.Bool.{cases_lt, eq-eqb, eqb-true, leb-true, le-leb, lt-leb, and_parts, and_from}
+use Rattle.sym_model.specs.Partition.{part, size, ArePositive, Holds, IsCell}
+use Rattle.sym_model.specs.Conjugate.{count_from}
+use Rattle.sym_model.proofs.Parts.{size-first}
 use Rattle.sym_model.specs.Schur.{contains}
 
 -- no number of inner is greater than the number of outer at the same place
@@ -75,3 +78,49 @@ contains_from_places (a ∷ outer) (b ∷ inner) h =
 
 pub cell : (outer inner : List ℕ) (row column : ℕ) → 1 ≤ row → part inner row < column → column ≤ part outer row → IsCell outer inner row column
 cell outer inner row column a b c = record { row_counts = a; outside = b; within = c }
+
+-- ---- without the first rows
+
+pub Holds_below : (outer inner : List ℕ) → Holds outer inner → Holds (drop 1 outer) (drop 1 inner)
+Holds_below outer inner h i =
+    subst (λ (n : ℕ). n ≤ get_or (drop 1 outer) (i - 1) 0) (sym (at inner (i - 1)))
+    (subst (λ (n : ℕ). get_or inner (suc (i - 1)) 0 ≤ n) (sym (at outer (i - 1))) (Holds-get_or outer inner h (suc (i - 1))))
+  where
+    at : (parts : List ℕ) (n : ℕ) → get_or (drop 1 parts) n 0 ≡ get_or parts (suc n) 0
+    at [] zero = refl
+    at [] (suc n) = refl
+    at (a ∷ parts) n = refl
+
+pub Holds-size : (outer inner : List ℕ) → Holds outer inner → size inner ≤ size outer
+Holds-size outer [] h = omega arith
+Holds-size outer (b ∷ inner) h =
+    omega (arith, h 1, Holds-size (drop 1 outer) inner (Holds_below outer (b ∷ inner) h), size-first outer)
+
+-- a shape that contains another of its size is that one
+pub Holds-same_size : (outer inner : List ℕ) → ArePositive outer → ArePositive inner → Holds outer inner → size outer ≡ size inner → outer ≡ inner
+Holds-same_size [] [] p q h e = refl
+Holds-same_size [] (b ∷ inner) p q h e = absurd (omega (arith, q.0))
+Holds-same_size (a ∷ outer) [] p q h e = absurd (omega (arith, p.0))
+Holds-same_size (a ∷ outer) (b ∷ inner) p q h e =
+    let below = Holds_below (a ∷ outer) (b ∷ inner) h in
+    let l = Holds-size outer inner below in
+    let f = h 1 in
+    ap₂ ◌∷◌ (omega arith) (Holds-same_size outer inner p.1 q.1 below (omega arith))
+
+-- it has no fewer long rows
+pub Holds-count_from : (k : ℕ) (outer inner : List ℕ) → 0 < k → Holds outer inner → count_from k inner ≤ count_from k outer
+Holds-count_from k outer [] p h = omega arith
+Holds-count_from k [] (b ∷ inner) p h =
+    let l = h 1 in
+    let f = ap (λ t. cond {A = ℕ} t 1 0) (lt-leb k b (omega arith)) in
+    omega (arith, Holds-count_from k [] inner p (Holds_below [] (b ∷ inner) h))
+Holds-count_from k (a ∷ outer) (b ∷ inner) p h =
+    by (cases_lt b k) (Holds-count_from k outer inner p (Holds_below (a ∷ outer) (b ∷ inner) h))
+  where
+    by : (b < k) ⊎ (k ≤ b) → count_from k inner ≤ count_from k outer
+        → cond {A = ℕ} (leb k b) 1 0 + count_from k inner ≤ cond {A = ℕ} (leb k a) 1 0 + count_from k outer
+    by (inl s) r = let f = ap (λ t. cond {A = ℕ} t 1 0) (lt-leb k b s) in omega arith
+    by (inr s) r =
+        let f = ap (λ t. cond {A = ℕ} t 1 0) (le-leb k b s) in
+        let g = ap (λ t. cond {A = ℕ} t 1 0) (le-leb k a (omega (arith, h 1))) in
+        omega arith

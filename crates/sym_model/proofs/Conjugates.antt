@@ -1,6 +1,8 @@
 -- The columns of a partition: how many parts reach a bound, and the partition that these counts are.
-use Rattle.std.proofs.Common.{◌≡◌, ℕ, zero, suc, ◌+◌, ◌-◌, ◌<◌, ◌≤◌, nat_le, Bool, true, false, cond, List, [], ◌∷◌, map, length, get_or, ◌∙◌, inl, inr, arith}
-use Rattle.std.proofs.lemmas.Bool.{cases_lt, le-leb, lt-leb}
+use Rattle.std.proofs.Common.{◌≡◌, ◌⊎◌, leb, eqb, sym, ap, ap₂, refl, ℕ, zero, suc, ◌+◌, ◌-◌, ◌<◌, ◌≤◌, nat_le, Bool, true, false, cond, List, [], ◌∷◌, map, length, get_or, ◌∙◌, inl, inr, arith}
+use Rattle.std.proofs.lemmas.Bool.{cases_lt, cases_eq, le-leb, lt-leb, eq-eqb, ne_eqb}
+use Rattle.sym_model.specs.Sum.{Among}
+use Rattle.sym_model.specs.Schur.{times_in}
 use Rattle.std.proofs.lemmas.List.{length-map}
 use Rattle.sym_model.specs.Partition.{IsPartition, Falls, ArePositive, size, columns, after}
 use Rattle.sym_model.specs.Conjugate.{count_from, conjugate}
@@ -96,3 +98,12 @@ under_columns (a ∷ parts) f (suc r) = under_first a parts r f
 
 pub size-conjugate : (parts : List ℕ) → Falls parts → size (conjugate parts) ≡ size parts
 size-conjugate parts f = size-counts (columns parts) parts (under_columns parts f)
+
+-- among numbers that are at most v, those of at least v are those that are v
+pub count_from-greatest : (v : ℕ) (numbers : List ℕ) → ((w : ℕ) → Among w numbers → w ≤ v) → count_from v numbers ≡ times_in v numbers
+count_from-greatest v [] h = refl
+count_from-greatest v (w ∷ numbers) h = ap₂ (λ (a b : ℕ). a + b) (by (cases_eq w v)) (count_from-greatest v numbers (λ u m. h u (inr m)))
+  where
+    by : (w ≡ v) ⊎ (w ≡ v → ⊥) → cond {A = ℕ} (leb v w) 1 0 ≡ cond {A = ℕ} (eqb w v) 1 0
+    by (inl e) = ap (λ b. cond {A = ℕ} b 1 0) (le-leb v w (omega arith) ∙ sym (eq-eqb w v e))
+    by (inr n) = let l = h w (inl refl) in ap (λ b. cond {A = ℕ} b 1 0) (lt-leb v w (omega arith) ∙ sym (ne_eqb w v n))

@@ -1,16 +1,21 @@
 -- How often a letter stands in a list: `times_in` and `content` of specs/Schur.
-use Rattle.std.proofs.Common.{◌+◌, Bool, List, ap, arith, cond, suc, ℕ, ◌∙◌, ◌∷◌, ◌≡◌, ◌++◌, [], map, refl, replicate, zero, ◌==◌, false, length, true, ◌≤◌, ◌-◌, ◌<◌, eqb, inl, inr}
+use Rattle.std.proofs.Common.{◌+◌, Bool, List, ap, arith, cond, suc, ℕ, ◌∙◌, ◌∷◌, ◌≡◌, ◌++◌, [], map, refl, replicate, zero, ◌==◌, false, length, true, ◌≤◌, ◌<◌, eqb, inl, inr, sym}
 use Rattle.std.proofs.lemmas.Bool.{eq-eqb, ne_eqb, cases_eq}
 use Rattle.sym_model.specs.Schur.{times_in, content}
 use Rattle.sym_model.specs.Partition.{after, size}
 use Rattle.sym_model.proofs.Parts.{size-map_add}
 use Rattle.sym_model.specs.Bounded.{AreLetters}
+use Rattle.sym_model.specs.Sum.{Among}
 
 pub times_in-here : (k c : ℕ) (l : List ℕ) → c ≡ k → times_in k (c ∷ l) ≡ suc (times_in k l)
 times_in-here k c l e = ap (λ (b : Bool). cond {A = ℕ} b 1 0 + times_in k l) (eq-eqb c k e) ∙ omega arith
 
 pub times_in-other : (k c : ℕ) (l : List ℕ) → (c ≡ k → ⊥) → times_in k (c ∷ l) ≡ times_in k l
 times_in-other k c l n = ap (λ (b : Bool). cond {A = ℕ} b 1 0 + times_in k l) (ne_eqb c k n) ∙ omega arith
+
+pub times_in-none : (k : ℕ) (w : List ℕ) → (Among k w → ⊥) → times_in k w ≡ 0
+times_in-none k [] h = refl
+times_in-none k (a ∷ w) h = times_in-other k a w (λ e. h (inl (sym e))) ∙ times_in-none k w (λ m. h (inr m))
 
 pub times_in-append : (k : ℕ) (v w : List ℕ) → times_in k (v ++ w) ≡ times_in k v + times_in k w
 times_in-append k [] w = omega arith

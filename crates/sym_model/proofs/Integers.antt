@@ -2,7 +2,7 @@
 use Rattle.std.proofs.Common.{ℕ, ◌+◌, ◌+ℤ◌, arith, negsuc, pos, ℤ, ◌≤◌, inl, inr, refl, suc, zero, ◌≡◌, ◌⊎◌, ◌*ℤ◌, ◌^◌, true, neg_ℤ, ◌*◌, Bool, cond, false, ◌<◌, ap}
 use Rattle.std.proofs.lemmas.Int.{ints}
 use Rattle.std.specs.Prelude.{nat_abs, ◌≤ℤ◌}
-use native.Mathlib.Nat.{eq_of_mul-eq-mul_right, add-mul}
+use native.Mathlib.Nat.{eq_of_mul-eq-mul_right, add-mul, mul-le-mul_left}
 use borrow.Author.Differences.{up, down}
 use Rattle.std.proofs.Math.Nat.{mul-suc}
 use Rattle.std.proofs.lemmas.Bool.{leb-true, le-leb}
@@ -68,3 +68,12 @@ product-neg_one c = omega (arith, ints)
 pub sign_size : (n : ℕ) → nat_abs (minus_one_to n) ≡ 1
 sign_size zero = refl
 sign_size (suc n) = let h = sign_size n in omega (arith, ints)
+
+-- a multiple of a number is at least as large, if the factor is not 0
+pub nat_abs-multiple : (c : ℤ) (n most : ℕ) → (c ≡ pos 0 → ⊥) → most ≤ n → most ≤ nat_abs (c *ℤ pos n)
+nat_abs-multiple c n most some h = by c some (nat_abs-product c (pos n))
+  where
+    by : (c : ℤ) → (c ≡ pos 0 → ⊥) → nat_abs (c *ℤ pos n) ≡ nat_abs c * n → most ≤ nat_abs (c *ℤ pos n)
+    by (pos zero) some e = absurd (some refl)
+    by (pos (suc a)) some e = omega (arith, e, mul-le-mul_left n (let o : 1 ≤ suc a = omega arith in o))
+    by (negsuc a) some e = omega (arith, e, mul-le-mul_left n (let o : 1 ≤ suc a = omega arith in o))

@@ -2,6 +2,7 @@ pub mod GreatestCommonDivisors
 pub mod Ring
 pub mod Sums
 pub mod Exponents
+pub mod FirstPlaces
 pub mod Polynomials
 pub mod SortedParts
 pub mod Monomials

@@ -1,9 +1,9 @@
 -- Natural numbers: powers, factorials, products, and their tests.
-use Rattle.std.proofs.Common.{arith, nat_le, suc, ℕ, ◌≡◌, ◌^◌, pow-suc, zero, ◌≤◌, ◌<◌, ◌==◌, sym, cond, nat_lt, ap, true, false, ◌*◌, List, [], ◌∷◌}
+use Rattle.std.proofs.Common.{arith, nat_le, suc, ℕ, ◌≡◌, ◌⊎◌, inl, inr, ◌^◌, pow-suc, zero, ◌≤◌, ◌<◌, ◌==◌, sym, cond, nat_lt, ap, true, false, ◌*◌, List, [], ◌∷◌}
 use Rattle.std.proofs.lemmas.Bool.Decides.{nat_tests}
 use Rattle.std.proofs.lemmas.Nat.{mul-le}
-use Rattle.std.proofs.Math.Nat.{pow-zero}
-use Rattle.std.proofs.lemmas.Bool.{eq-eqb, eqb-true, lt-ltb}
+use Rattle.std.proofs.Math.Nat.{pow-zero, le_of_mul-le-mul_right}
+use Rattle.std.proofs.lemmas.Bool.{eq-eqb, eqb-true, lt-ltb, cases_lt}
 use native.Mathlib.Nat.{mul-pos, mul-le-mul_left}
 use Rattle.sym_model.proofs.Exponents.{tests_agree}
 use Rattle.sym_model.specs.Bounded.{AreBelow}
@@ -47,3 +47,16 @@ positive_factor (suc q) a m e h = omega arith
 pub below_more : (k l : ℕ) (w : List ℕ) → k ≤ l → AreBelow k w → AreBelow l w
 below_more k l [] le h = tt
 below_more k l (a ∷ w) le h = (omega (arith, h.0), below_more k l w le h.1)
+
+-- of two equal products the one with the smaller factor has the greater other factor
+pub other_factor : (a b c d : ℕ) → a * b ≡ c * d → 0 < b → b ≤ d → c ≤ a
+other_factor a b c d e some h = le_of_mul-le-mul_right (let l = mul-le-mul_left c h in omega arith) some
+
+-- what grows at each step grows over any number of steps
+pub grows_from_steps : (f : ℕ → ℕ) (n : ℕ) → ((i : ℕ) → i < n → f i ≤ f (suc i)) → (i j : ℕ) → i ≤ j → j ≤ n → f i ≤ f j
+grows_from_steps f n step i zero h l = let z : i ≡ 0 = omega arith in omega (arith, ap f z)
+grows_from_steps f n step i (suc j) h l = by (cases_lt j i) (λ g. grows_from_steps f n step i j g (omega arith))
+  where
+    by : (j < i) ⊎ (i ≤ j) → (i ≤ j → f i ≤ f j) → f i ≤ f (suc j)
+    by (inl m) r = let e : i ≡ suc j = omega arith in omega (arith, ap f e)
+    by (inr m) r = omega (arith, r m, step j (omega arith))

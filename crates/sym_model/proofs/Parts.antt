@@ -1,10 +1,10 @@
 -- Lists of parts by their places, sizes and ends: `in_front`, `without_last_zeros`, `part`, `Falls`, `size` of
 -- specs/Partition, and a part made smaller by one (specs/Slide).
-use Rattle.std.proofs.Common.{◌+◌, List, [], arith, map, refl, ℕ, ◌∷◌, ◌≡◌, ◌++◌, ap, ◌<◌, suc, zero, ◌∙◌, length, ◌≤◌, get_or, ◌-◌, drop, take, take_all, subst, replicate}
+use Rattle.std.proofs.Common.{◌+◌, List, [], arith, map, refl, ℕ, ◌∷◌, ◌≡◌, ◌++◌, ap, ◌<◌, suc, zero, ◌∙◌, length, ◌≤◌, get_or, ◌-◌, drop, take, take_all, subst, replicate, inl, inr}
+use Rattle.sym_model.specs.Sum.{Among}
 use Rattle.sym_model.specs.Partition.{size, in_front, without_last_zeros, ArePositive, part, Falls}
 use Rattle.sym_model.specs.Alternant.{staircase}
 use Rattle.sym_model.specs.Slide.{lowered_at}
-use Rattle.sym_model.proofs.Lists.{drop-none}
 
 pub size-map_add : (f g : ℕ → ℕ) (xs : List ℕ) → size (map (λ j. f j + g j) xs) ≡ size (map f xs) + size (map g xs)
 size-map_add f g [] = refl
@@ -147,7 +147,7 @@ in_front-get_or (suc a) numbers i = refl
 
 pub part-drop : (inner : List ℕ) → part (drop 1 inner) 1 ≡ part inner 2
 part-drop [] = refl
-part-drop (b ∷ inner) = ap (λ l. part l 1) (drop-none inner)
+part-drop (b ∷ inner) = refl
 
 pub part-in_front : (a : ℕ) (parts : List ℕ) → part (in_front a parts) 1 ≡ a
 part-in_front zero [] = refl
@@ -169,3 +169,15 @@ falls_after (a ∷ b ∷ parts) f = f.1
 pub ArePositive-ones : (s : ℕ) → ArePositive (replicate s 1)
 ArePositive-ones zero = tt
 ArePositive-ones (suc s) = (omega arith, ArePositive-ones s)
+
+pub ArePositive_from : (xs : List ℕ) → ((a : ℕ) → Among a xs → 0 < a) → ArePositive xs
+ArePositive_from [] h = tt
+ArePositive_from (x ∷ xs) h = (h x (inl refl), ArePositive_from xs (λ a m. h a (inr m)))
+
+pub size-first : (parts : List ℕ) → size parts ≡ part parts 1 + size (drop 1 parts)
+size-first [] = refl
+size-first (a ∷ parts) = refl
+
+pub first_positive : (parts : List ℕ) → ArePositive parts → 0 < size parts → 0 < part parts 1
+first_positive [] p h = absurd (omega arith)
+first_positive (a ∷ parts) p h = p.0

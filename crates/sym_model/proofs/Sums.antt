@@ -3,7 +3,7 @@
 --     total_append .. total_each  a sum over a list that is made of others
 --     total_exchange              two sums in either order
 --     total_within                a list without repeats within another of its length has its sums
---     total_same_members, total_reindex, total_bijection, total_cancel      what follows from that
+--     total_same_members, total_part, total_reindex, total_bijection, total_cancel      what follows from that
 use Rattle.std.proofs.Common.{◌≡◌, suc, ◌≤◌, ◌⊎◌, Bool, true, false, cond, not, List, [], ◌∷◌, ◌++◌, map, length, sym, ◌∙◌, ap, ap₂, subst, refl, inl, inr, arith, ℤ, pos, ◌+ℤ◌, ◌*ℤ◌, neg_ℤ, ◌<◌, get_or, zero, ℕ, filter, flat_map, reverse, nat_le}
 use Rattle.std.proofs.lemmas.Int.{ints}
 use Rattle.sym_model.specs.Sum.{total, Among, Once, Within}
@@ -214,6 +214,11 @@ Once-without x (y ∷ xs) (inl e) o n = o.0 (subst (λ z. Among z xs) e n)
 Once-without x (y ∷ xs) (inr m) o (inl d) = o.0 (subst (λ z. Among z xs) d m)
 Once-without x (y ∷ xs) (inr m) o (inr n) = Once-without x xs m o.1 n
 
+pub Once_without : {A : Type 0} (x : A) (xs : List A) (m : Among x xs) → Once xs → Once (without x xs m)
+Once_without x [] m o = tt
+Once_without x (y ∷ xs) (inl e) o = o.1
+Once_without x (y ∷ xs) (inr m) o = (λ n. o.0 (Among_from_without y x xs m n), Once_without x xs m o.1)
+
 -- ---- sums over lists with the same members
 
 -- the list without x still has each member of a list that x is not in
@@ -246,6 +251,19 @@ total_same_members f xs ys o p v w =
     let a = length_within xs ys p w in
     let b = length_within ys xs o v in
     total_within f ys xs o v (omega arith)
+
+-- a list without repeats within another one has its sums, if all else there counts 0
+pub total_part : {A : Type 0} (f : A → ℤ) (xs ys : List A) → Once xs → Once ys → Within xs ys → ((y : A) → Among y ys → (Among y xs → ⊥) → f y ≡ pos 0) → total f xs ≡ total f ys
+total_part f [] ys o p w none = sym (total_none f ys (λ y m. none y m (λ n. n)))
+total_part {A} f (x ∷ xs) ys o p w none =
+    let m = w x (inl refl) in
+    let r = total_part f xs (without x ys (w x (inl refl))) o.1 (Once_without x ys (w x (inl refl)) p) (Within-without x ys xs (w x (inl refl)) o.0 (Within_tail x xs ys w))
+    (λ y n d. none y (Among_from_without y x ys (w x (inl refl)) n) (other y n d)) in
+    ap (λ n. f x +ℤ n) r ∙ sym (total-without f x ys m)
+  where
+    other : (y : A) → Among y (without x ys (w x (inl refl))) → (Among y xs → ⊥) → Among y (x ∷ xs) → ⊥
+    other y n d (inl e) = Once-without x ys (w x (inl refl)) p (subst (λ u. Among u (without x ys (w x (inl refl)))) e n)
+    other y n d (inr k) = d k
 
 -- a one-to-one map of a list into itself
 pub total_reindex : {A : Type 0} (f : A → ℤ) (h : A → A) (xs : List A) → Once xs → ((x : A) → Among x xs → Among (h x) xs)

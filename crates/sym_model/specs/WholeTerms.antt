@@ -1,7 +1,7 @@
 -- Lists of terms with whole coefficients, and the polynomial that such a list stands for.
-use Rattle.std.specs.Prelude.{◌≡◌, ℕ, ◌+◌, ℤ, pos, nat_abs, ◌==◌, Bool, ◌&&◌, cond, List, [], ◌∷◌}
+use Rattle.std.specs.Prelude.{◌≡◌, ℕ, ◌+◌, ℤ, pos, ◌≤ℤ◌, nat_abs, ◌==◌, Bool, ◌&&◌, cond, List, [], ◌∷◌}
 use Rattle.std.specs.Prelude.{map, flat_map}
-use Rattle.sym_model.specs.Sum.{total}
+use Rattle.sym_model.specs.Sum.{total, Among}
 use Rattle.sym_model.specs.Polynomial.{Poly, same, scale}
 use Rattle.sym_model.specs.Expansion.{Terms, Fraction}
 
@@ -51,6 +51,10 @@ numerators {Label = Label} terms = map (λ (t : Label × Fraction). (t.0, t.1.0)
 abbrev pub absolute_total : {Label : Type 0} → WholeTermsOf Label → ℕ
 absolute_total [] = 0
 absolute_total (t ∷ terms) = nat_abs t.1 + absolute_total terms
+
+-- no coefficient is negative
+abbrev pub AreCounts : {Label : Type 0} → WholeTermsOf Label → Type 0
+AreCounts {Label = Label} terms = (t : Label × ℤ) → Among t terms → pos 0 ≤ℤ t.1
 
 -- each label has the property
 abbrev pub EachLabel : {Label : Type 0} → (Label → Type 0) → WholeTermsOf Label → Type 0

@@ -6,10 +6,10 @@ use Rattle.partitions.specs.Limits.{IsWithinLimits}
 use Rattle.linear_combinations.proofs.Steps.{on_ok}
 use Rattle.pieri_product.specs.Rows.{AddsBelow, HasAdded}
 use Rattle.pieri_product.proofs.AddedCells.{added-none, rows-none, rows-next, rows-all}
-use Rattle.pieri_product.proofs.AddedCells.{limits_behind, partition_below, falls_below}
-use Rattle.pieri_product.proofs.AddedCells.{fewer_left, size-first}
+use Rattle.pieri_product.proofs.AddedCells.{limits_behind, fewer_left}
 use Rattle.pieri_product.proofs.complete.+add_shapes.Goals as goal
-use Rattle.sym_model.proofs.SortedParts.{Falls_first}
+use Rattle.sym_model.proofs.Parts.{size-first}
+use Rattle.sym_model.proofs.SortedParts.{Falls_first, Falls_below, IsPartition_below}
 
 pub returns-then-left-eq0-clause-shapes : goal.returns-then-left-eq0-clause-shapes
 returns-then-left-eq0-clause-shapes t c =
@@ -53,10 +53,10 @@ add_shapes-requires t c =
     c.loop-row.invariant.same in (
       omega arith,
       (
-        subst IsPartition (sym below) (partition_below inner c.requires.inner),
+        subst IsPartition (sym below) (IsPartition_below inner c.requires.inner),
         (
           subst (λ (l : List ℕ). Falls (row ∷ l)) (sym below)
-              (falls_below row inner c.requires.inner least),
+              (Falls_below row inner c.requires.inner least),
           (
             omega (arith, c.requires.cells),
             λ rest a.

@@ -1,5 +1,5 @@
-use Rattle.std.proofs.Common.{◌≡◌, ◌+◌, ◌∷◌, [], List, ℕ, take, drop, ℤ, pos, ◌*ℤ◌, refl, sym, ap}
-use Rattle.std.proofs.Common.{◌∙◌, ◌++◌, subst, arith}
+use Rattle.std.proofs.Common.{◌≡◌, ◌∷◌, [], List, ℕ, ℤ, pos, ◌*ℤ◌, refl, sym, ap}
+use Rattle.std.proofs.Common.{◌∙◌, subst, arith}
 use Rattle.std.specs.Prelude.{Err, nat_eq}
 use Rattle.std.specs.Cmp.Lexicographic.{pointwise, nat_list_eq_equiv}
 use Rattle.sym_model.specs.Partition.{Holds}
@@ -7,12 +7,12 @@ use Rattle.sym_model.proofs.Sums.{Among-get_or}
 use Rattle.monomial_strip_laws.specs.StripProduct.{placings}
 use Rattle.linear_combinations.specs.Gains.{Gains, Overflows, scaled}
 use Rattle.linear_combinations.specs.Labels.{same_partition}
-use Rattle.linear_combinations.proofs.Gains.{gains_none, overflows_alone, pairs_gain}
-use Rattle.linear_combinations.proofs.Gains.{pairs_overflow}
+use Rattle.linear_combinations.proofs.Counted.{scaled_counted-append}
+use Rattle.linear_combinations.proofs.Gains.{gains_none, overflows_alone, places_gain}
+use Rattle.linear_combinations.proofs.Gains.{places_overflow}
 use Rattle.linear_combinations.proofs.Steps.{error_is}
 use Rattle.pieri_product.specs.Rows.{with_placings}
-use Rattle.std.proofs.lemmas.List.{take_more, take_all}
-use Rattle.pieri_product.proofs.RowTables.{terms_append, take_split}
+use Rattle.std.proofs.lemmas.List.{take_all}
 use Rattle.pieri_product.proofs.complete.add_placings.Goals as goal
 
 -- a shape's term, with the lists of parts that the calls took
@@ -34,48 +34,45 @@ times_placings-requires-clause-contained c =
 
 pub returns-in_default-clause-large : goal.returns-in_default-clause-large
 returns-in_default-clause-large c = λ large.
-    let at = c.loop-shape.shape-index in
     let shape = c.shape-item.result in
     let number : ℤ = c.args.c *ℤ pos (placings c.parts.result.now c.parts-in-loop-shape.result.now)
     in
     let is = term c.args.label.now shape c.parts.result.now c.parts-in-loop-shape.result.now
     c.args.c number c.parts.ensures.value c.parts-in-loop-shape.ensures.value refl in
-    pairs_overflow (λ shapes. scaled c.args.c (with_placings c.args.label.now shapes))
-    (terms_append c.args.c c.args.label.now) (take at c.args.shapes.now) shape
-    c.args.sum.now c.loop-shape.sum c.loop-shape.invariant (pointwise nat_eq)
-    (drop (at + 1) c.args.shapes.now) c.args.shapes.now
-    (take_split c.args.shapes.now at shape (omega arith) c.shape-item.is)
+    places_overflow
+    (λ (shapes : List (List ℕ)). scaled c.args.c (with_placings c.args.label.now shapes))
+    (scaled_counted-append (placings c.args.label.now) c.args.c) c.args.shapes.now
+    c.loop-shape.shape-index shape (omega arith) c.shape-item.is c.args.sum.now c.loop-shape.sum
+    c.loop-shape.invariant (pointwise nat_eq)
     (subst (λ (z : ℤ). Overflows (pointwise nat_eq) c.loop-shape.sum ((shape, z) ∷ [])) is
     (overflows_alone nat_list_eq_equiv same_partition c.loop-shape.sum shape number
     c.in_default.ensures))
 
 pub returns-in_err-add_at_label-clause-large : goal.returns-in_err-add_at_label-clause-large
 returns-in_err-add_at_label-clause-large c = λ large.
-    let at = c.loop-shape.shape-index in
     let shape = c.shape-item.result in
     let is = term c.args.label.now shape c.parts.result.now c.parts-in-loop-shape.result.now
     c.args.c c.in-Some.product c.parts.ensures.value c.parts-in-loop-shape.ensures.value
     c.in-Some.ensures in
-    pairs_overflow (λ shapes. scaled c.args.c (with_placings c.args.label.now shapes))
-    (terms_append c.args.c c.args.label.now) (take at c.args.shapes.now) shape
-    c.args.sum.now c.loop-shape.sum c.loop-shape.invariant (pointwise nat_eq)
-    (drop (at + 1) c.args.shapes.now) c.args.shapes.now
-    (take_split c.args.shapes.now at shape (omega arith) c.shape-item.is)
+    places_overflow
+    (λ (shapes : List (List ℕ)). scaled c.args.c (with_placings c.args.label.now shapes))
+    (scaled_counted-append (placings c.args.label.now) c.args.c) c.args.shapes.now
+    c.loop-shape.shape-index shape (omega arith) c.shape-item.is c.args.sum.now c.loop-shape.sum
+    c.loop-shape.invariant (pointwise nat_eq)
     (subst (λ (z : ℤ). Overflows (pointwise nat_eq) c.loop-shape.sum ((shape, z) ∷ [])) is
     (c.in_err-add_at_label.ensures.large (ap Err (error_is _ _ _ c.from_residual.ensures.1 large))))
 
 pub loop-shape-preserved : goal.loop-shape-preserved
 loop-shape-preserved c =
-    let at = c.loop-shape.shape-index in
     let shape = c.shape-item.result in
     let is = term c.args.label.now shape c.parts.result.now c.parts-in-loop-shape.result.now
     c.args.c c.in-Some.product c.parts.ensures.value c.parts-in-loop-shape.ensures.value
     c.in-Some.ensures in
-    pairs_gain (λ shapes. scaled c.args.c (with_placings c.args.label.now shapes))
-    (terms_append c.args.c c.args.label.now) (take at c.args.shapes.now) shape
-    c.args.sum.now c.loop-shape.sum c.loop-shape.invariant (take (at + 1) c.args.shapes.now)
-    c.add_at_label.new.self
-    (ap (λ (y : List ℕ). take at c.args.shapes.now ++ y ∷ []) c.shape-item.is ∙ sym (take_more c.args.shapes.now at shape (omega arith)))
+    places_gain
+    (λ (shapes : List (List ℕ)). scaled c.args.c (with_placings c.args.label.now shapes))
+    (scaled_counted-append (placings c.args.label.now) c.args.c) c.args.shapes.now
+    c.loop-shape.shape-index shape (omega arith) c.shape-item.is c.args.sum.now c.loop-shape.sum
+    c.loop-shape.invariant c.add_at_label.new.self
     (subst (λ (z : ℤ). Gains c.loop-shape.sum ((shape, z) ∷ []) c.add_at_label.new.self) is
     c.in_ok-add_at_label.ensures.gains)
 

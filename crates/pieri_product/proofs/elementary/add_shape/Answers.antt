@@ -2,6 +2,7 @@ use Rattle.std.proofs.Common.{◌≡◌, ◌^◌, ◌<◌, ◌≤◌, [], ◌∷
 use Rattle.std.specs.Prelude.{SomeIff, nat_abs}
 use Rattle.std.specs.Cmp.Lexicographic.{nat_list_eq_equiv}
 use Rattle.std.proofs.lemmas.Bool.{both_ways}
+use Rattle.sym_model.proofs.Integers.{nat_abs-multiple}
 use Rattle.coeff_rings.specs.Fractions.{whole}
 use Rattle.coeff_rings.proofs.Sizes.{refused_size}
 use Rattle.coeff_rings.specs.Proved.Whole.{whole_fitted}
@@ -11,7 +12,6 @@ use Rattle.linear_combinations.specs.Gains.{Overflows}
 use Rattle.linear_combinations.specs.Labels.{same_partition}
 use Rattle.linear_combinations.proofs.Gains.{overflows_alone}
 use Rattle.whole_lists.specs.Tables.{equal}
-use Rattle.pieri_product.proofs.ColumnSums.{times_large}
 use Rattle.pieri_product.proofs.elementary.add_shape.Goals as goal
 
 pub returns-in_err-count-clause-large : goal.returns-in_err-count-clause-large
@@ -24,7 +24,7 @@ returns-in_err-count-clause-large c = λ err k e.
     (c.is_zero.ensures.zero.1 (ap whole z)) in
     overflows_alone nat_list_eq_equiv same_partition c.args.sum.now c.args.shape.now
     (c.args.c *ℤ pos n)
-    (times_large c.args.c n some (omega (arith, large)))
+    (nat_abs-multiple c.args.c n (2 ^ 127) some (omega (arith, large)))
 
 pub returns-in_err-product-clause-large : goal.returns-in_err-product-clause-large
 returns-in_err-product-clause-large c = λ err k e.

@@ -1,6 +1,6 @@
 use Rattle.std.proofs.Common.{◌≡◌, ℕ, suc, ◌+◌, ◌^◌, ◌<◌, pos, List, length, get_or, SomeIff}
-use Rattle.std.proofs.Common.{sym, ◌∙◌, ap, subst, arith}
-use Rattle.pieri_product.proofs.ColumnRows.{IsRow, IsCounted, so_far, counted-none, row_is}
+use Rattle.std.proofs.Common.{sym, ◌∙◌, ap, ap₂, subst, arith}
+use Rattle.pieri_product.proofs.ColumnRows.{IsRow, IsCounted, so_far, counted-none}
 use Rattle.pieri_product.proofs.ColumnRows.{fraction, row_raised, row_kept, next_shorter, next_same}
 use Rattle.pieri_product.proofs.ColumnRows.{rises, at_end}
 use Rattle.pieri_product.proofs.elementary.coefficient_at.Goals.{then-row_at-row+in_ok-count}
@@ -19,12 +19,11 @@ loop-at-preserved c =
     let p = c.parts-shorter.ensures.limits.partition in
     let q = c.parts-rows.ensures.limits.partition in
     let row = ap (λ (l : List ℕ). get_or l c.loop-at.at 0) c.parts-rows.ensures.value in
-    let inner = row_is c.args.inner.now c.parts-shorter.result.now c.loop-at.at c.row_at.result
-    c.parts-shorter.ensures.value c.row_at.ensures in
+    let inner = c.row_at.ensures
+    ∙ ap (λ (l : List ℕ). get_or l c.loop-at.at 0) c.parts-shorter.ensures.value in
     let on : suc c.loop-at.at ≡ c.loop-at.at + 1 = omega arith in
-    let next = row_is c.args.outer.now c.parts-rows.result.now (c.loop-at.at + 1)
-    c.row_at-in-loop-at.result c.parts-rows.ensures.value c.row_at-in-loop-at.ensures
-    ∙ ap (λ i. get_or c.args.outer.now i 0) (sym on) in
+    let next = c.row_at-in-loop-at.ensures
+    ∙ ap₂ (λ (l : List ℕ) (i : ℕ). get_or l i 0) c.parts-rows.ensures.value (sym on) in
     let more : c.loop-at.at < length c.args.outer.now = omega (
       arith,
       c.loop-at-test.true,
@@ -65,8 +64,8 @@ returns-in_err-count c = λ k e.
     let p = c.parts-shorter.ensures.limits.partition in
     let q = c.parts-rows.ensures.limits.partition in
     let row = ap (λ (l : List ℕ). get_or l c.loop-at.at 0) c.parts-rows.ensures.value in
-    let inner = row_is c.args.inner.now c.parts-shorter.result.now c.loop-at.at c.row_at.result
-    c.parts-shorter.ensures.value c.row_at.ensures in
+    let inner = c.row_at.ensures
+    ∙ ap (λ (l : List ℕ). get_or l c.loop-at.at 0) c.parts-shorter.ensures.value in
     let more : c.loop-at.at < length c.args.outer.now = omega (
       arith,
       c.loop-at-test.true,

@@ -1,8 +1,13 @@
-use Rattle.std.proofs.Common.{sym, subst}
+use Rattle.std.proofs.Common.{◌+◌, sym, subst}
+use Rattle.sym_model.specs.Partition.{size}
+use Rattle.sym_model.specs.PartitionList.{partitions_of}
+use Rattle.monomial_strip_laws.specs.StripProduct.{placings}
+use Rattle.linear_combinations.proofs.Counted.{counted_counts, counts_gain, counts_overflow}
 use Rattle.linear_combinations.proofs.Steps.{on_ok}
 use Rattle.product_laws.specs.StripLists.{ListsEach}
-use Rattle.pieri_product.specs.Rows.{AddsCells}
-use Rattle.pieri_product.proofs.RowTables.{rows_gain, rows_overflow}
+use Rattle.whole_lists.specs.Tables.{equal}
+use Rattle.pieri_product.specs.Rows.{AddsCells, with_placings, row_terms}
+use Rattle.pieri_product.proofs.RowTables.{row_sums}
 use Rattle.pieri_product.proofs.complete.TimesCompleteRulePartitionPartition.add_image.Goals as goal
 
 pub add_placings-requires : goal.add_placings-requires
@@ -13,17 +18,23 @@ add_placings-requires c = λ ν m.
 
 pub returns-clause-gains : goal.returns-clause-gains
 returns-clause-gains c =
+    let k = c.args.self.now.k in
+    let μ = c.args.label.now in
     let shapes = subst (ListsEach (AddsCells c.args.self.now.k c.args.label.now))
     (sym c.deref.ensures.value) c.in_ok-shapes.ensures.shapes in
     on_ok c.add_placings.result c.add_placings.ensures.gains
-    (rows_gain c.args.self.now.k c.args.label.now c.deref.result.now
-    c.in_ok-shapes.ensures.limits.partition shapes c.args.c c.args.sum.now
-    c.add_placings.new.sum)
+    (counts_gain (with_placings μ c.deref.result.now) (row_terms k μ)
+    (row_sums k μ c.deref.result.now c.in_ok-shapes.ensures.limits.partition shapes) c.args.c
+    c.args.sum.now c.add_placings.new.sum)
 
 pub returns-clause-large : goal.returns-clause-large
 returns-clause-large c = λ large.
+    let k = c.args.self.now.k in
+    let μ = c.args.label.now in
     let shapes = subst (ListsEach (AddsCells c.args.self.now.k c.args.label.now))
     (sym c.deref.ensures.value) c.in_ok-shapes.ensures.shapes in
-    rows_overflow c.args.self.now.k c.args.label.now c.deref.result.now
-    c.in_ok-shapes.ensures.limits.partition shapes c.args.c c.args.sum.now
+    counts_overflow (with_placings μ c.deref.result.now) (row_terms k μ)
+    (row_sums k μ c.deref.result.now c.in_ok-shapes.ensures.limits.partition shapes) equal c.args.c
+    c.args.sum.now (counted_counts (placings μ) c.deref.result.now)
+    (counted_counts (placings μ) (partitions_of (size μ + k)))
     (c.add_placings.ensures.large large)

@@ -1,0 +1,75 @@
+-- Lists of terms in which no coefficient is negative, as what a label stands for often is: labels with counts.
+--     counted_over, counted_labels      what such a list comes to, and its labels
+--     counts_gain, counts_overflow      two lists with the same sums are gained alike
+--     replaced_at, replaced_mass        what a rule makes of a list, if its value at each label is known
+use Rattle.std.proofs.Common.{◌≡◌, ℕ, ◌+◌, ◌*◌, Bool, List, [], ◌∷◌, ◌++◌, refl, sym, ap, ap₂, ◌∙◌, subst, inl, inr, arith, ℤ, pos, ◌+ℤ◌, ◌*ℤ◌}
+use Rattle.std.specs.Prelude.{nat_abs, ◌≤ℤ◌}
+use Rattle.std.proofs.lemmas.Int.{ints}
+use Rattle.std.proofs.lemmas.List.{map-append}
+use Rattle.sym_model.specs.Sum.{total, Among}
+use Rattle.sym_model.specs.WholeTerms.{AreCounts}
+use Rattle.sym_model.proofs.Sums.{total_map, total_among, Among_from_map}
+use Rattle.linear_combinations.specs.Gains.{WholeTermsOf, over, only, mass_at, scaled, counted, replaced, HaveLabels, Gains, Overflows}
+use Rattle.linear_combinations.proofs.Gains.{scaled_over, scaled_append, replaced_over, gains_as, overflows_as, mass_at_append}
+use Rattle.linear_combinations.proofs.Masses.{mass_at_scaled}
+use Rattle.linear_combinations.proofs.Found.{counts_at}
+
+module _ {L : Type 0} (count : L → ℕ) where
+  pub counted_over : (φ : L → ℤ) (labels : List L) → over φ (counted count labels) ≡ total (λ (x : L). pos (count x) *ℤ φ x) labels
+  counted_over φ labels = total_map (λ (t : L × ℤ). t.1 *ℤ φ t.0) (λ (x : L). (x, pos (count x))) labels
+
+  pub counted_labels : (P : L → Type 0) (labels : List L) → ((x : L) → Among x labels → P x) → HaveLabels P (counted count labels)
+  counted_labels P labels h t m =
+      let r = Among_from_map (λ (x : L). (x, pos (count x))) t labels m in
+      subst (λ (u : L × ℤ). P u.0) (sym r.2) (h r.0 r.1)
+
+  pub counted_counts : (labels : List L) → AreCounts (counted count labels)
+  counted_counts labels t m =
+      let r = Among_from_map (λ (x : L). (x, pos (count x))) t labels m in
+      subst (λ (u : L × ℤ). pos 0 ≤ℤ u.1) (sym r.2) (omega (arith, ints))
+
+  pub scaled_counted-append : (c : ℤ) (xs ys : List L) → scaled c (counted count (xs ++ ys)) ≡ scaled c (counted count xs) ++ scaled c (counted count ys)
+  scaled_counted-append c xs ys =
+      ap (scaled c) (map-append (λ (x : L). (x, pos (count x))) xs ys) ∙ scaled_append c (counted count xs) (counted count ys)
+
+-- ---- two lists with the same sums
+
+module _ {L : Type 0} (g h : WholeTermsOf L) (same : (φ : L → ℤ) → over φ g ≡ over φ h) where
+  pub counts_gain : (c : ℤ) (old new : WholeTermsOf L) → Gains old (scaled c g) new → Gains old (scaled c h) new
+  counts_gain c old new a =
+      gains_as old (scaled c g) (scaled c h) new (λ φ. scaled_over c φ g ∙ ap (λ z. c *ℤ z) (same φ) ∙ sym (scaled_over c φ h)) a
+
+  pub counts_overflow : (eq : L → L → Bool) (c : ℤ) (old : WholeTermsOf L) → AreCounts g → AreCounts h → Overflows eq old (scaled c g) → Overflows eq old (scaled c h)
+  counts_overflow eq c old p q o =
+      overflows_as eq old (scaled c g) (scaled c h)
+      (λ x.
+      let a = mass_at_scaled eq x c g in
+      let b = mass_at_scaled eq x c h in
+      let e = ap (λ n. nat_abs c * n) (as_number (sym (counts_at eq x g p) ∙ same (only eq x) ∙ counts_at eq x h q)) in
+      omega arith) o
+    where
+      as_number : {a b : ℕ} → pos a ≡ pos b → a ≡ b
+      as_number {a} {b} e = omega (arith, ints)
+
+-- ---- what a rule makes of a list
+
+module _ {K L : Type 0} (image : K → WholeTermsOf L) (value : K → ℤ) where
+  pub replaced_at : (φ : L → ℤ) (terms : WholeTermsOf K) → ((t : K × ℤ) → Among t terms → over φ (image t.0) ≡ value t.0)
+      → over φ (replaced image terms) ≡ over value terms
+  replaced_at φ terms h =
+      replaced_over image φ terms
+      ∙ total_among (λ (t : K × ℤ). t.1 *ℤ over φ (image t.0)) (λ (t : K × ℤ). t.1 *ℤ value t.0) terms (λ t m. ap (λ z. t.1 *ℤ z) (h t m))
+
+  -- with absolute values
+  pub replaced_mass : (eq : L → L → Bool) (x : L) (terms : WholeTermsOf K) → ((k : K) → AreCounts (image k))
+      → ((t : K × ℤ) → Among t terms → over (only eq x) (image t.0) ≡ value t.0)
+      → pos (mass_at eq x (replaced image terms)) ≡ total (λ (t : K × ℤ). pos (nat_abs t.1) *ℤ value t.0) terms
+  replaced_mass eq x [] counts h = refl
+  replaced_mass eq x (t ∷ terms) counts h =
+      joined (nat_abs t.1) (mass_at eq x (image t.0)) (mass_at eq x (replaced image terms))
+      (mass_at_append eq x (scaled t.1 (image t.0)) (replaced image terms)) (mass_at_scaled eq x t.1 (image t.0))
+      ∙ ap₂ (λ (y z : ℤ). pos (nat_abs t.1) *ℤ y +ℤ z) (sym (counts_at eq x (image t.0) (counts t.0)) ∙ h t (inl refl))
+      (replaced_mass eq x terms counts (λ u m. h u (inr m)))
+    where
+      joined : (b m r : ℕ) {s a : ℕ} → s ≡ a + r → a ≡ b * m → pos s ≡ pos b *ℤ pos m +ℤ pos r
+      joined b m r {s} {a} e d = omega (arith, ints)
