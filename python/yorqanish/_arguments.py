@@ -19,13 +19,21 @@ Rows = Iterable[Iterable[SupportsIndex]]
 MOST_NUMBERS, MOST_BITS = 4096, 12000
 
 
-def whole(value: SupportsIndex, name: str) -> int:
-    """A number that is at least 0, of any type that `operator.index` takes; a truth value is none."""
+def integer(value: object) -> Optional[int]:
+    """The number that a value of any type is that `operator.index` takes. A residue class of Sage is none, though it has an index."""
     try:
-        # (numpy has a truth value of its own)
-        number = None if type(value).__name__ in ("bool", "bool_") else index(value)
+        number = index(value)  # type: ignore[arg-type]
     except TypeError:
-        number = None
+        return None
+    parent = None if type(value) is int else getattr(value, "parent", None)
+    characteristic = getattr(parent(), "characteristic", None) if callable(parent) else None
+    return None if callable(characteristic) and characteristic() != 0 else number
+
+
+def whole(value: SupportsIndex, name: str) -> int:
+    """A number that is at least 0; a truth value is none."""
+    # (numpy has a truth value of its own)
+    number = None if type(value).__name__ in ("bool", "bool_") else integer(value)
     if number is None:
         raise TypeError(f"{name}: {value!r} is not an integer")
     if number < 0:
@@ -43,11 +51,18 @@ def are_plain(values: Iterable[object]) -> bool:
     return True
 
 
+def is_no_list(values: object) -> bool:
+    """Whether values can be gone through, but not as a list: a text, what has no order, and what has another number of dimensions (a table
+    of pandas is gone through by the names of its columns)."""
+    is_set = isinstance(values, (Mapping, Set)) or hasattr(values, "issubset")
+    return is_set or isinstance(values, (str, bytes, bytearray, memoryview)) or getattr(values, "ndim", 1) != 1
+
+
 def numbers(values: Shape, name: str) -> Numbers:
-    """The numbers of a shape in their order. A text is no shape, and neither is what has no order."""
+    """The numbers of a shape in their order."""
     if type(values) in (tuple, list) and are_plain(values):
         return tuple(values)  # type: ignore[arg-type]
-    if isinstance(values, (str, bytes, bytearray, memoryview, Mapping, Set)):
+    if is_no_list(values):
         raise TypeError(f"{name}: {values!r} is not a list of numbers")
     try:
         items = list(islice(iter(values), MOST_NUMBERS + 1))

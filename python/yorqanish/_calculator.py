@@ -332,6 +332,8 @@ def _basis(target: str) -> str:
 def _expression(value: Any, name: str) -> str:
     """The text of an expression."""
     if isinstance(value, str):
+        if not value.strip():
+            raise ValueError(f"{name}: a text without a word is not an expression")
         return value
     if not isinstance(value, Expansion):
         from ._sage import expansion_of

@@ -3,9 +3,9 @@ from __future__ import annotations
 
 from collections.abc import Mapping as AnyMapping
 from fractions import Fraction
-from operator import index
 from typing import Any, Callable, Dict, Generic, Iterable, Iterator, List, Mapping, Tuple, TypeVar, Union, cast
 
+from ._arguments import integer
 from ._kinds import KINDS
 
 Number = Union[int, Fraction]
@@ -18,17 +18,27 @@ MOST_SHOWN, SHOWN_AT_END = 60, 5
 
 def exact(value: Any) -> Number:
     """A coefficient of any exact type: an `int` if it is whole."""
-    try:
-        return index(value)
-    except TypeError:
-        pass
+    number = integer(value)
+    if number is not None:
+        return number
     # (Sage's numbers have methods where Python's have attributes)
     parts = [getattr(value, it, None) for it in ("numerator", "denominator")]
-    top, bottom = (it() if callable(it) else it for it in parts)
-    if not hasattr(top, "__index__") or not hasattr(bottom, "__index__"):
+    top, bottom = (integer(it() if callable(it) else it) for it in parts)
+    if top is None or bottom is None:
         raise TypeError(f"{value!r} is not an exact number")
-    fraction = Fraction(index(top), index(bottom))
+    fraction = Fraction(top, bottom)
     return fraction if fraction.denominator > 1 else fraction.numerator
+
+
+def given(terms: Any, kind: str) -> "Dict[Any, Number]":
+    """The terms of a mapping, or of pairs of labels and coefficients, by labels of this kind. A label stands there once."""
+    find, found = KINDS[kind].find, {}
+    for given_as, c in terms.items() if isinstance(terms, AnyMapping) else terms:
+        label = find(given_as)
+        if label in found:
+            raise ValueError(f"the label {label!r} is given twice")
+        found[label] = exact(c)
+    return found
 
 
 def latex_number(size: Number) -> str:
@@ -40,7 +50,8 @@ class Expansion(Mapping[Label, Coefficient], Generic[Label, Coefficient]):
 
     A label is a tuple of numbers: a partition, a permutation, or the exponents of a monomial. In a coproduct it is a pair of partitions, in
     a quantum product the exponent of q and a partition, in a product of double Schubert polynomials a permutation and the exponents of y.
-    A label that is not in the list has coefficient 0; anything that is not a label of the expansion's kind raises an error.
+    A label that is not in the list has coefficient 0; anything that is not a label of the expansion's kind raises an error. An expansion is made
+    of a mapping or of pairs; a label that is given twice is an error, and one with the coefficient 0 is left out.
 
     >>> a = Expansion({(2,): 1, (1, 1): 1})
     >>> a[2], a[[1, 1]], a[1, 1, 0], a[3]
@@ -63,11 +74,7 @@ class Expansion(Mapping[Label, Coefficient], Generic[Label, Coefficient]):
         if kind not in KINDS:
             raise ValueError(f"{kind!r} is not a kind of expansion")
         self.kind, self.basis = kind, basis
-        find = KINDS[kind].find
-        pairs: "Iterable[Tuple[Any, Any]]" = terms.items() if isinstance(terms, AnyMapping) else terms
-        self._terms: Dict[Any, Any] = {}
-        for label, c in pairs:
-            self._terms[find(label)] = exact(c)
+        self._terms: Dict[Any, Any] = {label: c for label, c in given(terms, kind).items() if c}
 
     @classmethod
     def _made(cls, terms: "Dict[Any, Any]", kind: str, basis: str) -> "Expansion[Any, Any]":
@@ -136,8 +143,8 @@ class Expansion(Mapping[Label, Coefficient], Generic[Label, Coefficient]):
 
     def __or__(self, other: "Mapping[Label, Coefficient]") -> "Expansion[Label, Coefficient]":
         """The terms of both; a label that is in both has the coefficient of the second."""
-        added = self._fitting(other if isinstance(other, Expansion) else Expansion(other, self.kind, self.basis))
-        return Expansion._made({**self._terms, **added}, self.kind, self.basis)
+        added = self._fitting(other) if isinstance(other, Expansion) else given(other, self.kind)
+        return Expansion._made({label: c for label, c in {**self._terms, **added}.items() if c}, self.kind, self.basis)
 
     # ---- sums and multiples
 

@@ -138,6 +138,33 @@ def test_what_is_no_number():
         USED.quantum(2, 2.0, [1], [1])
 
 
+def test_what_has_no_order():
+    """Numbers that come in no order of their own are no shape, whatever class has them."""
+
+    class Own:
+        def __iter__(self):
+            return iter((2, 1))
+
+        def issubset(self, other):
+            return all(it in other for it in self)
+
+    for wrong in ({3, 1}, frozenset((2, 1)), {2: 1}, {2: 1}.keys(), Own()):
+        with raises(TypeError, "factor 1"):
+            USED.mult(wrong, [1])
+        with raises(TypeError, "letters"):
+            USED.rsk(wrong)
+
+
+def test_an_expression_is_one_word():
+    """No part of the command is made of two words of one expression and none of another."""
+    for outer, inner in (("h[2] h[3]", ""), ("", "h[2] h[3]"), ("h[2]\th[3]", " "), ("h[2] h[3]", "\r"), ("h[2] h[3]", "\n"), ("h[2]", "")):
+        with raises((ValueError, Refusal)):
+            USED.plethysm("s", outer, inner)
+    for expression in ("", " ", "\n", "s[1] s[2]"):
+        with raises((ValueError, Refusal)):
+            USED.expand("s", expression)
+
+
 def test_what_is_negative():
     with raises(ValueError, "factor 1", "-1"):
         USED.mult([2, -1], [1])

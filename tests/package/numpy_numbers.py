@@ -34,6 +34,21 @@ def test_what_is_no_shape():
         CALC.mult([1], [1], rows=np.float64(2))
 
 
+def test_an_array_of_two_dimensions_is_no_list():
+    for wrong in (np.zeros((0, 3), dtype=int), np.zeros((1, 0), dtype=int), np.array([[2, 1]])):
+        with raises(TypeError, "factor 1"):
+            CALC.mult(wrong, [1])
+
+
+def test_a_column_of_pandas_is_a_list_and_a_table_is_none():
+    """(a table is gone through by the names of its columns, which can be numbers)"""
+    pandas = need("pandas")
+    same(dict(CALC.mult(pandas.Series([2, 1]), [1])), dict(CALC.mult([2, 1], [1])))
+    for wrong in (pandas.DataFrame({0: [3, 2, 1]}), pandas.DataFrame([[2, 1]], columns=[3, 2]), pandas.Series([2, None])):
+        with raises(TypeError, "factor 1"):
+            CALC.mult(wrong, [1])
+
+
 def test_labels_and_scalars():
     product = CALC.mult([2, 1], [2, 1])
     same(product[np.array([3, 2, 1])], 2)

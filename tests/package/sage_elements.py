@@ -2,9 +2,9 @@
 from common import PROGRAM, main, need, raises, same
 
 need("sage.all")
-from sage.all import QQ, ZZ, Integer, Partition, Permutation, SchubertPolynomialRing, SymmetricFunctions, latex
+from sage.all import GF, QQ, ZZ, Integer, Partition, Permutation, SchubertPolynomialRing, Set, SymmetricFunctions, Zmod, latex
 
-from yorqanish import Calculator
+from yorqanish import Calculator, Expansion
 
 CALC = Calculator(program=PROGRAM)
 FUNCTIONS = SymmetricFunctions(QQ)
@@ -46,6 +46,27 @@ def test_elements_are_expressions():
     same(CALC.plethysm("s", h[2], h[2]), {(4,): 1, (2, 2): 1})
     with raises(TypeError, "expression"):
         CALC.expand("s", FUNCTIONS.forgotten()[2])
+
+
+def test_a_residue_is_no_number():
+    """Neither as a part nor as a coefficient: over GF(5) is -s[3] not 4*s[3] over the integers."""
+    for wrong in (GF(5)(7), Zmod(10)(12), GF(4).one()):
+        with raises(TypeError, "factor 1"):
+            CALC.mult([wrong], [1])
+        with raises(TypeError, "exact"):
+            Expansion({(2,): wrong})
+        with raises(TypeError, "exact"):
+            CALC.mult([1], [1]) * wrong
+    for ring in (GF(5), Zmod(6)):
+        with raises(TypeError, "exact"):
+            CALC.expand("e", -SymmetricFunctions(ring).s()[3])
+    with raises(TypeError, "rows"):
+        CALC.stanley(GF(2)(3), [2, 1])
+
+
+def test_a_set_is_no_list():
+    with raises(TypeError, "letters"):
+        CALC.rsk(Set([3, 1, 2]))
 
 
 def test_latex():

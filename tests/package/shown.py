@@ -131,6 +131,23 @@ def test_kind_and_basis_are_kept():
             Expansion(terms)
 
 
+def test_no_coefficient_is_lost():
+    """A label that is given twice, if only in two ways, is an error, and not the last of its coefficients."""
+    for terms in ([((2,), 1), ((2,), 5)], {(2,): 1, (2, 0): 5}, {(2,): 1, 2: 5}):
+        with raises(ValueError, "(2,)", "twice"):
+            Expansion(terms)
+    with raises(ValueError, "(2, 1)", "twice"):
+        Expansion({(2, 1): 1, (2, 1, 3): 2}, "permutations")
+    with raises(ValueError, "(2,)", "twice"):
+        CALC.mult([1], [1]) | {(2,): 1, (2, 0): 5}
+
+
+def test_a_coefficient_0_is_no_term():
+    same((Expansion({(2,): 0}), len(Expansion({(2,): 0, (1, 1): 1})), str(Expansion({(2,): 0}))), (Expansion(), 1, "0"))
+    a = CALC.mult([1], [1])
+    same((a | {(2,): 0}, a | Expansion({(3,): 0})), ({(1, 1): 1}, a))
+
+
 def test_a_long_list_in_a_notebook():
     small, large = CALC.mult([1], [1]), CALC.mult([4, 3, 2, 1], [4, 3, 2, 1])
     same(small._repr_latex_(), "$s_{2}+s_{1,1}$")
