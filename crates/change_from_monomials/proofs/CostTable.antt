@@ -5,32 +5,30 @@ use Rattle.std.proofs.Common.{◌≡◌, ◌⊎◌, ℕ, zero, suc, ◌+◌, ◌
 use Rattle.std.specs.Prelude.{nat_abs, nat_le, ◌==◌, ◌&&◌}
 use Rattle.std.proofs.lemmas.Int.{unsigned_abs-mul}
 use Rattle.std.proofs.lemmas.Bool.{cases_lt, and_parts, eqb-true, leb-true}
-use Rattle.sym_model.specs.Sum.{Among, Once, Within}
+use Rattle.sym_model.specs.Sum.{Among, Within}
 use Rattle.sym_model.specs.Partition.{IsPartition, size}
 use Rattle.sym_model.specs.Bases.{down_from}
 use Rattle.sym_model.specs.PartitionList.{partitions_of, partitions_within}
 use Rattle.sym_model.specs.Expansion.{Basis, Fraction, Terms}
 use Rattle.sym_model.specs.ListWeight.{IsBounded, factorials}
 use Rattle.sym_model.specs.Weight.{factorial, growth}
-use Rattle.sym_model.proofs.Sums.{without, Among-without, Among-each, Within_tail}
+use Rattle.sym_model.proofs.Sums.{Among-each}
 use Rattle.sym_model.proofs.PartitionLists.{Among-partitions_of}
 use Rattle.basis_change_laws.specs.AugmentedMonomial.{multiplicity_factorials}
 use Rattle.whole_lists.specs.Tables.{IsFractionTable}
 use Rattle.whole_lists.specs.LabelSizes.{AreWithin}
 use Rattle.whole_lists.proofs.WholeLists.{Once-keys}
 use Rattle.change_from_monomials.proofs.Fractions.{label-partition}
-use Rattle.change_from_monomials.specs.AugmentedProducts.{weight}
 use Rattle.change_from_monomials.specs.Clearing.{cleared_number, cleared_terms, HasFactors}
 use Rattle.change_from_monomials.specs.Costs.{doubled, cost}
 use native.Mathlib.Nat.{mul-le-mul_left, mul-le-mul_right}
 use Rattle.monomial_laws.proofs.Growths.{factorial-positive}
+use Rattle.linear_combinations.specs.Gains.{weighed}
+use Rattle.sym_model.specs.Sum.{sum_by}
+use Rattle.sym_model.proofs.NumberSums.{sum_by-part}
 use Rattle.monomial_laws.proofs.Powers.{factorials-positive}
 
 -- ---- the table
-
-abbrev pub sum_over : (List ℕ → ℕ) → List (List ℕ) → ℕ
-sum_over f [] = 0
-sum_over f (x ∷ xs) = f x + sum_over f xs
 
 abbrev pub all_pass : (List ℕ → Bool) → List (List ℕ) → Bool
 all_pass test [] = true
@@ -51,7 +49,7 @@ divides_all d parts =
     && (multinomial parts * factorials parts == factorial (size parts))
 
 abbrev pub fits : ℕ → Bool
-fits d = nat_le (sum_over (label_cost d) (partitions_to d)) (growth Basis.completes d) && all_pass (divides_all d) (partitions_to d)
+fits d = nat_le (sum_by (label_cost d) (partitions_to d)) (growth Basis.completes d) && all_pass (divides_all d) (partitions_to d)
 
 abbrev pub all_below : ℕ → Bool
 all_below zero = true
@@ -72,8 +70,8 @@ fits-below (suc n) d e h = by (cases_lt d n) (λ l. fits-below n d (and_parts (f
 fits-at : (d : ℕ) → d ≤ 15 → fits d ≡ true
 fits-at d h = fits-below 16 d computed (omega arith)
 
-costs-within : (d : ℕ) → d ≤ 15 → sum_over (label_cost d) (partitions_to d) ≤ growth Basis.completes d
-costs-within d h = leb-true _ _ (and_parts (nat_le (sum_over (label_cost d) (partitions_to d)) (growth Basis.completes d)) (all_pass (divides_all d) (partitions_to d)) (fits-at d h)).0
+costs-within : (d : ℕ) → d ≤ 15 → sum_by (label_cost d) (partitions_to d) ≤ growth Basis.completes d
+costs-within d h = leb-true _ _ (and_parts (nat_le (sum_by (label_cost d) (partitions_to d)) (growth Basis.completes d)) (all_pass (divides_all d) (partitions_to d)) (fits-at d h)).0
 
 passes : (test : List ℕ → Bool) (xs : List (List ℕ)) (x : List ℕ) → all_pass test xs ≡ true → Among x xs → test x ≡ true
 passes test [] x e m = absurd m
@@ -97,31 +95,9 @@ pub record Divides (d : ℕ) (parts : List ℕ) : Type 0 where
 
 pub divides-at : (d : ℕ) (parts : List ℕ) → d ≤ 15 → IsPartition parts → size parts ≤ d → Divides d parts
 divides-at d parts h p s =
-    let t = passes (divides_all d) (partitions_to d) parts (and_parts (nat_le (sum_over (label_cost d) (partitions_to d)) (growth Basis.completes d)) (all_pass (divides_all d) (partitions_to d)) (fits-at d h)).1 (among_to d parts p s) in
+    let t = passes (divides_all d) (partitions_to d) parts (and_parts (nat_le (sum_by (label_cost d) (partitions_to d)) (growth Basis.completes d)) (all_pass (divides_all d) (partitions_to d)) (fits-at d h)).1 (among_to d parts p s) in
     let q = and_parts ((factorial d / multiplicity_factorials parts) * multiplicity_factorials parts == factorial d) (multinomial parts * factorials parts == factorial (size parts)) t in
     record { multiplicities = eqb-true _ _ q.0; parts_are = eqb-true _ _ q.1 }
-
--- ---- sums over lists without repeats
-
-sum-without : (f : List ℕ → ℕ) (x : List ℕ) (xs : List (List ℕ)) (m : Among x xs) → sum_over f xs ≡ f x + sum_over f (without x xs m)
-sum-without f x [] m = absurd m
-sum-without f x (y ∷ xs) (inl e) = ap (λ z. f z + sum_over f xs) (sym e)
-sum-without f x (y ∷ xs) (inr m) = let r = sum-without f x xs m in omega arith
-
-within-without : (y : List ℕ) (ys xs : List (List ℕ)) (m : Among y xs) → (Among y ys → ⊥) → Within ys xs → Within ys (without y xs m)
-within-without y ys xs m lacks w z n = by (Among-without z y xs m (w z n))
-  where
-    by : (z ≡ y) ⊎ Among z (without y xs m) → Among z (without y xs m)
-    by (inl e) = absurd (lacks (subst (λ u. Among u ys) e n))
-    by (inr r) = r
-
-sum-within : (f : List ℕ → ℕ) (ys xs : List (List ℕ)) → Once ys → Within ys xs → sum_over f ys ≤ sum_over f xs
-sum-within f [] xs o w = omega arith
-sum-within f (y ∷ ys) xs o w =
-    let m = w y (inl refl) in
-    let e = sum-without f y xs m in
-    let r = sum-within f ys (without y xs m) o.1 (within-without y ys xs m o.0 (Within_tail y ys xs w)) in
-    omega arith
 
 -- ---- the cost of a list
 
@@ -159,12 +135,12 @@ module _ (N D d : ℕ) (low : d ≤ 15) where
           omega arith
 
   list-cost : (terms : Terms (List ℕ)) → ((t : List ℕ × Fraction) → Among t terms → IsPartition t.0) → AreWithin d terms → IsBounded N D terms
-      → weight cost (cleared_terms D (factorial d) terms) ≤ N * sum_over (label_cost d) (map (λ (t : List ℕ × Fraction). t.0) terms)
+      → weighed cost (cleared_terms D (factorial d) terms) ≤ N * sum_by (label_cost d) (map (λ (t : List ℕ × Fraction). t.0) terms)
   list-cost [] p w b = omega arith
   list-cost (t ∷ terms) p w b =
       let here = term-cost t (p t (inl refl)) (w t (inl refl)) (b t (inl refl)).1 in
       let later = list-cost terms (λ u m. p u (inr m)) (λ u m. w u (inr m)) (λ u m. b u (inr m)) in
-      let e : N * (label_cost d t.0 + sum_over (label_cost d) (map (λ (t : List ℕ × Fraction). t.0) terms)) ≡ N * label_cost d t.0 + N * sum_over (label_cost d) (map (λ (t : List ℕ × Fraction). t.0) terms) = spread N (label_cost d t.0) (sum_over (label_cost d) (map (λ (t : List ℕ × Fraction). t.0) terms)) in
+      let e : N * (label_cost d t.0 + sum_by (label_cost d) (map (λ (t : List ℕ × Fraction). t.0) terms)) ≡ N * label_cost d t.0 + N * sum_by (label_cost d) (map (λ (t : List ℕ × Fraction). t.0) terms) = spread N (label_cost d t.0) (sum_by (label_cost d) (map (λ (t : List ℕ × Fraction). t.0) terms)) in
       omega arith
     where
       spread : (x y z : ℕ) → x * (y + z) ≡ x * y + x * z
@@ -175,13 +151,13 @@ module _ (N D d : ℕ) (low : d ≤ 15) where
   labels_among (t ∷ terms) p w x (inl e) = subst (λ l. Among l (partitions_to d)) (sym e) (among_to d t.0 (p t (inl refl)) (w t (inl refl)))
   labels_among (t ∷ terms) p w x (inr m) = labels_among terms (λ u n. p u (inr n)) (λ u n. w u (inr n)) x m
 
-pub cost-within : (N D d : ℕ) (terms : Terms (List ℕ)) → d ≤ 15 → IsFractionTable terms → AreWithin d terms → IsBounded N D terms → weight cost (cleared_terms D (factorial d) terms) ≤ N * growth Basis.completes d
+pub cost-within : (N D d : ℕ) (terms : Terms (List ℕ)) → d ≤ 15 → IsFractionTable terms → AreWithin d terms → IsBounded N D terms → weighed cost (cleared_terms D (factorial d) terms) ≤ N * growth Basis.completes d
 cost-within N D d terms low is w b =
     let p = label-partition terms is in
     let x = list-cost N D d low terms p w b in
-    let y = sum-within (label_cost d) (map (λ (t : List ℕ × Fraction). t.0) terms) (partitions_to d) (Once-keys terms is) (labels_among N D d low terms p w) in
+    let y = sum_by-part (label_cost d) (map (λ (t : List ℕ × Fraction). t.0) terms) (partitions_to d) (Once-keys terms is) (labels_among N D d low terms p w) in
     let z = costs-within d low in
-    let u : N * sum_over (label_cost d) (map (λ (t : List ℕ × Fraction). t.0) terms) ≤ N * growth Basis.completes d = mul-le-mul_left N (let t : sum_over (label_cost d) (map (λ (t : List ℕ × Fraction). t.0) terms) ≤ growth Basis.completes d = omega arith in t) in
+    let u : N * sum_by (label_cost d) (map (λ (t : List ℕ × Fraction). t.0) terms) ≤ N * growth Basis.completes d = mul-le-mul_left N (let t : sum_by (label_cost d) (map (λ (t : List ℕ × Fraction). t.0) terms) ≤ growth Basis.completes d = omega arith in t) in
     omega arith
 
 pub has-factors : (d : ℕ) (terms : Terms (List ℕ)) → d ≤ 15 → IsFractionTable terms → AreWithin d terms → HasFactors (factorial d) terms

@@ -22,11 +22,12 @@ use Rattle.basis_change_laws.proofs.MergedParts.{IsPartition-merged, size-merged
 use Rattle.linear_combinations.specs.Gains.{HaveLabels, each_with, mass}
 use Rattle.linear_combinations.proofs.Masses.{labels_append, labels_each}
 use Rattle.family_lists.specs.FactorLists.{list_at}
-use Rattle.change_from_monomials.specs.AugmentedProducts.{MixedLabel, Mixed, weight, IsReady, IsSmall, AreSmall, products, raised, conversion, in_target}
+use Rattle.change_from_monomials.specs.AugmentedProducts.{MixedLabel, Mixed, IsReady, IsSmall, AreSmall, products, raised, conversion, in_target}
 use Rattle.change_from_monomials.specs.Costs.{doubled, cost}
 use Rattle.change_from_monomials.proofs.LastParts.{IsEnded}
 use Rattle.change_from_monomials.proofs.Conversions.{Stays, Ends, conversion-cases}
-use Rattle.change_from_monomials.proofs.Weights.{weight-append}
+use Rattle.linear_combinations.specs.Gains.{weighed}
+use Rattle.linear_combinations.proofs.Weighed.{weighed_append}
 use native.Mathlib.Nat.{mul-pos, mul-le-mul_left, mul-le-mul_right}
 
 doubled-positive : (s : ℕ) → 0 < doubled s
@@ -53,16 +54,16 @@ doubled-times P a (suc s) h p =
 
 -- ---- the terms of a conversion
 
-cost-products : (factor : WholeTerms) (converted rest : List ℕ) → weight cost (products factor converted rest) ≡ mass factor * (factorial (length rest) * doubled (size rest))
+cost-products : (factor : WholeTerms) (converted rest : List ℕ) → weighed cost (products factor converted rest) ≡ mass factor * (factorial (length rest) * doubled (size rest))
 cost-products [] converted rest = omega arith
 cost-products (t ∷ factor) converted rest =
-    spread (nat_abs t.1) (mass factor) (factorial (length rest) * doubled (size rest)) (weight cost (products factor converted rest)) (cost-products factor converted rest)
+    spread (nat_abs t.1) (mass factor) (factorial (length rest) * doubled (size rest)) (weighed cost (products factor converted rest)) (cost-products factor converted rest)
   where
     spread : (x y k w : ℕ) → w ≡ y * k → x * k + w ≡ (x + y) * k
     spread x y k w e = let d : (x + y) * k ≡ x * k + y * k = omega arith in omega arith
 
 cost-each : (converted : List ℕ) (a : ℕ) (rest numbers : List ℕ) (B : ℕ) → ((b : ℕ) → Among b numbers → cost (converted, raise a b rest) ≤ B)
-    → weight cost (each_with (negsuc 0) (raised converted a rest numbers)) ≤ length numbers * B
+    → weighed cost (each_with (negsuc 0) (raised converted a rest numbers)) ≤ length numbers * B
 cost-each converted a rest [] B h = omega arith
 cost-each converted a rest (b ∷ numbers) B h =
     let r = cost-each converted a rest numbers B (λ d m. h d (inr m)) in
@@ -96,19 +97,19 @@ cost-raised converted a b rest p m =
     omega arith
 
 cost-last : (factor : WholeTerms) (converted : List ℕ) (a : ℕ) (rest parts : List ℕ) → IsSmall a factor → IsEnded a rest parts
-    → weight cost (products factor converted rest ++ each_with (negsuc 0) (raised converted a rest rest)) ≤ cost (converted, parts)
+    → weighed cost (products factor converted rest ++ each_with (negsuc 0) (raised converted a rest rest)) ≤ cost (converted, parts)
 cost-last factor converted a rest parts is p =
     let P = mass factor in
     let F = factorial (length rest) in
     let D = doubled (a + size rest) in
-    let x = weight-append cost (products factor converted rest) (each_with (negsuc 0) (raised converted a rest rest)) in
+    let x = weighed_append cost (products factor converted rest) (each_with (negsuc 0) (raised converted a rest rest)) in
     let y = cost-products factor converted rest in
     let z = cost-each converted a rest rest (F * D) (λ b m. cost-raised converted a b rest p.before m) in
     let d = doubled-times P a (size rest) is.few p.positive in
     let e : F * (P * doubled (size rest)) ≤ F * D = mul-le-mul_left F d in
     let same : cost (converted, parts) ≡ suc (length rest) * F * D = ap₂ (λ r s. factorial r * doubled s) p.count p.cells in
-    subst (λ k. weight cost (products factor converted rest ++ each_with (negsuc 0) (raised converted a rest rest)) ≤ k) (sym same)
-    (closing (weight cost (products factor converted rest)) (weight cost (each_with (negsuc 0) (raised converted a rest rest))) (weight cost (products factor converted rest ++ each_with (negsuc 0) (raised converted a rest rest))) P F (doubled (size rest)) D (length rest) x y z e)
+    subst (λ k. weighed cost (products factor converted rest ++ each_with (negsuc 0) (raised converted a rest rest)) ≤ k) (sym same)
+    (closing (weighed cost (products factor converted rest)) (weighed cost (each_with (negsuc 0) (raised converted a rest rest))) (weighed cost (products factor converted rest ++ each_with (negsuc 0) (raised converted a rest rest))) P F (doubled (size rest)) D (length rest) x y z e)
   where
     closing : (u v t P F d D r : ℕ) → t ≡ u + v → u ≡ P * (F * d) → v ≤ r * (F * D) → F * (P * d) ≤ F * D → t ≤ suc r * F * D
     closing u v t P F d D r x y z e =
@@ -123,12 +124,12 @@ list_of factors a small p l =
     let j : a - 1 + 1 ≡ a = omega arith in
     subst (λ k. IsSmall k (list_at factors (a - 1))) j (small (a - 1) i)
 
-pub cost-conversion : (most count : ℕ) (factors : List WholeTerms) (l : MixedLabel) → AreSmall factors → IsReady (length factors) most l → weight cost (conversion factors count l) ≤ cost l
+pub cost-conversion : (most count : ℕ) (factors : List WholeTerms) (l : MixedLabel) → AreSmall factors → IsReady (length factors) most l → weighed cost (conversion factors count l) ≤ cost l
 cost-conversion most count factors l small ready = by (conversion-cases factors count l ready.augmented)
   where
-    by : Stays factors count l ⊎ Ends factors count l → weight cost (conversion factors count l) ≤ cost l
+    by : Stays factors count l ⊎ Ends factors count l → weighed cost (conversion factors count l) ≤ cost l
     by (inl s) =
-        subst (λ (x : Mixed). weight cost x ≤ cost l) (sym s.is) (one (cost l))
+        subst (λ (x : Mixed). weighed cost x ≤ cost l) (sym s.is) (one (cost l))
       where
         one : (k : ℕ) → 1 * k + 0 ≤ k
         one k = omega arith
@@ -136,7 +137,7 @@ cost-conversion most count factors l small ready = by (conversion-cases factors 
         let p = e.ended in
         let size = p.cells in
         let low = ready.low in
-        subst (λ (x : Mixed). weight cost x ≤ cost l) (sym e.is)
+        subst (λ (x : Mixed). weighed cost x ≤ cost l) (sym e.is)
         (cost-last (list_at factors (e.a - 1)) l.0 e.a e.rest l.1 (list_of factors e.a small p.positive (omega arith)) p)
 
 -- ---- the labels
@@ -191,12 +192,12 @@ ready-conversion most factors l small ready = by (conversion-cases factors (suc 
 
 -- ---- the end
 
-pub mass-target : (factors : List WholeTerms) (l : MixedLabel) → AreSmall factors → IsReady (length factors) 1 l → weight (λ x. 1) (in_target factors l) ≤ cost l
+pub mass-target : (factors : List WholeTerms) (l : MixedLabel) → AreSmall factors → IsReady (length factors) 1 l → weighed (λ x. 1) (in_target factors l) ≤ cost l
 mass-target factors (converted, []) small ready = let p = cost-positive (converted, []) in (let one : 1 * 1 + 0 ≤ 1 = omega arith in omega arith)
 mass-target factors (converted, (a ∷ rest)) small ready =
     let low = ready.low in
     let is = list_of factors a small ready.augmented.positive.0 (omega arith) in
-    subst (λ r. weight (λ x. 1) (row converted (pos 1) (list_at factors (a - 1))) ≤ factorial (suc (length r)) * doubled (a + size r)) (sym (none rest ready.few))
+    subst (λ r. weighed (λ x. 1) (row converted (pos 1) (list_at factors (a - 1))) ≤ factorial (suc (length r)) * doubled (a + size r)) (sym (none rest ready.few))
     (let m = mass-row (list_at factors (a - 1)) in
     let d = doubled-is (a + 0) (let p = ready.augmented.positive.0 in omega arith) in
     let e : a + 0 ≡ a = omega arith in
@@ -212,7 +213,7 @@ mass-target factors (converted, (a ∷ rest)) small ready =
     none [] h = refl
     none (b ∷ rest) h = absurd (omega arith)
 
-    mass-row : (V : WholeTerms) → weight (λ x. 1) (row converted (pos 1) V) ≡ mass V
+    mass-row : (V : WholeTerms) → weighed (λ x. 1) (row converted (pos 1) V) ≡ mass V
     mass-row [] = refl
     mass-row (t ∷ V) = let r = mass-row V in let o = ap nat_abs (single_ℤ t.1) in omega arith
       where

@@ -37,7 +37,7 @@ use Rattle.std.proofs.lemmas.Map.Keys.{IsDistinct-tail}
 use Rattle.std.proofs.lemmas.Map.Entries.{none_past_head}
 use Rattle.sym_model.proofs.Integers.{nat_abs-product}
 use Rattle.linear_combinations.specs.Labels.{same_partition}
-use Rattle.linear_combinations.proofs.Gains.{gains_as, gains_mass, overflows_as, over_at, over_only_within, scaled_over, replaced_over}
+use Rattle.linear_combinations.proofs.Gains.{gains_as, overflows_as, over_at, over_only_within, scaled_over, replaced_over}
 use Rattle.linear_combinations.proofs.Masses.{mass_at_scaled, mass_append, mass_replaced, labels_append, labels_replaced, labels_gained, overflow_mass}
 use Rattle.change_from_monomials.specs.Arranging.{straight_terms}
 use Rattle.change_from_monomials.specs.KeptLists.{IsKept, IsKeptRest, IsStraightened}
@@ -49,6 +49,7 @@ use Rattle.change_from_monomials.proofs.BetaSets.{shape-empty, empty_shape}
 use Rattle.change_from_monomials.proofs.ShapeSums.{over-shapes, mass-shapes, labels-shapes, one_label}
 use Rattle.change_from_monomials.proofs.HookSums.{hooks-mass, hooks-over, hooks-labels}
 use native.Mathlib.Nat.{mul-le-mul_left, mul-le-mul_right}
+use Rattle.linear_combinations.proofs.Weighed.{gains_mass}
 use lib.IntN.{+ℤ_idl, *ℤ-zero}
 
 -- ---- the same sums
@@ -115,7 +116,7 @@ kept-empty old new set c o s n is gained = record {
   straightens = λ n g.
       no_part n g
       ∙ sym (over-shapes (within_rows n g) new ∙ alone.sums (λ s. within_rows n g (shape s)) ∙ +ℤ_idl (pos 1 *ℤ within_rows n g (shape 0) +ℤ pos 0) ∙ ap (λ (ν : List ℕ). pos 1 *ℤ within_rows n g ν +ℤ pos 0) shape-empty);
-  few = gains_mass nat_eq_equiv same_set [] ((0, pos 1) ∷ []) new is alone;
+  few = gains_mass same_set nat_eq_equiv [] ((0, pos 1) ∷ []) new is alone;
   within = labels_gained nat_eq_equiv same_set [] ((0, pos 1) ∷ []) new is alone (IsShape 0) (λ t m. absurd m) (one_label (IsShape 0) 0 (pos 1) empty_shape);
 }
   where
@@ -245,7 +246,7 @@ module _ (parts : List ℕ) (p : IsPartition parts) (low : size parts ≤ 20) wh
         })
         (λ g. over-shapes g sum ∙ gains.sums (λ s. g (shape s)) ∙ +ℤ_idl (over (λ s. g (shape s)) (hooked_lists lists)) ∙ all-over g lists rests);
     few =
-        let m = gains_mass nat_eq_equiv same_set [] (hooked_lists lists) sum is gains in
+        let m = gains_mass same_set nat_eq_equiv [] (hooked_lists lists) sum is gains in
         let a = all-mass lists rests in
         let r = rows_within_size parts p.positive in
         let f = within-factorial parts (parts_of lists) (omega arith) e in

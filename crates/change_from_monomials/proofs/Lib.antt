@@ -1,4 +1,4 @@
-pub mod Weights
+pub mod MixedLabels
 pub mod PartLists
 pub mod SortingSigns
 pub mod LastParts

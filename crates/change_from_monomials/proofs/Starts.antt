@@ -14,10 +14,12 @@ use Rattle.change_from_monomials.proofs.Fractions.{label-partition}
 use Rattle.sparse_polys.specs.Labels.{same_pair}
 use Rattle.linear_combinations.specs.Gains.{Gains, HaveLabels}
 use Rattle.linear_combinations.proofs.Masses.{labels_gained}
-use Rattle.change_from_monomials.specs.AugmentedProducts.{MixedLabel, Mixed, IsMixedTable, weight, IsReady}
+use Rattle.change_from_monomials.specs.AugmentedProducts.{MixedLabel, Mixed, IsMixedTable, IsReady}
 use Rattle.change_from_monomials.specs.Clearing.{cleared_terms}
 use Rattle.change_from_monomials.specs.Costs.{cost}
-use Rattle.change_from_monomials.proofs.Weights.{label_laws, gains-weight}
+use Rattle.linear_combinations.specs.Gains.{weighed}
+use Rattle.change_from_monomials.proofs.MixedLabels.{label_laws}
+use Rattle.linear_combinations.proofs.Weighed.{gains_weighed}
 use Rattle.change_from_monomials.proofs.CostTable.{cost-within}
 
 pub none-large : (n : ℕ) (answer : Option ℕ) → SomeIff answer (n < 2 ^ 127) n → answer ≡ None → 2 ^ 127 ≤ n
@@ -29,11 +31,11 @@ none-large n None h e = by (cases_lt n (2 ^ 127))
 none-large n (Some x) h e = cc
 
 module _ (N D d factor : ℕ) (terms : Terms (List ℕ)) (is_factor : factor ≡ factorial d) (low : d ≤ 15) (is : IsFractionTable terms) (within : AreWithin d terms) where
-  pub start-cost : IsBounded N D terms → weight cost (cleared_terms D factor terms) ≤ N * growth Basis.completes d
-  start-cost b = subst (λ f. weight cost (cleared_terms D f terms) ≤ N * growth Basis.completes d) (sym is_factor) (cost-within N D d terms low is within b)
+  pub start-cost : IsBounded N D terms → weighed cost (cleared_terms D factor terms) ≤ N * growth Basis.completes d
+  start-cost b = subst (λ f. weighed cost (cleared_terms D f terms) ≤ N * growth Basis.completes d) (sym is_factor) (cost-within N D d terms low is within b)
 
-  pub table-cost : (es : Mixed) → IsBounded N D terms → IsMixedTable es → Gains [] (cleared_terms D factor terms) es → weight cost es ≤ N * growth Basis.completes d
-  table-cost es b table a = let w = gains-weight (cleared_terms D factor terms) es table a cost in let s = start-cost b in omega arith
+  pub table-cost : (es : Mixed) → IsBounded N D terms → IsMixedTable es → Gains [] (cleared_terms D factor terms) es → weighed cost es ≤ N * growth Basis.completes d
+  table-cost es b table a = let w = gains_weighed same_pair label_laws [] (cleared_terms D factor terms) es table a cost in let s = start-cost b in omega arith
 
   pub table-ready : (es : Mixed) → IsMixedTable es → Gains [] (cleared_terms D factor terms) es → HaveLabels (IsReady d d) es
   table-ready es table a =

@@ -1,25 +1,27 @@
 -- What a step that converts one part of each longest augmented monomial keeps, and the end.
 --     step-value, step-cost, step-ready       a step
 --     end-value, end-mass, end-low            the terms of the target
-use Rattle.std.proofs.Common.{◌≡◌, ℕ, suc, ◌+◌, ◌*◌, ◌^◌, ◌≤◌, List, [], length, refl, ◌∙◌, ap, arith, ℤ, ◌*ℤ◌}
+use Rattle.std.proofs.Common.{◌≡◌, ℕ, suc, ◌^◌, ◌≤◌, List, [], length, refl, ◌∙◌, arith, ℤ}
 use Rattle.std.specs.Cmp.Lexicographic.{nat_list_eq_equiv}
 use Rattle.sym_model.specs.Partition.{size}
 use Rattle.sym_model.specs.WholeTerms.{WholeTerms}
-use Rattle.sym_model.proofs.Sums.{total_among}
 use Rattle.sparse_polys.specs.Labels.{same_pair}
 use Rattle.linear_combinations.specs.Gains.{WholeTermsOf, HaveLabels, Gains, Overflows, mass, over, replaced}
 use Rattle.linear_combinations.specs.Labels.{same_partition}
-use Rattle.linear_combinations.proofs.Gains.{replaced_over, gains_mass}
+use Rattle.linear_combinations.proofs.Counted.{replaced_at}
 use Rattle.linear_combinations.proofs.Masses.{labels_gained, labels_replaced, overflow_mass}
 use Rattle.whole_lists.specs.LabelSizes.{AreWithin}
 use Rattle.whole_lists.specs.Tables.{equal as same_label, IsWholeTable}
 use Rattle.whole_lists.specs.declared.family.Family.{Family}
-use Rattle.change_from_monomials.specs.AugmentedProducts.{MixedLabel, Mixed, equal, IsMixedTable, weight, IsReady, AreSmall, IsConvertible, conversion, in_target}
+use Rattle.change_from_monomials.specs.AugmentedProducts.{MixedLabel, Mixed, equal, IsMixedTable, IsReady, AreSmall, IsConvertible, conversion, in_target}
 use Rattle.change_from_monomials.specs.Factors.{target_value, product_value, ArePowerSums}
 use Rattle.change_from_monomials.specs.Costs.{cost}
 use Rattle.change_from_monomials.proofs.Values.{value-conversion, value-target}
 use Rattle.change_from_monomials.proofs.Costs.{cost-positive, cost-conversion, ready-conversion, mass-target, low-target}
-use Rattle.change_from_monomials.proofs.Weights.{label_laws, mass-within, weight-replaced, gains-weight, overflow-weight}
+use Rattle.linear_combinations.proofs.Weighed.{gains_mass}
+use Rattle.linear_combinations.specs.Gains.{weighed}
+use Rattle.change_from_monomials.proofs.MixedLabels.{label_laws}
+use Rattle.linear_combinations.proofs.Weighed.{mass_within-weighed, weighed_images, gains_weighed, overflow_weighed}
 use lib.IntN.{+ℤ_idl}
 
 pub convertible : (factors : List WholeTerms) (most : ℕ) (es : Mixed) → AreSmall factors → length factors ≤ 15 → HaveLabels (IsReady (length factors) most) es → HaveLabels (IsConvertible factors most) es
@@ -34,8 +36,7 @@ fewer d m n es l h t k =
 replaced-value : {L : Type 0} (image : MixedLabel → WholeTermsOf L) (f : L → ℤ) (g : MixedLabel → ℤ) (es : Mixed) (new : WholeTermsOf L) → Gains [] (replaced image es) new → HaveLabels (λ l. over f (image l) ≡ g l) es
     → over f new ≡ over g es
 replaced-value image f g es new a h =
-    a.sums f ∙ +ℤ_idl (over f (replaced image es)) ∙ replaced_over image f es
-    ∙ total_among (λ (t : MixedLabel × ℤ). t.1 *ℤ over f (image t.0)) (λ (t : MixedLabel × ℤ). t.1 *ℤ g t.0) es (λ t m. ap (λ z. t.1 *ℤ z) (h t m))
+    a.sums f ∙ +ℤ_idl (over f (replaced image es)) ∙ replaced_at image g f es h
 
 module _ (factors : List WholeTerms) (es : Mixed) where
   module _ (most : ℕ) (ready : HaveLabels (IsReady (length factors) most) es) where
@@ -45,14 +46,14 @@ module _ (factors : List WholeTerms) (es : Mixed) where
         replaced-value (conversion factors most) (product_value family n φ) (product_value family n φ) es next a
         (λ t m. value-conversion family most most n φ factors t.0 are (ready t m))
 
-    step-gained : AreSmall factors → weight cost (replaced (conversion factors most) es) ≤ weight cost es
-    step-gained small = weight-replaced (conversion factors most) cost cost es (λ t m. cost-conversion most most factors t.0 small (ready t m))
+    step-gained : AreSmall factors → weighed cost (replaced (conversion factors most) es) ≤ weighed cost es
+    step-gained small = weighed_images (conversion factors most) cost cost es (λ t m. cost-conversion most most factors t.0 small (ready t m))
 
-    pub step-cost : (next : Mixed) → AreSmall factors → IsMixedTable next → Gains [] (replaced (conversion factors most) es) next → weight cost next ≤ weight cost es
-    step-cost next small is a = let g = gains-weight (replaced (conversion factors most) es) next is a cost in let s = step-gained small in omega arith
+    pub step-cost : (next : Mixed) → AreSmall factors → IsMixedTable next → Gains [] (replaced (conversion factors most) es) next → weighed cost next ≤ weighed cost es
+    step-cost next small is a = let g = gains_weighed same_pair label_laws [] (replaced (conversion factors most) es) next is a cost in let s = step-gained small in omega arith
 
-    pub step-large : AreSmall factors → Overflows equal [] (replaced (conversion factors most) es) → 2 ^ 127 ≤ weight cost es
-    step-large small o = let w = overflow-weight cost cost-positive (replaced (conversion factors most) es) o in let s = step-gained small in omega arith
+    pub step-large : AreSmall factors → Overflows equal [] (replaced (conversion factors most) es) → 2 ^ 127 ≤ weighed cost es
+    step-large small o = let w = overflow_weighed same_pair [] (replaced (conversion factors most) es) o cost (cost-positive o.0) in let s = step-gained small in omega arith
 
   pub step-ready : (most : ℕ) (next : Mixed) → AreSmall factors → HaveLabels (IsReady (length factors) (suc most)) es → IsMixedTable next → Gains [] (replaced (conversion factors (suc most)) es) next
       → HaveLabels (IsReady (length factors) most) next
@@ -70,19 +71,19 @@ module _ (factors : List WholeTerms) (es : Mixed) where
         replaced-value (in_target factors) (target_value family n φ) (product_value family n φ) es end a
         (λ t m. value-target family n φ factors t.0 are (ready t m))
 
-    end-gained : AreSmall factors → mass (replaced (in_target factors) es) ≤ weight cost es
+    end-gained : AreSmall factors → mass (replaced (in_target factors) es) ≤ weighed cost es
     end-gained small =
-        let w = weight-replaced (in_target factors) (λ x. 1) cost es (λ t m. mass-target factors t.0 small (ready t m)) in
-        let u = mass-within (λ x. 1) (λ x. omega arith) (replaced (in_target factors) es) in
+        let w = weighed_images (in_target factors) (λ x. 1) cost es (λ t m. mass-target factors t.0 small (ready t m)) in
+        let u = mass_within-weighed (λ x. 1) (λ x. omega arith) (replaced (in_target factors) es) in
         omega arith
 
-    pub end-mass : (end : WholeTerms) → AreSmall factors → IsWholeTable end → Gains [] (replaced (in_target factors) es) end → mass end ≤ weight cost es
+    pub end-mass : (end : WholeTerms) → AreSmall factors → IsWholeTable end → Gains [] (replaced (in_target factors) es) end → mass end ≤ weighed cost es
     end-mass end small is a =
-        let g = gains_mass nat_list_eq_equiv same_partition [] (replaced (in_target factors) es) end is a in
+        let g = gains_mass same_partition nat_list_eq_equiv [] (replaced (in_target factors) es) end is a in
         let s = end-gained small in
         omega arith
 
-    pub end-large : AreSmall factors → Overflows same_label [] (replaced (in_target factors) es) → 2 ^ 127 ≤ weight cost es
+    pub end-large : AreSmall factors → Overflows same_label [] (replaced (in_target factors) es) → 2 ^ 127 ≤ weighed cost es
     end-large small o = let m = overflow_mass same_label [] (replaced (in_target factors) es) o in let s = end-gained small in omega arith
 
     pub end-low : (end : WholeTerms) → AreSmall factors → IsWholeTable end → Gains [] (replaced (in_target factors) es) end → AreWithin (length factors) end

@@ -1,5 +1,5 @@
 -- A part at an index.
-use Rattle.std.proofs.Common.{◌≡◌, ℕ, zero, suc, ◌+◌, ◌<◌, ◌≤◌, Bool, true, false, List, [], ◌∷◌, ◌++◌, length, take, drop, get_or, refl, ap, ◌∙◌, arith}
+use Rattle.std.proofs.Common.{◌≡◌, ℕ, zero, suc, ◌<◌, ◌≤◌, Bool, true, false, List, [], ◌∷◌, length, get_or, refl, ap, ◌∙◌, arith}
 use Rattle.std.specs.Prelude.{◌||◌, ◌==◌}
 use Rattle.sym_model.specs.Partition.{size}
 use Rattle.sym_model.specs.Bases.{has}
@@ -18,11 +18,3 @@ has-index (x ∷ xs) (suc i) h = ap (λ b. (x == get_or xs i 0) || b) (has-index
     right : (b : Bool) → (b || true) ≡ true
     right true = refl
     right false = refl
-
--- it stands between those before it and those after it
-pub part_split : (xs : List ℕ) (i : ℕ) → i < length xs → take i xs ++ (get_or xs i 0 ∷ drop (i + 1) xs) ≡ xs
-part_split [] i h = absurd (omega arith)
-part_split (x ∷ xs) zero h = refl
-part_split (x ∷ xs) (suc i) h =
-    let n : suc i + 1 ≡ suc (i + 1) = omega arith in
-    ap (λ k. take (suc i) (x ∷ xs) ++ (get_or xs i 0 ∷ drop k (x ∷ xs))) n ∙ ap (λ l. x ∷ l) (part_split xs i (omega arith))

@@ -1,6 +1,6 @@
 -- Sums half way between two bases: each term is the product of a polynomial of the target and an
 -- augmented monomial symmetric polynomial.
-use Rattle.std.specs.Prelude.{ℕ, ◌+◌, ◌-◌, ◌*◌, ◌^◌, ◌<◌, ◌≤◌, nat_abs, nat_eq, Bool, ◌&&◌, cond}
+use Rattle.std.specs.Prelude.{ℕ, ◌+◌, ◌-◌, ◌^◌, ◌<◌, ◌≤◌, nat_eq, Bool, ◌&&◌, cond}
 use Rattle.std.specs.Prelude.{pos, negsuc, ℤ, List, [], ◌∷◌, ◌++◌, map, length, take}
 use Rattle.std.specs.Cmp.Lexicographic.{pointwise}
 use Rattle.coeff_rings.specs.Fractions.{whole}
@@ -28,11 +28,6 @@ equal a b = pointwise nat_eq a.0 b.0 && pointwise nat_eq a.1 b.1
 -- the list is one that a table holds
 abbrev pub IsMixedTable : Mixed → Type 0
 IsMixedTable terms = IsCombination equal is_pair_label whole terms
-
--- the sum over the terms of the absolute value of the coefficient times w of the label
-abbrev pub weight : {L : Type 0} → (L → ℕ) → WholeTermsOf L → ℕ
-weight w [] = 0
-weight w (t ∷ terms) = nat_abs t.1 * w t.0 + weight w terms
 
 -- both lists are partitions, of at most d cells together, and that of the augmented monomial has at
 -- most `most` parts

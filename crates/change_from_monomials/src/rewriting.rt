@@ -5,11 +5,12 @@ ghost use Rattle.linear_combinations.specs.Gains.{replaced};
 ghost use Rattle.whole_lists.specs.LabelSizes.{AreWithin};
 ghost use Rattle.whole_lists.specs.declared.family.Family.{Family};
 ghost use Rattle.whole_lists.specs.Tables.{equal as same_partition, IsWholeTable};
-ghost use Rattle.change_from_monomials.specs.AugmentedProducts.{equal, weight, IsReady, conversion};
+ghost use Rattle.change_from_monomials.specs.AugmentedProducts.{equal, IsReady, conversion};
 ghost use Rattle.change_from_monomials.specs.AugmentedProducts.{IsConvertible, IsMixedTable};
 ghost use Rattle.change_from_monomials.specs.AugmentedProducts.{AreSmall, in_target};
 ghost use Rattle.change_from_monomials.specs.Factors.{ArePowerSums, product_value, target_value};
 ghost use Rattle.change_from_monomials.specs.Costs.{cost};
+ghost use Rattle.linear_combinations.specs.Gains.{weighed};
 
 use crate::products::{Mixed, add_mixed, take_raised};
 use calc_base::SumFault;
@@ -119,9 +120,9 @@ pub(crate) fn converted(
     ensures value { IfOk result (λ end. (family : Family) → ArePowerSums family factors.now
         → (n : ℕ) (φ : List ℕ → ℤ)
         → over (target_value family n φ) end ≡ over (product_value family n φ) start) }
-    ensures mass { IfOk result (λ end. mass end ≤ weight cost start) }
+    ensures mass { IfOk result (λ end. mass end ≤ weighed cost start) }
     ensures within { IfOk result (AreWithin (length factors.now)) }
-    ensures large { IsErrOf result SumFault.Large → 2 ^ 127 ≤ weight cost start }
+    ensures large { IsErrOf result SumFault.Large → 2 ^ 127 ≤ weighed cost start }
 {
     let mut table = start;
     let mut rows = most;

@@ -1,5 +1,5 @@
 -- What a list of terms y^e·S_w gains by a product with x_r - y_c.
-use Rattle.std.proofs.Common.{◌≡◌, ℕ, zero, suc, ◌+◌, ◌*◌, ◌^◌, ◌<◌, ◌≤◌, max, List, [], ◌∷◌, ◌++◌, length, take, drop, get_or, refl, sym, ap, ap₂, ◌∙◌, subst, inl, inr, arith, ℤ, pos, negsuc, ◌*ℤ◌}
+use Rattle.std.proofs.Common.{◌≡◌, ℕ, ◌+◌, ◌*◌, ◌^◌, ◌≤◌, max, List, [], ◌∷◌, ◌++◌, length, refl, sym, ap, ap₂, ◌∙◌, subst, inl, inr, arith, ℤ, pos, negsuc, ◌*ℤ◌}
 use Rattle.std.specs.Prelude.{nat_abs, neg_ℤ, ◌&&◌}
 use Rattle.std.specs.Cmp.{IsEquivalence}
 use Rattle.std.specs.Cmp.Lexicographic.{nat_list_eq_equiv}
@@ -110,23 +110,11 @@ overflow_negative old k r c label large =
     let q = mass_at_append equal x (each_beside (neg_ℤ k) label.1 (covers_down r label.0)) (((label.0, raised (letter label.0 r) label.1), k) ∷ ((label.0, raised c label.1), neg_ℤ k) ∷ []) in
     omega arith) a)
 
--- ---- one permutation after another beside a monomial
+-- ---- permutations beside a monomial, in pieces
 
-pub beside_take : (k : ℤ) (e : List ℕ) (vs : List (List ℕ)) (i : ℕ) (v : List ℕ) → i < length vs → v ≡ get_or vs i v → each_beside k e (take (i + 1) vs) ≡ each_beside k e (take i vs) ++ ((v, e), k) ∷ []
-beside_take k e [] i v h is = absurd (omega arith)
-beside_take k e (x ∷ vs) zero v h is = ap (λ y. ((y, e), k) ∷ []) (sym is)
-beside_take k e (x ∷ vs) (suc i) v h is =
-    let n : suc i + 1 ≡ suc (i + 1) = omega arith in
-    ap (λ j. each_beside k e (take j (x ∷ vs))) n ∙ ap (λ (l : ShiftedSum). ((x, e), k) ∷ l) (beside_take k e vs i v (omega arith) is)
-
-pub beside_split : (k : ℤ) (e : List ℕ) (vs : List (List ℕ)) (i : ℕ) (v : List ℕ) → i < length vs → v ≡ get_or vs i v
-    → (each_beside k e (take i vs) ++ ((v, e), k) ∷ []) ++ each_beside k e (drop (i + 1) vs) ≡ each_beside k e vs
-beside_split k e [] i v h is = absurd (omega arith)
-beside_split k e (x ∷ vs) zero v h is = ap (λ y. ((y, e), k) ∷ each_beside k e vs) is
-beside_split k e (x ∷ vs) (suc i) v h is =
-    let n : suc i + 1 ≡ suc (i + 1) = omega arith in
-    ap (λ j. (each_beside k e (take (suc i) (x ∷ vs)) ++ ((v, e), k) ∷ []) ++ each_beside k e (drop j (x ∷ vs))) n
-    ∙ ap (λ (l : ShiftedSum). ((x, e), k) ∷ l) (beside_split k e vs i v (omega arith) is)
+pub beside_append : (k : ℤ) (e : List ℕ) (vs ws : List (List ℕ)) → each_beside k e (vs ++ ws) ≡ each_beside k e vs ++ each_beside k e ws
+beside_append k e [] ws = refl
+beside_append k e (v ∷ vs) ws = ap (λ (l : ShiftedSum). ((v, e), k) ∷ l) (beside_append k e vs ws)
 
 -- ---- the product of a list
 

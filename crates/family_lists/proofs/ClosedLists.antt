@@ -1,11 +1,10 @@
 -- The lists of one part of a family in another one, by closed coefficients.
---     listed-push, listed-fits     partition by partition
+--     each_by-push, listed-fits     partition by partition
 --     closed-stands                what the whole list is
 --     scaled-low, sized-low, cycles-low, ..     how large the numbers are
-use Rattle.std.proofs.Common.{◌≡◌, ℕ, ◌-◌, ◌*◌, ◌<◌, ◌≤◌, ◌^◌, List, [], ◌∷◌, ◌++◌, map, length, refl, sym, ap, ap₂, ◌∙◌, subst, inl, inr, arith, ℤ, pos, cond, ◌+ℤ◌, ◌*ℤ◌, lit<}
+use Rattle.std.proofs.Common.{◌≡◌, ℕ, ◌-◌, ◌*◌, ◌<◌, ◌≤◌, ◌^◌, List, [], ◌∷◌, ◌++◌, length, refl, sym, ap, ap₂, ◌∙◌, subst, inl, inr, arith, ℤ, pos, cond, ◌+ℤ◌, ◌*ℤ◌, lit<}
 use Rattle.std.specs.Prelude.{FitsSigned, ◌≢◌}
 use Rattle.std.specs.Int.{w128}
-use Rattle.std.proofs.lemmas.List.{map-append}
 use Rattle.std.proofs.lemmas.Nat.{mul-le}
 use Rattle.coeff_rings.specs.Checked.{checked_i128}
 use Rattle.linear_combinations.specs.Entries.{coefficient as look_up, IsRefused}
@@ -37,21 +36,13 @@ use Rattle.whole_lists.proofs.WholeLists.{Finds, not_refused}
 use Rattle.whole_lists.proofs.PartitionTerms.{once_before}
 use Rattle.family_lists.specs.ClosedCoefficients.{closed_coefficient}
 use Rattle.family_lists.specs.FactorLists.{IsFactor}
+use Rattle.linear_combinations.specs.Gains.{each_by}
 use Rattle.family_lists.proofs.TableLists.{table-stands}
 
 -- ---- partition by partition
 
--- the partitions so far, each with its coefficient
-abbrev pub listed : (List ℕ → ℤ) → List (List ℕ) → WholeTerms
-listed c labels = map (λ (μ : List ℕ). (μ, c μ)) labels
-
-pub listed-push : (c : List ℕ → ℤ) (labels : List (List ℕ)) (label : List ℕ)
-    → listed c labels ++ (label, c label) ∷ [] ≡ listed c (labels ++ label ∷ [])
-listed-push c labels label = sym
-    (map-append (λ (μ : List ℕ). (μ, c μ)) labels (label ∷ []))
-
 coefficient-absent : (c : List ℕ → ℤ) (labels : List (List ℕ)) (label : List ℕ)
-    → (Among label labels → ⊥) → coefficient (listed c labels) label ≡ pos 0
+    → (Among label labels → ⊥) → coefficient (each_by c labels) label ≡ pos 0
 coefficient-absent c labels label n =
     total_map (λ (t : List ℕ × ℤ). cond (same t.0 label) t.1 (pos 0))
     (λ (μ : List ℕ). (μ, c μ)) labels
@@ -63,13 +54,13 @@ coefficient-absent c labels label n =
 -- the next one is never refused
 pub listed-fits : (c : List ℕ → ℤ) (k : ℕ) (before new : List (List ℕ)) (label key : List ℕ)
     (terms : WholeTerms) (z : ℤ)
-    → Finds terms (listed c before) → before ++ (label ∷ new) ≡ partitions_of k → key ≡ label
+    → Finds terms (each_by c before) → before ++ (label ∷ new) ≡ partitions_of k → key ≡ label
     → IsRefused (FitsSigned w128) (λ (x y : ℤ). checked_i128 (x +ℤ y))
     (look_up equal (pos 0) terms key) z → ⊥
 listed-fits c k before new label key terms z h e same r =
     not_refused (look_up equal (pos 0) terms key) z
     (h key
-    ∙ ap (coefficient (listed c before)) same
+    ∙ ap (coefficient (each_by c before)) same
     ∙ coefficient-absent c before label
     (once_before before new label
     (subst Once (sym e)
@@ -80,7 +71,7 @@ listed-fits c k before new label key terms z h e same r =
 -- ---- what the whole list is
 
 listed-same : (c d : List ℕ → ℤ) (labels : List (List ℕ))
-    → ((μ : List ℕ) → Among μ labels → c μ ≡ d μ) → listed c labels ≡ listed d labels
+    → ((μ : List ℕ) → Among μ labels → c μ ≡ d μ) → each_by c labels ≡ each_by d labels
 listed-same c d [] h = refl
 listed-same c d (μ ∷ labels) h =
     ap₂ (λ (z : ℤ) (l : WholeTerms). (μ, z) ∷ l) (h μ (inl refl))
@@ -95,7 +86,7 @@ times-orders k μ e =
     ∙ ap (λ n. parity_sign μ *ℤ pos (factorial n * orders_of_parts μ)) (sym e)
 
 scaled-list : (k : ℕ) → scale (pos (factorial k)) (list_over signed_orders k)
-    ≡ listed (λ μ. parity_sign μ *ℤ pos (factorial (size μ) * orders_of_parts μ)) (partitions_of k)
+    ≡ each_by (λ μ. parity_sign μ *ℤ pos (factorial (size μ) * orders_of_parts μ)) (partitions_of k)
 scaled-list k =
     map-map (λ (t : List ℕ × ℤ). (t.0, pos (factorial k) *ℤ t.1))
     (λ (μ : List ℕ). (μ, signed_orders μ)) (partitions_of k)
@@ -106,7 +97,7 @@ scaled-list k =
 exchanged-stands : (P : ℕ → ℕ → Poly) (k : ℕ) (f : ℕ → Poly)
     → Stands P 1 (2 ^ k) k f (list_over signed_orders k)
     → Stands P (factorial k) (factorial k * 2 ^ k) k f
-    (listed (λ μ. parity_sign μ *ℤ pos (factorial (size μ) * orders_of_parts μ)) (partitions_of k))
+    (each_by (λ μ. parity_sign μ *ℤ pos (factorial (size μ) * orders_of_parts μ)) (partitions_of k))
 exchanged-stands P k f s =
     let one : factorial k * 1 ≡ factorial k = omega arith in
     subst (Stands P (factorial k) (factorial k * 2 ^ k) k f) (scaled-list k)
@@ -119,7 +110,7 @@ more k = times-more (factorial k) (2 ^ k) (power-positive 2 k (omega arith))
 
 pub closed-list : (target family : Family) (k : ℕ) → target ≢ family → 0 < k
     → IsFactor (polynomial_of target) family k
-    (listed (closed_coefficient target family) (partitions_of k))
+    (each_by (closed_coefficient target family) (partitions_of k))
 closed-list Elementary Elementary k n h = absurd (n refl)
 closed-list Elementary Complete k n h =
     exchanged-stands (polynomial_of Elementary) k (λ n. polynomial_of Complete k n) (complete-list k)
@@ -144,10 +135,10 @@ closed-list PowerSum Complete k n h =
 closed-list PowerSum PowerSum k n h = absurd (n refl)
 
 pub closed-stands : (target family : Family) (k : ℕ) (terms : WholeTerms) → target ≢ family → 0 < k
-    → IsWholeTable terms → Same terms (listed (closed_coefficient target family) (partitions_of k))
+    → IsWholeTable terms → Same terms (each_by (closed_coefficient target family) (partitions_of k))
     → IsFactor (polynomial_of target) family k terms
 closed-stands target family k terms n h is e =
-    table-stands terms (listed (closed_coefficient target family) (partitions_of k)) is e
+    table-stands terms (each_by (closed_coefficient target family) (partitions_of k)) is e
     (polynomial_of target) _ _ k (λ n. polynomial_of family k n) (closed-list target family k n h)
 
 -- ---- how large the numbers are

@@ -2,7 +2,7 @@
 --     table-few        its absolute values add up to no more
 --     table-stands     it stands for the same
 --     stands-greatest  how large the labels are
-use Rattle.std.proofs.Common.{ℕ, ◌+◌, ◌≤◌, [], sym, ◌∙◌, arith}
+use Rattle.std.proofs.Common.{ℕ, ◌≤◌, [], sym, ◌∙◌, arith}
 use Rattle.std.specs.Cmp.Lexicographic.{nat_list_eq_equiv}
 use Rattle.sym_model.specs.Polynomial.{Poly, Same, pair}
 use Rattle.sym_model.specs.Bases.{product_over}
@@ -11,7 +11,6 @@ use Rattle.sym_model.proofs.Polynomials.{pair_determined}
 use Rattle.linear_combinations.specs.Gains.{over}
 use Rattle.linear_combinations.specs.Labels.{same_partition}
 use Rattle.linear_combinations.proofs.Found.{sums_same}
-use Rattle.linear_combinations.proofs.Gains.{gains_mass}
 use Rattle.sparse_polys.specs.MonomialProducts.{greatest_size}
 use Rattle.whole_lists.specs.LabelSizes.{AreWithin}
 use Rattle.whole_lists.specs.Tables.{IsWholeTable}
@@ -19,13 +18,14 @@ use Rattle.whole_lists.proofs.Bounds.{greatest-within}
 use Rattle.whole_lists.proofs.WholeLists.{labels-same}
 use Rattle.basis_change_laws.specs.JoinedLists.{IsLow, Stands}
 use Rattle.basis_change_laws.proofs.JoinedLists.{each-label, label-among}
+use Rattle.linear_combinations.proofs.Weighed.{gains_mass}
 use lib.IntN.{+ℤ_idl}
 
 module _ (terms W : WholeTerms) (is : IsWholeTable terms) (e : Same terms W) where
   pub table-few : absolute_total terms ≤ absolute_total W
   table-few =
       let m =
-      gains_mass nat_list_eq_equiv same_partition [] W terms is
+      gains_mass same_partition nat_list_eq_equiv [] W terms is
       (record { sums = λ φ. sums_same terms W e φ ∙ sym (+ℤ_idl (over φ W)) }) in
       omega arith
 

@@ -1,5 +1,6 @@
--- Lists of terms in which no coefficient is negative, as what a label stands for often is: labels with counts.
---     counted_over, counted_labels      what such a list comes to, and its labels
+-- Labels with coefficients that a function gives them, and lists in which no coefficient is negative.
+--     each_by-over, -labels, -append    what such a list comes to, its labels and its pieces
+--     counted_counts                    counts are not negative
 --     counts_gain, counts_overflow      two lists with the same sums are gained alike
 --     replaced_at, replaced_mass        what a rule makes of a list, if its value at each label is known
 use Rattle.std.proofs.Common.{◌≡◌, ℕ, ◌+◌, ◌*◌, Bool, List, [], ◌∷◌, ◌++◌, refl, sym, ap, ap₂, ◌∙◌, subst, inl, inr, arith, ℤ, pos, ◌+ℤ◌, ◌*ℤ◌}
@@ -9,28 +10,30 @@ use Rattle.std.proofs.lemmas.List.{map-append}
 use Rattle.sym_model.specs.Sum.{total, Among}
 use Rattle.sym_model.specs.WholeTerms.{AreCounts}
 use Rattle.sym_model.proofs.Sums.{total_map, total_among, Among_from_map}
-use Rattle.linear_combinations.specs.Gains.{WholeTermsOf, over, only, mass_at, scaled, counted, replaced, HaveLabels, Gains, Overflows}
+use Rattle.linear_combinations.specs.Gains.{WholeTermsOf, over, only, mass_at, scaled, each_by, counted, replaced, HaveLabels, Gains, Overflows}
 use Rattle.linear_combinations.proofs.Gains.{scaled_over, scaled_append, replaced_over, gains_as, overflows_as, mass_at_append}
 use Rattle.linear_combinations.proofs.Masses.{mass_at_scaled}
 use Rattle.linear_combinations.proofs.Found.{counts_at}
 
-module _ {L : Type 0} (count : L → ℕ) where
-  pub counted_over : (φ : L → ℤ) (labels : List L) → over φ (counted count labels) ≡ total (λ (x : L). pos (count x) *ℤ φ x) labels
-  counted_over φ labels = total_map (λ (t : L × ℤ). t.1 *ℤ φ t.0) (λ (x : L). (x, pos (count x))) labels
+module _ {L : Type 0} (coefficient : L → ℤ) where
+  pub each_by-over : (φ : L → ℤ) (labels : List L) → over φ (each_by coefficient labels) ≡ total (λ (x : L). coefficient x *ℤ φ x) labels
+  each_by-over φ labels = total_map (λ (t : L × ℤ). t.1 *ℤ φ t.0) (λ (x : L). (x, coefficient x)) labels
 
-  pub counted_labels : (P : L → Type 0) (labels : List L) → ((x : L) → Among x labels → P x) → HaveLabels P (counted count labels)
-  counted_labels P labels h t m =
-      let r = Among_from_map (λ (x : L). (x, pos (count x))) t labels m in
+  pub each_by-labels : (P : L → Type 0) (labels : List L) → ((x : L) → Among x labels → P x) → HaveLabels P (each_by coefficient labels)
+  each_by-labels P labels h t m =
+      let r = Among_from_map (λ (x : L). (x, coefficient x)) t labels m in
       subst (λ (u : L × ℤ). P u.0) (sym r.2) (h r.0 r.1)
 
-  pub counted_counts : (labels : List L) → AreCounts (counted count labels)
-  counted_counts labels t m =
-      let r = Among_from_map (λ (x : L). (x, pos (count x))) t labels m in
-      subst (λ (u : L × ℤ). pos 0 ≤ℤ u.1) (sym r.2) (omega (arith, ints))
+  pub each_by-append : (xs ys : List L) → each_by coefficient (xs ++ ys) ≡ each_by coefficient xs ++ each_by coefficient ys
+  each_by-append xs ys = map-append (λ (x : L). (x, coefficient x)) xs ys
 
-  pub scaled_counted-append : (c : ℤ) (xs ys : List L) → scaled c (counted count (xs ++ ys)) ≡ scaled c (counted count xs) ++ scaled c (counted count ys)
-  scaled_counted-append c xs ys =
-      ap (scaled c) (map-append (λ (x : L). (x, pos (count x))) xs ys) ∙ scaled_append c (counted count xs) (counted count ys)
+  pub scaled_each_by-append : (c : ℤ) (xs ys : List L) → scaled c (each_by coefficient (xs ++ ys)) ≡ scaled c (each_by coefficient xs) ++ scaled c (each_by coefficient ys)
+  scaled_each_by-append c xs ys = ap (scaled c) (each_by-append xs ys) ∙ scaled_append c (each_by coefficient xs) (each_by coefficient ys)
+
+pub counted_counts : {L : Type 0} (count : L → ℕ) (labels : List L) → AreCounts (counted count labels)
+counted_counts {L} count labels t m =
+    let r = Among_from_map (λ (x : L). (x, pos (count x))) t labels m in
+    subst (λ (u : L × ℤ). pos 0 ≤ℤ u.1) (sym r.2) (omega (arith, ints))
 
 -- ---- two lists with the same sums
 

@@ -1,13 +1,13 @@
 -- What is gained by a table of whole numbers, one thing after another (specs/Gains).
-use Rattle.std.proofs.Common.{◌≡◌, ◌⊎◌, ℕ, suc, ◌+◌, ◌*◌, ◌^◌, ◌<◌, ◌≤◌, Bool, true, false, cond, List, [], ◌∷◌, ◌++◌, length, take, drop, get_or, refl, sym, ap, ap₂, ◌∙◌, subst, inl, inr, arith, append_assoc, ℤ, pos, negsuc, ◌+ℤ◌, ◌*ℤ◌}
-use Rattle.std.specs.Prelude.{Option, Some, None, nat_abs, ◌≤ℤ◌}
+use Rattle.std.proofs.Common.{◌≡◌, ◌⊎◌, ℕ, suc, ◌+◌, ◌^◌, ◌<◌, ◌≤◌, Bool, true, false, cond, List, [], ◌∷◌, ◌++◌, length, take, drop, get_or, refl, sym, ap, ap₂, ◌∙◌, subst, inl, inr, arith, append_assoc, ℤ, pos, ◌+ℤ◌, ◌*ℤ◌}
+use Rattle.std.specs.Prelude.{Option, Some, None, nat_abs}
 use Rattle.std.specs.Cmp.{IsEquivalence}
 use Rattle.std.specs.Option.{unwrap_or}
 use Rattle.std.specs.List.{IsDistinct}
 use Rattle.std.specs.Map.{lookup, keys_of}
 use Rattle.std.proofs.lemmas.Int.{ints}
-use Rattle.std.proofs.lemmas.List.{map-append, take_all, take_more}
-use Rattle.std.proofs.Math.Seq.{split_at}
+use Rattle.std.proofs.lemmas.List.{map-append, take_all}
+use Rattle.sym_model.proofs.Lists.{take-read, split-read}
 use Rattle.std.proofs.lemmas.Map.{lookup-none}
 use Rattle.std.proofs.lemmas.Map.Keys.{IsDistinct-tail}
 use Rattle.std.proofs.lemmas.Map.Entries.{none_past_head}
@@ -15,7 +15,7 @@ use Rattle.coeff_rings.specs.Fractions.{whole}
 use Rattle.coeff_rings.specs.Checked.{checked_i128}
 use Rattle.coeff_rings.proofs.Sizes.{refused_size}
 use Rattle.sym_model.specs.Sum.{total, Among}
-use Rattle.sym_model.proofs.Integers.{nat_abs-sum, nat_abs-product}
+use Rattle.sym_model.proofs.Integers.{nat_abs-sum}
 use Rattle.sym_model.proofs.Ring.{distributes_right, product-one, ring}
 use Rattle.sym_model.proofs.Sums.{total_append}
 use Rattle.linear_combinations.specs.Entries.{coefficient, IsCombination, HasMoreAt}
@@ -121,53 +121,9 @@ module _ {L : Type 0} where
           omega (arith, ints);
     }
 
-    -- ---- what follows of masses and labels
+    -- ---- what follows of labels
 
     module _ {is_label : L → Bool} (old g new : WholeTermsOf L) (is : IsCombination eq is_label whole new) (a : Gains old g new) where
-      -- the mass grows by no more than the mass of what is gained
-      pub gains_mass : mass new ≤ mass old + mass g
-      gains_mass =
-          let signs : L → ℤ = λ x. sign (coefficient eq (pos 0) new x) in
-          let n = own new (λ t m. ap sign (ap (λ (o : Option ℤ). unwrap_or o (pos 0)) (found-among laws same new is.distinct t m))) in
-          let o = at_most (λ x. sign (coefficient eq (pos 0) new x)) (λ x. sign_small (coefficient eq (pos 0) new x)) old in
-          let h = at_most (λ x. sign (coefficient eq (pos 0) new x)) (λ x. sign_small (coefficient eq (pos 0) new x)) g in
-          let s = a.sums (λ x. sign (coefficient eq (pos 0) new x)) in
-          omega (arith, ints)
-        where
-          sign : ℤ → ℤ
-          sign (pos n) = pos 1
-          sign (negsuc n) = negsuc 0
-
-          sign_small : (z : ℤ) → nat_abs (sign z) ≡ 1
-          sign_small (pos n) = refl
-          sign_small (negsuc n) = refl
-
-          sign_times : (z : ℤ) → z *ℤ sign z ≡ pos (nat_abs z)
-          sign_times (pos n) = product-one (pos n)
-          sign_times (negsuc n) = let e : suc n * 1 ≡ suc n = omega arith in ap pos e
-
-          own : (terms : WholeTermsOf L) → ((t : L × ℤ) → Among t terms → sign (coefficient eq (pos 0) new t.0) ≡ sign t.1) → over (λ x. sign (coefficient eq (pos 0) new x)) terms ≡ pos (mass terms)
-          own [] h = refl
-          own (t ∷ terms) h =
-              let r = own terms (λ u m. h u (inr m)) in
-              let e = ap (λ z. t.1 *ℤ z) (h t (inl refl)) ∙ sign_times t.1 in
-              omega (arith, ints)
-
-          abs_least : (z : ℤ) → z ≤ℤ pos (nat_abs z)
-          abs_least (pos n) = omega (arith, ints)
-          abs_least (negsuc n) = omega (arith, ints)
-
-          at_most : (φ : L → ℤ) → ((x : L) → nat_abs (φ x) ≡ 1) → (terms : WholeTermsOf L) → over φ terms ≤ℤ pos (mass terms)
-          at_most φ h [] = omega (arith, ints)
-          at_most φ h (t ∷ terms) =
-              let r = at_most φ h terms in
-              let l = abs_least (t.1 *ℤ φ t.0) in
-              let p = nat_abs-product t.1 (φ t.0) in
-              let q = ap (λ n. nat_abs t.1 * n) (h t.0) in
-              let e : nat_abs (t.1 *ℤ φ t.0) ≡ nat_abs t.1 = omega arith in
-              let f = ap pos e in
-              omega (arith, ints)
-
       -- a property that the old labels and those that are gained have, the new ones have
       pub gains_labels : (P : L → Type 0) → ((t : L × ℤ) → Among t new → (t.1 ≡ pos 0) → ⊥) → HaveLabels P old → HaveLabels P g → HaveLabels P new
       gains_labels P proper hold gained t m =
@@ -260,12 +216,12 @@ module _ {A L : Type 0} (gained : List A → WholeTermsOf L) (pieces : (xs ys : 
   pub places_gain : (new : WholeTermsOf L) → Gains cur (gained (x ∷ [])) new → Gains old (gained (take (i + 1) xs)) new
   places_gain new more =
       pairs_gain gained pieces (take i xs) x old cur so_far (take (i + 1) xs) new
-      (ap (λ (y : A). take i xs ++ y ∷ []) here ∙ sym (take_more xs i x inside)) more
+      (take-read xs i x inside here) more
 
   pub places_overflow : (eq : L → L → Bool) → Overflows eq cur (gained (x ∷ [])) → Overflows eq old (gained xs)
   places_overflow eq large =
       pairs_overflow gained pieces (take i xs) x old cur so_far eq (drop (suc i) xs) xs
-      (ap (λ (y : A). take i xs ++ y ∷ drop (suc i) xs) here ∙ sym (split_at xs i x inside)) large
+      (split-read xs i x inside here) large
 
 module _ {L : Type 0} (c : ℤ) (xs : List L) (i : ℕ) (x : L) (inside : i < length xs) (here : x ≡ get_or xs i x) (old cur : WholeTermsOf L) (so_far : Gains old (each_with c (take i xs)) cur) where
   pub labels_gain : (new : WholeTermsOf L) → Gains cur ((x, c) ∷ []) new → Gains old (each_with c (take (i + 1) xs)) new

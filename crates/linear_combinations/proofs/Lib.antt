@@ -10,6 +10,7 @@ pub mod Totals
 pub mod Gains
 pub mod Cleared
 pub mod Masses
+pub mod Weighed
 pub mod Found
 pub mod Counted
 pub mod Inserted

@@ -1,8 +1,8 @@
 -- What is added to a table of whole numbers: a list of labels with numbers,
 -- in which a label may stand again and again.
-use Rattle.std.specs.Prelude.{◌≡◌, ℕ, ◌+◌, ◌^◌, ◌≤◌, ℤ, pos, ◌+ℤ◌, ◌*ℤ◌, nat_abs, Bool, cond, List}
+use Rattle.std.specs.Prelude.{◌≡◌, ℕ, ◌+◌, ◌*◌, ◌^◌, ◌≤◌, ℤ, pos, ◌+ℤ◌, ◌*ℤ◌, nat_abs, Bool, cond, List}
 use Rattle.std.specs.Prelude.{[], ◌∷◌, ◌++◌, map}
-use Rattle.sym_model.specs.Sum.{total, Among}
+use Rattle.sym_model.specs.Sum.{total, sum_by, Among}
 -- `mass`: the sum of the absolute values of all coefficients
 pub use Rattle.sym_model.specs.WholeTerms.{WholeTermsOf, absolute_total as mass}
 
@@ -19,6 +19,10 @@ abbrev pub mass_at : {L : Type 0} → (L → L → Bool) → L → WholeTermsOf 
 mass_at eq x [] = 0
 mass_at eq x (t ∷ terms) = cond (eq x t.0) (nat_abs t.1) 0 + mass_at eq x terms
 
+-- the sum of the absolute values of all coefficients, each times the weight of its label
+abbrev pub weighed : {L : Type 0} → (L → ℕ) → WholeTermsOf L → ℕ
+weighed {L} weight terms = sum_by (λ (t : L × ℤ). nat_abs t.1 * weight t.0) terms
+
 -- each coefficient times c
 abbrev pub scaled : {L : Type 0} → ℤ → WholeTermsOf L → WholeTermsOf L
 scaled {L} c terms = map (λ (t : L × ℤ). (t.0, c *ℤ t.1)) terms
@@ -28,9 +32,13 @@ abbrev pub each_with : {L : Type 0} → ℤ → List L → WholeTermsOf L
 each_with c [] = []
 each_with c (label ∷ labels) = (label, c) ∷ each_with c labels
 
+-- the labels, each with the coefficient that a function gives it
+abbrev pub each_by : {L : Type 0} → (L → ℤ) → List L → WholeTermsOf L
+each_by {L} coefficient labels = map (λ (x : L). (x, coefficient x)) labels
+
 -- the labels, each with its count
 abbrev pub counted : {L : Type 0} → (L → ℕ) → List L → WholeTermsOf L
-counted {L} count labels = map (λ (x : L). (x, pos (count x))) labels
+counted count labels = each_by (λ x. pos (count x)) labels
 
 -- what each label stands for, times its coefficient
 abbrev pub replaced : {K L : Type 0} → (K → WholeTermsOf L) → WholeTermsOf K → WholeTermsOf L

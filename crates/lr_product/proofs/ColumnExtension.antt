@@ -10,10 +10,12 @@ use Rattle.tableau_laws.specs.PaddedRows.{letters_at, words_over}
 use Rattle.tableau_laws.specs.Grid.{is_chain, may_precede, pass_by_place, may_stand_above}
 use Rattle.tableau_laws.specs.ColumnFold.{may_be_next}
 use Rattle.tableau_laws.proofs.ColumnCounts.{sum_at_start}
-use Rattle.lr_product.specs.WeighedSum.{sum_over, next_states, seen}
+use Rattle.lr_product.specs.WeighedSum.{next_states, seen}
 use Rattle.lr_product.specs.Extension.{numbers_from, greatest_letter, least_letter, letters_end, raised, extended}
 use Rattle.lr_product.proofs.Raising.{take_all, length-raised}
-use Rattle.lr_product.proofs.Ranges.{sum-ext, sum-each, sum-map, sum-under, after-numbers, range-passing, numbers-ext}
+use Rattle.sym_model.specs.Sum.{sum_by}
+use Rattle.sym_model.proofs.NumberSums.{sum_by-ext, sum_by-each, sum_by-map, sum_by-cond}
+use Rattle.lr_product.proofs.Ranges.{after-numbers, range-passing, numbers-ext}
 
 -- ---- sums and contents
 
@@ -93,8 +95,8 @@ cond_and false q x = refl
 
 -- the letters for a place, below a and left of right, are those of a range
 letters-range : (n : ℕ) (p : Bool) (a : ℕ) (right : List ℕ) (S : ℕ → ℕ) → a ≤ n
-    → sum_over (λ b. cond (may_stand_above a b && fits b right) (S b) 0) (letters_at n p)
-    ≡ sum_over S (numbers_from (least_letter p a) (letters_end n p right a - least_letter p a))
+    → sum_by (λ b. cond (may_stand_above a b && fits b right) (S b) 0) (letters_at n p)
+    ≡ sum_by S (numbers_from (least_letter p a) (letters_end n p right a - least_letter p a))
 letters-range n false zero right S h = ap (λ t. cond t (S 0) 0 + 0) (fits-zero right)
   where
     fits-zero : (r : List ℕ) → fits 0 r ≡ true
@@ -102,9 +104,9 @@ letters-range n false zero right S h = ap (λ t. cond t (S 0) 0 + 0) (fits-zero 
     fits-zero (x ∷ r) = le-leb 0 x (omega arith)
 letters-range n false (suc a) right S h =
     ap (λ t. cond (t && fits 0 right) (S 0) 0 + 0) (le-ltb (suc a) (0 + (1 - suc a)) (omega arith))
-    ∙ sym (ap (λ t. sum_over S (numbers_from 0 (cond t 1 0 - 0))) (ne_eqb (suc a) 0 (λ q. absurd (omega arith))))
+    ∙ sym (ap (λ t. sum_by S (numbers_from 0 (cond t 1 0 - 0))) (ne_eqb (suc a) 0 (λ q. absurd (omega arith))))
 letters-range n true a right S h =
-    ap (sum_over (λ b. cond (may_stand_above a b && fits b right) (S b) 0)) (after-numbers 0 n)
+    ap (sum_by (λ b. cond (may_stand_above a b && fits b right) (S b) 0)) (after-numbers 0 n)
     ∙ range-passing (λ b. may_stand_above a b && fits b right) S (greatest_letter n right + 1) 1 (a + 1) n (omega arith)
     (λ b l g. ap (λ t. t && fits b right) (le-ltb a (b + (1 - a)) (omega arith)))
     (λ b l g. ap₂ (λ (s t : Bool). s && t) (lt-ltb a (b + (1 - a)) (omega arith)) (fits-yes b right (omega arith)))
@@ -149,13 +151,13 @@ goes_on-cons n right a f ν w b c e =
     ∙ cond_and (may_stand_above a b && fits b right) (is_chain may_stand_above (b ∷ c) && (pass_by_place nat_le c (drop 1 right) && is_falling (join (raised b ν) (content n c)))) (f (join (raised b ν) (content n c)) ((w ++ b ∷ []) ++ c))
 
 extended-words : (n : ℕ) (line : List Bool) (right : List ℕ) (a : ℕ) (f : List ℕ → List ℕ → ℕ) (ν w : List ℕ) → length ν ≡ n → a ≤ n
-    → extended true n line right a f (ν ++ w) ≡ sum_over (goes_on n right a f ν w) (words_over n line)
+    → extended true n line right a f (ν ++ w) ≡ sum_by (goes_on n right a f ν w) (words_over n line)
 extended-words n [] right a f ν w e h =
     ap₂ (λ (s v : List ℕ). cond (is_falling s) (f s v) 0)
     (ap (λ k. take k (ν ++ w)) (sym e) ∙ take_all ν w ∙ sym (join-nothing n ν e)) (ap (λ k. drop k (ν ++ w)) (sym e) ∙ drop_all ν w ∙ sym (append-nil w))
     ∙ (let z : goes_on n right a f ν w [] ≡ goes_on n right a f ν w [] + 0 = omega arith in z)
 extended-words n (p ∷ line) right a f ν w e h =
-    let S : ℕ → ℕ = λ b. sum_over (goes_on n (drop 1 right) b f (raised b ν) (w ++ b ∷ [])) (words_over n line) in
+    let S : ℕ → ℕ = λ b. sum_by (goes_on n (drop 1 right) b f (raised b ν) (w ++ b ∷ [])) (words_over n line) in
     let low = least_letter p a in
     let end = letters_end n p right a in
     numbers-ext (λ b. extended true n line (drop 1 right) b f (raised b (ν ++ w) ++ (b ∷ []))) S low (end - low)
@@ -165,19 +167,19 @@ extended-words n (p ∷ line) right a f ν w e h =
     ap (extended true n line (drop 1 right) b f) (ap (λ s. s ++ (b ∷ [])) (raised-append b ν w (omega arith)) ∙ append_assoc (raised b ν) w (b ∷ []))
     ∙ extended-words n line (drop 1 right) b f (raised b ν) (w ++ b ∷ []) (length-raised b ν ∙ e) q)
     ∙ sym (letters-range n p a right S h)
-    ∙ sym (sum-each (goes_on n right a f ν w) (λ b. map (λ c. b ∷ c) (words_over n line)) (letters_at n p)
-    ∙ sum-ext (λ b. sum_over (goes_on n right a f ν w) (map (λ c. b ∷ c) (words_over n line))) (λ b. cond (may_stand_above a b && fits b right) (S b) 0)
-    (λ b. sum-map (goes_on n right a f ν w) (λ c. b ∷ c) (words_over n line)
-    ∙ sum-ext (λ c. goes_on n right a f ν w (b ∷ c)) (λ c. cond (may_stand_above a b && fits b right) (goes_on n (drop 1 right) b f (raised b ν) (w ++ b ∷ []) c) 0)
+    ∙ sym (sum_by-each (goes_on n right a f ν w) (λ b. map (λ c. b ∷ c) (words_over n line)) (letters_at n p)
+    ∙ sum_by-ext (λ b. sum_by (goes_on n right a f ν w) (map (λ c. b ∷ c) (words_over n line))) (λ b. cond (may_stand_above a b && fits b right) (S b) 0)
+    (λ b. sum_by-map (goes_on n right a f ν w) (λ c. b ∷ c) (words_over n line)
+    ∙ sum_by-ext (λ c. goes_on n right a f ν w (b ∷ c)) (λ c. cond (may_stand_above a b && fits b right) (goes_on n (drop 1 right) b f (raised b ν) (w ++ b ∷ []) c) 0)
     (λ c. goes_on-cons n right a f ν w b c e) (words_over n line)
-    ∙ sum-under (may_stand_above a b && fits b right) (goes_on n (drop 1 right) b f (raised b ν) (w ++ b ∷ [])) (words_over n line))
+    ∙ sum_by-cond (may_stand_above a b && fits b right) (goes_on n (drop 1 right) b f (raised b ν) (w ++ b ∷ [])) (words_over n line))
     (letters_at n p))
 
 extended-next : (n : ℕ) (line : List Bool) (right : List ℕ) (f : List ℕ → List ℕ → ℕ) (ν : List ℕ) → length ν ≡ n
     → extended true n line right 0 f ν ≡ next_states n line f ν right
 extended-next n line right f ν e =
     ap (extended true n line right 0 f) (sym (append-nil ν)) ∙ extended-words n line right 0 f ν [] e (omega arith)
-    ∙ sum-ext (goes_on n right 0 f ν []) (λ c. cond (may_be_next n ν right c) (f (join ν (content n c)) c) 0)
+    ∙ sum_by-ext (goes_on n right 0 f ν []) (λ c. cond (may_be_next n ν right c) (f (join ν (content n c)) c) 0)
     (λ c. ap (λ t. cond ((t && is_chain may_stand_above c) && (pass_by_place nat_le c right && is_falling (join ν (content n c)))) (f (join ν (content n c)) c) 0) (first c)) (words_over n line)
   where
     first : (c : List ℕ) → may_precede may_stand_above 0 c ≡ true

@@ -1,17 +1,12 @@
 -- Sums over the ways to add columns, in natural numbers and in whole ones.
-use Rattle.std.proofs.Common.{◌≡◌, ℕ, Bool, true, false, cond, List, [], ◌∷◌, refl, ap, ◌∙◌, arith, ℤ, pos}
-use Rattle.std.proofs.lemmas.Int.{ints}
-use Rattle.sym_model.specs.Sum.{total}
+use Rattle.std.proofs.Common.{◌≡◌, ℕ, Bool, true, false, cond, List, [], ◌∷◌, refl, ap, ◌∙◌, ℤ, pos}
 use Rattle.sym_model.specs.Polynomial.{join}
 use Rattle.sym_model.specs.Schur.{content}
 use Rattle.sym_model.proofs.Sums.{total_ext}
 use Rattle.tableau_laws.specs.PaddedRows.{words_over}
 use Rattle.tableau_laws.specs.ColumnFold.{may_be_next, next_columns, over_columns}
-use Rattle.lr_product.specs.WeighedSum.{sum_over, next_states, over_states}
-
-pos-sum : {A : Type 0} (F : A → ℕ) (xs : List A) → pos (sum_over F xs) ≡ total (λ (x : A). pos (F x)) xs
-pos-sum F [] = refl
-pos-sum F (x ∷ xs) = let i = pos-sum F xs in omega (arith, ints)
+use Rattle.sym_model.proofs.NumberSums.{sum_by-total}
+use Rattle.lr_product.specs.WeighedSum.{next_states, over_states}
 
 pos-cond : (t : Bool) (x : ℕ) → pos (cond t x 0) ≡ cond t (pos x) (pos 0)
 pos-cond true x = refl
@@ -31,6 +26,6 @@ over-states n [] f ν right = refl
 over-states n (line ∷ lines) f ν right =
     over-states n lines (next_states n line f) ν right
     ∙ over-ext n lines (λ ν' r. pos (next_states n line f ν' r)) (next_columns n line (λ ν' r. pos (f ν' r)))
-    (λ ν' r. pos-sum (λ c. cond (may_be_next n ν' r c) (f (join ν' (content n c)) c) 0) (words_over n line)
+    (λ ν' r. sum_by-total (λ c. cond (may_be_next n ν' r c) (f (join ν' (content n c)) c) 0) (words_over n line)
     ∙ total_ext (λ (c : List ℕ). pos (cond (may_be_next n ν' r c) (f (join ν' (content n c)) c) 0)) (λ (c : List ℕ). cond (may_be_next n ν' r c) (pos (f (join ν' (content n c)) c)) (pos 0))
     (λ c. pos-cond (may_be_next n ν' r c) (f (join ν' (content n c)) c)) (words_over n line)) ν right

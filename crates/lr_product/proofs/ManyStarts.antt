@@ -21,28 +21,18 @@ use Rattle.linear_combinations.proofs.Steps.{if_answered, on_ok}
 use Rattle.lr_product.specs.Capped.{Agree}
 use Rattle.lr_product.specs.Counts.{good_count, HasCounts, IsPastSomewhere}
 use Rattle.lr_product.specs.ProductOfFactors.{AreSmallCounts, AllMayMeet}
-use Rattle.lr_product.specs.WeighedSum.{sum_over, weighed, started, over_states, comes_to, unreached}
+use Rattle.lr_product.specs.WeighedSum.{weighed, started, over_states, comes_to, unreached}
 use Rattle.lr_product.proofs.GoodCounts.{SameCounts, same_product, product_counts, no_label, counts_agree, fits_agree, past_agree, lists_in, fits_in, past_in}
-use Rattle.lr_product.proofs.Ranges.{sum-append}
+use Rattle.sym_model.specs.Sum.{sum_by}
+use Rattle.sym_model.proofs.NumberSums.{sum_by-append}
+use Rattle.sym_model.proofs.NumberSums.{sum_by-among, sum_by-none}
 use Rattle.lr_product.proofs.Rounds.{start_within}
-
--- sums over a list of functions that are the same on its elements
-sum-among : {A : Type 0} (f g : A → ℕ) (xs : List A) → ((x : A) → Among x xs → f x ≡ g x) → sum_over f xs ≡ sum_over g xs
-sum-among f g [] e = refl
-sum-among f g (x ∷ xs) e = ap₂ ◌+◌ (e x (inl refl)) (sum-among f g xs (λ y m. e y (inr m)))
-
-sum-nothing : {A : Type 0} (f : A → ℕ) (xs : List A) → ((x : A) → Among x xs → f x ≡ 0) → sum_over f xs ≡ 0
-sum-nothing f [] e = refl
-sum-nothing f (x ∷ xs) e =
-    let here = e x (inl refl) in
-    let rest = sum-nothing f xs (λ y m. e y (inr m)) in
-    omega arith
 
 -- one label more
 pub started-push : (n : ℕ) (f : List ℕ → List ℕ → ℕ) (done : WholeTerms) (t : Term)
     → started n f done + nat_abs t.1 * f (resize n t.0) [] ≡ started n f (done ++ t ∷ [])
 started-push n f done t =
-    let e = sum-append (λ (u : List ℕ × ℤ). nat_abs u.1 * f (resize n u.0) []) done (t ∷ []) in
+    let e = sum_by-append (λ (u : List ℕ × ℤ). nat_abs u.1 * f (resize n u.0) []) done (t ∷ []) in
     omega arith
 
 module _ (n k : ℕ) (next : List ℕ) (product : WholeTerms) (q : IsPartition next) (may : AllMayMeet k next product) (most : n ≤ k)
@@ -50,7 +40,7 @@ module _ (n k : ℕ) (next : List ℕ) (product : WholeTerms) (q : IsPartition n
   -- the labels leave the factor room
   pub starts_within : (m : ℕ) → m + size next ≤ 4096 → 4096 ≤ m + size next → started n (unreached n m) product ≡ 0
   starts_within m l g =
-      sum-nothing (λ (t : List ℕ × ℤ). nat_abs t.1 * unreached n m (resize n t.0) []) product
+      sum_by-none (λ (t : List ℕ × ℤ). nat_abs t.1 * unreached n m (resize n t.0) []) product
       (λ t a.
       let h = may t a in
       let c = h.cells in
@@ -62,7 +52,7 @@ module _ (n k : ℕ) (next : List ℕ) (product : WholeTerms) (q : IsPartition n
   good_sum ν = started n (over_states n (column_lines next []) (comes_to ν)) product
 
   abbrev pub count_sum : List ℕ → ℕ
-  count_sum ν = sum_over (λ (t : List ℕ × ℤ). nat_abs t.1 * product_count k t.0 next ν) product
+  count_sum ν = sum_by (λ (t : List ℕ × ℤ). nat_abs t.1 * product_count k t.0 next ν) product
 
   at_label : (t : Term) → Among t product → SameCounts n k (good_count n t.0 next []) (product_count k t.0 next)
   at_label t a = let e = enough t a in same_product n k t.0 next most e.1 (may t a).partition q e.0
@@ -71,16 +61,16 @@ module _ (n k : ℕ) (next : List ℕ) (product : WholeTerms) (q : IsPartition n
   sums_same = record {
     fewer = most;
     same_within = λ ν p l.
-        sum-among (λ (t : List ℕ × ℤ). nat_abs t.1 * product_count k t.0 next ν) (λ (t : List ℕ × ℤ). nat_abs t.1 * good_count n t.0 next [] ν) product
+        sum_by-among (λ (t : List ℕ × ℤ). nat_abs t.1 * product_count k t.0 next ν) (λ (t : List ℕ × ℤ). nat_abs t.1 * good_count n t.0 next [] ν) product
         (λ t a. ap (λ x. nat_abs t.1 * x) ((at_label t a).same_within ν p l));
     none_past = λ ν p l g.
-        sum-nothing (λ (t : List ℕ × ℤ). nat_abs t.1 * product_count k t.0 next ν) product
+        sum_by-none (λ (t : List ℕ × ℤ). nat_abs t.1 * product_count k t.0 next ν) product
         (λ t a. ap (λ x. nat_abs t.1 * x) ((at_label t a).none_past ν p l g) ∙ (let o : nat_abs t.1 * 0 ≡ 0 = omega arith in o));
   }
 
 -- the coefficients of the product are the sums of the counts
 multiplied-counted : (k : ℕ) (next : List ℕ) (product : WholeTerms) → IsPartition next → AllMayMeet k next product → (ν : List ℕ) → IsPartition ν → rows ν ≤ k
-    → coefficient (multiplied k next product) ν ≡ pos (sum_over (λ (t : List ℕ × ℤ). nat_abs t.1 * product_count k t.0 next ν) product)
+    → coefficient (multiplied k next product) ν ≡ pos (sum_by (λ (t : List ℕ × ℤ). nat_abs t.1 * product_count k t.0 next ν) product)
 multiplied-counted k next [] q may ν p l = refl
 multiplied-counted k next (t ∷ product) q may ν p l =
     let first = may t (inl refl) in
@@ -107,7 +97,7 @@ multiplied-outside k next product ν out =
 
 module _ (k : ℕ) (next : List ℕ) (product : WholeTerms) (q : IsPartition next) (may : AllMayMeet k next product) where
   counts : List ℕ → ℕ
-  counts ν = sum_over (λ (t : List ℕ × ℤ). nat_abs t.1 * product_count k t.0 next ν) product
+  counts ν = sum_by (λ (t : List ℕ × ℤ). nat_abs t.1 * product_count k t.0 next ν) product
 
   -- a statement of each label, by whether it is a partition with at most k rows
   by_label : (P : List ℕ → Type 0) → ((ν : List ℕ) → IsPartition ν → rows ν ≤ k → P ν) → ((ν : List ℕ) → (IsPartition ν → rows ν ≤ k → ⊥) → P ν) → (ν : List ℕ) → P ν
@@ -119,7 +109,7 @@ module _ (k : ℕ) (next : List ℕ) (product : WholeTerms) (q : IsPartition nex
       by (inr e) l = outside ν (λ p h. both_ways (is_partition ν) e (is_partition-from ν p))
 
   pub is_multiplied : (terms : WholeTerms)
-      → HasCounts k (λ ν. sum_over (λ (t : List ℕ × ℤ). nat_abs t.1 * product_count k t.0 next ν) product) terms → Same terms (multiplied k next product)
+      → HasCounts k (λ ν. sum_by (λ (t : List ℕ × ℤ). nat_abs t.1 * product_count k t.0 next ν) product) terms → Same terms (multiplied k next product)
   is_multiplied terms c =
       by_label (λ ν. coefficient terms ν ≡ coefficient (multiplied k next product) ν)
       (λ ν p l. c.counts ν p l ∙ sym (multiplied-counted k next product q may ν p l))
@@ -127,7 +117,7 @@ module _ (k : ℕ) (next : List ℕ) (product : WholeTerms) (q : IsPartition nex
       no_label terms ν (λ t m e. let h = c.labels t m in out (subst IsPartition e h.0) (subst (λ l. rows l ≤ k) e h.1))
       ∙ sym (multiplied-outside k next product ν out))
 
-  pub multiplied-small : ((ν : List ℕ) → IsPartition ν → rows ν ≤ k → sum_over (λ (t : List ℕ × ℤ). nat_abs t.1 * product_count k t.0 next ν) product < 2 ^ 127)
+  pub multiplied-small : ((ν : List ℕ) → IsPartition ν → rows ν ≤ k → sum_by (λ (t : List ℕ × ℤ). nat_abs t.1 * product_count k t.0 next ν) product < 2 ^ 127)
       → AreSmallCounts (multiplied k next product)
   multiplied-small fits =
       by_label (λ ν. (pos 0 ≤ℤ coefficient (multiplied k next product) ν) × (coefficient (multiplied k next product) ν <ℤ pos (2 ^ 127)))
@@ -137,7 +127,7 @@ module _ (k : ℕ) (next : List ℕ) (product : WholeTerms) (q : IsPartition nex
       (omega (arith, ints), omega (arith, ints)))
       (λ ν out. let e = multiplied-outside k next product ν out in (omega (arith, ints), omega (arith, ints)))
 
-  pub multiplied-past : IsPastSomewhere k (λ ν. sum_over (λ (t : List ℕ × ℤ). nat_abs t.1 * product_count k t.0 next ν) product)
+  pub multiplied-past : IsPastSomewhere k (λ ν. sum_by (λ (t : List ℕ × ℤ). nat_abs t.1 * product_count k t.0 next ν) product)
       → Reaches k (2 ^ 127) (multiplied k next product)
   multiplied-past past = record {
     parts = past.parts;

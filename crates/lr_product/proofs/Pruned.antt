@@ -3,10 +3,12 @@ use Rattle.std.proofs.Common.{◌≡◌, ℕ, zero, suc, ◌+◌, ◌-◌, ◌<�
 use Rattle.std.proofs.lemmas.Bool.{ne_eqb, lt-leb, le-leb, lt-ltb, le-ltb, cases_lt, and_parts, and_from, or_parts, or_cases, eqb-true, leb-true, leb-false, ltb-true, ltb-false, eqb-false, and_cases}
 use Rattle.sym_model.specs.GoodTableau.{is_falling}
 use Rattle.tableau_laws.specs.Grid.{pass_by_place}
-use Rattle.lr_product.specs.WeighedSum.{sum_over, at_state, VanishesOutside}
+use Rattle.lr_product.specs.WeighedSum.{at_state, VanishesOutside}
 use Rattle.lr_product.specs.Extension.{numbers_from, least_letter, letters_end, raised, mark, can_rise, extended}
 use Rattle.lr_product.proofs.Raising.{length-raised}
-use Rattle.lr_product.proofs.Ranges.{numbers-ext, range-front, sum-zero}
+use Rattle.lr_product.proofs.Ranges.{numbers-ext, range-front}
+use Rattle.sym_model.specs.Sum.{sum_by}
+use Rattle.sym_model.proofs.NumberSums.{sum_by-zero}
 use Rattle.lr_product.proofs.ColumnExtension.{end-within}
 
 -- ---- numbers of a state after a letter
@@ -31,13 +33,13 @@ get-raised_at (suc i) (a ∷ s) h = get-raised_at i s (omega arith)
 length-marked : (kept : Bool) (b : ℕ) (s : List ℕ) → length s ≤ length (raised b s ++ mark kept b)
 length-marked kept b s = let l = length-append (raised b s) (mark kept b) in let r = length-raised b s in omega arith
 
-numbers-zero : (X : ℕ → ℕ) (low k : ℕ) → ((b : ℕ) → low ≤ b → b < low + k → X b ≡ 0) → sum_over X (numbers_from low k) ≡ 0
-numbers-zero X low k e = numbers-ext X (λ b. 0) low k e ∙ sum-zero (numbers_from low k)
+numbers-zero : (X : ℕ → ℕ) (low k : ℕ) → ((b : ℕ) → low ≤ b → b < low + k → X b ≡ 0) → sum_by X (numbers_from low k) ≡ 0
+numbers-zero X low k e = numbers-ext X (λ b. 0) low k e ∙ sum_by-zero (numbers_from low k)
 
 -- no place outside the shape lies below a letter
 none_outside : (kept : Bool) (n : ℕ) (line : List Bool) (right : List ℕ) (above : ℕ) (f : List ℕ → List ℕ → ℕ) (s : List ℕ) → 0 < above → extended kept n (false ∷ line) right above f s ≡ 0
 none_outside kept n line right above f s h =
-    ap (λ t. sum_over (λ b. extended kept n line (drop 1 right) b f (raised b s ++ mark kept b)) (numbers_from 0 (cond t 1 0 - 0))) (ne_eqb above 0 (λ e. absurd (omega arith)))
+    ap (λ t. sum_by (λ b. extended kept n line (drop 1 right) b f (raised b s ++ mark kept b)) (numbers_from 0 (cond t 1 0 - 0))) (ne_eqb above 0 (λ e. absurd (omega arith)))
 
 -- ---- states from which every column comes to nothing
 
@@ -142,7 +144,7 @@ too_few kept n (true ∷ line) right above f s h k l =
 
 -- so the letters for a place may end where they are too few for the places below
 pub fewer_letters : (kept : Bool) (n : ℕ) (cell : Bool) (line : List Bool) (right : List ℕ) (above : ℕ) (f : List ℕ → List ℕ → ℕ) (s : List ℕ)
-    → sum_over (λ b. extended kept n line (drop 1 right) b f (raised b s ++ mark kept b)) (numbers_from (least_letter cell above) (letters_end (n - length line) cell right above - least_letter cell above))
+    → sum_by (λ b. extended kept n line (drop 1 right) b f (raised b s ++ mark kept b)) (numbers_from (least_letter cell above) (letters_end (n - length line) cell right above - least_letter cell above))
     ≡ extended kept n (cell ∷ line) right above f s
 fewer_letters kept n false line right above f s = refl
 fewer_letters kept n true line right above f s = by (letters_end (n - length line) true right above) (letters_end n true right above) (end-within n true right above) (less right) (λ b low high. equal right b low high)
@@ -159,7 +161,7 @@ fewer_letters kept n true line right above f s = by (letters_end (n - length lin
     equal (x ∷ r) b low high = omega arith
 
     by : (short end : ℕ) → end ≤ n + 1 → short ≤ end → ((b : ℕ) → short ≤ b → b < end → n < b + length line)
-        → sum_over X (numbers_from (above + 1) (short - (above + 1))) ≡ sum_over X (numbers_from (above + 1) (end - (above + 1)))
+        → sum_by X (numbers_from (above + 1) (short - (above + 1))) ≡ sum_by X (numbers_from (above + 1) (end - (above + 1)))
     by short end within h many = cut (cases_lt end (above + 1))
       where
         each : (b : ℕ) → above + 1 ≤ b → b < end → (b < short) ⊎ (short ≤ b) → X b ≡ cond (nat_lt b short) (X b) 0
@@ -168,11 +170,11 @@ fewer_letters kept n true line right above f s = by (letters_end (n - length lin
             too_few kept n line (drop 1 right) b f (raised b s ++ mark kept b) (omega arith) (omega arith) (many b l high)
             ∙ sym (ap (λ t. cond t (X b) 0) (le-ltb b short l))
 
-        cut : (end < above + 1) ⊎ (above + 1 ≤ end) → sum_over X (numbers_from (above + 1) (short - (above + 1))) ≡ sum_over X (numbers_from (above + 1) (end - (above + 1)))
+        cut : (end < above + 1) ⊎ (above + 1 ≤ end) → sum_by X (numbers_from (above + 1) (short - (above + 1))) ≡ sum_by X (numbers_from (above + 1) (end - (above + 1)))
         cut (inl l) =
             let p : short - (above + 1) ≡ 0 = omega arith in
             let q : end - (above + 1) ≡ 0 = omega arith in
-            ap (λ k. sum_over X (numbers_from (above + 1) k)) (p ∙ sym q)
+            ap (λ k. sum_by X (numbers_from (above + 1) k)) (p ∙ sym q)
         cut (inr l) =
             sym (numbers-ext X (λ b. cond (nat_lt b short) (X b) 0) (above + 1) (end - (above + 1)) (λ b low high. each b low (omega arith) (cases_lt b short))
             ∙ range-front (λ b. nat_lt b short) X short (above + 1) (end - (above + 1)) (λ b low high. lt-ltb b short high) (λ b low high g. le-ltb b short high) (omega arith))

@@ -1,17 +1,11 @@
 -- Tables in which every state is reached: its sum falls, and is not greater than a size.
-use Rattle.std.proofs.Common.{◌≡◌, ℕ, zero, suc, ◌*◌, ◌≤◌, Bool, ◌&&◌, cond, List, [], ◌∷◌, length, take, drop, refl, ap, ap₂, ◌∙◌, arith}
+use Rattle.std.proofs.Common.{◌≡◌, ℕ, zero, suc, ◌*◌, ◌≤◌, Bool, ◌&&◌, cond, List, length, take, drop, ap, ap₂, ◌∙◌, arith}
 use Rattle.std.proofs.lemmas.Bool.{le-leb, eq-eqb}
 use Rattle.sym_model.specs.Partition.{size}
 use Rattle.sym_model.specs.GoodTableau.{is_falling}
-use Rattle.lr_product.specs.WeighedSum.{sum_over, at_state, weighed, unreached}
+use Rattle.lr_product.specs.WeighedSum.{at_state, weighed, unreached}
+use Rattle.sym_model.proofs.NumberSums.{sum_by-zeros}
 use Rattle.lr_product.proofs.Steps.{IsReached, reached-tells, positive_factor}
-
-sum-zeros : {A : Type 0} (F G : A → ℕ) (xs : List A) → ((x : A) → G x ≡ 0 → F x ≡ 0) → sum_over G xs ≡ 0 → sum_over F xs ≡ 0
-sum-zeros F G [] e h = refl
-sum-zeros F G (x ∷ xs) e h =
-    let a = e x (omega arith) in
-    let r = sum-zeros F G xs e (omega arith) in
-    omega arith
 
 pub reached : (n m : ℕ) (ν right : List ℕ) → IsReached n m ν → unreached n m ν right ≡ 0
 reached n m ν right r =
@@ -20,7 +14,7 @@ reached n m ν right r =
 -- a table of states that are reached within a size, within a greater one
 pub weighed-weaker : (n m m' : ℕ) (es : List (List ℕ × ℕ)) → m ≤ m' → weighed n (unreached n m) es ≡ 0 → weighed n (unreached n m') es ≡ 0
 weighed-weaker n m m' es h z =
-    sum-zeros (λ (e : List ℕ × ℕ). e.1 * at_state n (unreached n m') e.0) (λ (e : List ℕ × ℕ). e.1 * at_state n (unreached n m) e.0) es
+    sum_by-zeros (λ (e : List ℕ × ℕ). e.1 * at_state n (unreached n m') e.0) (λ (e : List ℕ × ℕ). e.1 * at_state n (unreached n m) e.0) es
     (λ e y. by e.1 (take n e.0) (drop n e.0) y) z
   where
     by : (w : ℕ) (ν right : List ℕ) → w * unreached n m ν right ≡ 0 → w * unreached n m' ν right ≡ 0

@@ -14,8 +14,8 @@ use Rattle.lr_product.specs.ColumnLine.{column_line}
 use Rattle.lr_product.specs.WeighedSum.{at_state, weighed, next_states, over_states, seen, unreached, places, VanishesOutside}
 use Rattle.lr_product.specs.Capped.{Agree}
 use Rattle.lr_product.proofs.Agreeing.{agree_same, agree_then}
-use Rattle.lr_product.proofs.Ranges.{sum-ext, sum-zero}
 use Rattle.lr_product.proofs.Reaching.{reached, weighed-weaker}
+use Rattle.sym_model.proofs.NumberSums.{sum_by-ext, sum_by-zero}
 use Rattle.lr_product.proofs.Heights.{column-cons, column-none, column-all, places-drop, places-lines}
 
 pub agree_zero : (a b : ℕ) → Agree a b → b ≡ 0 → a ≡ 0
@@ -73,8 +73,8 @@ within-more (a ∷ ν) (x ∷ κ) (b ∷ bound) h = by (cases_lt b a) (λ g. wit
 
 pub vanishes-next : (n : ℕ) (line : List Bool) (bound : List ℕ) (kept : Bool) (f : List ℕ → List ℕ → ℕ) → VanishesOutside bound f → VanishesOutside bound (next_states n line (seen kept f))
 vanishes-next n line bound kept f v ν right h =
-    sum-ext (λ c. cond (may_be_next n ν right c) (seen kept f (join ν (content n c)) c) 0) (λ c. 0) (λ c. under (may_be_next n ν right c) (seen_zero kept (join ν (content n c)) c (within-more ν (content n c) bound h))) (words_over n line)
-    ∙ sum-zero (words_over n line)
+    sum_by-ext (λ c. cond (may_be_next n ν right c) (seen kept f (join ν (content n c)) c) 0) (λ c. 0) (λ c. under (may_be_next n ν right c) (seen_zero kept (join ν (content n c)) c (within-more ν (content n c) bound h))) (words_over n line)
+    ∙ sum_by-zero (words_over n line)
   where
     seen_zero : (k : Bool) (ν' r : List ℕ) → pass_by_place nat_le ν' bound ≡ false → seen k f ν' r ≡ 0
     seen_zero true ν' r e = v ν' r e

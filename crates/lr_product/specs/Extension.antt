@@ -4,7 +4,8 @@ use Rattle.std.specs.Prelude.{ℕ, zero, suc, ◌+◌, ◌-◌, ◌==◌, nat_le
 use Rattle.std.specs.Prelude.{◌&&◌, ◌||◌, cond, List, [], ◌∷◌, ◌++◌, length, take, drop}
 use Rattle.std.specs.Prelude.{slice_index}
 use Rattle.sym_model.specs.GoodTableau.{is_falling}
-use Rattle.lr_product.specs.WeighedSum.{sum_over, at_state}
+use Rattle.sym_model.specs.Sum.{sum_by}
+use Rattle.lr_product.specs.WeighedSum.{at_state}
 
 -- the k numbers from low on
 abbrev pub numbers_from : ℕ → ℕ → List ℕ
@@ -50,6 +51,6 @@ can_rise bound i numbers =
 abbrev pub extended : Bool → ℕ → List Bool → List ℕ → ℕ → (List ℕ → List ℕ → ℕ) → List ℕ → ℕ
 extended kept n [] right above f state = cond (is_falling (take n state)) (at_state n f state) 0
 extended kept n (cell ∷ line) right above f state =
-    sum_over (λ b. extended kept n line (drop 1 right) b f (raised b state ++ mark kept b))
+    sum_by (λ b. extended kept n line (drop 1 right) b f (raised b state ++ mark kept b))
     (numbers_from (least_letter cell above)
     (letters_end n cell right above - least_letter cell above))

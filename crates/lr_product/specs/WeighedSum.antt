@@ -1,6 +1,6 @@
 -- Sums of natural numbers over lists, and tables from states to counts seen as sums. A state is the
 -- sum reached, which has n places, and after it the column added last.
-use Rattle.std.specs.Prelude.{◌≡◌, ℕ, ◌+◌, ◌*◌, ◌==◌, nat_le, nat_abs, ℤ, Bool, true, false, ◌&&◌}
+use Rattle.std.specs.Prelude.{◌≡◌, ℕ, ◌*◌, ◌==◌, nat_le, nat_abs, ℤ, Bool, true, false, ◌&&◌}
 use Rattle.std.specs.Prelude.{cond, List, [], ◌∷◌, length, take, drop}
 use Rattle.sym_model.specs.Partition.{size, without_last_zeros}
 use Rattle.sym_model.specs.Polynomial.{same, join, resize}
@@ -9,12 +9,8 @@ use Rattle.sym_model.specs.GoodTableau.{is_falling}
 use Rattle.sym_model.specs.WholeTerms.{WholeTerms}
 use Rattle.tableau_laws.specs.Grid.{pass_by_place}
 use Rattle.tableau_laws.specs.PaddedRows.{words_over}
+use Rattle.sym_model.specs.Sum.{sum_by}
 use Rattle.tableau_laws.specs.ColumnFold.{may_be_next}
-
--- the sum of f over a list
-abbrev pub sum_over : {A : Type 0} → (A → ℕ) → List A → ℕ
-sum_over f [] = 0
-sum_over f (x ∷ xs) = f x + sum_over f xs
 
 -- f of the sum and the column of a state
 abbrev pub at_state : ℕ → (List ℕ → List ℕ → ℕ) → List ℕ → ℕ
@@ -22,18 +18,18 @@ at_state n f state = f (take n state) (drop n state)
 
 -- the sum over the entries of a table of the count times f of the state
 abbrev pub weighed : ℕ → (List ℕ → List ℕ → ℕ) → List (List ℕ × ℕ) → ℕ
-weighed n f entries = sum_over (λ (e : List ℕ × ℕ). e.1 * at_state n f e.0) entries
+weighed n f entries = sum_by (λ (e : List ℕ × ℕ). e.1 * at_state n f e.0) entries
 
 -- the sum over the terms of a list of the count times f of the label in n places,
 -- with no column added
 abbrev pub started : ℕ → (List ℕ → List ℕ → ℕ) → WholeTerms → ℕ
-started n f terms = sum_over (λ (t : List ℕ × ℤ). nat_abs t.1 * f (resize n t.0) []) terms
+started n f terms = sum_by (λ (t : List ℕ × ℤ). nat_abs t.1 * f (resize n t.0) []) terms
 
 -- the sum over the columns of a line that may be next of f of the sum that is then reached and the
 -- column
 abbrev pub next_states : ℕ → List Bool → (List ℕ → List ℕ → ℕ) → List ℕ → List ℕ → ℕ
 next_states n line f ν right =
-    sum_over (λ c. cond (may_be_next n ν right c) (f (join ν (content n c)) c) 0)
+    sum_by (λ c. cond (may_be_next n ν right c) (f (join ν (content n c)) c) 0)
     (words_over n line)
 
 -- the same over all ways to add columns of these lines, which are listed from the leftmost on and
@@ -58,7 +54,7 @@ seen false f ν right = f ν []
 
 -- how many places the lines have
 abbrev pub places : List (List Bool) → ℕ
-places lines = sum_over (λ (line : List Bool). length line) lines
+places lines = sum_by (λ (line : List Bool). length line) lines
 
 -- 1 where the sum reached, without the zeros at its end, is this partition; 0 elsewhere
 abbrev pub comes_to : List ℕ → List ℕ → List ℕ → ℕ

@@ -22,7 +22,7 @@ use Rattle.schubert_laws.proofs.LowerPermutations.{identity_is_one}
 use Rattle.linear_combinations.specs.Labels.{same_partition}
 use Rattle.linear_combinations.specs.Gains.{mass_at, scaled, replaced, Gains, Overflows}
 use Rattle.linear_combinations.proofs.Totals.{term-among}
-use Rattle.linear_combinations.proofs.Gains.{replaced_over, scaled_append, mass_at_append, over_only_within, mass_at_within, gains_mass}
+use Rattle.linear_combinations.proofs.Gains.{replaced_over, scaled_append, mass_at_append, over_only_within, mass_at_within}
 use Rattle.linear_combinations.proofs.Masses.{scaled_each, labels_append, labels_each, labels_replaced, mass_replaced, mass_at_replaced, labels_gained}
 use Rattle.transition_walk.proofs.Covers.{up_within, down_within}
 use Rattle.transition_walk.proofs.Labels.{label_one_line, one_one_line}
@@ -30,6 +30,7 @@ use Rattle.monk_product.specs.Monk.{IsPermutationTable, AreShort, over, mass, ea
 use Rattle.monk_product.specs.MonkLaws.{over_terms, mass_terms}
 use Rattle.monk_product.proofs.MonkSteps.{pair_monk}
 use Rattle.monk_product.proofs.OneCover.{one_cover}
+use Rattle.linear_combinations.proofs.Weighed.{gains_mass}
 use Rattle.sym_model.proofs.Integers.{product-neg_one}
 
 -- ---- the terms of one product
@@ -73,7 +74,7 @@ module _ (r : ℕ) (first : 1 ≤ r) (list : WholeTerms) where
   module _ (old new : WholeTerms) where
     pub product_mass : IsPermutationTable new → Gains old (replaced (monk_terms r) list) new → (most : ℕ) → AreShort most list → r ≤ most → mass new ≤ mass old + mass list * most
     product_mass is gains most short last =
-        let a = gains_mass nat_list_eq_equiv same_partition old (replaced (monk_terms r) list) new is gains in
+        let a = gains_mass same_partition nat_list_eq_equiv old (replaced (monk_terms r) list) new is gains in
         let b = mass_replaced (monk_terms r) most list (λ t m. let s = short t m in let n = mass_terms r t.0 first in omega arith) in
         omega arith
 

@@ -19,7 +19,7 @@ use Rattle.monomial_strip_laws.specs.StripProduct.{column}
 use Rattle.monomial_strip_laws.proofs.ShapeLists.{column-shapes}
 use Rattle.linear_combinations.specs.Gains.{over, only, mass_at, counted, replaced, HaveLabels}
 use Rattle.linear_combinations.specs.Labels.{same_partition}
-use Rattle.linear_combinations.proofs.Counted.{counted_over, counted_labels, counted_counts, replaced_at, replaced_mass}
+use Rattle.linear_combinations.proofs.Counted.{each_by-over, each_by-labels, counted_counts, replaced_at, replaced_mass}
 use Rattle.linear_combinations.proofs.Found.{coefficient_over}
 use Rattle.linear_combinations.proofs.Masses.{label_held, labels_replaced}
 use Rattle.whole_lists.specs.Large.{ProductIsLarge}
@@ -36,7 +36,7 @@ module _ (k : ℕ) (μ : List ℕ) (p : IsPartition μ) where
   listed = vertical_strips μ k p
 
   column_labels : HaveLabels IsPartition (column_terms k μ)
-  column_labels = counted_labels (column_count k μ) IsPartition (vertical_shapes k μ)
+  column_labels = each_by-labels (λ ν. pos (column_count k μ ν)) IsPartition (vertical_shapes k μ)
       (λ ν m. ((listed.members ν).0 m).0)
 
   column_at : (ν : List ℕ) → IsPartition ν
@@ -48,13 +48,13 @@ module _ (k : ℕ) (μ : List ℕ) (p : IsPartition μ) where
   pub column_sums : (shapes : List (List ℕ)) → AreVerticalStrips μ k shapes → (φ : List ℕ → ℤ)
       → over φ (counted (column_count k μ) shapes) ≡ over φ (column_terms k μ)
   column_sums shapes s φ =
-      counted_over (column_count k μ) φ shapes
+      each_by-over (λ ν. pos (column_count k μ ν)) φ shapes
       ∙ total_same_members (λ (ν : List ℕ). pos (column_count k μ ν) *ℤ φ ν) shapes
       (vertical_shapes k μ) (Once-FallsLexicographically shapes s.falls)
       (Once-FallsLexicographically (vertical_shapes k μ) listed.falls)
       (λ x m. (listed.members x).1 ((s.members x).0 m))
       (λ x m. (s.members x).1 ((listed.members x).0 m))
-      ∙ sym (counted_over (column_count k μ) φ (vertical_shapes k μ))
+      ∙ sym (each_by-over (λ ν. pos (column_count k μ ν)) φ (vertical_shapes k μ))
 
 -- ---- a list
 

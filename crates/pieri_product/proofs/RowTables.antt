@@ -19,7 +19,7 @@ use Rattle.monomial_strip_laws.specs.StripProduct.{placings}
 use Rattle.monomial_strip_laws.proofs.Placings.{placings-hold, placings-lists}
 use Rattle.linear_combinations.specs.Gains.{over, only, counted, replaced, HaveLabels, Gains, Overflows}
 use Rattle.linear_combinations.specs.Labels.{same_partition}
-use Rattle.linear_combinations.proofs.Counted.{counted_over, counted_labels, counted_counts, replaced_at, replaced_mass}
+use Rattle.linear_combinations.proofs.Counted.{each_by-over, each_by-labels, counted_counts, replaced_at, replaced_mass}
 use Rattle.linear_combinations.proofs.Found.{coefficient_over, coefficient_gained, mass_overflows}
 use Rattle.linear_combinations.proofs.Masses.{label_held, labels_replaced}
 use Rattle.product_laws.specs.StripLists.{ListsEach}
@@ -32,11 +32,11 @@ use lib.IntN.{zero-*ℤ}
 pub row_sums : (k : ℕ) (μ : List ℕ) (shapes : List (List ℕ)) → IsPartition μ → ListsEach (AddsCells k μ) shapes
     → (φ : List ℕ → ℤ) → over φ (with_placings μ shapes) ≡ over φ (row_terms k μ)
 row_sums k μ shapes p l φ =
-    counted_over (placings μ) φ shapes
+    each_by-over (λ ν. pos (placings μ ν)) φ shapes
     ∙ total_part (λ (ν : List ℕ). pos (placings μ ν) *ℤ φ ν) shapes (partitions_of (size μ + k)) l.once (Once-partitions_of (size μ + k))
     (λ ν m. let a = (l.members ν).0 m in Among-partitions_of (size μ + k) ν a.0 a.1)
     (λ ν m n. let t = partitions_of-tells (size μ + k) ν m in none ν t.0 t.1 n (cases_lt 0 (placings μ ν)))
-    ∙ sym (counted_over (placings μ) φ (partitions_of (size μ + k)))
+    ∙ sym (each_by-over (λ ν. pos (placings μ ν)) φ (partitions_of (size μ + k)))
   where
     none : (ν : List ℕ) → IsPartition ν → size ν ≡ size μ + k → (Among ν shapes → ⊥) → (0 < placings μ ν) ⊎ (placings μ ν ≤ 0) → pos (placings μ ν) *ℤ φ ν ≡ pos 0
     none ν q e n (inl h) = absurd (n ((l.members ν).1 (q, e, placings-hold μ ν p q h)))
@@ -71,7 +71,7 @@ complete_at k parts p =
 row_labels : (k : ℕ) (list : WholeTerms) → HaveLabels IsPartition (replaced (row_terms k) list)
 row_labels k list =
     labels_replaced (row_terms k) IsPartition list
-    (λ t m. counted_labels (placings t.0) IsPartition (partitions_of (size t.0 + k)) (λ ν n. (partitions_of-tells (size t.0 + k) ν n).0))
+    (λ t m. each_by-labels (λ ν. pos (placings t.0 ν)) IsPartition (partitions_of (size t.0 + k)) (λ ν n. (partitions_of-tells (size t.0 + k) ν n).0))
 
 module _ (k : ℕ) (ν : List ℕ) (p : IsPartition ν) where
   abbrev row_at : List ℕ → ℤ

@@ -34,7 +34,6 @@ use Rattle.linear_combinations.proofs.Masses.{represents_sums}
 use Rattle.linear_combinations.proofs.Totals.{term-among}
 use Rattle.transition_walk.specs.Growth.{IsShare, SharesOverflow, top_of}
 use Rattle.transition_walk.specs.Transitions.{IsShort}
-use Rattle.transition_walk.specs.Waiting.{weighed}
 use Rattle.transition_walk.proofs.Labels.{one_one_line}
 use Rattle.transition_walk.proofs.Monomials.{restrict_pair, schubert_monomials}
 use Rattle.transition_walk.proofs.Shares.{natural}
@@ -43,6 +42,7 @@ use Rattle.schubert_transition.specs.TermLists.{AreTerms, IsMonomialTable, IsSch
 use Rattle.schubert_transition.proofs.Acted.{acted_identity, acted_start, acted_at, shown_natural, at_only_here}
 use Rattle.schubert_transition.proofs.VariableShares.{coefficient_share, share_is, exact_share, outside_share, outside_falls, outside_start, within_by, within_terms}
 use Rattle.sym_model.proofs.PolynomialLaws.{restricted_test}
+use Rattle.linear_combinations.specs.Gains.{weighed}
 use Rattle.sparse_polys.proofs.PolynomialValues.{pair_x_to_in}
 
 -- the identity leaves the monomial

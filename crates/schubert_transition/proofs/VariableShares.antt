@@ -21,19 +21,19 @@ use Rattle.linear_combinations.proofs.LowestTerms.{not_zero-is_reduced}
 use Rattle.linear_combinations.proofs.Totals.{term-among}
 use Rattle.sparse_polys.proofs.Raising.{size-raised, length-raised}
 use Rattle.transition_walk.specs.Growth.{IsShare}
-use Rattle.transition_walk.specs.Todo.{weigh}
 use Rattle.transition_walk.specs.Transitions.{IsShort, weight}
-use Rattle.transition_walk.specs.Waiting.{weighed}
 use Rattle.transition_walk.proofs.Monomials.{schubert_monomials}
 use Rattle.transition_walk.proofs.Ranks.{weight_positive}
 use Rattle.transition_walk.proofs.Shares.{natural}
 use Rattle.transition_walk.proofs.Steps.{covers_weigh_less}
-use Rattle.transition_walk.proofs.Weighed.{weighed_among}
-use Rattle.transition_walk.proofs.Weights.{weigh_within, weigh_most}
 use Rattle.schubert_transition.specs.Acted.{acted, raised_terms}
 use Rattle.schubert_transition.specs.ActedLaws.{acted_step}
 use Rattle.schubert_transition.specs.TermLists.{IsMonomialTable}
 use Rattle.schubert_transition.proofs.Acted.{acted_natural}
+use Rattle.sym_model.specs.Sum.{sum_by}
+use Rattle.sym_model.proofs.NumberSums.{sum_by-within, sum_by-most}
+use Rattle.linear_combinations.specs.Gains.{weighed}
+use Rattle.linear_combinations.proofs.Weighed.{weighed_among}
 use native.Mathlib.Nat.{mul-le-mul_left}
 
 -- ---- coefficients
@@ -46,7 +46,7 @@ pub share_is : (n : ℕ) (γ w e : List ℕ) → IsShort n w → acted n (at_onl
 share_is n γ w e short = natural (acted n (at_only γ) w e) (acted_natural n (at_only γ) w e (schubert_monomials n w short) (at_only-nonnegative γ))
 
 shares_are : (n : ℕ) (γ e : List ℕ) (xs : List (List ℕ)) → ((x : List ℕ) → Among x xs → IsShort n x)
-    → total (λ (x : List ℕ). acted n (at_only γ) x e) xs ≡ pos (weigh (λ (x : List ℕ). coefficient_share n γ x e) xs)
+    → total (λ (x : List ℕ). acted n (at_only γ) x e) xs ≡ pos (sum_by (λ (x : List ℕ). coefficient_share n γ x e) xs)
 shares_are n γ e [] h = refl
 shares_are n γ e (x ∷ xs) h =
     let a = share_is n γ x e (h x (inl refl)) in
@@ -96,7 +96,7 @@ pub outside_falls : (n d top : ℕ) → IsShare (λ r v e. raised_terms r e) (λ
 outside_falls n d top = record { falls = λ r s w e short small t inside extent. by r s w e short small t (is_within n d w e) refl }
   where
     by : (r s : ℕ) (w e : List ℕ) → IsShort n w → length w ≤ 255 → IsTransition w r s → (b : Bool) → is_within n d w e ≡ b
-        → weighed (outside_share n d (times_swap r s w)) (raised_terms r e) + weigh (λ (x : List ℕ). outside_share n d x e) (covers_down r (times_swap r s w)) ≤ cond b 0 (weight w)
+        → weighed (outside_share n d (times_swap r s w)) (raised_terms r e) + sum_by (λ (x : List ℕ). outside_share n d x e) (covers_down r (times_swap r s w)) ≤ cond b 0 (weight w)
     by r s w e short small t true h =
         let p = within_is n d w e h in
         let p0 = p.0 in
@@ -109,7 +109,7 @@ outside_falls n d top = record { falls = λ r s w e short small t inside extent.
         let l = length-raised r e place.0 in
         let z = size-raised r e in
         let a = outside_none n d (times_swap r s w) (raised r e) (omega arith) (omega arith) in
-        let b = weigh_most (λ (x : List ℕ). outside_share n d x e) (covers_down r (times_swap r s w)) 0
+        let b = sum_by-most (λ (x : List ℕ). outside_share n d x e) (covers_down r (times_swap r s w)) 0
         (λ x m.
         let j = cover_inversions r (times_swap r s w) x m in
         let o = outside_none n d x e p0 (omega arith) in
@@ -117,7 +117,7 @@ outside_falls n d top = record { falls = λ r s w e short small t inside extent.
         omega arith
     by r s w e short small t false h =
         let a = outside_most n d (times_swap r s w) (raised r e) in
-        let b = weigh_within (λ (x : List ℕ). outside_share n d x e) weight (covers_down r (times_swap r s w)) (λ x m. outside_most n d x e) in
+        let b = sum_by-within (λ (x : List ℕ). outside_share n d x e) weight (covers_down r (times_swap r s w)) (λ x m. outside_most n d x e) in
         let c = covers_weigh_less 255 r s w (omega arith) (record { one_line = short.one_line; few = small }) t in
         omega arith
 

@@ -2,12 +2,12 @@
 --     counted_gains, counted_overflows        what a search counts is the list of m_λ·m_μ
 --     products_coefficient, products_large    what the product of two lists has at a partition
 --     products_sizes                          the sizes of its labels
-use Rattle.std.proofs.Common.{◌≡◌, ◌⊎◌, ℕ, zero, suc, ◌+◌, ◌*◌, ◌^◌, ◌<◌, Bool, true, false, cond, List, [], ◌∷◌, ◌++◌, map, length, take, drop, get_or, drop-cons, refl, sym, ap, ◌∙◌, subst, inl, inr, arith, ℤ, pos, ◌+ℤ◌, ◌*ℤ◌}
+use Rattle.std.proofs.Common.{◌≡◌, ◌⊎◌, ℕ, ◌+◌, ◌*◌, ◌^◌, Bool, true, false, cond, List, [], ◌∷◌, ◌++◌, map, refl, sym, ap, ◌∙◌, subst, inl, inr, arith, ℤ, pos, ◌+ℤ◌, ◌*ℤ◌}
 use Rattle.std.specs.Prelude.{nat_eq, nat_abs, ◌≤ℤ◌}
 use Rattle.std.specs.Cmp.Lexicographic.{pointwise}
 use Rattle.std.proofs.lemmas.Bool.{cases_eq}
 use Rattle.std.proofs.lemmas.Int.{ints}
-use Rattle.std.proofs.lemmas.List.{map-append, take-append-drop}
+use Rattle.std.proofs.lemmas.List.{map-append}
 use Rattle.sym_model.specs.Canonical.{is_label}
 use Rattle.sym_model.specs.Sum.{total, Among}
 use Rattle.sym_model.specs.Partition.{IsPartition, size}
@@ -158,17 +158,6 @@ module _ (l r : List ℕ) (counted : List Counted) (labels : AreCounted (size l 
 
 pub counted_pieces : (z : ℤ) (xs ys : List Counted) → scaled z (counted_terms (xs ++ ys)) ≡ scaled z (counted_terms xs) ++ scaled z (counted_terms ys)
 counted_pieces z xs ys = ap (scaled z) (map-append (λ (t : Counted). (t.parts.items, pos t.count)) xs ys) ∙ scaled_append z (counted_terms xs) (counted_terms ys)
-
--- the entries so far and the next one
-pub take_here : {A : Type 0} (xs : List A) (i : ℕ) (t : A) → i < length xs → t ≡ get_or xs i t → take i xs ++ t ∷ [] ≡ take (i + 1) xs
-take_here [] i t h e = absurd (omega arith)
-take_here (x ∷ xs) zero t h e = ap (λ y. y ∷ []) e
-take_here (x ∷ xs) (suc i) t h e =
-    let n : suc i + 1 ≡ suc (i + 1) = omega arith in
-    ap (λ l. x ∷ l) (take_here xs i t (omega arith) e) ∙ ap (λ k. take k (x ∷ xs)) (sym n)
-
-pub take_rest : {A : Type 0} (xs : List A) (i : ℕ) (t : A) → i < length xs → t ≡ get_or xs i t → take i xs ++ t ∷ drop (suc i) xs ≡ xs
-take_rest xs i t h e = ap (λ u. take i xs ++ u ∷ drop (suc i) xs) e ∙ ap (λ l. take i xs ++ l) (sym (drop-cons xs i t h)) ∙ take-append-drop i xs
 
 -- ---- the product of two lists
 

@@ -6,11 +6,11 @@ use Rattle.sym_model.specs.Polynomial.{pair}
 use Rattle.sym_model.specs.Schubert.{schubert_in}
 use Rattle.sym_model.specs.WholeTerms.{WholeTerms}
 use Rattle.sym_model.proofs.Sums.{total_append, Among-append_left, Among-append_right}
-use Rattle.transition_walk.specs.Todo.{weigh}
 use Rattle.transition_walk.specs.Transitions.{weight}
-use Rattle.transition_walk.proofs.Weights.{weigh_append}
 use Rattle.stanley_laws.specs.Grassmannian.{IsRising}
 use Rattle.stanley_laws.specs.SchurPositive.{schur_test}
+use Rattle.sym_model.specs.Sum.{sum_by}
+use Rattle.sym_model.proofs.NumberSums.{sum_by-append}
 use Rattle.stanley_expand.specs.Walk.{AreRising, walked, HasLargeShape}
 
 module _ (todo rest : List (List ℕ)) (p : List ℕ) (e : todo ≡ rest ++ (p ∷ [])) where
@@ -20,8 +20,8 @@ module _ (todo rest : List (List ℕ)) (p : List ℕ) (e : todo ≡ rest ++ (p �
     λ x k. rising x (subst (Among x) (sym e) (Among-append_left x rest (p ∷ []) k)),
   )
 
-  pub popped_weights : weigh weight todo ≡ weigh weight rest + weight p
-  popped_weights = let a = ap (weigh weight) e ∙ weigh_append weight rest (p ∷ []) in omega arith
+  pub popped_weights : sum_by weight todo ≡ sum_by weight rest + weight p
+  popped_weights = let a = ap (sum_by weight) e ∙ sum_by-append weight rest (p ∷ []) in omega arith
 
   pub popped_walked : (m : ℕ) (φ : List ℕ → ℤ) (sum : WholeTerms) → walked m φ sum rest +ℤ pair (schubert_in p m) φ ≡ walked m φ sum todo
   popped_walked m φ sum = let a = ap (total (λ x. pair (schubert_in x m) φ)) e ∙ total_append (λ x. pair (schubert_in x m) φ) rest (p ∷ []) in omega (arith, ints)

@@ -7,12 +7,12 @@ ghost use Rattle.sym_model.specs.Polynomial.{pair};
 ghost use Rattle.sym_model.specs.Schubert.{schubert_in};
 ghost use Rattle.partitions.specs.Limits.{IsWithinLimits};
 ghost use Rattle.linear_combinations.specs.Gains.{Gains, Overflows};
-ghost use Rattle.transition_walk.specs.Todo.{weigh};
 ghost use Rattle.transition_walk.specs.Transitions.{IsShort, weight};
 ghost use Rattle.stanley_laws.specs.Grassmannian.{IsRising, front_beta, front_shape};
 ghost use Rattle.stanley_expand.specs.Walk.{AreRising, AreShapes, IsHeld, walked};
 ghost use Rattle.stanley_expand.specs.Walk.{HasLargeShape};
 ghost use Rattle.linear_combinations.specs.Entries.{IsWholeTable};
+ghost use Rattle.sym_model.specs.Sum.{sum_by};
 
 use crate::letters::has_more_before;
 use calc_base::{NoMemory, SumFault};
@@ -64,8 +64,8 @@ fn work_off(
     ensures rising { OnOk result (AreRising rows (rows + 16) todo.old.items
         → AreRising rows (rows + 16) todo.new.items) }
     ensures shapes { OnOk result (AreShapes rows sum.old → AreShapes rows sum.new) }
-    ensures weight { OnOk result (weigh weight todo.new.items
-        < weigh weight todo.old.items + weight perm.now) }
+    ensures weight { OnOk result (sum_by weight todo.new.items
+        < sum_by weight todo.old.items + weight perm.now) }
     ensures large { IsErrOf result SumFault.Large → AreRising rows (rows + 16) todo.old.items
         → AreShapes rows sum.old
         → HasLargeShape rows (λ φ. walked rows φ sum.old todo.old.items
@@ -94,8 +94,8 @@ fn replace(
     ensures rising { OnOk result (AreRising rows (rows + 16) todo.old.items
         → AreRising rows (rows + 16) todo.new.items) }
     ensures shapes { OnOk result (AreShapes rows sum.old → AreShapes rows sum.new) }
-    ensures weight { OnOk result (weigh weight todo.new.items
-        < weigh weight todo.old.items + weight perm.now) }
+    ensures weight { OnOk result (sum_by weight todo.new.items
+        < sum_by weight todo.old.items + weight perm.now) }
     ensures large { IsErrOf result SumFault.Large → AreRising rows (rows + 16) todo.old.items
         → AreShapes rows sum.old
         → HasLargeShape rows (λ φ. walked rows φ sum.old todo.old.items

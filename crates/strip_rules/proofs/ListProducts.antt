@@ -28,7 +28,7 @@ use Rattle.coeff_rings.specs.Proved.Divisors.{divides_other_factor, coprime_with
 use Rattle.linear_combinations.specs.Entries.{IsCombination, IsWholeTable}
 use Rattle.linear_combinations.specs.Gains.{over, mass, mass_at, scaled as gained_times, HaveLabels}
 use Rattle.linear_combinations.specs.Labels.{same_partition}
-use Rattle.linear_combinations.proofs.Gains.{all_pairs, next_among, over_append, gains_mass, mass_at_append, overflows_both, scaled_over}
+use Rattle.linear_combinations.proofs.Gains.{all_pairs, next_among, over_append, mass_at_append, overflows_both, scaled_over}
 use Rattle.linear_combinations.proofs.LowestTerms.{lowest-is_reduced}
 use Rattle.linear_combinations.proofs.Totals.{term-among}
 use Rattle.linear_combinations.proofs.Masses.{mass_append, mass_scaled, mass_at_scaled, labels_append, labels_scaled, labels_gained}
@@ -46,6 +46,7 @@ use Rattle.linear_combinations.specs.Cleared.{numerators_over, GainsCleared}
 use Rattle.strip_rules.specs.Adding.{IsProduct}
 use Rattle.strip_rules.specs.Room.{AreWithin}
 use native.Mathlib.Nat.{mul-le-mul_left, pow-zero, le-div_iff_mul-le}
+use Rattle.linear_combinations.proofs.Weighed.{gains_mass}
 use lib.IntN.{+ℤ_idr}
 
 -- ---- one term after another
@@ -164,7 +165,7 @@ module _ {f : ℕ → Poly} {k q : ℕ} {list done sum : Terms (List ℕ)} (some
 
   pub list_grows : absolute_sum q sum ≤ absolute_sum q done * (greatest_size list + k) ^ k
   list_grows =
-      let g = gains_mass nat_list_eq_equiv same_partition [] a.gained (numerators_over q sum) table a.gains.gains in
+      let g = gains_mass same_partition nat_list_eq_equiv [] a.gained (numerators_over q sum) table a.gains.gains in
       let m = mass_over q sum in
       let n = ap (λ x. x * (greatest_size list + k) ^ k) (mass_over q done) in
       let w = a.few in

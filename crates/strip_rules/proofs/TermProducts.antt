@@ -33,9 +33,10 @@ use Rattle.skew_shapes.specs.HorizontalStrips.{AreHorizontalStrips}
 use Rattle.skew_shapes.specs.VerticalStrips.{AreVerticalStrips}
 use Rattle.skew_shapes.specs.HookLists.{AreHooksAdded}
 use Rattle.whole_lists.specs.Tables.{IsFractionTable}
-use Rattle.strip_rules.specs.Adding.{with_signs, IsProduct}
+use Rattle.strip_rules.specs.Adding.{IsProduct}
 use Rattle.strip_rules.proofs.ShapeLists.{IsAround, rows_around, horizontal_list, vertical_list, hook_list, horizontal_around, vertical_around, hook_around}
 use Rattle.sym_model.proofs.Integers.{sign_size}
+use Rattle.linear_combinations.specs.Gains.{each_by}
 use native.Mathlib.Nat.{pow-suc, pow-zero}
 
 -- ---- one term
@@ -69,25 +70,25 @@ hook_count k parts list h p l =
 -- ---- shapes with signs
 
 module _ (sign : List ℕ → ℤ) (unit : (ν : List ℕ) → nat_abs (sign ν) ≡ 1) where
-  mass_signs : (shapes : List (List ℕ)) → mass (with_signs sign shapes) ≡ length shapes
+  mass_signs : (shapes : List (List ℕ)) → mass (each_by sign shapes) ≡ length shapes
   mass_signs [] = refl
   mass_signs (ν ∷ shapes) = ap₂ (λ a b. a + b) (unit ν) (mass_signs shapes) ∙ (let e : 1 + length shapes ≡ suc (length shapes) = omega arith in e)
 
-  none_signs : (ν : List ℕ) (shapes : List (List ℕ)) → (Among ν shapes → ⊥) → mass_at (pointwise nat_eq) ν (with_signs sign shapes) ≡ 0
+  none_signs : (ν : List ℕ) (shapes : List (List ℕ)) → (Among ν shapes → ⊥) → mass_at (pointwise nat_eq) ν (each_by sign shapes) ≡ 0
   none_signs ν [] h = refl
   none_signs ν (μ ∷ shapes) h = by (pointwise nat_eq ν μ) refl (none_signs ν shapes (λ m. h (inr m)))
     where
-      by : (b : Bool) → pointwise nat_eq ν μ ≡ b → mass_at (pointwise nat_eq) ν (with_signs sign shapes) ≡ 0
-          → cond b (nat_abs (sign μ)) 0 + mass_at (pointwise nat_eq) ν (with_signs sign shapes) ≡ 0
+      by : (b : Bool) → pointwise nat_eq ν μ ≡ b → mass_at (pointwise nat_eq) ν (each_by sign shapes) ≡ 0
+          → cond b (nat_abs (sign μ)) 0 + mass_at (pointwise nat_eq) ν (each_by sign shapes) ≡ 0
       by true e r = absurd (h (inl (same_partition ν μ e)))
       by false e r = omega arith
 
-  once_signs : (ν : List ℕ) (shapes : List (List ℕ)) → Once shapes → mass_at (pointwise nat_eq) ν (with_signs sign shapes) ≤ 1
+  once_signs : (ν : List ℕ) (shapes : List (List ℕ)) → Once shapes → mass_at (pointwise nat_eq) ν (each_by sign shapes) ≤ 1
   once_signs ν [] o = omega arith
   once_signs ν (μ ∷ shapes) o = by (pointwise nat_eq ν μ) refl (once_signs ν shapes o.1)
     where
-      by : (b : Bool) → pointwise nat_eq ν μ ≡ b → mass_at (pointwise nat_eq) ν (with_signs sign shapes) ≤ 1
-          → cond b (nat_abs (sign μ)) 0 + mass_at (pointwise nat_eq) ν (with_signs sign shapes) ≤ 1
+      by : (b : Bool) → pointwise nat_eq ν μ ≡ b → mass_at (pointwise nat_eq) ν (each_by sign shapes) ≤ 1
+          → cond b (nat_abs (sign μ)) 0 + mass_at (pointwise nat_eq) ν (each_by sign shapes) ≤ 1
       by true e r =
           let none = none_signs ν shapes (subst (λ (l : List ℕ). Among l shapes → ⊥) (sym (same_partition ν μ e)) o.0) in
           let u = unit μ in
@@ -98,7 +99,7 @@ module _ (sign : List ℕ → ℤ) (unit : (ν : List ℕ) → nat_abs (sign ν)
   signs_product : (f : ℕ → Poly) (k : ℕ) (label : List ℕ) (shapes : List (List ℕ)) → IsPartition label
       → ((n : ℕ) (φ : List ℕ → ℤ) → total (λ ν. sign ν *ℤ pair (schur ν n) φ) shapes ≡ pair (times (f n) (schur label n)) φ)
       → length shapes ≤ (size label + k) ^ k → Once shapes → ((ν : List ℕ) → Among ν shapes → IsAround k label ν)
-      → IsProduct f k label (with_signs sign shapes)
+      → IsProduct f k label (each_by sign shapes)
   signs_product f k label shapes p values few once around = record {
     value = λ n φ. total_map (λ (t : List ℕ × ℤ). t.1 *ℤ pair (schur t.0 n) φ) (λ (ν : List ℕ). (ν, sign ν)) shapes ∙ values n φ;
     once = λ ν. once_signs ν shapes once;
@@ -113,24 +114,24 @@ module _ (sign : List ℕ → ℤ) (unit : (ν : List ℕ) → nat_abs (sign ν)
   }
 
 pub horizontal_product : (k : ℕ) (parts : List ℕ) (list : List (List ℕ)) → IsPartition parts → AreHorizontalStrips parts k list
-    → IsProduct (complete_of k) k parts (with_signs (λ ν. pos 1) list)
+    → IsProduct (complete_of k) k parts (each_by (λ ν. pos 1) list)
 horizontal_product k parts list p strips =
     let l = horizontal_list k parts list strips in
     signs_product (λ ν. pos 1) (λ ν. refl) (complete_of k) k parts list p (λ n φ. strips_value (complete_of k n) n parts list φ (horizontal n k parts list p l))
     (horizontal_count k parts list p l) l.once (horizontal_around k parts list l)
 
 pub vertical_product : (k : ℕ) (parts : List ℕ) (list : List (List ℕ)) → IsPartition parts → AreVerticalStrips parts k list
-    → IsProduct (elementary_of k) k parts (with_signs (λ ν. pos 1) list)
+    → IsProduct (elementary_of k) k parts (each_by (λ ν. pos 1) list)
 vertical_product k parts list p strips =
     let l = vertical_list k parts list strips in
     signs_product (λ ν. pos 1) (λ ν. refl) (elementary_of k) k parts list p (λ n φ. strips_value (elementary_of k n) n parts list φ (vertical n k parts list p l))
     (vertical_count k parts list p l) l.once (vertical_around k parts list l)
 
 pub hooks_product : (k : ℕ) (parts base : List ℕ) (list : List (List ℕ)) → 1 ≤ k → IsPartition parts → base ≡ parts → AreHooksAdded parts k list
-    → IsProduct (power_sum_of k) k parts (with_signs (λ ν. minus_one_to (height ν base - 1)) list)
+    → IsProduct (power_sum_of k) k parts (each_by (λ ν. minus_one_to (height ν base - 1)) list)
 hooks_product k parts base list h p e hooks =
     let l = hook_list k parts list hooks in
-    subst (λ b. IsProduct (power_sum_of k) k parts (with_signs (λ ν. minus_one_to (height ν b - 1)) list)) (sym e)
+    subst (λ b. IsProduct (power_sum_of k) k parts (each_by (λ ν. minus_one_to (height ν b - 1)) list)) (sym e)
     (signs_product (λ ν. minus_one_to (height ν parts - 1)) (λ ν. sign_size (height ν parts - 1)) (power_sum_of k) k parts list p
     (λ n φ. hooks_value k n parts list φ h p l) (hook_count k parts list h p l) l.once (hook_around k parts list l))
 

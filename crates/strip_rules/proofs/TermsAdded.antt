@@ -2,11 +2,10 @@
 --     Gains-shape, Overflows-shape    one shape after another
 --     Gains-signed, Overflows-signed  one term with a sign, in a table over any ring
 --     Overflows-size                  a coefficient that is too large by itself
-use Rattle.std.proofs.Common.{◌≡◌, ℕ, ◌*◌, ◌^◌, ◌≤◌, List, [], ◌∷◌, ◌++◌, refl, sym, ap, ◌∙◌, subst, arith, ℤ, pos, ◌*ℤ◌}
+use Rattle.std.proofs.Common.{◌≡◌, ℕ, ◌*◌, ◌^◌, ◌≤◌, List, [], ◌∷◌, ◌++◌, refl, sym, ap, subst, arith, ℤ, pos, ◌*ℤ◌}
 use Rattle.std.specs.Prelude.{nat_eq, nat_abs, Option}
 use Rattle.std.specs.Int.{◌∣◌}
 use Rattle.std.specs.Cmp.Lexicographic.{pointwise, nat_list_eq_equiv}
-use Rattle.std.proofs.lemmas.List.{map-append}
 use Rattle.sym_model.specs.Canonical.{is_label}
 use Rattle.sym_model.specs.Expansion.{Fraction, Terms}
 use Rattle.sym_model.proofs.Integers.{nat_abs-product}
@@ -16,38 +15,37 @@ use Rattle.coeff_rings.specs.Answers.{AnswersSum}
 use Rattle.linear_combinations.specs.Entries
 use Rattle.linear_combinations.specs.Gains.{scaled}
 use Rattle.linear_combinations.specs.Labels.{same_partition}
-use Rattle.linear_combinations.proofs.Gains.{overflows_alone, scaled_append}
+use Rattle.linear_combinations.proofs.Gains.{overflows_alone}
 use Rattle.sparse_polys.specs.Combination.{terms_of}
 use Rattle.linear_combinations.specs.Cleared.{numerators_over, OverflowsCleared}
 use Rattle.linear_combinations.proofs.Cleared.{Gains-next, Overflows-next}
 use Rattle.sparse_polys.proofs.ClearedSums.{size_scaled, Gains-entry, Overflows-entry}
 use Rattle.linear_combinations.specs.Cleared.{IsDenominator, GainsMultiple, OverflowsMultiple}
-use Rattle.strip_rules.specs.Adding.{IsSigned, with_signs}
+use Rattle.linear_combinations.specs.Gains.{each_by}
+use Rattle.linear_combinations.proofs.Counted.{scaled_each_by-append}
+use Rattle.strip_rules.specs.Adding.{IsSigned}
 
 -- ---- one shape after another
 
-signs_pieces : (z : ℤ) (sign : List ℕ → ℤ) (xs ys : List (List ℕ)) → scaled z (with_signs sign (xs ++ ys)) ≡ scaled z (with_signs sign xs) ++ scaled z (with_signs sign ys)
-signs_pieces z sign xs ys = ap (scaled z) (map-append (λ (ν : List ℕ). (ν, sign ν)) xs ys) ∙ scaled_append z (with_signs sign xs) (with_signs sign ys)
-
 module _ (c : Fraction) (sign : List ℕ → ℤ) (done : List (List ℕ)) (k : List ℕ)
     (old cur : Terms (List ℕ)) (a : GainsMultiple (pointwise nat_eq) is_label c
-    (with_signs sign done) old cur) where
+    (each_by sign done) old cur) where
   pub Gains-shape : (new : Terms (List ℕ))
       → GainsMultiple (pointwise nat_eq) is_label c ((k, sign k) ∷ []) cur new
-      → GainsMultiple (pointwise nat_eq) is_label c (with_signs sign (done ++ k ∷ [])) old new
+      → GainsMultiple (pointwise nat_eq) is_label c (each_by sign (done ++ k ∷ [])) old new
   Gains-shape new b q d cleared =
       let z = numerator_over q c in
       let x = a q d cleared in
-      Gains-next (λ xs. scaled z (with_signs sign xs)) (signs_pieces z sign) q done k old cur x (done ++ k ∷ []) new refl (b q d x.cleared)
+      Gains-next (λ xs. scaled z (each_by sign xs)) (scaled_each_by-append sign z) q done k old cur x (done ++ k ∷ []) new refl (b q d x.cleared)
 
   pub Overflows-shape : (rest all : List (List ℕ)) → done ++ k ∷ rest ≡ all
       → OverflowsMultiple (pointwise nat_eq) c ((k, sign k) ∷ []) cur
-      → OverflowsMultiple (pointwise nat_eq) c (with_signs sign all) old
+      → OverflowsMultiple (pointwise nat_eq) c (each_by sign all) old
   Overflows-shape rest all on e q d small cleared =
       let z = numerator_over q c in
       let x = a q d cleared in
-      subst (λ l. OverflowsCleared (pointwise nat_eq) q old (scaled z (with_signs sign l))) on
-      (Overflows-next (λ xs. scaled z (with_signs sign xs)) (signs_pieces z sign) q done k old cur x rest (e q d small x.cleared))
+      subst (λ l. OverflowsCleared (pointwise nat_eq) q old (scaled z (each_by sign l))) on
+      (Overflows-next (λ xs. scaled z (each_by sign xs)) (scaled_each_by-append sign z) q done k old cur x rest (e q d small x.cleared))
 
 -- ---- one term with a sign, in a table over any ring
 

@@ -1,6 +1,6 @@
 -- The lists of terms that are added for one term of a list in s: shapes with their signs, which are
 -- a product.
-use Rattle.std.specs.Prelude.{◌≡◌, ℕ, ◌+◌, ◌^◌, ◌≤◌, ℤ, ◌*ℤ◌, nat_eq, List, map}
+use Rattle.std.specs.Prelude.{◌≡◌, ℕ, ◌+◌, ◌^◌, ◌≤◌, ℤ, ◌*ℤ◌, nat_eq, List}
 use Rattle.std.specs.Cmp.Lexicographic.{pointwise}
 use Rattle.sym_model.specs.Partition.{size, rows}
 use Rattle.sym_model.specs.Polynomial.{Poly, pair, times}
@@ -14,10 +14,6 @@ use Rattle.linear_combinations.specs.Gains.{over, mass, mass_at, HaveLabels}
 pub record IsSigned (c : Fraction) (sign : ℤ) (d : Fraction) : Type 0 where
   pub denominator : d.1 ≡ c.1
   pub value : (q : ℕ) → numerator_over q d ≡ numerator_over q c *ℤ sign
-
--- each shape with its sign
-abbrev pub with_signs : (List ℕ → ℤ) → List (List ℕ) → WholeTerms
-with_signs sign shapes = map (λ (ν : List ℕ). (ν, sign ν)) shapes
 
 -- the terms are the product of f, a polynomial of degree k, and s_label:
 -- each label at most once, with 1 or -1

@@ -12,7 +12,8 @@ ghost use Rattle.partitions.specs.Limits.{IsWithinLimits};
 ghost use Rattle.sparse_polys.specs.Combination.{terms_of};
 ghost use Rattle.linear_combinations.specs.Cleared.{IsDenominator, GainsMultiple};
 ghost use Rattle.linear_combinations.specs.Cleared.{OverflowsMultiple};
-ghost use Rattle.strip_rules.specs.Adding.{IsSigned, with_signs};
+ghost use Rattle.strip_rules.specs.Adding.{IsSigned};
+ghost use Rattle.linear_combinations.specs.Gains.{each_by};
 
 use calc_base::{Lister, SumFault};
 use coeff_rings::Ring;
@@ -30,10 +31,10 @@ pub(crate) fn add_shapes<R: Ring>(
     requires lowest { InLowestTerms (R.value c) }
     requires partitions { (ν : List ℕ) → Among ν shapes.items → IsPartition ν }
     ensures ok { OnOk result (GainsMultiple (pointwise nat_eq) is_label (R.value c)
-        (with_signs (λ ν. pos 1) shapes.items)
+        (each_by (λ ν. pos 1) shapes.items)
         (terms_of R.value sum.old) (terms_of R.value sum.new)) }
     ensures large { IsErrOf result SumFault.Large
-        → OverflowsMultiple (pointwise nat_eq) (R.value c) (with_signs (λ ν. pos 1) shapes.items)
+        → OverflowsMultiple (pointwise nat_eq) (R.value c) (each_by (λ ν. pos 1) shapes.items)
         (terms_of R.value sum.old) }
 {
     for shape in shapes {
@@ -73,10 +74,10 @@ pub(crate) fn add_signed_shapes<R: Ring>(
     requires limits { (ν : List ℕ) → Among ν hooks.old.rest → IsWithinLimits ν }
     requires heights { (ν : List ℕ) → Among ν hooks.old.rest → 1 ≤ height ν hooks.old.base }
     ensures ok { OnOk result (GainsMultiple (pointwise nat_eq) is_label (R.value c)
-        (with_signs (λ ν. minus_one_to (height ν hooks.old.base - 1)) hooks.old.rest)
+        (each_by (λ ν. minus_one_to (height ν hooks.old.base - 1)) hooks.old.rest)
         (terms_of R.value sum.old) (terms_of R.value sum.new)) }
     ensures large { IsErrOf result SumFault.Large
-        → OverflowsMultiple (pointwise nat_eq) (R.value c) (with_signs
+        → OverflowsMultiple (pointwise nat_eq) (R.value c) (each_by
         (λ ν. minus_one_to (height ν hooks.old.base - 1)) hooks.old.rest)
         (terms_of R.value sum.old) }
 {

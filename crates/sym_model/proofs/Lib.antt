@@ -1,6 +1,7 @@
 pub mod GreatestCommonDivisors
 pub mod Ring
 pub mod Sums
+pub mod NumberSums
 pub mod Exponents
 pub mod FirstPlaces
 pub mod Polynomials

@@ -1,7 +1,8 @@
 -- Lists: `each` and `select` of specs/Sum over lists put together, and what stands at a place.
-use Rattle.std.proofs.Common.{◌<◌, List, Some, [], arith, get_or, length, refl, suc, zero, ℕ, ◌∷◌, ◌≡◌, ◌++◌, ap, append_assoc, sym, ◌∙◌, append-nil, drop, ap₂, inl, inr, map, Bool, cond, false, true, ◌+◌, filter, flat_map, ◌≤◌, nat_lt}
+use Rattle.std.proofs.Common.{◌<◌, List, Some, [], arith, get_or, length, refl, suc, zero, ℕ, ◌∷◌, ◌≡◌, ◌++◌, ap, append_assoc, sym, ◌∙◌, append-nil, drop, ap₂, inl, inr, map, Bool, cond, false, true, ◌+◌, filter, flat_map, ◌≤◌, nat_lt, take}
 use Rattle.std.specs.Prelude.{slice_get}
-use Rattle.std.proofs.Math.Seq.{drop-cons}
+use Rattle.std.proofs.Math.Seq.{drop-cons, split_at}
+use Rattle.std.proofs.lemmas.List.{take_more}
 use Rattle.sym_model.specs.Sum.{Among}
 use Rattle.sym_model.specs.PlaceOrders.{smaller}
 
@@ -84,3 +85,11 @@ smaller-within a (b ∷ w) = by (nat_lt b a) (smaller-within a w)
     by : (t : Bool) → smaller a w ≤ length w → cond t 1 0 + smaller a w ≤ suc (length w)
     by true h = omega arith
     by false h = omega arith
+
+-- ---- an element that was read at a place
+
+pub take-read : {A : Type 0} (xs : List A) (i : ℕ) (x : A) → i < length xs → x ≡ get_or xs i x → take i xs ++ x ∷ [] ≡ take (i + 1) xs
+take-read xs i x h e = ap (λ y. take i xs ++ y ∷ []) e ∙ sym (take_more xs i x h)
+
+pub split-read : {A : Type 0} (xs : List A) (i : ℕ) (x : A) → i < length xs → x ≡ get_or xs i x → take i xs ++ x ∷ drop (suc i) xs ≡ xs
+split-read xs i x h e = ap (λ y. take i xs ++ y ∷ drop (suc i) xs) e ∙ sym (split_at xs i x h)

@@ -222,7 +222,7 @@ Once_without x (y ∷ xs) (inr m) o = (λ n. o.0 (Among_from_without y x xs m n)
 -- ---- sums over lists with the same members
 
 -- the list without x still has each member of a list that x is not in
-Within-without : {A : Type 0} (x : A) (xs ys : List A) (m : Among x xs) → (Among x ys → ⊥) → Within ys xs → Within ys (without x xs m)
+pub Within-without : {A : Type 0} (x : A) (xs ys : List A) (m : Among x xs) → (Among x ys → ⊥) → Within ys xs → Within ys (without x xs m)
 Within-without x xs ys m d w z n = elim (Among-without z x xs m (w z n)) [ inl e ↦ absurd (d (subst (λ u. Among u ys) e n)) | inr r ↦ r ]
 
 -- a list without repeats within another is no longer than it

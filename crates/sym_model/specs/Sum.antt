@@ -1,10 +1,15 @@
 -- Finite sums over lists, and the words on lists that every definition here is made of.
-use Rattle.std.specs.Prelude.{◌≡◌, ◌⊎◌, ℤ, pos, ◌+ℤ◌, List, [], ◌∷◌}
+use Rattle.std.specs.Prelude.{◌≡◌, ◌⊎◌, ℕ, ◌+◌, ℤ, pos, ◌+ℤ◌, List, [], ◌∷◌}
 
 -- the sum of a whole number for each element of a list
 abbrev pub total : {A : Type 0} → (A → ℤ) → List A → ℤ
 total f [] = pos 0
 total f (x ∷ xs) = f x +ℤ total f xs
+
+-- the sum of a natural number for each element of a list
+abbrev pub sum_by : {A : Type 0} → (A → ℕ) → List A → ℕ
+sum_by f [] = 0
+sum_by f (x ∷ xs) = f x + sum_by f xs
 
 -- x is an element of the list
 abbrev pub Among : {A : Type 0} → A → List A → Type 0

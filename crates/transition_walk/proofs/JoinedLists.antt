@@ -13,13 +13,16 @@ use Rattle.sym_model.proofs.Sums.{total_append, Among-append_left, Among-append_
 use Rattle.linear_combinations.specs.Entries.{IsCombination}
 use Rattle.linear_combinations.specs.Gains.{WholeTermsOf, over, HaveLabels, Gains, Overflows}
 use Rattle.linear_combinations.proofs.Masses.{labels_gained}
-use Rattle.transition_walk.specs.Todo.{load, weigh, MayGain, AreInOrder}
+use Rattle.transition_walk.specs.Todo.{load, MayGain, AreInOrder}
 use Rattle.transition_walk.specs.Transitions.{weight}
 use Rattle.transition_walk.proofs.TodoLists.{total_gain, among_gain, total_set, among_set, load_gain, load_set, load_append}
 use Rattle.transition_walk.proofs.WaitingOrder.{order_set}
-use Rattle.transition_walk.proofs.Weights.{weigh_gain, weigh_set, weigh_at, weigh_append}
-use Rattle.transition_walk.proofs.Weighed.{weighed_zero, weighed_add, gains_weighed, overflow_weighed}
-use Rattle.transition_walk.specs.Waiting.{WithList, value_of, weighed, growth, IsWaiting, each_waits, Joins, WaitingOverflows}
+use Rattle.transition_walk.proofs.Weights.{sum_by-gain}
+use Rattle.transition_walk.specs.Waiting.{WithList, value_of, growth, IsWaiting, each_waits, Joins, WaitingOverflows}
+use Rattle.sym_model.specs.Sum.{sum_by}
+use Rattle.sym_model.proofs.NumberSums.{sum_by-set, sum_by-at, sum_by-append}
+use Rattle.linear_combinations.specs.Gains.{weighed}
+use Rattle.linear_combinations.proofs.Weighed.{weighed_zero, weighed_add, gains_weighed, overflow_weighed}
 use lib.IntN.{+ℤ_idr}
 
 -- the permutation with another list
@@ -41,9 +44,9 @@ module _ {L : Type 0} (old mid : List (WithList L)) (perm : List ℕ) (none : Wh
           let e = +ℤ_idr (over (φ perm) gained) in
           omega (arith, ints);
       grows = λ share.
-          let a = weigh_set (λ (x : WithList L). weighed (share x.perm) x.factor) mid at w (entry w factor) inside is in
+          let a = sum_by-set (λ (x : WithList L). weighed (share x.perm) x.factor) mid at w (entry w factor) inside is in
           let b = gains_weighed tells laws w.factor gained factor table gains (share w.perm) in
-          let c = weigh_gain (λ (x : WithList L). weighed (share x.perm) x.factor) old mid (record { perm = perm; factor = none }) gain (ap (weighed (share perm)) empty) in
+          let c = sum_by-gain (λ (x : WithList L). weighed (share x.perm) x.factor) old mid (record { perm = perm; factor = none }) gain (ap (weighed (share perm)) empty) in
           let d = ap (λ p. weighed (share p) gained) same in
           omega arith;
       waiting = λ extent n top was more x m.
@@ -76,9 +79,9 @@ module _ {L : Type 0} (old mid : List (WithList L)) (perm : List ℕ) (none : Wh
       label = o.0;
       large = λ share some.
           let p = ap (λ p. share p o.0) same in
-          let a = weigh_at (λ (x : WithList L). weighed (share x.perm) x.factor) mid at w inside is in
+          let a = sum_by-at (λ (x : WithList L). weighed (share x.perm) x.factor) mid at w inside is in
           let b = overflow_weighed tells w.factor gained o (share w.perm) (omega arith) in
-          let c = weigh_gain (λ (x : WithList L). weighed (share x.perm) x.factor) old mid (record { perm = perm; factor = none }) gain (ap (weighed (share perm)) empty) in
+          let c = sum_by-gain (λ (x : WithList L). weighed (share x.perm) x.factor) old mid (record { perm = perm; factor = none }) gain (ap (weighed (share perm)) empty) in
           let d = ap (λ p. weighed (share p) gained) same in
           omega arith;
     }
@@ -105,7 +108,7 @@ module _ {L : Type 0} where
     grows = λ share.
         let x = a.grows share in
         let y = b.grows share in
-        let z = weigh_append (λ (w : WithList L). weighed (share w.perm) w.factor) g h in
+        let z = sum_by-append (λ (w : WithList L). weighed (share w.perm) w.factor) g h in
         omega arith;
     waiting = λ extent n top was more.
         b.waiting extent n top (a.waiting extent n top was (λ w m. more w (Among-append_left w g h m))) (λ w m. more w (Among-append_right w g h m));
@@ -121,7 +124,7 @@ module _ {L : Type 0} where
     large = λ share some.
         let x = a.grows share in
         let y = o.large share some in
-        let z = weigh_append (λ (w : WithList L). weighed (share w.perm) w.factor) g h in
+        let z = sum_by-append (λ (w : WithList L). weighed (share w.perm) w.factor) g h in
         omega arith;
   }
 
@@ -132,7 +135,7 @@ module _ {L : Type 0} where
     label = o.label;
     large = λ share some.
         let y = o.large share some in
-        let z = weigh_append (λ (w : WithList L). weighed (share w.perm) w.factor) g h in
+        let z = sum_by-append (λ (w : WithList L). weighed (share w.perm) w.factor) g h in
         omega arith;
   }
 
@@ -146,8 +149,8 @@ module _ {L : Type 0} where
         omega (arith, ints);
     grows = λ share.
         let x = a.grows share in
-        let y = weigh_append (λ (w : WithList L). weighed (share w.perm) w.factor) g h in
-        let z = weigh_append (λ (w : WithList L). weighed (share w.perm) w.factor) h g in
+        let y = sum_by-append (λ (w : WithList L). weighed (share w.perm) w.factor) g h in
+        let z = sum_by-append (λ (w : WithList L). weighed (share w.perm) w.factor) h g in
         omega arith;
     waiting = λ extent n top was more.
         a.waiting extent n top was
@@ -163,8 +166,8 @@ module _ {L : Type 0} where
     label = o.label;
     large = λ share some.
         let x = o.large share some in
-        let y = weigh_append (λ (w : WithList L). weighed (share w.perm) w.factor) g h in
-        let z = weigh_append (λ (w : WithList L). weighed (share w.perm) w.factor) h g in
+        let y = sum_by-append (λ (w : WithList L). weighed (share w.perm) w.factor) g h in
+        let z = sum_by-append (λ (w : WithList L). weighed (share w.perm) w.factor) h g in
         omega arith;
   }
 
@@ -184,13 +187,13 @@ module _ {L : Type 0} where
   each_value φ list (x ∷ xs) = ap (λ z. over (φ x) list +ℤ z) (each_value φ list xs)
 
   pub each_growth : (share : List ℕ → L → ℕ) (list : WholeTermsOf L) (xs : List (List ℕ))
-      → growth share (each_waits list xs) ≡ weighed (λ e. weigh (λ (x : List ℕ). share x e) xs) list
+      → growth share (each_waits list xs) ≡ weighed (λ e. sum_by (λ (x : List ℕ). share x e) xs) list
   each_growth share list [] = sym (weighed_zero (λ e. 0) (λ e. refl) list)
   each_growth share list (x ∷ xs) =
       ap (λ k. weighed (share x) list + k) (each_growth share list xs)
-      ∙ sym (weighed_add (share x) (λ e. weigh (λ (x : List ℕ). share x e) xs) list)
+      ∙ sym (weighed_add (share x) (λ e. sum_by (λ (x : List ℕ). share x e) xs) list)
 
-  pub each_load : (list : WholeTermsOf L) (xs : List (List ℕ)) → load (each_waits list xs) ≡ weigh weight xs
+  pub each_load : (list : WholeTermsOf L) (xs : List (List ℕ)) → load (each_waits list xs) ≡ sum_by weight xs
   each_load list [] = refl
   each_load list (x ∷ xs) = ap (λ n. weight x + n) (each_load list xs)
 

@@ -7,7 +7,6 @@ pub mod Weights
 pub mod Covers
 pub mod Labels
 pub mod Monomials
-pub mod Weighed
 pub mod Shares
 pub mod GivenLists
 pub mod JoinedLists

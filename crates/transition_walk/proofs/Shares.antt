@@ -18,14 +18,14 @@ use Rattle.sym_model.proofs.Sums.{total_ext}
 use Rattle.sym_model.proofs.Exponents.{fits_in_length}
 use Rattle.schubert_laws.proofs.FixedLetters.{In_schubert}
 use Rattle.schubert_laws.proofs.Members.{short_cover, short_transition, place_within, cover_inversions}
-use Rattle.transition_walk.specs.Todo.{weigh}
 use Rattle.transition_walk.specs.Transitions.{IsShort}
 use Rattle.schubert_laws.proofs.LowerPermutations.{transition_inversions}
 use Rattle.transition_walk.proofs.Monomials.{unit, length-unit, pair_transition, pair_variable, restrict_pair, schubert_monomials}
 use Rattle.linear_combinations.specs.Gains.{WholeTermsOf, mass}
 use Rattle.transition_walk.specs.Growth.{GrowsBy, IsShare}
-use Rattle.transition_walk.proofs.Weighed.{weighed_all}
 use native.Mathlib.Nat.{mul-le-mul_left, pow-suc}
+use Rattle.sym_model.specs.Sum.{sum_by}
+use Rattle.linear_combinations.proofs.Weighed.{weighed_all}
 use Rattle.std.proofs.Math.Nat.{pow-zero}
 
 -- the value of the Schubert polynomial of a permutation where each of n variables is 1
@@ -63,14 +63,14 @@ ones_is n w short =
 pub ones_positive : (n : ℕ) (w : List ℕ) → IsShort n w → 1 ≤ ones n w
 ones_positive n w short = let a = at_least_one n w short in let b = ones_is n w short in omega (arith, ints)
 
-ones_sum : (n : ℕ) (xs : List (List ℕ)) → ((x : List ℕ) → Among x xs → IsShort n x) → total (λ (x : List ℕ). pair (schubert_in x n) (λ α. pos 1)) xs ≡ pos (weigh (ones n) xs)
+ones_sum : (n : ℕ) (xs : List (List ℕ)) → ((x : List ℕ) → Among x xs → IsShort n x) → total (λ (x : List ℕ). pair (schubert_in x n) (λ α. pos 1)) xs ≡ pos (sum_by (ones n) xs)
 ones_sum n [] h = refl
 ones_sum n (x ∷ xs) h =
     let a = ones_is n x (h x (inl refl)) in
     let b = ones_sum n xs (λ y m. h y (inr m)) in
     omega (arith, ints)
 
-pub ones_step : (n r s : ℕ) (w : List ℕ) → IsShort n w → IsTransition w r s → ones n w ≡ ones n (times_swap r s w) + weigh (ones n) (covers_down r (times_swap r s w))
+pub ones_step : (n r s : ℕ) (w : List ℕ) → IsShort n w → IsTransition w r s → ones n w ≡ ones n (times_swap r s w) + sum_by (ones n) (covers_down r (times_swap r s w))
 ones_step n r s w short t =
     let place = place_within w r s short.one_line t in
     let p0 = place.0 in
@@ -114,24 +114,24 @@ share_positive n base w short some = by (ones n w) (base ^ inversions w) (ones_p
     power (suc n) w h k = power_positive base (inversions w) (omega arith)
 
 -- permutations with as many inversions
-share_sum : (n base k : ℕ) (xs : List (List ℕ)) → ((x : List ℕ) → Among x xs → inversions x ≡ k) → weigh (share n base) xs ≡ weigh (ones n) xs * base ^ k
+share_sum : (n base k : ℕ) (xs : List (List ℕ)) → ((x : List ℕ) → Among x xs → inversions x ≡ k) → sum_by (share n base) xs ≡ sum_by (ones n) xs * base ^ k
 share_sum n base k [] h = omega arith
 share_sum n base k (x ∷ xs) h =
-    by (ones n x) (weigh (ones n) xs) (base ^ inversions x) (base ^ k) (weigh (share n base) xs) (ap (λ i. base ^ i) (h x (inl refl))) (share_sum n base k xs (λ y m. h y (inr m)))
+    by (ones n x) (sum_by (ones n) xs) (base ^ inversions x) (base ^ k) (sum_by (share n base) xs) (ap (λ i. base ^ i) (h x (inl refl))) (share_sum n base k xs (λ y m. h y (inr m)))
   where
     by : (a b p q s : ℕ) → p ≡ q → s ≡ b * q → a * p + s ≡ (a + b) * q
     by a b p q s e f = let g = ap (λ z. a * z) e in let d : (a + b) * q ≡ a * q + b * q = omega arith in omega arith
 
 pub share_step : (n r s base few m : ℕ) (w : List ℕ) → IsShort n w → IsTransition w r s → few ≤ base
-    → m * few * share n base (times_swap r s w) + m * weigh (share n base) (covers_down r (times_swap r s w)) ≤ m * share n base w
+    → m * few * share n base (times_swap r s w) + m * sum_by (share n base) (covers_down r (times_swap r s w)) ≤ m * share n base w
 share_step n r s base few m w short t h =
     let i = transition_inversions w r s short.one_line t in
     let covers = share_sum n base (inversions (times_swap r s w) + 1) (covers_down r (times_swap r s w)) (λ x j. cover_inversions r (times_swap r s w) x j) in
     let p : inversions w ≡ suc (inversions (times_swap r s w)) = omega arith in
     let q : inversions (times_swap r s w) + 1 ≡ suc (inversions (times_swap r s w)) = omega arith in
-    by (ones n (times_swap r s w)) (weigh (ones n) (covers_down r (times_swap r s w))) (ones n w) (base ^ inversions (times_swap r s w)) (base ^ inversions w) (weigh (share n base) (covers_down r (times_swap r s w)))
+    by (ones n (times_swap r s w)) (sum_by (ones n) (covers_down r (times_swap r s w))) (ones n w) (base ^ inversions (times_swap r s w)) (base ^ inversions w) (sum_by (share n base) (covers_down r (times_swap r s w)))
     (ones_step n r s w short t) (ap (λ k. base ^ k) p ∙ pow-suc base (inversions (times_swap r s w)))
-    (covers ∙ ap (λ k. weigh (ones n) (covers_down r (times_swap r s w)) * base ^ k) (q ∙ sym p))
+    (covers ∙ ap (λ k. sum_by (ones n) (covers_down r (times_swap r s w)) * base ^ k) (q ∙ sym p))
   where
     by : (a b c x y z : ℕ) → c ≡ a + b → y ≡ x * base → z ≡ b * y → m * few * (a * x) + m * z ≤ m * (c * y)
     by a b c x y z e f g =

@@ -20,17 +20,19 @@ use Rattle.linear_combinations.specs.Gains.{WholeTermsOf, over, replaced, HaveLa
 use Rattle.linear_combinations.proofs.Gains.{replaced_over}
 use Rattle.linear_combinations.proofs.Masses.{labels_replaced}
 use Rattle.linear_combinations.proofs.Totals.{term-among}
-use Rattle.transition_walk.specs.Todo.{load, weigh}
+use Rattle.transition_walk.specs.Todo.{load}
 use Rattle.transition_walk.specs.Transitions.{IsShort, rank, weight}
 use Rattle.transition_walk.proofs.Covers.{count_covers_down}
 use Rattle.transition_walk.proofs.Ranks.{pow_below, weights_less}
 use Rattle.transition_walk.proofs.TodoLists.{load_append}
-use Rattle.transition_walk.proofs.Weights.{weigh_append, weigh_most}
 use Rattle.transition_walk.specs.Growth.{GrowsBy, IsShare}
-use Rattle.transition_walk.specs.Waiting.{WithList, value_of, weighed, growth, IsWaiting, AreWaiting, each_waits, stepped}
+use Rattle.transition_walk.specs.Waiting.{WithList, value_of, growth, IsWaiting, AreWaiting, each_waits, stepped}
 use Rattle.transition_walk.proofs.JoinedLists.{each_value, each_growth, each_load, each_among}
-use Rattle.transition_walk.proofs.Weighed.{weighed_add, weighed_replaced, weighed_within}
 use native.Mathlib.Nat.{mul-le-mul_left}
+use Rattle.sym_model.specs.Sum.{sum_by}
+use Rattle.sym_model.proofs.NumberSums.{sum_by-append, sum_by-most}
+use Rattle.linear_combinations.specs.Gains.{weighed}
+use Rattle.linear_combinations.proofs.Weighed.{weighed_add, weighed_replaced, weighed_within}
 use lib.IntN.{+ℤ_idr}
 
 -- each label of a table is one of its type
@@ -108,15 +110,15 @@ module _ {L : Type 0} (image : List ℕ → L → WholeTermsOf L) (r s : ℕ) (w
     pub step_growth : (images : ℕ → List ℕ → L → WholeTermsOf L) → images r ≡ image → (share : List ℕ → L → ℕ) → IsShare images extent n top share → length w.perm ≤ 255
         → growth share (stepped image r s w) ≤ weighed (share w.perm) w.factor
     step_growth images at_r share falls small =
-        let a = weigh_append (λ (x : WithList L). weighed (share x.perm) x.factor) (each_waits w.factor (covers_down r (times_swap r s w.perm)))
+        let a = sum_by-append (λ (x : WithList L). weighed (share x.perm) x.factor) (each_waits w.factor (covers_down r (times_swap r s w.perm)))
         ((record { perm = times_swap r s w.perm; factor = replaced (image (times_swap r s w.perm)) w.factor }) ∷ []) in
         let b = each_growth share w.factor (covers_down r (times_swap r s w.perm)) in
         let c = weighed_replaced (image (times_swap r s w.perm)) (share (times_swap r s w.perm)) w.factor in
         let d = weighed_add (λ e. weighed (share (times_swap r s w.perm)) (image (times_swap r s w.perm) e))
-        (λ e. weigh (λ (x : List ℕ). share x e) (covers_down r (times_swap r s w.perm))) w.factor in
-        let f = weighed_within (λ e. weighed (share (times_swap r s w.perm)) (image (times_swap r s w.perm) e) + weigh (λ (x : List ℕ). share x e) (covers_down r (times_swap r s w.perm)))
+        (λ e. sum_by (λ (x : List ℕ). share x e) (covers_down r (times_swap r s w.perm))) w.factor in
+        let f = weighed_within (λ e. weighed (share (times_swap r s w.perm)) (image (times_swap r s w.perm) e) + sum_by (λ (x : List ℕ). share x e) (covers_down r (times_swap r s w.perm)))
         (share w.perm) w.factor
-        (λ u m. subst (λ (i : List ℕ → L → WholeTermsOf L). weighed (share (times_swap r s w.perm)) (i (times_swap r s w.perm) u.0) + weigh (λ (x : List ℕ). share x u.0) (covers_down r (times_swap r s w.perm)) ≤ share w.perm u.0)
+        (λ u m. subst (λ (i : List ℕ → L → WholeTermsOf L). weighed (share (times_swap r s w.perm)) (i (times_swap r s w.perm) u.0) + sum_by (λ (x : List ℕ). share x u.0) (covers_down r (times_swap r s w.perm)) ≤ share w.perm u.0)
         at_r (falls.falls r s w.perm u.0 short small t is.inside (is.labels u m))) in
         omega arith
 
@@ -170,7 +172,7 @@ module _ {L : Type 0} (image : List ℕ → L → WholeTermsOf L) (r s : ℕ) (w
       ]
 
 -- the permutations that the rule makes weigh less than the one that they come of
-pub covers_weigh_less : (n r s : ℕ) (w : List ℕ) → n ≤ 255 → IsShort n w → IsTransition w r s → weigh weight (covers_down r (times_swap r s w)) + weight (times_swap r s w) < weight w
+pub covers_weigh_less : (n r s : ℕ) (w : List ℕ) → n ≤ 255 → IsShort n w → IsTransition w r s → sum_by weight (covers_down r (times_swap r s w)) + weight (times_swap r s w) < weight w
 covers_weigh_less n r s w small short t =
     let o = short.one_line in
     let few = short.few in
@@ -181,14 +183,14 @@ covers_weigh_less n r s w small short t =
     let vf = v.few in
     let less : rank 256 (times_swap r s w) < rank 256 w = rank_lower 256 (times_swap r s w) w v.one_line (omega arith) (transition_lowers w r s o t) in
     let first = pow_below (rank 256 (times_swap r s w)) (rank 256 w) less in
-    let covers = weigh_most weight (covers_down r (times_swap r s w)) (256 ^ (rank 256 w - 1)) (λ x m.
+    let covers = sum_by-most weight (covers_down r (times_swap r s w)) (256 ^ (rank 256 w - 1)) (λ x m.
     let xs = short_cover n r (times_swap r s w) x v (omega arith) m in
     let xf = xs.few in
     pow_below (rank 256 x) (rank 256 w) (rank_lower 256 x w xs.one_line (omega arith) (transition_covers_lower w r s o t x m))) in
     let count = count_covers_down r (times_swap r s w) in
     let more = mul-le-mul_left (256 ^ (rank 256 w - 1)) count in
     let all = weights_less (rank 256 w) r (omega arith) p0 (omega arith) in
-    by (length (covers_down r (times_swap r s w))) (r - 1) (256 ^ (rank 256 w - 1)) (weigh weight (covers_down r (times_swap r s w))) (weight (times_swap r s w)) (weight w) covers more first all
+    by (length (covers_down r (times_swap r s w))) (r - 1) (256 ^ (rank 256 w - 1)) (sum_by weight (covers_down r (times_swap r s w))) (weight (times_swap r s w)) (weight w) covers more first all
   where
     by : (a b p c d e : ℕ) → c ≤ a * p → p * a ≤ p * b → d ≤ p → b * p + p < e → c + d < e
     by a b p c d e h k l m =

@@ -8,11 +8,12 @@ use Rattle.linear_combinations.specs.Gains.{WholeTermsOf, over, HaveLabels}
 use Rattle.transition_walk.specs.Todo.{load, AreInOrder}
 use Rattle.transition_walk.specs.Transitions.{IsShort, weight}
 use Rattle.transition_walk.specs.Growth.{GrowsBy, IsSingle, IsShare, SharesOverflow, WorksOff, OverflowsAt, all_of, limit_of, top_of}
-use Rattle.transition_walk.specs.Waiting.{WithList, value_of, weighed, growth, IsWaiting, AreWaiting}
+use Rattle.transition_walk.specs.Waiting.{WithList, value_of, growth, IsWaiting, AreWaiting}
 use Rattle.transition_walk.proofs.TodoLists.{load_append}
 use Rattle.transition_walk.proofs.WaitingOrder.{order_rest, order_one}
-use Rattle.transition_walk.proofs.Weights.{weigh_append}
 use Rattle.transition_walk.proofs.Shares.{share, share_positive, ones_limit, limit_share}
+use Rattle.sym_model.proofs.NumberSums.{sum_by-append}
+use Rattle.linear_combinations.specs.Gains.{weighed}
 use lib.IntN.{+ℤ_idr, +ℤ_idl}
 
 module _ {L : Type 0} (product : ℕ → (List ℕ → ℤ) → List ℕ → L → ℤ) (images : ℕ → List ℕ → L → WholeTermsOf L) (extent : L → ℕ) (most : ℕ) (w : List ℕ) (label : L) where
@@ -69,7 +70,7 @@ module _ {L : Type 0} (product : ℕ → (List ℕ → ℤ) → List ℕ → L �
     popped_growth : (share : List ℕ → L → ℕ) → IsShare images extent (length w) (top_of w (extent label)) share → all_of sum rest last share ≤ share w label
     popped_growth share falls =
         let a = ap (growth share) popped in
-        let b = weigh_append (λ (x : WithList L). weighed (share x.perm) x.factor) rest (last ∷ []) in
+        let b = sum_by-append (λ (x : WithList L). weighed (share x.perm) x.factor) rest (last ∷ []) in
         let c = is.grows share falls in
         omega arith
 

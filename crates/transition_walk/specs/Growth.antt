@@ -6,9 +6,11 @@ use Rattle.sym_model.specs.Permutation.{IsTransition, times_swap, covers_down}
 use Rattle.sym_model.specs.PlaceOrders.{inversions}
 use Rattle.sym_model.specs.Schubert as polynomials
 use Rattle.linear_combinations.specs.Gains.{WholeTermsOf, over, mass, HaveLabels}
-use Rattle.transition_walk.specs.Todo.{load, weigh, AreInOrder}
+use Rattle.transition_walk.specs.Todo.{load, AreInOrder}
 use Rattle.transition_walk.specs.Transitions.{IsShort, weight}
-use Rattle.transition_walk.specs.Waiting.{WithList, value_of, weighed, growth, IsWaiting}
+use Rattle.transition_walk.specs.Waiting.{WithList, value_of, growth, IsWaiting}
+use Rattle.sym_model.specs.Sum.{sum_by}
+use Rattle.linear_combinations.specs.Gains.{weighed}
 use Rattle.transition_walk.specs.Waiting.{AreWaiting}
 
 -- a factor takes a label of extent k, and makes of it labels of extent k + 1 at most,
@@ -35,7 +37,7 @@ pub record IsShare {L : Type 0} (image : ℕ → List ℕ → L → WholeTermsOf
   pub falls : (r s : ℕ) (w : List ℕ) (label : L) → IsShort n w → length w ≤ 255 → IsTransition w r s
       → n + inversions w ≤ top → extent label + inversions w ≤ top
       → weighed (share (times_swap r s w)) (image r (times_swap r s w) label)
-      + weigh (λ (x : List ℕ). share x label) (covers_down r (times_swap r s w)) ≤ share w label
+      + sum_by (λ (x : List ℕ). share x label) (covers_down r (times_swap r s w)) ≤ share w label
 
 -- OVERFLOW: at a label that waits with some permutation, all comes to 2^127 or more: so it does for
 -- any shares of which this label has one

@@ -11,11 +11,6 @@ use Rattle.sym_model.specs.PlaceOrders.{inversions}
 use Rattle.transition_walk.specs.declared.todo.Waiting.{Waiting}
 use Rattle.transition_walk.specs.Transitions.{weight}
 
--- the sum of a number for each element of a list
-abbrev pub weigh : {A : Type 0} → (A → ℕ) → List A → ℕ
-weigh f [] = 0
-weigh f (x ∷ xs) = f x + weigh f xs
-
 -- the sum of the weights of the permutations, which each step lowers
 abbrev pub load : {F : Type 0} → List (Waiting F) → ℕ
 load [] = 0

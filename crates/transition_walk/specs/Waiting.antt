@@ -1,13 +1,15 @@
 -- Permutations that wait for the transition rule, each with the list that its Schubert polynomial
 -- is multiplied by: what is added to them.
-use Rattle.std.specs.Prelude.{◌≡◌, ℕ, ◌+◌, ◌*◌, ◌^◌, ◌≤◌, nat_abs, ℤ, ◌+ℤ◌, List, [], ◌∷◌, ◌++◌}
+use Rattle.std.specs.Prelude.{◌≡◌, ℕ, ◌+◌, ◌^◌, ◌≤◌, ℤ, ◌+ℤ◌, List, [], ◌∷◌, ◌++◌}
 use Rattle.std.specs.Prelude.{length}
 use Rattle.sym_model.specs.Permutation.{times_swap, covers_down}
 use Rattle.sym_model.specs.PlaceOrders.{inversions}
 use Rattle.sym_model.specs.Sum.{total, Among}
 use Rattle.linear_combinations.specs.Gains.{WholeTermsOf, over, replaced, HaveLabels}
 use Rattle.transition_walk.specs.declared.todo.Waiting.{Waiting}
-use Rattle.transition_walk.specs.Todo.{load, weigh, AreInOrder}
+use Rattle.sym_model.specs.Sum.{sum_by}
+use Rattle.linear_combinations.specs.Gains.{weighed}
+use Rattle.transition_walk.specs.Todo.{load, AreInOrder}
 
 -- a permutation with the list that its Schubert polynomial is multiplied by
 abbrev pub WithList : Type 0 → Type 0
@@ -18,13 +20,9 @@ WithList L = Waiting (WholeTermsOf L)
 abbrev pub value_of : {L : Type 0} → (List ℕ → L → ℤ) → List (WithList L) → ℤ
 value_of {L} φ todo = total (λ (w : WithList L). over (φ w.perm) w.factor) todo
 
--- the sum of the absolute values of the coefficients, each times the weight of its label
-abbrev pub weighed : {L : Type 0} → (L → ℕ) → WholeTermsOf L → ℕ
-weighed {L} f terms = weigh (λ (t : L × ℤ). nat_abs t.1 * f t.0) terms
-
 -- what all lists weigh, where each label has its share of the permutation that it waits with
 abbrev pub growth : {L : Type 0} → (List ℕ → L → ℕ) → List (WithList L) → ℕ
-growth {L} share todo = weigh (λ (w : WithList L). weighed (share w.perm) w.factor) todo
+growth {L} share todo = sum_by (λ (w : WithList L). weighed (share w.perm) w.factor) todo
 
 -- a permutation of at most n letters; with its inversions n and the extents of its labels come to
 -- at most `top`

@@ -8,7 +8,7 @@ ghost use Rattle.sym_model.specs.PlaceOrders.{inversions};
 ghost use Rattle.perm_codes.specs.Limits.{IsWithinLimits};
 ghost use Rattle.linear_combinations.specs.Gains.{over};
 ghost use Rattle.transition_walk.specs.Growth.{limit_of, top_of, IsShare, IsSingle, SharesOverflow};
-ghost use Rattle.transition_walk.specs.Waiting.{weighed};
+ghost use Rattle.linear_combinations.specs.Gains.{weighed};
 
 use crate::factor::Factor;
 use crate::todo::Waiting;

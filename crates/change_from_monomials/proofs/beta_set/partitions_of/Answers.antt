@@ -3,7 +3,7 @@ use Rattle.linear_combinations.specs.Gains.{Gains, Overflows, replaced}
 use Rattle.linear_combinations.proofs.Steps.{error_is}
 use Rattle.whole_lists.specs.Tables.{equal}
 use Rattle.whole_lists.proofs.PartitionTerms.{IsWithinLimits-low}
-use Rattle.change_from_monomials.specs.BetaSets.{shape, shapes}
+use Rattle.change_from_monomials.specs.BetaSets.{shape}
 use Rattle.change_from_monomials.proofs.ShapeSums.{written_out}
 use Rattle.change_from_monomials.proofs.beta_set.partitions_of.Goals as goal
 

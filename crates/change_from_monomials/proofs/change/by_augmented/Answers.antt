@@ -1,6 +1,6 @@
 use Rattle.std.specs.Prelude.{drop}
 use Rattle.std.proofs.lemmas.List.{take_rest}
-use Rattle.std.proofs.Common.{◌≡◌, ◌+◌, ◌-◌, take, ◌*◌, ◌^◌, ◌<◌, ◌≤◌, ℕ, length, sym, ap, ◌∙◌}
+use Rattle.std.proofs.Common.{[], ◌≡◌, ◌+◌, ◌-◌, take, ◌*◌, ◌^◌, ◌<◌, ◌≤◌, ℕ, length, sym, ap, ◌∙◌}
 use Rattle.std.proofs.Common.{subst, Err, arith}
 use Rattle.sym_model.specs.Expansion.{Basis}
 use Rattle.sym_model.specs.Weight.{factorial, growth}
@@ -9,7 +9,7 @@ use Rattle.whole_lists.proofs.WholeLists.{if_ok_both}
 use Rattle.whole_lists.proofs.Quotients.{Quotients}
 use Rattle.linear_combinations.specs.Gains.{HaveLabels, mass, over}
 use Rattle.whole_lists.specs.LabelSizes.{AreWithin}
-use Rattle.change_from_monomials.specs.AugmentedProducts.{weight, IsReady, AreSmall}
+use Rattle.change_from_monomials.specs.AugmentedProducts.{IsReady, AreSmall}
 use Rattle.change_from_monomials.specs.Clearing.{cleared_terms, HasFactors}
 use Rattle.change_from_monomials.specs.Costs.{cost}
 use Rattle.change_from_monomials.specs.Factors.{product_value, ArePowerSums}
@@ -21,12 +21,14 @@ use Rattle.change_from_monomials.proofs.ClearedAnswers.{greatest_is, cleared-ans
 use Rattle.change_from_monomials.proofs.Costs.{cost-positive}
 use Rattle.change_from_monomials.proofs.CostTable.{has-factors}
 use Rattle.change_from_monomials.proofs.Bounds.{large-number, large-denominator, same_growth}
-use Rattle.change_from_monomials.proofs.Weights.{overflow-weight}
 use Rattle.change_from_monomials.proofs.Starts.{none-large, start-cost, table-cost, table-ready}
 use Rattle.change_from_monomials.proofs.Ends.{expansion-changed}
 use Rattle.change_from_monomials.proofs.change.by_augmented.Goals as goal
 use native.Mathlib.Nat.{mul-pos, mul-le-mul_left}
 use lib.IntN.{+ℤ_idl}
+use Rattle.linear_combinations.specs.Gains.{weighed}
+use Rattle.linear_combinations.proofs.Weighed.{overflow_weighed}
+use Rattle.sparse_polys.specs.Labels.{same_pair}
 use Rattle.monomial_laws.proofs.Growths.{factorial-positive}
 
 pub returns-in_default-clause-large : goal.returns-in_default-clause-large
@@ -42,16 +44,17 @@ pub returns-in_err-start-clause-large : goal.returns-in_err-start-clause-large
 returns-in_err-start-clause-large c err d w =
     let size = c.greatest_size-size.result in
     let low = c.greatest_size-size.ensures.least 15 c.requires.sizes in
-    let o = overflow-weight cost cost-positive
-    (cleared_terms c.args.bound.den c.factorial-factor.result c.args.list.now)
-    (c.in_err-start.ensures.large
-    (ap Err (error_is _ _ _ c.from_residual-in_err-start.ensures.1 err))) in
+    let large = c.in_err-start.ensures.large
+    (ap Err (error_is _ _ _ c.from_residual-in_err-start.ensures.1 err)) in
+    let o = overflow_weighed same_pair []
+    (cleared_terms c.args.bound.den c.factorial-factor.result c.args.list.now) large cost
+    (cost-positive large.0) in
     let s = start-cost c.args.bound.num c.args.bound.den size c.factorial-factor.result
     c.args.list.now c.factorial-factor.ensures low c.greatest_size-size.ensures.table
     c.greatest_size-size.ensures.within c.requires.bounded in
     large-number c.args.family c.args.bound.num c.args.bound.den size d
-    (weight cost (cleared_terms c.args.bound.den c.factorial-factor.result c.args.list.now))
-    c.requires.positive.1 (c.greatest_size-size.ensures.least d w) o s
+    (weighed cost (cleared_terms c.args.bound.den c.factorial-factor.result c.args.list.now))
+    c.requires.positive.1 (c.greatest_size-size.ensures.least d w) (omega (arith, o)) s
 
 pub returns-in_err-end-clause-large : goal.returns-in_err-end-clause-large
 returns-in_err-end-clause-large c err d w =
@@ -64,7 +67,7 @@ returns-in_err-end-clause-large c err d w =
     c.greatest_size-size.ensures.within c.in_ok-start.start c.requires.bounded
     c.in_ok-start.ensures.table c.in_ok-start.ensures.gains in
     large-number c.args.family c.args.bound.num c.args.bound.den size d
-    (weight cost c.in_ok-start.start) c.requires.positive.1
+    (weighed cost c.in_ok-start.start) c.requires.positive.1
     (c.greatest_size-size.ensures.least d w) o s
 
 pub in_augmented-requires-clause-den : goal.in_augmented-requires-clause-den

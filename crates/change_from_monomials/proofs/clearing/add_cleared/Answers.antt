@@ -2,7 +2,7 @@ use Rattle.std.proofs.Common.{[]}
 use Rattle.sparse_polys.specs.Labels.{same_pair}
 use Rattle.linear_combinations.proofs.Gains.{overflows_alone}
 use Rattle.change_from_monomials.specs.Clearing.{cleared_number}
-use Rattle.change_from_monomials.proofs.Weights.{label_laws}
+use Rattle.change_from_monomials.proofs.MixedLabels.{label_laws}
 use Rattle.change_from_monomials.proofs.clearing.add_cleared.Goals as goal
 
 pub returns-in_default-clause-large : goal.returns-in_default-clause-large

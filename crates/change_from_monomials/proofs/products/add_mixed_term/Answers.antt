@@ -4,7 +4,7 @@ use Rattle.basis_change_laws.specs.JoinedLists.{merged}
 use Rattle.sparse_polys.specs.Labels.{same_pair}
 use Rattle.linear_combinations.proofs.Gains.{overflows_alone}
 use Rattle.family_lists.proofs.RowSteps.{limits-merged}
-use Rattle.change_from_monomials.proofs.Weights.{label_laws}
+use Rattle.change_from_monomials.proofs.MixedLabels.{label_laws}
 use Rattle.change_from_monomials.proofs.products.add_mixed_term.Goals as goal
 
 pub returns-in_default-clause-large : goal.returns-in_default-clause-large

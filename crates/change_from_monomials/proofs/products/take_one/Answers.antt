@@ -3,7 +3,7 @@ use Rattle.coeff_rings.proofs.Sizes.{refused_size}
 use Rattle.sym_model.specs.RaisedPart.{raise}
 use Rattle.sparse_polys.specs.Labels.{same_pair}
 use Rattle.linear_combinations.proofs.Gains.{overflows_alone}
-use Rattle.change_from_monomials.proofs.Weights.{label_laws}
+use Rattle.change_from_monomials.proofs.MixedLabels.{label_laws}
 use Rattle.change_from_monomials.proofs.products.take_one.Goals as goal
 
 pub returns-in_err-minus-clause-large : goal.returns-in_err-minus-clause-large

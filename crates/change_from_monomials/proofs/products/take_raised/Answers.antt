@@ -1,14 +1,14 @@
-use Rattle.std.proofs.Common.{◌≡◌, ◌+◌, ◌∷◌, [], ◌++◌, take, drop, get_or, ℕ, List, ap, Err, sym}
+use Rattle.std.proofs.Common.{◌≡◌, ◌∷◌, [], ◌++◌, get_or, ℕ, List, ap, Err}
 use Rattle.std.proofs.Common.{refl, arith, ℤ, neg_ℤ, inr}
-use Rattle.std.proofs.lemmas.List.{take_more}
+use Rattle.sym_model.proofs.Lists.{get_or-any}
 use Rattle.sym_model.specs.RaisedPart.{raise}
 use Rattle.sym_model.proofs.SortedParts.{IsPartition-raise, size-raise, has-zero_or}
 use Rattle.linear_combinations.specs.Gains.{each_with}
-use Rattle.linear_combinations.proofs.Gains.{pairs_gain, pairs_overflow}
+use Rattle.linear_combinations.proofs.Gains.{places_gain, places_overflow}
 use Rattle.linear_combinations.proofs.Steps.{error_is}
 use Rattle.whole_lists.proofs.PartitionTerms.{IsWithinLimits-low}
 use Rattle.change_from_monomials.specs.AugmentedProducts.{Mixed, equal, raised}
-use Rattle.change_from_monomials.proofs.Walks.{part-within, has-index, part_split}
+use Rattle.change_from_monomials.proofs.Walks.{part-within, has-index}
 use Rattle.change_from_monomials.proofs.products.take_raised.Goals as goal
 
 abbrev taken : ℤ → List ℕ → ℕ → List ℕ → List ℕ → Mixed
@@ -41,10 +41,10 @@ returns-in_err-take_one-clause-large c err =
     let conv = c.args.converted.now in
     let aug = c.args.augmented.now in
     let i = c.loop-part.part-index in
-    pairs_overflow (taken z conv c.args.by aug) (taken-append z conv c.args.by aug) (take i aug)
-    (get_or aug i 0) c.args.sum.now c.loop-part.sum c.loop-part.invariant equal
-    (drop (i + 1) aug) aug
-    (part_split aug i c.loop-part-test.true)
+    places_overflow (taken z conv c.args.by aug) (taken-append z conv c.args.by aug) aug i
+    (get_or aug i 0) c.loop-part-test.true
+    (get_or-any aug i 0 (get_or aug i 0) c.loop-part-test.true) c.args.sum.now c.loop-part.sum
+    c.loop-part.invariant equal
     (c.in_err-take_one.ensures.large (ap Err (error_is _ _ _ c.from_residual.ensures.1 err)))
 
 pub loop-part-preserved : goal.loop-part-preserved
@@ -53,7 +53,7 @@ loop-part-preserved c =
     let conv = c.args.converted.now in
     let aug = c.args.augmented.now in
     let i = c.loop-part.part-index in
-    pairs_gain (taken z conv c.args.by aug) (taken-append z conv c.args.by aug) (take i aug)
-    (get_or aug i 0) c.args.sum.now c.loop-part.sum c.loop-part.invariant (take (i + 1) aug)
-    c.take_one.new.sum
-    (sym (take_more aug i 0 c.loop-part-test.true)) c.in_ok-take_one.ensures.gains
+    places_gain (taken z conv c.args.by aug) (taken-append z conv c.args.by aug) aug i
+    (get_or aug i 0) c.loop-part-test.true
+    (get_or-any aug i 0 (get_or aug i 0) c.loop-part-test.true) c.args.sum.now c.loop-part.sum
+    c.loop-part.invariant c.take_one.new.sum c.in_ok-take_one.ensures.gains

@@ -1,15 +1,16 @@
 use Rattle.std.proofs.Common.{◌≡◌, ◌≤◌, ℕ, ℤ, List, length}
 use Rattle.linear_combinations.specs.Gains.{HaveLabels, over}
 use Rattle.whole_lists.specs.declared.family.Family.{Family}
-use Rattle.change_from_monomials.specs.AugmentedProducts.{weight, IsReady}
+use Rattle.change_from_monomials.specs.AugmentedProducts.{IsReady}
 use Rattle.change_from_monomials.specs.Factors.{product_value, ArePowerSums}
 use Rattle.change_from_monomials.specs.Costs.{cost}
+use Rattle.linear_combinations.specs.Gains.{weighed}
 use Rattle.change_from_monomials.proofs.rewriting.converted.Given as goal
 
 abbrev pub invariant-loop-rows : goal.invariant-loop-rows
 invariant-loop-rows l = record {
   value : (family : Family) → ArePowerSums family l.factors → (n : ℕ) (φ : List ℕ → ℤ) → over (product_value family n φ) l.table ≡ over (product_value family n φ) l.fn.start;
-  costs : weight cost l.table ≤ weight cost l.fn.start;
+  costs : weighed cost l.table ≤ weighed cost l.fn.start;
   ready : HaveLabels (IsReady (length l.factors) l.rows) l.table;
 }
 

@@ -6,7 +6,6 @@ use Rattle.sym_model.specs.WholeTerms.{combined}
 use Rattle.sparse_polys.specs.Labels.{same_pair}
 use Rattle.linear_combinations.proofs.Steps.{error_is}
 use Rattle.linear_combinations.specs.Gains.{over, mass, replaced, HaveLabels}
-use Rattle.linear_combinations.proofs.Gains.{gains_mass}
 use Rattle.linear_combinations.proofs.Masses.{overflow_mass, represents_sums, weight_is}
 use Rattle.linear_combinations.proofs.Masses.{weight_grows}
 use Rattle.double_schubert.specs.Shifts.{ShiftedSum, IsWithin, equal, factor_terms, greatest_length}
@@ -14,6 +13,7 @@ use Rattle.double_schubert.proofs.FactorGains.{label_laws, over_product, product
 use Rattle.double_schubert.proofs.FactorGains.{product_labels, pair_product, longest}
 use Rattle.double_schubert.proofs.factor.times_factor.Goals as goal
 use native.Mathlib.Nat.{mul-le-mul_left}
+use Rattle.linear_combinations.proofs.Weighed.{gains_mass}
 use lib.IntN.{+ℤ_idl}
 
 pub add_by-requires : goal.add_by-requires
@@ -66,7 +66,7 @@ returns-clause-value c n =
 
 pub returns-clause-weight : goal.returns-clause-weight
 returns-clause-weight c =
-    let g = gains_mass label_laws same_pair c.new-product.result
+    let g = gains_mass same_pair label_laws c.new-product.result
     (replaced (factor_terms c.args.r c.args.c) c.args.list) c.add_by.new.self
     c.in_ok-add_by.ensures.table c.in_ok-add_by.ensures.gains in
     let more = product_mass c.args.r c.args.c c.requires.first c.args.list

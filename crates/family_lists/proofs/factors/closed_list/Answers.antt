@@ -10,7 +10,9 @@ use Rattle.whole_lists.proofs.WholeLists.{Finds, Finds-next, more_as, Same-from_
 use Rattle.whole_lists.proofs.PartitionTerms.{listed_on, listed_partition, IsWithinLimits-listed}
 use Rattle.whole_lists.proofs.PartitionTerms.{listed_next}
 use Rattle.family_lists.specs.ClosedCoefficients.{closed_coefficient}
-use Rattle.family_lists.proofs.ClosedLists.{listed, listed-push, listed-fits, closed-stands}
+use Rattle.family_lists.proofs.ClosedLists.{listed-fits, closed-stands}
+use Rattle.linear_combinations.proofs.Counted.{each_by-append}
+use Rattle.linear_combinations.specs.Gains.{each_by}
 use Rattle.family_lists.proofs.factors.closed_list.Goals as goal
 
 pub loop-alloc-init : goal.loop-alloc-init
@@ -62,9 +64,9 @@ loop-alloc-preserved c =
       record {
         so_far = listed_next inv.0 _ (partitions_of c.args.k) label on;
         finds =
-            subst (Finds new) (listed-push (closed_coefficient c.args.target c.args.family) inv.0
-            label)
-            (Finds-next old new (listed (closed_coefficient c.args.target c.args.family) inv.0)
+            subst (Finds new) (sym (each_by-append (closed_coefficient c.args.target c.args.family) inv.0
+            (label ∷ [])))
+            (Finds-next old new (each_by (closed_coefficient c.args.target c.args.family) inv.0)
             label
             (closed_coefficient c.args.target c.args.family label) inv.1.finds
             (more_as old old new c.in_ok-label.label label c.coefficient-c.result
@@ -97,6 +99,6 @@ returns-clause-value c =
     closed-stands c.args.target c.args.family c.args.k c.loop-alloc.list c.requires.other
     c.requires.low.0 inv.1.table
     (subst (λ (labels : List (List ℕ)). Same c.loop-alloc.list
-    (listed (closed_coefficient c.args.target c.args.family) labels)) all
-    (Same-from_look_ups c.loop-alloc.list (listed (closed_coefficient c.args.target c.args.family)
+    (each_by (closed_coefficient c.args.target c.args.family) labels)) all
+    (Same-from_look_ups c.loop-alloc.list (each_by (closed_coefficient c.args.target c.args.family)
     inv.0) inv.1.table inv.1.finds))

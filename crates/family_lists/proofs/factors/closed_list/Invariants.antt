@@ -3,14 +3,14 @@ use Rattle.sym_model.specs.PartitionList.{partitions_of}
 use Rattle.whole_lists.specs.Tables.{IsWholeTable}
 use Rattle.whole_lists.proofs.WholeLists.{Finds}
 use Rattle.family_lists.specs.ClosedCoefficients.{closed_coefficient}
-use Rattle.family_lists.proofs.ClosedLists.{listed}
+use Rattle.linear_combinations.specs.Gains.{each_by}
 use Rattle.family_lists.proofs.factors.closed_list.Given as goal
 
 -- the table has the partitions so far, and they and the rest are all
 abbrev pub invariant-loop-alloc : goal.invariant-loop-alloc
 invariant-loop-alloc l = (done : List (List ℕ)) × record {
   so_far : done ++ l.labels.0 ≡ partitions_of l.k;
-  finds : Finds l.list (listed (closed_coefficient l.target l.family) done);
+  finds : Finds l.list (each_by (closed_coefficient l.target l.family) done);
   table : IsWholeTable l.list;
 }
 

@@ -4,12 +4,13 @@ use Rattle.std.proofs.Common.{arith}
 use Rattle.sym_model.specs.GoodTableau.{is_falling}
 use Rattle.sym_model.specs.Partition.{size}
 use Rattle.lr_product.specs.Capped.{Agree}
-use Rattle.lr_product.specs.WeighedSum.{sum_over, weighed}
+use Rattle.lr_product.specs.WeighedSum.{weighed}
 use Rattle.lr_product.specs.Extension.{numbers_from, raised, mark, can_rise, extended}
 use Rattle.lr_product.proofs.Raising.{index-size, size-raised, length-placed, width_placed}
 use Rattle.lr_product.proofs.LetterSums.{agree_step, agree_end, agree_without}
 use Rattle.lr_product.proofs.Agreeing.{agree_then, agree_same}
 use Rattle.lr_product.proofs.Pruned.{no_room, falls-placed, fewer_letters}
+use Rattle.sym_model.specs.Sum.{sum_by}
 use Rattle.lr_product.proofs.extension.+extend.Goals as goal
 
 pub loop-letter-preserved-then-not-has_room : goal.loop-letter-preserved-then-not-has_room
@@ -172,6 +173,6 @@ returns-clause-adds t c f v =
     (agree_end (weighed n f c.loop-letter.table.entries) _ c.args.column.ways X c.loop-letter.letter
     c.end_of_letters-end.result c.loop-letter-test.false (c.loop-letter.invariant.adds f v))
     (agree_same _ _ (ap (λ x. weighed n f c.args.table.now.entries + c.args.column.ways * x)
-    (ap₂ (λ a z. sum_over X (numbers_from a (z - a))) low end
+    (ap₂ (λ a z. sum_by X (numbers_from a (z - a))) low end
     ∙ fewer_letters kept n c.in-Some.cell.now c.in-Some.rest.now c.args.right.now c.args.above f s
     ∙ ap (λ (l : List Bool). extended kept n l c.args.right.now c.args.above f s) (sym line))))

@@ -7,7 +7,7 @@ use Rattle.sym_model.proofs.Sums.{Among-get_or}
 use Rattle.monomial_strip_laws.specs.StripProduct.{placings}
 use Rattle.linear_combinations.specs.Gains.{Gains, Overflows, scaled}
 use Rattle.linear_combinations.specs.Labels.{same_partition}
-use Rattle.linear_combinations.proofs.Counted.{scaled_counted-append}
+use Rattle.linear_combinations.proofs.Counted.{scaled_each_by-append}
 use Rattle.linear_combinations.proofs.Gains.{gains_none, overflows_alone, places_gain}
 use Rattle.linear_combinations.proofs.Gains.{places_overflow}
 use Rattle.linear_combinations.proofs.Steps.{error_is}
@@ -41,7 +41,7 @@ returns-in_default-clause-large c = λ large.
     c.args.c number c.parts.ensures.value c.parts-in-loop-shape.ensures.value refl in
     places_overflow
     (λ (shapes : List (List ℕ)). scaled c.args.c (with_placings c.args.label.now shapes))
-    (scaled_counted-append (placings c.args.label.now) c.args.c) c.args.shapes.now
+    (scaled_each_by-append (λ ν. pos (placings c.args.label.now ν)) c.args.c) c.args.shapes.now
     c.loop-shape.shape-index shape (omega arith) c.shape-item.is c.args.sum.now c.loop-shape.sum
     c.loop-shape.invariant (pointwise nat_eq)
     (subst (λ (z : ℤ). Overflows (pointwise nat_eq) c.loop-shape.sum ((shape, z) ∷ [])) is
@@ -56,7 +56,7 @@ returns-in_err-add_at_label-clause-large c = λ large.
     c.in-Some.ensures in
     places_overflow
     (λ (shapes : List (List ℕ)). scaled c.args.c (with_placings c.args.label.now shapes))
-    (scaled_counted-append (placings c.args.label.now) c.args.c) c.args.shapes.now
+    (scaled_each_by-append (λ ν. pos (placings c.args.label.now ν)) c.args.c) c.args.shapes.now
     c.loop-shape.shape-index shape (omega arith) c.shape-item.is c.args.sum.now c.loop-shape.sum
     c.loop-shape.invariant (pointwise nat_eq)
     (subst (λ (z : ℤ). Overflows (pointwise nat_eq) c.loop-shape.sum ((shape, z) ∷ [])) is
@@ -70,7 +70,7 @@ loop-shape-preserved c =
     c.in-Some.ensures in
     places_gain
     (λ (shapes : List (List ℕ)). scaled c.args.c (with_placings c.args.label.now shapes))
-    (scaled_counted-append (placings c.args.label.now) c.args.c) c.args.shapes.now
+    (scaled_each_by-append (λ ν. pos (placings c.args.label.now ν)) c.args.c) c.args.shapes.now
     c.loop-shape.shape-index shape (omega arith) c.shape-item.is c.args.sum.now c.loop-shape.sum
     c.loop-shape.invariant c.add_at_label.new.self
     (subst (λ (z : ℤ). Gains c.loop-shape.sum ((shape, z) ∷ []) c.add_at_label.new.self) is

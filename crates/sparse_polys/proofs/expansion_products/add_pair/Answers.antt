@@ -20,7 +20,8 @@ use Rattle.sparse_polys.proofs.Accumulating.{Overflows-many}
 use Rattle.linear_combinations.proofs.Cleared.{Gains-none, Gains-next, Overflows-next}
 use Rattle.sparse_polys.proofs.ExactCounts.{among_at, all_among}
 use Rattle.sparse_polys.proofs.ProductLists.{counted_terms, counted_pieces, counted_gains}
-use Rattle.sparse_polys.proofs.ProductLists.{counted_overflows, take_here, take_rest}
+use Rattle.sparse_polys.proofs.ProductLists.{counted_overflows}
+use Rattle.sym_model.proofs.Lists.{take-read, split-read}
 use Rattle.sparse_polys.proofs.expansion_products.add_pair.Goals as goal
 
 pub exact_product-requires : goal.exact_product-requires
@@ -89,7 +90,7 @@ loop-term-preserved g c d e h cleared =
     Gains-next (λ xs. multiple z (counted_terms xs)) (counted_pieces z) (d * e) (take i entries) t
     (terms_of g.R.Scalar.value c.args.sum.now) (terms_of g.R.Scalar.value c.loop-term.sum) before
     (take (i + 1) entries) (terms_of g.R.Scalar.value c.add_count.new.sum)
-    (take_here entries i t c.loop-term-test.true c.term-item.is)
+    (take-read entries i t c.loop-term-test.true c.term-item.is)
     (c.in_ok-add_count.ensures.ok d e h before.cleared)
 
 pub returns-in_err-add_count-clause-large : goal.returns-in_err-add_count-clause-large
@@ -118,7 +119,7 @@ returns-in_err-add_count-clause-large g c err d e h small a b cleared =
     (subst (λ l. OverflowsCleared (pointwise nat_eq) (d * e)
     (terms_of g.R.Scalar.value c.args.sum.now)
     (multiple z (counted_terms l)))
-    (take_rest entries i t c.loop-term-test.true c.term-item.is
+    (split-read entries i t c.loop-term-test.true c.term-item.is
     ∙ c.as_slice-entries.ensures.value) over)))
 
 pub returns-clause-ok : goal.returns-clause-ok

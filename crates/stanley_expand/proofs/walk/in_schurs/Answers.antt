@@ -3,10 +3,10 @@ use Rattle.std.specs.Prelude.{Err}
 use Rattle.sym_model.specs.Polynomial.{pair}
 use Rattle.sym_model.specs.Schubert.{schubert_in}
 use Rattle.linear_combinations.proofs.Steps.{error_is}
-use Rattle.transition_walk.specs.Todo.{weigh}
 use Rattle.transition_walk.specs.Transitions.{weight}
 use Rattle.stanley_expand.specs.Walk.{walked}
 use Rattle.stanley_expand.proofs.Popped.{popped_rising, popped_weights, popped_walked, large_as}
+use Rattle.sym_model.specs.Sum.{sum_by}
 use Rattle.stanley_expand.proofs.walk.in_schurs.Goals as goal
 
 pub work_off-requires-clause-rising : goal.work_off-requires-clause-rising
@@ -16,13 +16,13 @@ work_off-requires-clause-rising c =
 
 pub loop-perm-smaller-in_ok-work_off : goal.loop-perm-smaller-in_ok-work_off
 loop-perm-smaller-in_ok-work_off c =
-    subst (λ k. weigh weight c.work_off.new.todo.items < k)
+    subst (λ k. sum_by weight c.work_off.new.todo.items < k)
     (sym (popped_weights c.loop-perm.todo.items c.pop.new.self.items c.in-Some.perm
     c.in-Some.ensures.items)) c.in_ok-work_off.ensures.weight
 
 pub loop-perm-smaller : goal.loop-perm-smaller
 loop-perm-smaller c =
-    subst (λ k. weigh weight c.work_off.new.todo.items < k)
+    subst (λ k. sum_by weight c.work_off.new.todo.items < k)
     (sym (popped_weights c.loop-perm.todo.items c.pop.new.self.items c.in-Some.perm
     c.in-Some.ensures.items)) c.in_ok-work_off.ensures.weight
 

@@ -1,9 +1,9 @@
 use Rattle.std.proofs.Common.{◌≡◌, ◌+◌, ℕ, List, ℤ}
 use Rattle.sym_model.specs.Polynomial.{pair}
 use Rattle.sym_model.specs.Schubert.{schubert_in}
-use Rattle.transition_walk.specs.Todo.{weigh}
 use Rattle.transition_walk.specs.Transitions.{weight}
 use Rattle.stanley_expand.specs.Walk.{AreRising, AreShapes, walked}
+use Rattle.sym_model.specs.Sum.{sum_by}
 use Rattle.stanley_expand.proofs.walk.in_schurs.Given as goal
 
 -- what still waits and the sum so far are the polynomial
@@ -15,4 +15,4 @@ invariant-loop-perm l = record {
 }
 
 abbrev pub decreases-loop-perm : goal.decreases-loop-perm
-decreases-loop-perm l = weigh weight l.todo.items
+decreases-loop-perm l = sum_by weight l.todo.items

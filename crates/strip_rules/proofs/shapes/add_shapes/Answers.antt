@@ -9,11 +9,11 @@ use Rattle.linear_combinations.proofs.Steps.{error_is, all_done}
 use Rattle.sparse_polys.specs.Combination.{terms_of}
 use Rattle.linear_combinations.proofs.Cleared.{Gains-none}
 use Rattle.linear_combinations.specs.Cleared.{GainsMultiple}
-use Rattle.strip_rules.specs.Adding.{with_signs}
 use Rattle.strip_rules.proofs.ShapeLists.{so_far_on}
 use Rattle.strip_rules.proofs.Signs.{signed_one}
 use Rattle.strip_rules.proofs.TermsAdded.{Gains-shape, Overflows-shape, Gains-signed}
 use Rattle.strip_rules.proofs.TermsAdded.{Overflows-signed}
+use Rattle.linear_combinations.specs.Gains.{each_by}
 use Rattle.strip_rules.proofs.shapes.add_shapes.Goals as goal
 
 pub loop-shape-init : goal.loop-shape-init
@@ -63,7 +63,7 @@ returns-clause-ok g c =
     let value = g.R.Scalar.value in
     let none : into_iter_items c.loop-shape.shape-iterator ≡ [] = grind (arith, common_steps) in
     subst (λ l. GainsMultiple (pointwise nat_eq) is_label (value c.args.c)
-    (with_signs (λ ν. pos 1) l) (terms_of value c.args.sum.now)
+    (each_by (λ ν. pos 1) l) (terms_of value c.args.sum.now)
     (terms_of value c.loop-shape.sum))
     (all_done c.loop-shape.yielded _ _ _ none c.loop-shape.invariant.so_far refl)
     c.loop-shape.invariant.adds

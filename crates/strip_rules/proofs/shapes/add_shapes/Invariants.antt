@@ -5,7 +5,7 @@ use Rattle.std.specs.Cmp.Lexicographic.{pointwise}
 use Rattle.sym_model.specs.Canonical.{is_label}
 use Rattle.sparse_polys.specs.Combination.{terms_of}
 use Rattle.linear_combinations.specs.Cleared.{GainsMultiple}
-use Rattle.strip_rules.specs.Adding.{with_signs}
+use Rattle.linear_combinations.specs.Gains.{each_by}
 use Rattle.strip_rules.proofs.shapes.add_shapes.Given as goal
 
 -- the shapes so far are added, and they and the rest are all
@@ -15,5 +15,5 @@ invariant-loop-shape g l =
     record {
       so_far : l.yielded ++ into_iter_items l.shape-iterator ≡ l.fn.shapes.items;
       adds : GainsMultiple (pointwise nat_eq) is_label (value l.c)
-          (with_signs (λ ν. pos 1) l.yielded) (terms_of value l.fn.sum) (terms_of value l.sum);
+          (each_by (λ ν. pos 1) l.yielded) (terms_of value l.fn.sum) (terms_of value l.sum);
     }

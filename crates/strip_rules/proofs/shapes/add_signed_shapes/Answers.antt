@@ -9,13 +9,14 @@ use Rattle.linear_combinations.proofs.Steps.{error_is, all_done}
 use Rattle.sparse_polys.specs.Combination.{terms_of}
 use Rattle.linear_combinations.proofs.Cleared.{Gains-none}
 use Rattle.linear_combinations.specs.Cleared.{GainsMultiple}
-use Rattle.strip_rules.specs.Adding.{IsSigned, with_signs}
+use Rattle.strip_rules.specs.Adding.{IsSigned}
 use Rattle.strip_rules.proofs.ShapeLists.{among_next, next_on, so_far_on}
 use Rattle.strip_rules.proofs.Signs.{height_here}
 use Rattle.strip_rules.proofs.TermsAdded.{Gains-shape, Overflows-shape, Gains-signed}
 use Rattle.strip_rules.proofs.TermsAdded.{Overflows-signed}
 use Rattle.strip_rules.proofs.TermsAdded.{Overflows-size}
 use Rattle.sym_model.proofs.Integers.{sign_size}
+use Rattle.linear_combinations.specs.Gains.{each_by}
 use Rattle.strip_rules.proofs.shapes.add_signed_shapes.Goals as goal
 
 pub loop-alloc-init : goal.loop-alloc-init
@@ -126,6 +127,6 @@ returns-clause-ok g c =
     let value = g.R.Scalar.value in
     let inv = c.loop-alloc.invariant in
     subst (λ l. GainsMultiple (pointwise nat_eq) is_label (value c.args.c)
-    (with_signs (λ ν. minus_one_to (height ν c.args.hooks.now.base - 1)) l)
+    (each_by (λ ν. minus_one_to (height ν c.args.hooks.now.base - 1)) l)
     (terms_of value c.args.sum.now) (terms_of value c.loop-alloc.sum))
     (all_done inv.0 _ _ _ c.loop-alloc-test.ensures.ended inv.1.so_far refl) inv.1.adds

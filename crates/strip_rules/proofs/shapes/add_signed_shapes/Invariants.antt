@@ -6,7 +6,7 @@ use Rattle.sym_model.specs.PlaceOrders.{minus_one_to}
 use Rattle.sym_model.specs.Strip.{height}
 use Rattle.sparse_polys.specs.Combination.{terms_of}
 use Rattle.linear_combinations.specs.Cleared.{GainsMultiple}
-use Rattle.strip_rules.specs.Adding.{with_signs}
+use Rattle.linear_combinations.specs.Gains.{each_by}
 use Rattle.strip_rules.proofs.shapes.add_signed_shapes.Given as goal
 
 -- the shapes so far are added, they and the rest are all, and the inner partition stays
@@ -18,7 +18,7 @@ invariant-loop-alloc g l =
       base : l.hooks.base ≡ l.fn.hooks.base;
       adds :
           GainsMultiple (pointwise nat_eq) is_label (value l.c)
-          (with_signs (λ ν. minus_one_to (height ν l.fn.hooks.base - 1)) done)
+          (each_by (λ ν. minus_one_to (height ν l.fn.hooks.base - 1)) done)
           (terms_of value l.fn.sum)
           (terms_of value l.sum);
     }

@@ -5,9 +5,9 @@ use Rattle.sym_model.proofs.Ring.{one-product}
 use Rattle.linear_combinations.specs.Gains.{over, mass}
 use Rattle.linear_combinations.proofs.Masses.{labels_gained, overflow_mass}
 use Rattle.linear_combinations.proofs.Steps.{error_is}
-use Rattle.transition_walk.specs.Waiting.{weighed}
 use Rattle.transition_walk.proofs.Steps.{no_labels}
-use Rattle.transition_walk.proofs.Weighed.{gains_weighed}
+use Rattle.linear_combinations.specs.Gains.{weighed}
+use Rattle.linear_combinations.proofs.Weighed.{gains_weighed}
 use Rattle.transition_walk.proofs.product.single.Goals as goal
 
 pub returns-clause-sums : goal.returns-clause-sums

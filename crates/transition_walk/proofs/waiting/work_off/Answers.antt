@@ -3,11 +3,11 @@ use Rattle.std.proofs.lemmas.Int.{ints}
 use Rattle.linear_combinations.specs.Gains.{over}
 use Rattle.linear_combinations.proofs.Masses.{on_both}
 use Rattle.linear_combinations.proofs.Steps.{on_ok}
-use Rattle.transition_walk.specs.Waiting.{weighed}
 use Rattle.transition_walk.proofs.Ranks.{weight_positive}
 use Rattle.transition_walk.proofs.Steps.{are_labels, step_value, step_growth, step_waiting}
 use Rattle.transition_walk.proofs.Steps.{step_short, step_load}
-use Rattle.transition_walk.proofs.Weighed.{gains_weighed, overflow_weighed}
+use Rattle.linear_combinations.specs.Gains.{weighed}
+use Rattle.linear_combinations.proofs.Weighed.{gains_weighed, overflow_weighed}
 use Rattle.transition_walk.proofs.waiting.work_off.Goals as goal
 
 pub expand-requires-clause-few : goal.expand-requires-clause-few

@@ -1,9 +1,9 @@
-use Rattle.std.proofs.Common.{List, ℕ, sym, ap, subst, arith}
+use Rattle.std.proofs.Common.{pos, List, ℕ, sym, ap, subst, arith}
 use Rattle.std.specs.Prelude.{Err}
 use Rattle.std.proofs.lemmas.List.{take_all}
 use Rattle.sym_model.proofs.Sums.{Among-get_or}
 use Rattle.linear_combinations.specs.Gains.{Gains, counted, scaled}
-use Rattle.linear_combinations.proofs.Counted.{counted_counts, scaled_counted-append, counts_gain}
+use Rattle.linear_combinations.proofs.Counted.{counted_counts, scaled_each_by-append, counts_gain}
 use Rattle.linear_combinations.proofs.Counted.{counts_overflow}
 use Rattle.linear_combinations.proofs.Gains.{places_gain, places_overflow}
 use Rattle.linear_combinations.proofs.Steps.{error_is}
@@ -31,7 +31,7 @@ loop-shape-preserved c =
     c.shape-item.is)).1 in
     places_gain
     (λ (ys : List (List ℕ)). scaled c.args.c (counted (column_count k c.args.label.now) ys))
-    (scaled_counted-append (column_count k c.args.label.now) c.args.c)
+    (scaled_each_by-append (λ ν. pos (column_count k c.args.label.now ν)) c.args.c)
     xs c.loop-shape.shape-index x (omega arith) c.shape-item.is c.args.sum.now c.loop-shape.sum
     c.loop-shape.invariant c.add_shape.new.sum (c.in_ok-add_shape.ensures.gains k size)
 
@@ -49,7 +49,7 @@ returns-in_err-add_shape-clause-large c err =
     (column_sums k μ c.requires.partition xs strips) equal c.args.c c.args.sum.now
     (counted_counts (column_count k μ) xs) (counted_counts (column_count k μ) (vertical_shapes k μ))
     (places_overflow (λ (ys : List (List ℕ)). scaled c.args.c (counted (column_count k μ) ys))
-    (scaled_counted-append (column_count k μ) c.args.c)
+    (scaled_each_by-append (λ ν. pos (column_count k μ ν)) c.args.c)
     xs c.loop-shape.shape-index x (omega arith) c.shape-item.is c.args.sum.now c.loop-shape.sum
     c.loop-shape.invariant equal
     (c.in_err-add_shape.ensures.large

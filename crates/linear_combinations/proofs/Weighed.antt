@@ -1,6 +1,6 @@
--- What lists weigh, where each label has a weight (specs/Waiting).
---     gains_weighed, overflow_weighed    what a table gains, and where it is too large
---     weighed_replaced                   each label replaced by a list
+-- What lists weigh, if each label has a weight (`weighed` of specs/Gains).
+--     gains_weighed, gains_mass, overflow_weighed    what a table gains, and where it is too large
+--     weighed_replaced, weighed_images               each label replaced by a list
 use Rattle.std.proofs.Common.{◌≡◌, ℕ, zero, suc, ◌+◌, ◌*◌, ◌^◌, ◌≤◌, Bool, true, false, cond, [], ◌∷◌, ◌++◌, refl, ap, ap₂, ◌∙◌, inl, inr, arith, ℤ, pos, negsuc, ◌*ℤ◌}
 use Rattle.std.specs.Prelude.{Option, nat_abs, ◌≤ℤ◌}
 use Rattle.std.specs.Cmp.{IsEquivalence}
@@ -10,17 +10,16 @@ use Rattle.coeff_rings.specs.Fractions.{whole}
 use Rattle.sym_model.specs.Sum.{Among}
 use Rattle.sym_model.proofs.Integers.{nat_abs-product}
 use Rattle.linear_combinations.specs.Entries.{coefficient, IsCombination}
-use Rattle.linear_combinations.specs.Gains.{WholeTermsOf, over, mass, mass_at, scaled, replaced, Gains, Overflows}
+use Rattle.linear_combinations.specs.Gains.{WholeTermsOf, over, mass, weighed, mass_at, scaled, replaced, Gains, Overflows}
 use Rattle.linear_combinations.proofs.Gains.{over_only_within}
 use Rattle.linear_combinations.proofs.Totals.{found-among}
-use Rattle.transition_walk.specs.Waiting.{weighed}
-use Rattle.transition_walk.proofs.Weights.{weigh_append, weigh_within}
+use Rattle.sym_model.proofs.NumberSums.{sum_by-append, sum_by-within}
 use native.Mathlib.Nat.{mul-le-mul_left}
 use lib.IntN.{*ℤ-zero}
 
 module _ {L : Type 0} where
   pub weighed_append : (f : L → ℕ) (xs ys : WholeTermsOf L) → weighed f (xs ++ ys) ≡ weighed f xs + weighed f ys
-  weighed_append f xs ys = weigh_append (λ (t : L × ℤ). nat_abs t.1 * f t.0) xs ys
+  weighed_append f xs ys = sum_by-append (λ (t : L × ℤ). nat_abs t.1 * f t.0) xs ys
 
   pub weighed_scaled : (f : L → ℕ) (c : ℤ) (xs : WholeTermsOf L) → weighed f (scaled c xs) ≡ nat_abs c * weighed f xs
   weighed_scaled f c [] = omega arith
@@ -58,7 +57,10 @@ module _ {L : Type 0} where
 
   pub weighed_within : (f g : L → ℕ) (terms : WholeTermsOf L) → ((t : L × ℤ) → Among t terms → f t.0 ≤ g t.0) → weighed f terms ≤ weighed g terms
   weighed_within f g terms h =
-      weigh_within (λ (t : L × ℤ). nat_abs t.1 * f t.0) (λ (t : L × ℤ). nat_abs t.1 * g t.0) terms (λ t m. mul-le-mul_left (nat_abs t.1) (h t m))
+      sum_by-within (λ (t : L × ℤ). nat_abs t.1 * f t.0) (λ (t : L × ℤ). nat_abs t.1 * g t.0) terms (λ t m. mul-le-mul_left (nat_abs t.1) (h t m))
+
+  pub mass_within-weighed : (f : L → ℕ) → ((x : L) → 1 ≤ f x) → (terms : WholeTermsOf L) → mass terms ≤ weighed f terms
+  mass_within-weighed f h terms = omega (arith, weighed_all 1 terms, weighed_within (λ x. 1) f terms (λ t m. h t.0))
 
   -- one term weighs no more than all
   pub weighed_among : (f : L → ℕ) (terms : WholeTermsOf L) (t : L × ℤ) → Among t terms → nat_abs t.1 * f t.0 ≤ weighed f terms
@@ -136,9 +138,21 @@ module _ {L : Type 0} where
             let q = ap pos p in
             omega (arith, ints)
 
+    -- with the weight 1 for each label
+    pub gains_mass : (laws : IsEquivalence eq) {is_label : L → Bool} (old g new : WholeTermsOf L) → IsCombination eq is_label whole new → Gains old g new
+        → mass new ≤ mass old + mass g
+    gains_mass laws old g new is a =
+        omega (arith, gains_weighed laws old g new is a (λ x. 1), weighed_all 1 old, weighed_all 1 g, weighed_all 1 new)
+
 -- each label replaced by a list
 pub weighed_replaced : {K L : Type 0} (image : K → WholeTermsOf L) (f : L → ℕ) (terms : WholeTermsOf K) → weighed f (replaced image terms) ≡ weighed (λ k. weighed f (image k)) terms
 weighed_replaced image f [] = refl
 weighed_replaced image f (t ∷ terms) =
     weighed_append f (scaled t.1 (image t.0)) (replaced image terms)
     ∙ ap₂ (λ x y. x + y) (weighed_scaled f t.1 (image t.0)) (weighed_replaced image f terms)
+
+-- what each label is replaced by weighs no more than the label
+pub weighed_images : {K L : Type 0} (image : K → WholeTermsOf L) (f : L → ℕ) (g : K → ℕ) (terms : WholeTermsOf K)
+    → ((t : K × ℤ) → Among t terms → weighed f (image t.0) ≤ g t.0) → weighed f (replaced image terms) ≤ weighed g terms
+weighed_images image f g terms h =
+    omega (arith, weighed_replaced image f terms, weighed_within (λ k. weighed f (image k)) g terms h)
