@@ -53,9 +53,11 @@ def are_plain(values: Iterable[object]) -> bool:
 
 def is_no_list(values: object) -> bool:
     """Whether values can be gone through, but not as a list: a text, what has no order, and what has another number of dimensions (a table
-    of pandas is gone through by the names of its columns)."""
+    of pandas is gone through by the names of its columns, a matrix of sympy by all its entries)."""
     is_set = isinstance(values, (Mapping, Set)) or hasattr(values, "issubset")
-    return is_set or isinstance(values, (str, bytes, bytearray, memoryview)) or getattr(values, "ndim", 1) != 1
+    shape = getattr(values, "shape", None)
+    has_dimensions = isinstance(shape, tuple) and len(shape) != 1
+    return is_set or has_dimensions or isinstance(values, (str, bytes, bytearray, memoryview))
 
 
 def numbers(values: Shape, name: str) -> Numbers:

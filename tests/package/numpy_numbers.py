@@ -49,6 +49,15 @@ def test_a_column_of_pandas_is_a_list_and_a_table_is_none():
             CALC.mult(wrong, [1])
 
 
+def test_a_matrix_of_sympy_is_no_list():
+    """(it is gone through entry by entry, all rows in one)"""
+    sympy = need("sympy")
+    same(dict(CALC.mult(sympy.Tuple(2, 1), [sympy.Integer(1)])), dict(CALC.mult([2, 1], [1])))
+    for wrong in (sympy.Matrix([[4, 3], [2, 1]]), sympy.Array([[4, 3], [2, 1]]), sympy.FiniteSet(2, 1)):
+        with raises(TypeError, "factor 1"):
+            CALC.mult(wrong, [1])
+
+
 def test_labels_and_scalars():
     product = CALC.mult([2, 1], [2, 1])
     same(product[np.array([3, 2, 1])], 2)
