@@ -7,7 +7,7 @@ use Rattle.sym_model.specs.Partition.{IsPartition, size, rows}
 use Rattle.sym_model.specs.PartitionList.{partitions_of}
 use Rattle.sym_model.specs.Alternant.{alternant, staircase, schur_coefficient}
 use Rattle.sym_model.specs.WholeTerms.{WholeTerms}
-use Rattle.sym_model.specs.Target.{schur_product, nonzero, classical_product}
+use Rattle.sym_model.specs.Products.{schur_product, nonzero, classical_product}
 use Rattle.sym_model.proofs.Sums.{total_none, total_only, total_map, Among-select, Among_from_select, Among_from_map, Once-select, Once-map}
 use Rattle.sym_model.proofs.Exponents.{same_refl, same_apart, size-join}
 use Rattle.sym_model.proofs.PartitionLists.{partitions_of-tells, Among-partitions_of, FallsLexicographically-partitions_within, Once-FallsLexicographically}

@@ -16,7 +16,7 @@ use Rattle.sym_model.specs.Kind.{Label, number, product}
 use Rattle.sym_model.specs.Answer.{answer, number_in}
 use Rattle.sym_model.specs.Command.{mult, skew, coef}
 use Rattle.sym_model.specs.Target.{Meets}
-use Rattle.sym_model.specs.LargeAnswer.{variables_or}
+use Rattle.sym_model.specs.PastLimit.{variables_or}
 use Rattle.sym_model.proofs.Ring.{one-product}
 use Rattle.sym_model.proofs.Sums.{total_ext, total_among, total_none, total_map, length-select}
 use Rattle.sym_model.proofs.Exponents.{same_apart, length-resize, length-join}

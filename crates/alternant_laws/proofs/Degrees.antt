@@ -7,7 +7,7 @@ use Rattle.sym_model.specs.Partition.{size, part}
 use Rattle.sym_model.specs.PlaceOrders.{insertions, orders, places, sign}
 use Rattle.sym_model.specs.Schur.{words, row_lengths, fillings_of, semistandard, letters_of, content, schur}
 use Rattle.sym_model.specs.Alternant.{rearranged, alternant}
-use Rattle.sym_model.specs.Target.{schur_product}
+use Rattle.sym_model.specs.Products.{schur_product}
 use Rattle.sym_model.proofs.Sums.{total_none, Among_from_map, Among_from_each, Among_from_select}
 use Rattle.sym_model.proofs.Exponents.{same_apart, size-join}
 use Rattle.alternant_laws.proofs.OrderSums.{rearranged_places}

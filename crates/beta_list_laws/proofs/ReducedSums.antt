@@ -11,7 +11,7 @@ use Rattle.sym_model.specs.Polynomial.{Term, same, coefficient, Same}
 use Rattle.sym_model.specs.Partition.{IsPartition, rows}
 use Rattle.sym_model.specs.WholeTerms.{WholeTerms, coefficient_by, same_power, absolute_total, EachLabel, labels}
 use Rattle.sym_model.specs.AlcoveReduction.{alcove_reduction}
-use Rattle.sym_model.specs.Target.{Reduction, AreReductions, reduced_terms, reflected_term, reflected_terms}
+use Rattle.sym_model.specs.Reductions.{Reduction, AreReductions, reduced_terms, reflected_term, reflected_terms}
 use Rattle.sym_model.proofs.Sums.{total_ext, total_among, total_each}
 use Rattle.sym_model.proofs.Exponents.{same_refl, same_apart}
 use Rattle.sym_model.proofs.Polynomials.{pair_determined}

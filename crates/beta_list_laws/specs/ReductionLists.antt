@@ -1,7 +1,7 @@
 -- The reductions of the labels of a list.
 use Rattle.std.specs.Prelude.{ℕ, ℤ, List, map}
 use Rattle.sym_model.specs.WholeTerms.{WholeTerms}
-use Rattle.sym_model.specs.Target.{Reduction}
+use Rattle.sym_model.specs.Reductions.{Reduction}
 use Rattle.beta_list_laws.specs.LowestList.{reduction_by_remainders}
 
 -- the reduction by rim hooks of n cells of each label, for partitions with at most k rows

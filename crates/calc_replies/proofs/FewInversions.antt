@@ -3,7 +3,7 @@ use Rattle.std.proofs.Common.{◌≡◌, ◌≤◌, ◌+◌, ℕ, Bool, true, fa
 use Rattle.std.specs.Prelude.{max, nat_le}
 use Rattle.std.proofs.Math.Nat.{max-le}
 use Rattle.sym_model.specs.PlaceOrders.{inversions}
-use Rattle.sym_model.specs.LargeAnswer.{shorter}
+use Rattle.sym_model.specs.PastLimit.{shorter}
 use Rattle.schubert_laws.proofs.FixedTails.{pairs}
 use Rattle.perm_codes.proofs.InversionCounts.{inversions_upto}
 

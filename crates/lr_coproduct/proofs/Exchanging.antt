@@ -21,7 +21,8 @@ use Rattle.sym_model.specs.Kind.{product}
 use Rattle.sym_model.specs.Answer.{answer}
 use Rattle.sym_model.specs.Command.{skew}
 use Rattle.sym_model.specs.Target.{Meets}
-use Rattle.sym_model.specs.LargeAnswer.{HasPastCoefficient, is_past}
+use Rattle.sym_model.specs.LargeAnswer.{HasPastCoefficient}
+use Rattle.sym_model.specs.PastLimit.{is_past}
 use Rattle.sym_model.proofs.Orders.{printed_order-total}
 use Rattle.sym_model.proofs.Exponents.{same_apart, same_from, among_or_not}
 use Rattle.sym_model.proofs.Sums.{Among_from_append, Among-append_left, Among-append_right}

@@ -18,8 +18,11 @@ use Rattle.linear_combinations.proofs.Steps.{IsCombination-empty}
 use Rattle.sym_model.specs.Kind.{product}
 use Rattle.sym_model.specs.Answer.{answer}
 use Rattle.sym_model.specs.Command.{mult, skew, coef}
-use Rattle.sym_model.specs.Target.{Meets, schur_product, classical_product}
-use Rattle.sym_model.specs.LargeAnswer.{IsSchurCoefficientOf, HasPastCoefficient, variables_or, is_past, classical_weight}
+use Rattle.sym_model.specs.Target.{Meets}
+use Rattle.sym_model.specs.Products.{schur_product, classical_product}
+use Rattle.sym_model.specs.PastLimit.{IsSchurCoefficientOf, variables_or, is_past}
+use Rattle.sym_model.specs.LargeAnswer.{HasPastCoefficient}
+use Rattle.sym_model.specs.ReductionSteps.{classical_weight}
 use Rattle.sym_model.proofs.Exponents.{same_apart, size-join}
 use Rattle.sym_model.proofs.Polynomials.{at_only, coefficient_pair, pair_times, pair_zero, times_respects, Same_refl}
 use Rattle.sym_model.proofs.WholeTerms.{represents-whole}

@@ -8,7 +8,7 @@ use Rattle.sym_model.specs.Partition.{IsPartition, rows, size}
 use Rattle.sym_model.specs.Polynomial.{Term, Same, coefficient, resize, scale}
 use Rattle.sym_model.specs.GoodTableau.{product_count}
 use Rattle.sym_model.specs.LabelLimits.{is_partition}
-use Rattle.sym_model.specs.Target.{classical_product}
+use Rattle.sym_model.specs.Products.{classical_product}
 use Rattle.sym_model.specs.WholeTerms.{WholeTerms}
 use Rattle.sym_model.proofs.Orders.{is_partition-tells, is_partition-from}
 use Rattle.sym_model.proofs.Polynomials.{coefficient_plus, coefficient_scale}

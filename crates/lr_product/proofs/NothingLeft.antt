@@ -10,8 +10,10 @@ use Rattle.sym_model.specs.WholeTerms.{WholeTerms, as_fractions}
 use Rattle.sym_model.specs.Kind.{product}
 use Rattle.sym_model.specs.Answer.{answer}
 use Rattle.sym_model.specs.Command.{mult}
-use Rattle.sym_model.specs.Target.{Meets, schur_product}
-use Rattle.sym_model.specs.LargeAnswer.{HasPastCoefficient, is_past}
+use Rattle.sym_model.specs.Target.{Meets}
+use Rattle.sym_model.specs.Products.{schur_product}
+use Rattle.sym_model.specs.LargeAnswer.{HasPastCoefficient}
+use Rattle.sym_model.specs.PastLimit.{is_past}
 use Rattle.sym_model.proofs.Polynomials.{at_only, coefficient_pair, pair_times, pair_zero, Same_refl, Same_sym, times_respects}
 use Rattle.sym_model.proofs.WholeTerms.{represents-whole}
 use Rattle.product_laws.proofs.Expanding.{product_nothing}

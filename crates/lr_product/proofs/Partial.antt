@@ -13,7 +13,7 @@ use Rattle.sym_model.specs.Schur.{schur}
 use Rattle.sym_model.specs.Canonical.{is_label}
 use Rattle.sym_model.specs.Expansion.{Fraction}
 use Rattle.sym_model.specs.WholeTerms.{WholeTerms, as_fractions}
-use Rattle.sym_model.specs.Target.{schur_product, ExpandsInSchurs, classical_product}
+use Rattle.sym_model.specs.Products.{schur_product, ExpandsInSchurs, classical_product}
 use Rattle.sym_model.proofs.Ring.{one-product}
 use Rattle.sym_model.proofs.Sums.{total_ext, Among-append_left, Among-append_right}
 use Rattle.sym_model.proofs.Polynomials.{pair_each, pair_scale, pair_determined, same_from_pair, Same_sym, Same_trans}

@@ -10,8 +10,9 @@ use Rattle.sym_model.specs.GoodTableau.{product_count}
 use Rattle.sym_model.specs.Schur.{schur}
 use Rattle.sym_model.specs.Alternant.{schur_coefficient}
 use Rattle.sym_model.specs.Command.{mult}
-use Rattle.sym_model.specs.Target.{schur_product, classical_product}
-use Rattle.sym_model.specs.LargeAnswer.{IsSchurCoefficientOf, is_past, HasPastCoefficient}
+use Rattle.sym_model.specs.Products.{schur_product, classical_product}
+use Rattle.sym_model.specs.PastLimit.{IsSchurCoefficientOf, is_past}
+use Rattle.sym_model.specs.LargeAnswer.{HasPastCoefficient}
 use Rattle.sym_model.proofs.Integers.{is_past-tells, is_past-from}
 use Rattle.alternant_laws.proofs.ClassicalProducts.{classical_product-coefficient, classical_product-term}
 use Rattle.product_laws.specs.CountedProducts.{Reaches}

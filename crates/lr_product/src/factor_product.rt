@@ -9,7 +9,8 @@ ghost use Rattle.sym_model.specs.Kind as kinds;
 ghost use Rattle.sym_model.specs.Answer.{answer};
 ghost use Rattle.sym_model.specs.Command as commands;
 ghost use Rattle.sym_model.specs.LargeAnswer.{HasPastCoefficient};
-ghost use Rattle.sym_model.specs.Target.{Meets, ExpandsInSchurs, schur_product, classical_product};
+ghost use Rattle.sym_model.specs.Target.{Meets};
+ghost use Rattle.sym_model.specs.Products.{ExpandsInSchurs, schur_product, classical_product};
 ghost use Rattle.product_laws.specs.CountedProducts.{IsShownIn, Reaches};
 ghost use Rattle.lr_product.specs.ProductOfFactors.{AreSmallCounts};
 

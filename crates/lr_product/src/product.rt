@@ -9,8 +9,11 @@ ghost use Rattle.sym_model.specs.GoodTableau.{product_count};
 ghost use Rattle.sym_model.specs.Kind as kinds;
 ghost use Rattle.sym_model.specs.Answer.{answer};
 ghost use Rattle.sym_model.specs.Command as commands;
-ghost use Rattle.sym_model.specs.Target.{Meets, classical_product};
-ghost use Rattle.sym_model.specs.LargeAnswer.{HasPastCoefficient, classical_weight, variables_or};
+ghost use Rattle.sym_model.specs.Target.{Meets};
+ghost use Rattle.sym_model.specs.Products.{classical_product};
+ghost use Rattle.sym_model.specs.LargeAnswer.{HasPastCoefficient};
+ghost use Rattle.sym_model.specs.ReductionSteps.{classical_weight};
+ghost use Rattle.sym_model.specs.PastLimit.{variables_or};
 ghost use Rattle.alternant_laws.specs.GoodSums.{ListsCounts};
 ghost use Rattle.lr_product.specs.Counts.{HasCounts, IsPastSomewhere};
 

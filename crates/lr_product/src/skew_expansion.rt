@@ -9,7 +9,8 @@ ghost use Rattle.sym_model.specs.Answer.{answer};
 ghost use Rattle.sym_model.specs.Command as commands;
 ghost use Rattle.sym_model.specs.Target.{Meets};
 ghost use Rattle.sym_model.specs.WholeTerms.{as_fractions};
-ghost use Rattle.sym_model.specs.LargeAnswer.{HasPastCoefficient, variables_or};
+ghost use Rattle.sym_model.specs.LargeAnswer.{HasPastCoefficient};
+ghost use Rattle.sym_model.specs.PastLimit.{variables_or};
 ghost use Rattle.alternant_laws.specs.GoodSums.{ListsCounts};
 ghost use Rattle.lr_product.specs.Counts.{HasCounts, IsPastSomewhere};
 

@@ -8,7 +8,7 @@ use Rattle.sym_model.specs.Schur.{schur}
 use Rattle.sym_model.specs.GoodTableau.{product_count}
 use Rattle.sym_model.specs.Expansion.{Fraction, Terms}
 use Rattle.sym_model.specs.WholeTerms.{WholeTerms, AreWhole, as_fractions, numerators}
-use Rattle.sym_model.specs.Target.{schur_product, ExpandsInSchurs, classical_product}
+use Rattle.sym_model.specs.Products.{schur_product, ExpandsInSchurs, classical_product}
 use Rattle.sym_model.proofs.Sums.{Among_from_map}
 use Rattle.sym_model.proofs.Polynomials.{pair_times, pair_zero, same_from_pair, Same_refl, Same_trans, times_respects}
 use Rattle.alternant_laws.specs.GoodSums.{ListsCounts}

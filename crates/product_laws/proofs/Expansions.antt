@@ -8,7 +8,7 @@ use Rattle.sym_model.specs.Partition.{rows}
 use Rattle.sym_model.specs.Schur.{schur}
 use Rattle.sym_model.specs.Expansion.{schurs, Fraction, Terms, IsExpansionOf, denominators, value}
 use Rattle.sym_model.specs.WholeTerms.{AreWhole, combined, numerators}
-use Rattle.sym_model.specs.Target.{schur_product, ExpandsInSchurs}
+use Rattle.sym_model.specs.Products.{schur_product, ExpandsInSchurs}
 use Rattle.sym_model.proofs.Ring.{one-product}
 use Rattle.sym_model.proofs.Sums.{total_among}
 use Rattle.sym_model.proofs.Polynomials.{coefficient_scale, pair_each, pair_scale, pair_times, pair_determined, same_from_pair}

@@ -16,7 +16,8 @@ use Rattle.sym_model.specs.Alternant.{alternant}
 use Rattle.sym_model.specs.BetaList.{beta, from_beta, has_equal_entries, sorted_falling, sorting_sign}
 use Rattle.sym_model.specs.AlcoveReduction.{spread, reflected_into_alcove, as_partition, alcove_reduction}
 use Rattle.sym_model.specs.WholeTerms.{WholeTerms}
-use Rattle.sym_model.specs.Target.{classical_product, reflected_term, reflected_terms}
+use Rattle.sym_model.specs.Products.{classical_product}
+use Rattle.sym_model.specs.Reductions.{reflected_term, reflected_terms}
 use Rattle.sym_model.proofs.Ring.{product_assoc}
 use Rattle.sym_model.proofs.Sums.{total_ext}
 use Rattle.sym_model.proofs.Exponents.{same_or_not, same_apart, size-join, length-join_same}

@@ -9,7 +9,9 @@ use Rattle.sym_model.specs.WholeTerms.{WholeTerms, as_fractions}
 use Rattle.sym_model.specs.Kind.{product}
 use Rattle.sym_model.specs.Answer.{answer}
 use Rattle.sym_model.specs.Command.{fusion}
-use Rattle.sym_model.specs.Target.{Meets, classical_product, reflected_terms}
+use Rattle.sym_model.specs.Target.{Meets}
+use Rattle.sym_model.specs.Products.{classical_product}
+use Rattle.sym_model.specs.Reductions.{reflected_terms}
 use Rattle.sym_model.specs.ReductionSteps.{AreCollected, IsFusionStep, StepsLead, IsReflectedInSteps}
 use Rattle.sym_model.proofs.Ring.{one-product}
 use Rattle.sym_model.proofs.Sums.{Among-append_left, Among-append_right}

@@ -10,7 +10,7 @@ use Rattle.sym_model.specs.Partition.{IsPartition, size, rows, ArePartitions}
 use Rattle.sym_model.specs.Alternant.{schur_coefficient}
 use Rattle.sym_model.specs.PartitionList.{partitions_of}
 use Rattle.sym_model.specs.WholeTerms.{WholeTerms}
-use Rattle.sym_model.specs.Target.{schur_product, classical_product}
+use Rattle.sym_model.specs.Products.{schur_product, classical_product}
 use Rattle.sym_model.proofs.Sums.{Among_from_map, Among_from_each, Among_from_select}
 use Rattle.sym_model.proofs.PartitionLists.{partitions_of-tells}
 use Rattle.sym_model.proofs.Exponents.{same_true}

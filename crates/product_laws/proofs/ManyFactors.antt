@@ -7,7 +7,7 @@ use Rattle.sym_model.specs.Partition.{IsPartition, ArePartitions}
 use Rattle.sym_model.specs.Schur.{schur}
 use Rattle.sym_model.specs.Alternant.{alternant, staircase}
 use Rattle.sym_model.specs.BetaList.{beta, from_beta}
-use Rattle.sym_model.specs.Target.{schur_product, classical_product}
+use Rattle.sym_model.specs.Products.{schur_product, classical_product}
 use Rattle.sym_model.proofs.Sums.{total_ext, total_among}
 use Rattle.sym_model.proofs.Exponents.{length-join_same, join_assoc, join_comm, join_zeros}
 use Rattle.sym_model.proofs.SortedParts.{IsPartition-none}

@@ -36,7 +36,8 @@ use Rattle.beta_list_laws.proofs.Ends.{goes_to_end, goes_cells, narrow, wide}
 use Rattle.beta_list_laws.proofs.AlcoveEnds.{equal_map, equal_inside}
 use Rattle.beta_list_laws.proofs.ReducedSums.{reduced_value, reduced_share, reduced_sum, times_chosen}
 use Rattle.sym_model.specs.WholeTerms.{WholeTerms, WholeTermsOf, coefficient_by, same_power}
-use Rattle.sym_model.specs.Target.{Reduction, classical_product, reduced_terms}
+use Rattle.sym_model.specs.Reductions.{Reduction, reduced_terms}
+use Rattle.sym_model.specs.Products.{classical_product}
 use Rattle.beta_list_laws.specs.ReductionLists.{reductions_of}
 use Rattle.beta_list_laws.proofs.BetaLowerings.{map_append}
 use Rattle.product_laws.specs.FactorSteps.{reduced_product, quantized}

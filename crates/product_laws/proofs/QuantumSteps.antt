@@ -11,8 +11,10 @@ use Rattle.sym_model.specs.WholeTerms.{coefficient_by, same_power, numerators, a
 use Rattle.sym_model.specs.Kind.{powers}
 use Rattle.sym_model.specs.Answer.{answer}
 use Rattle.sym_model.specs.Command.{quantum}
-use Rattle.sym_model.specs.Target.{Meets, Reduction, IsRimHookReduction, classical_product}
-use Rattle.sym_model.specs.Target.{reduced_terms}
+use Rattle.sym_model.specs.Target.{Meets}
+use Rattle.sym_model.specs.Reductions.{Reduction, IsRimHookReduction}
+use Rattle.sym_model.specs.Products.{classical_product}
+use Rattle.sym_model.specs.Reductions.{reduced_terms}
 use Rattle.sym_model.specs.ReductionSteps.{AreCollected, ReduceEach, reduced_each, IsQuantumStep, StepsLead, IsReducedInSteps, with_power}
 use Rattle.sym_model.proofs.Ring.{one-product}
 use Rattle.sym_model.proofs.Sums.{Among-append_right}

@@ -3,7 +3,8 @@ use Rattle.std.proofs.Common.{◌≡◌, ◌≤◌, ℕ, List, [], ◌∷◌, re
 use Rattle.sym_model.specs.Sum.{Among}
 use Rattle.sym_model.specs.Partition.{IsPartition, rows}
 use Rattle.sym_model.specs.WholeTerms.{WholeTerms, EachLabel}
-use Rattle.sym_model.specs.Target.{Reduction, AreReductions, classical_product}
+use Rattle.sym_model.specs.Reductions.{Reduction, AreReductions}
+use Rattle.sym_model.specs.Products.{classical_product}
 use Rattle.alternant_laws.proofs.ClassicalProducts.{classical_product-term}
 use Rattle.beta_list_laws.specs.ReductionLists.{reductions_of}
 use Rattle.beta_list_laws.proofs.Ends.{reduces_only}

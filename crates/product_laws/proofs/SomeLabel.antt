@@ -9,7 +9,7 @@ use Rattle.sym_model.specs.Partition.{IsPartition, rows, ArePartitions}
 use Rattle.sym_model.specs.Schur.{schur, tableaux, content, letters_of}
 use Rattle.sym_model.specs.Alternant.{alternant, staircase, schur_coefficient}
 use Rattle.sym_model.specs.WholeTerms.{WholeTerms}
-use Rattle.sym_model.specs.Target.{classical_product}
+use Rattle.sym_model.specs.Products.{classical_product}
 use Rattle.sym_model.proofs.Ring.{product-one}
 use Rattle.sym_model.proofs.Exponents.{same_refl}
 use Rattle.sym_model.proofs.Polynomials.{at_only, coefficient_pair, pair_factor, pair_times, pair_zero, pair_determined, same_from_pair, In_times}

@@ -5,7 +5,8 @@ use Rattle.sym_model.specs.Polynomial.{scale}
 use Rattle.sym_model.specs.Partition.{rows}
 use Rattle.sym_model.specs.Expansion.{Terms}
 use Rattle.sym_model.specs.WholeTerms.{WholeTerms, WholeTermsOf, numerators}
-use Rattle.sym_model.specs.Target.{classical_product, reduced_terms, reflected_terms}
+use Rattle.sym_model.specs.Products.{classical_product}
+use Rattle.sym_model.specs.Reductions.{reduced_terms, reflected_terms}
 use Rattle.beta_list_laws.specs.ReductionLists.{reductions_of}
 use Rattle.sym_model.specs.ReductionSteps.{with_power}
 

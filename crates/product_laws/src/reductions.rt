@@ -6,7 +6,8 @@ ghost use Rattle.sym_model.specs.Expansion.{Terms};
 ghost use Rattle.sym_model.specs.WholeTerms.{WholeTerms, same_power, numerators};
 ghost use Rattle.sym_model.specs.ReductionSteps.{AreCollected, IsReducedInSteps};
 ghost use Rattle.sym_model.specs.ReductionSteps.{IsReflectedInSteps};
-ghost use Rattle.sym_model.specs.Target.{IsRimHookReduction, classical_product, reflected_terms};
+ghost use Rattle.sym_model.specs.Reductions.{IsRimHookReduction, reflected_terms};
+ghost use Rattle.sym_model.specs.Products.{classical_product};
 ghost use Rattle.sym_model.specs.Partition.{ArePartitions};
 
 /// A list is the product of two factors or more, reduced after each factor, exactly where its terms

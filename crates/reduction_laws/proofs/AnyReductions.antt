@@ -5,8 +5,9 @@
 use Rattle.std.proofs.Common.{ℕ, ◌≤◌, List, sym, ◌∙◌, ap, subst}
 use Rattle.sym_model.specs.Expansion.{Terms}
 use Rattle.sym_model.specs.ReductionSteps.{IsQuantumStep, ReduceEach, reduced_each}
-use Rattle.sym_model.specs.Target.{AreReductions, IsRimHookReduction, Reduction, classical_product}
-use Rattle.sym_model.specs.Target.{reduced_terms}
+use Rattle.sym_model.specs.Reductions.{AreReductions, IsRimHookReduction, Reduction}
+use Rattle.sym_model.specs.Products.{classical_product}
+use Rattle.sym_model.specs.Reductions.{reduced_terms}
 use Rattle.sym_model.specs.WholeTerms.{WholeTermsOf, as_fractions, coefficient_by, numerators}
 use Rattle.sym_model.specs.WholeTerms.{same_power}
 use Rattle.alternant_laws.proofs.WholeLists.{numerators-as_fractions}

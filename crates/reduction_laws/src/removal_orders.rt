@@ -4,8 +4,9 @@ ghost use Rattle.std.specs.Prelude.{◌≡◌, ◌↔◌, ℕ, ◌≤◌, List};
 ghost use Rattle.sym_model.specs.Expansion.{Terms};
 ghost use Rattle.sym_model.specs.ReductionSteps.{AreCollected, IsQuantumStep, ReduceEach};
 ghost use Rattle.sym_model.specs.ReductionSteps.{reduced_each};
-ghost use Rattle.sym_model.specs.Target.{AreReductions, IsRimHookReduction, Reduction};
-ghost use Rattle.sym_model.specs.Target.{classical_product, reduced_terms};
+ghost use Rattle.sym_model.specs.Reductions.{AreReductions, IsRimHookReduction, Reduction};
+ghost use Rattle.sym_model.specs.Products.{classical_product};
+ghost use Rattle.sym_model.specs.Reductions.{reduced_terms};
 ghost use Rattle.sym_model.specs.WholeTerms.{WholeTermsOf, numerators, same_power};
 ghost use Rattle.reduction_laws.specs.AnyOrder.{HaveSameSums};
 

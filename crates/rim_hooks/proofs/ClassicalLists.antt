@@ -16,7 +16,7 @@ use Rattle.sym_model.specs.PrintedOrder.{printed_order}
 use Rattle.sym_model.specs.WholeTerms.{WholeTerms, absolute_total, as_fractions, labels}
 use Rattle.linear_combinations.specs.Entries.{IsCanonicalList}
 use Rattle.linear_combinations.specs.Gains.{mass}
-use Rattle.sym_model.specs.Target.{schur_product, nonzero, classical_product}
+use Rattle.sym_model.specs.Products.{schur_product, nonzero, classical_product}
 use Rattle.sym_model.specs.ReductionSteps.{classical_weight}
 use Rattle.sym_model.proofs.Polynomials.{at_only, coefficient_pair, pair_times, pair_zero, same_from_pair, times_respects, Same_refl, Same_trans}
 use Rattle.alternant_laws.proofs.SchurProducts.{schur_few_variables}

@@ -4,7 +4,7 @@ use Rattle.sym_model.specs.Partition.{size, rows, columns}
 use Rattle.sym_model.specs.PlaceOrders.{minus_one_to}
 use Rattle.sym_model.specs.BetaList.{beta, from_beta, sorted_falling, rising_pairs, sorting_sign}
 use Rattle.sym_model.specs.RimHookReduction.{ReducesTo}
-use Rattle.sym_model.specs.Target.{Reduction}
+use Rattle.sym_model.specs.Reductions.{Reduction}
 use Rattle.sym_model.proofs.Signs.{minus_one_to_add}
 use Rattle.partitions.specs.Limits.{IsWithinLimits}
 use Rattle.beta_list_laws.specs.StrictFall.{FallsStrictly}

@@ -5,7 +5,7 @@ use Rattle.sym_model.specs.Sum.{Among}
 use Rattle.sym_model.specs.Polynomial.{coefficient, scale}
 use Rattle.sym_model.specs.Partition.{IsPartition, rows, ArePartitions}
 use Rattle.sym_model.specs.WholeTerms.{WholeTerms}
-use Rattle.sym_model.specs.Target.{reflected_terms}
+use Rattle.sym_model.specs.Reductions.{reflected_terms}
 use Rattle.sym_model.specs.ReductionSteps.{IsFusionStep, StepsLead, IsReflectedInSteps}
 use Rattle.product_laws.specs.FactorSteps.{fused, HasLong}
 use Rattle.product_laws.proofs.FusionSteps.{fusion_step_some}

@@ -4,7 +4,7 @@ use Rattle.std.proofs.Common.{◌≡◌, ◌⊎◌, ℕ, ◌<◌, ◌≤◌, Lis
 use Rattle.sym_model.specs.Sum.{Among}
 use Rattle.sym_model.specs.Partition.{IsPartition, rows, ArePartitions}
 use Rattle.sym_model.specs.WholeTerms.{WholeTerms, coefficient_by, same_power}
-use Rattle.sym_model.specs.Target.{reduced_terms}
+use Rattle.sym_model.specs.Reductions.{reduced_terms}
 use Rattle.sym_model.specs.ReductionSteps.{shape_of, IsQuantumStep, StepsLead, IsReducedInSteps, with_power}
 use Rattle.beta_list_laws.specs.ReductionLists.{reductions_of}
 use Rattle.product_laws.specs.FactorSteps.{quantized, PowerTerms, HasLong}

@@ -18,7 +18,7 @@ use Rattle.sym_model.specs.Polynomial.{Same}
 use Rattle.sym_model.specs.Expansion.{Fraction}
 use Rattle.sym_model.specs.WholeTerms.{WholeTerms, as_fractions}
 use Rattle.sym_model.proofs.Sums.{Among-map}
-use Rattle.sym_model.specs.Target.{classical_product}
+use Rattle.sym_model.specs.Products.{classical_product}
 use Rattle.sym_model.specs.ReductionSteps.{classical_weight, step_weight}
 use Rattle.alternant_laws.proofs.ClassicalProducts.{classical_product-term}
 use Rattle.product_laws.proofs.Growing.{label_size}

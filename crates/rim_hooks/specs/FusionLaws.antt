@@ -12,7 +12,8 @@ use Rattle.sym_model.specs.Canonical.{is_label}
 use Rattle.sym_model.specs.Partition.{IsPartition, size, rows}
 use Rattle.sym_model.specs.Polynomial.{same, scale}
 use Rattle.sym_model.specs.WholeTerms.{WholeTerms}
-use Rattle.sym_model.specs.Target.{classical_product, reflected_term, reflected_terms}
+use Rattle.sym_model.specs.Products.{classical_product}
+use Rattle.sym_model.specs.Reductions.{reflected_term, reflected_terms}
 use Rattle.sym_model.specs.ReductionSteps.{IsFusionStep}
 use Rattle.sym_model.proofs.Exponents.{same_refl, same_true}
 use Rattle.beta_list_laws.proofs.BetaLists.{beta_strict, length-beta, rows-from_beta}

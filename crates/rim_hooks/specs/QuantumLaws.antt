@@ -10,7 +10,8 @@ use Rattle.sym_model.specs.LabelLimits.{is_power_label}
 use Rattle.sym_model.specs.Partition.{IsPartition, size, rows}
 use Rattle.sym_model.specs.RimHookReduction.{ReducesTo}
 use Rattle.sym_model.specs.WholeTerms.{WholeTerms, same_power}
-use Rattle.sym_model.specs.Target.{Reduction, classical_product, reduced_terms}
+use Rattle.sym_model.specs.Reductions.{Reduction, reduced_terms}
+use Rattle.sym_model.specs.Products.{classical_product}
 use Rattle.sym_model.specs.ReductionSteps.{shape_of, IsQuantumStep, with_power}
 use Rattle.beta_list_laws.specs.LowestList.{reduction_by_remainders}
 use Rattle.beta_list_laws.specs.ReductionLists.{reductions_of}

@@ -1,6 +1,6 @@
 -- The answers of reductions as the definitions give them.
 use Rattle.std.specs.Prelude.{ℕ, ℤ, List, Option, Some, None}
-use Rattle.sym_model.specs.Target.{Reduction}
+use Rattle.sym_model.specs.Reductions.{Reduction}
 use Rattle.rim_hooks.specs.declared.reflections.Alcove.{Alcove}
 use Rattle.rim_hooks.specs.declared.removals.Core.{Core}
 

@@ -2,7 +2,7 @@
 use Rattle.std.specs.Prelude.{ℕ, ◌+◌, ℤ, Option, Some, None, List, [], ◌∷◌}
 use Rattle.sym_model.specs.AlcoveReduction.{alcove_reduction}
 use Rattle.sym_model.specs.WholeTerms.{WholeTerms}
-use Rattle.sym_model.specs.Target.{Reduction}
+use Rattle.sym_model.specs.Reductions.{Reduction}
 use Rattle.beta_list_laws.specs.LowestList.{reduction_by_remainders}
 use Rattle.product_laws.specs.FactorSteps.{PowerTerms}
 

@@ -2,7 +2,7 @@
 use Rattle.std.specs.Prelude.{ℕ, ◌+◌, ◌≤◌, pos, Bool, List, [], ◌∷◌}
 use Rattle.sym_model.specs.Partition.{rows}
 use Rattle.sym_model.specs.ReductionSteps.{StepsLead}
-use Rattle.sym_model.specs.Target.{classical_product}
+use Rattle.sym_model.specs.Products.{classical_product}
 use Rattle.linear_combinations.specs.Gains.{WholeTermsOf, HaveLabels, Overflows, mass, replaced}
 use Rattle.rim_hooks.specs.HeavySteps.{HasHeavyStep}
 

@@ -10,7 +10,7 @@ use Rattle.sym_model.specs.BetaList.{beta, has_equal_entries, sorted_falling, ri
 use Rattle.sym_model.specs.BetaList.{sorting_sign}
 use Rattle.sym_model.specs.AlcoveReduction.{spread, squares, reflected, with_sign, reflected_within}
 use Rattle.sym_model.specs.AlcoveReduction.{reflected_into_alcove, as_partition, alcove_reduction}
-use Rattle.sym_model.specs.Target.{Reduction}
+use Rattle.sym_model.specs.Reductions.{Reduction}
 use Rattle.sym_model.proofs.Ring.{product-one}
 use Rattle.beta_list_laws.specs.LowestList.{lowest, end_of, end_sign, power_of}
 use Rattle.beta_list_laws.specs.LowestList.{reduction_by_remainders}

@@ -3,7 +3,7 @@ ghost use Rattle.std.specs.Prelude.{◌≡◌, ◌+◌, ◌*◌, ◌<◌, ◌≤
 ghost use Rattle.sym_model.specs.Partition.{rows};
 ghost use Rattle.sym_model.specs.PlaceOrders.{minus_one_to};
 ghost use Rattle.sym_model.specs.RimHookReduction.{ReducesTo};
-ghost use Rattle.sym_model.specs.Target.{Reduction};
+ghost use Rattle.sym_model.specs.Reductions.{Reduction};
 ghost use Rattle.beta_list_laws.specs.StrictFall.{FallsStrictly};
 ghost use Rattle.beta_list_laws.specs.LowestList.{lowest, reduction_by_remainders};
 ghost use Rattle.rim_hooks.specs.Reduced.{reduction};

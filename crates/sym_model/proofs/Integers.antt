@@ -6,7 +6,7 @@ use native.Mathlib.Nat.{eq_of_mul-eq-mul_right, add-mul, mul-le-mul_left}
 use borrow.Author.Differences.{up, down}
 use Rattle.std.proofs.Math.Nat.{mul-suc}
 use Rattle.std.proofs.lemmas.Bool.{leb-true, le-leb}
-use Rattle.sym_model.specs.LargeAnswer.{is_past}
+use Rattle.sym_model.specs.PastLimit.{is_past}
 use Rattle.sym_model.specs.PlaceOrders.{minus_one_to}
 
 pub nat_abs-sum : (x y : ℤ) → nat_abs (x +ℤ y) ≤ nat_abs x + nat_abs y

@@ -54,6 +54,9 @@ pub mod StandardTableau
 pub mod TableauText
 pub mod Workload
 pub mod Answer
+pub mod Products
+pub mod Reductions
+pub mod PastLimit
 pub mod Target
 pub mod ReductionSteps
 pub mod OneLine

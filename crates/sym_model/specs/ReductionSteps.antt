@@ -5,8 +5,9 @@ use Rattle.sym_model.specs.Sum.{Among}
 use Rattle.sym_model.specs.Polynomial.{Same, same, scale}
 use Rattle.sym_model.specs.WholeTerms.{WholeTerms, WholeTermsOf, coefficient_by, same_power}
 use Rattle.sym_model.specs.WholeTerms.{absolute_total}
-use Rattle.sym_model.specs.Target.{classical_product, Reduction, AreReductions, reduced_terms}
-use Rattle.sym_model.specs.Target.{reflected_terms}
+use Rattle.sym_model.specs.Products.{classical_product}
+use Rattle.sym_model.specs.Reductions.{Reduction, AreReductions, reduced_terms}
+use Rattle.sym_model.specs.Reductions.{reflected_terms}
 
 -- the terms are collected: no coefficient is 0, and no two terms have the same label
 abbrev pub AreCollected : {Label : Type 0} → (Label → Label → Bool) → WholeTermsOf Label → Type 0

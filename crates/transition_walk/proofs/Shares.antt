@@ -7,7 +7,7 @@ use Rattle.std.proofs.Common.{◌≡◌, ℕ, suc, zero, ◌+◌, ◌-◌, ◌*�
 use Rattle.std.specs.Prelude.{nat_abs}
 use Rattle.std.proofs.lemmas.Int.{ints}
 use Rattle.sym_model.specs.Sum.{Among, total}
-use Rattle.sym_model.specs.LargeAnswer.{value_at_ones}
+use Rattle.sym_model.specs.PastLimit.{value_at_ones}
 use Rattle.sym_model.specs.Permutation.{IsTransition, times_swap, covers_down}
 use Rattle.sym_model.specs.PlaceOrders.{inversions}
 use Rattle.sym_model.specs.Polynomial.{Poly, Term, pair, fits_in}

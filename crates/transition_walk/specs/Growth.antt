@@ -1,7 +1,7 @@
 -- How far lists grow, as the transition rule works off what waits.
 use Rattle.std.specs.Prelude.{◌≡◌, ℕ, ◌+◌, ◌*◌, ◌^◌, ◌<◌, ◌≤◌, max, nat_abs, ℤ, ◌+ℤ◌, List, [], ◌∷◌}
 use Rattle.std.specs.Prelude.{length}
-use Rattle.sym_model.specs.LargeAnswer.{value_at_ones}
+use Rattle.sym_model.specs.PastLimit.{value_at_ones}
 use Rattle.sym_model.specs.Permutation.{IsTransition, times_swap, covers_down}
 use Rattle.sym_model.specs.PlaceOrders.{inversions}
 use Rattle.sym_model.specs.Schubert as polynomials

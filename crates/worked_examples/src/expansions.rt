@@ -7,7 +7,7 @@ ghost use Rattle.sym_model.specs.Bases.{monomial, elementary, complete, power_su
 ghost use Rattle.sym_model.specs.Schur.{schur, skew_schur};
 ghost use Rattle.sym_model.specs.Alternant.{schur_coefficient};
 ghost use Rattle.sym_model.specs.Schubert.{schubert_in};
-ghost use Rattle.sym_model.specs.Target.{reduced_terms, reflected_terms};
+ghost use Rattle.sym_model.specs.Reductions.{reduced_terms, reflected_terms};
 ghost use Rattle.sym_model.specs.Expansion.{value, value_by, pair_polynomial, elementaries};
 ghost use Rattle.sym_model.specs.Expansion.{completes, power_sums, schurs};
 

@@ -1,7 +1,7 @@
 use Rattle.std.proofs.Common.{◌≡◌, ◌+◌, ◌*◌, ◌^◌, ◌≤◌, max, length, sym, ap, ◌∙◌, subst, arith}
 use Rattle.std.specs.Prelude.{Err, nat_abs}
 use Rattle.std.specs.Cmp.Lexicographic.{nat_list_eq_equiv}
-use Rattle.sym_model.specs.LargeAnswer.{value_at_ones}
+use Rattle.sym_model.specs.PastLimit.{value_at_ones}
 use Rattle.sym_model.specs.PlaceOrders.{inversions}
 use Rattle.sym_model.specs.Polynomial.{pair, times}
 use Rattle.sym_model.specs.Schubert as polynomials

@@ -3,7 +3,7 @@ use Rattle.std.specs.Prelude.{Err, nat_abs}
 use Rattle.sym_model.specs.Partition.{rows, size}
 use Rattle.sym_model.specs.Polynomial.{Same}
 use Rattle.sym_model.specs.ReductionSteps.{classical_weight}
-use Rattle.sym_model.specs.Target.{classical_product}
+use Rattle.sym_model.specs.Products.{classical_product}
 use Rattle.linear_combinations.specs.Gains.{HaveLabels}
 use Rattle.linear_combinations.proofs.Steps.{error_is, on_ok}
 use Rattle.rim_hooks.proofs.ClassicalLists.{weight_within}

@@ -1,0 +1,97 @@
+-- Coefficients and weights that exceed numbers of 128 bits: the coefficients that a product is
+-- defined to have, and the weights of products of permutations.
+use Rattle.std.specs.Prelude.{◌≡◌, ℕ, ◌+◌, ◌*◌, ◌^◌, ◌≤◌, nat_le, nat_abs, max, Bool, false, cond}
+use Rattle.std.specs.Prelude.{ℤ, pos, negsuc, List, map, length, Option, Some, None}
+use Rattle.std.specs.Prelude.{IsTrue}
+use Rattle.sym_model.specs.Sum.{total}
+use Rattle.sym_model.specs.Polynomial.{Term, Poly, coefficient}
+use Rattle.sym_model.specs.Partition.{IsPartition, Holds, size, rows}
+use Rattle.sym_model.specs.PlaceOrders.{inversions}
+use Rattle.sym_model.specs.Schur.{skew_schur}
+use Rattle.sym_model.specs.Alternant.{schur_coefficient}
+use Rattle.sym_model.specs.Schubert as polynomials
+use Rattle.sym_model.specs.Stanley.{stanley_in}
+use Rattle.sym_model.specs.Products.{schur_product}
+
+-- ---- coefficients
+
+-- whether a whole number exceeds 2^127 - 1
+abbrev pub is_past : ℤ → Bool
+is_past (pos n) = nat_le (2 ^ 127) n
+is_past (negsuc n) = false
+
+-- some whole number with the property exceeds 2^127 - 1
+abbrev pub HasPast : (ℤ → Type 0) → Type 0
+HasPast Is = (c : ℤ) × Is c × IsTrue (is_past c)
+
+-- c is the Schur coefficient of the polynomial f in n variables at some partition with at most n
+-- rows
+pub record IsSchurCoefficientOf (f : Poly) (n : ℕ) (c : ℤ) : Type 0 where
+  pub parts : List ℕ
+  pub partition : IsPartition parts
+  pub within : rows parts ≤ n
+  pub is : c ≡ schur_coefficient n parts f
+
+-- the number of variables in which an expansion is looked at: the number that is given, or one that
+-- is enough for all labels
+abbrev pub variables_or : Option ℕ → ℕ → ℕ
+variables_or None enough = enough
+variables_or (Some k) enough = k
+
+-- c is a coefficient of the product of the Schur polynomials of the factors
+abbrev pub IsCoefficientOfProduct : Option ℕ → List (List ℕ) → ℤ → Type 0
+IsCoefficientOfProduct variables factors c =
+    let n = variables_or variables (size (map rows factors)) in
+    IsSchurCoefficientOf (schur_product factors n) n c
+
+-- c is a coefficient of the skew Schur polynomial s_(outer/inner)
+abbrev pub IsCoefficientOfSkew : Option ℕ → List ℕ → List ℕ → ℤ → Type 0
+IsCoefficientOfSkew variables outer inner c =
+    let n = variables_or variables (rows outer) in
+    IsSchurCoefficientOf (skew_schur outer inner n) n c
+
+-- c is a coefficient of the coproduct of s_shape: the Schur coefficient of s_(shape/part), for some
+-- part of the shape, in as many variables as the shape has rows
+pub record IsCoproductCoefficient (shape : List ℕ) (c : ℤ) : Type 0 where
+  pub part : List ℕ
+  pub partition : IsPartition part
+  pub inside : Holds shape part
+  pub is : IsSchurCoefficientOf (skew_schur shape part (rows shape)) (rows shape) c
+
+-- c is a coefficient of the Schubert polynomial of w
+abbrev pub IsCoefficientOfSchubert : List ℕ → ℤ → Type 0
+IsCoefficientOfSchubert w c = (exponents : List ℕ) × (c ≡ coefficient (polynomials.schubert w) exponents)
+
+-- c is a coefficient of the Stanley polynomial of w in Schur polynomials of that many variables
+abbrev pub IsCoefficientOfStanley : ℕ → List ℕ → ℤ → Type 0
+IsCoefficientOfStanley variables w c = IsSchurCoefficientOf (stanley_in w variables) variables c
+
+-- ---- weights
+
+-- some natural number with the property is 2^127 or more
+abbrev pub HasHeavy : (ℕ → Type 0) → Type 0
+HasHeavy Is = (weight : ℕ) × Is weight × (2 ^ 127 ≤ weight)
+
+-- the value of a polynomial at 1 for each variable
+abbrev pub value_at_ones : Poly → ℤ
+value_at_ones f = total (λ (t : Term). t.1) f
+
+-- of two permutations the one with fewer inversions, on a tie the first
+abbrev pub shorter : List ℕ → List ℕ → List ℕ
+shorter u v = cond (nat_le (inversions u) (inversions v)) u v
+
+-- the weight of a pair of permutations, S_u(1, .., 1)·(n + ℓ)^ℓ: u is the one with fewer
+-- inversions, ℓ their number, and n the greater number of letters
+abbrev pub pair_weight : List ℕ → List ℕ → ℕ
+pair_weight u v =
+    let w = shorter u v in
+    nat_abs (value_at_ones (polynomials.schubert w))
+    * (max (length u) (length v) + inversions w) ^ inversions w
+
+-- the weight of a pair of permutations for the product of their double Schubert polynomials,
+-- S_u(1, .., 1)·(n + ℓ + 2)^ℓ, with u, n and ℓ as above; S_u is the single Schubert polynomial
+abbrev pub double_weight : List ℕ → List ℕ → ℕ
+double_weight u v =
+    let w = shorter u v in
+    nat_abs (value_at_ones (polynomials.schubert w))
+    * (max (length u) (length v) + inversions w + 2) ^ inversions w

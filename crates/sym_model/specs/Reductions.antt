@@ -1,0 +1,52 @@
+-- A list of partitions reduced by rim hooks (quantum products) or into the alcove (fusion products).
+use Rattle.std.specs.Prelude.{◌≡◌, ℕ, ℤ, ◌*ℤ◌, List, [], ◌∷◌}
+use Rattle.std.specs.Prelude.{Option, Some, None, flat_map}
+use Rattle.sym_model.specs.Polynomial.{Same}
+use Rattle.sym_model.specs.Expansion.{Terms}
+use Rattle.sym_model.specs.WholeTerms.{WholeTerms, WholeTermsOf, numerators, coefficient_by}
+use Rattle.sym_model.specs.WholeTerms.{same_power}
+use Rattle.sym_model.specs.RimHookReduction.{ReducesTo}
+use Rattle.sym_model.specs.AlcoveReduction.{alcove_reduction}
+
+-- a reduction: a partition with a sign and a power of q, or nothing
+abbrev pub Reduction : Type 0
+Reduction = Option (List ℕ × ℤ × ℕ)
+
+-- each label, a partition with at most k rows, reduces by rim hooks of n cells to the reduction at
+-- its place in the list
+abbrev pub AreReductions : ℕ → ℕ → WholeTerms → List Reduction → Type 0
+AreReductions k n [] [] = Unit {0}
+AreReductions k n (t ∷ terms) (r ∷ reductions) =
+    ReducesTo k n t.0 r × AreReductions k n terms reductions
+AreReductions k n _ _ = ⊥
+
+-- the terms with each label replaced by its reduction, a power of q and a partition; a term whose
+-- label reduces to nothing is left out
+abbrev pub reduced_terms : WholeTerms → List Reduction → WholeTermsOf (ℕ × List ℕ)
+reduced_terms (t ∷ terms) (Some r ∷ reductions) =
+    ((r.2, r.0), t.1 *ℤ r.1) ∷ reduced_terms terms reductions
+reduced_terms (t ∷ terms) (None ∷ reductions) = reduced_terms terms reductions
+reduced_terms _ _ = []
+
+-- the list is the sum of the reductions of the classical terms by rim hooks of n cells
+pub record IsRimHookReduction (k n : ℕ) (classical : WholeTerms)
+    (terms : Terms (ℕ × List ℕ)) : Type 0 where
+  pub reductions : List Reduction
+  pub reduce : AreReductions k n classical reductions
+  pub sums : (label : ℕ × List ℕ)
+      → coefficient_by same_power (numerators terms) label
+      ≡ coefficient_by same_power (reduced_terms classical reductions) label
+
+-- c times the reduction of a label into the alcove; nothing if there is none
+abbrev pub reflected_term : ℤ → Option (List ℕ × ℤ) → WholeTerms
+reflected_term c None = []
+reflected_term c (Some reduced) = (reduced.0, c *ℤ reduced.1) ∷ []
+
+-- the terms with each label replaced by its reduction into the alcove
+abbrev pub reflected_terms : ℕ → ℕ → WholeTerms → WholeTerms
+reflected_terms k n terms =
+    flat_map (λ (t : List ℕ × ℤ). reflected_term t.1 (alcove_reduction k n t.0)) terms
+
+-- the list is the sum of the reductions of the classical terms into the alcove of level n - k
+abbrev pub IsAlcoveReductionOf : ℕ → ℕ → WholeTerms → Terms (List ℕ) → Type 0
+IsAlcoveReductionOf k n classical terms = Same (numerators terms) (reflected_terms k n classical)
