@@ -1,17 +1,14 @@
 //! The product of two double Schubert polynomials.
 ghost use Rattle.std.specs.Prelude.{ℕ, ◌+◌, ◌*◌, ◌^◌, ◌≤◌, max, nat_abs, length, IfOk, IsErrOf};
-ghost use Rattle.sym_model.specs.Answer.{answer};
-ghost use Rattle.sym_model.specs.Command as commands;
 ghost use Rattle.sym_model.specs.DoubleSchubert.{double_schubert_in, shifted_in};
 ghost use Rattle.sym_model.specs.Expansion.{Represents};
-ghost use Rattle.sym_model.specs.Kind.{shifts};
 ghost use Rattle.sym_model.specs.PastLimit.{value_at_ones};
-ghost use Rattle.sym_model.specs.LargeAnswer.{IsHeavy};
 ghost use Rattle.sym_model.specs.PlaceOrders.{inversions};
 ghost use Rattle.sym_model.specs.Polynomial.{times};
 ghost use Rattle.sym_model.specs.Schubert as polynomials;
-ghost use Rattle.sym_model.specs.Target.{Meets};
 ghost use Rattle.sym_model.specs.WholeTerms.{as_fractions};
+ghost use Rattle.sym_model.specs.Products.{IsDoubleProductOf};
+ghost use Rattle.sym_model.specs.PastLimit.{double_weight};
 
 use crate::factor::TimesFactor;
 use calc_base::SumFault;
@@ -30,8 +27,8 @@ pub fn dschubmult(alloc: Global, u: &Perm, v: &Perm) -> Result<Terms<Shifted, In
     requires first { length u.now ≤ 8 }
     requires second { length v.now ≤ 8 }
     ensures meets { IfOk result (λ terms.
-        Meets (commands.dschubmult u.now v.now) (answer shifts (as_fractions terms))) }
-    ensures large { IsErrOf result SumFault.Large → IsHeavy (commands.dschubmult u.now v.now) }
+        IsDoubleProductOf u.now v.now (as_fractions terms)) }
+    ensures large { IsErrOf result SumFault.Large → 2 ^ 127 ≤ double_weight u.now v.now }
 {
     if u.inversions() <= v.inversions() {
         act(alloc, u, v)

@@ -8,15 +8,12 @@ use Rattle.sym_model.specs.Polynomial.{Poly, Same, pair, plus, scale, coefficien
 use Rattle.sym_model.specs.Schur.{schur, skew_schur}
 use Rattle.sym_model.specs.Expansion.{Represents, beside, pair_polynomial, denominators}
 use Rattle.sym_model.specs.WholeTerms.{WholeTermsOf, WholeTerms, as_fractions, combined}
-use Rattle.sym_model.specs.Kind.{pairs}
-use Rattle.sym_model.specs.Answer.{answer}
-use Rattle.sym_model.specs.Command.{skew, coprod}
-use Rattle.sym_model.specs.Target.{Meets}
-use Rattle.sym_model.specs.LargeAnswer.{HasPastCoefficient}
 use Rattle.sym_model.proofs.Polynomials.{pair_beside, coefficient_plus, coefficient_scale, pair_ext, pair_total, pair_factor, pair_determined, same_from_pair}
 use Rattle.sym_model.proofs.Ring.{one-product}
 use Rattle.sym_model.proofs.Sums.{total_ext, total_same_members}
 use Rattle.sym_model.proofs.WholeTerms.{pair_of_combined, denominators-as_fractions, value_by-as_fractions}
+use Rattle.sym_model.specs.PastLimit.{HasPast, IsCoefficientOfSkew, IsCoproductCoefficient}
+use Rattle.sym_model.specs.Products.{IsCoproductOf}
 use Rattle.linear_combinations.proofs.Masses.{represents_sums}
 use Rattle.schur_laws.specs.InnerShapes.{shapes_inside}
 use Rattle.schur_laws.proofs.Coproducts.{coproduct}
@@ -101,7 +98,7 @@ each_listed f shape inners l α =
 
 pub coproduct_meets : (shape : List ℕ) (inners : List (List ℕ)) (terms : WholeTermsOf (List ℕ × List ℕ)) → IsPartition shape → ListsShapesInside shape inners
     → ((n k : ℕ) → Same (pair_sum n k terms) (flat_map (λ inner. beside (schur inner n) (skew_schur shape inner k)) inners))
-    → Meets (coprod shape) (answer pairs (as_fractions terms))
+    → IsCoproductOf shape (as_fractions terms)
 coproduct_meets shape inners terms p l sums n k =
     represents_sums (pair_polynomial n k) terms (schur shape (n + k)) (λ φ.
     sym (pair_of_combined (pair_polynomial n k) terms φ) ∙ pair_determined (pair_sum n k terms) (schur shape (n + k)) φ (λ α.
@@ -112,9 +109,9 @@ coproduct_meets shape inners terms p l sums n k =
 
 -- ---- coefficients past the limit
 
-pub past_of_inner : (shape inner : List ℕ) (inners : List (List ℕ)) → ListsShapesInside shape inners → Among inner inners → HasPastCoefficient (skew None false shape inner) → HasPastCoefficient (coprod shape)
+pub past_of_inner : (shape inner : List ℕ) (inners : List (List ℕ)) → ListsShapesInside shape inners → Among inner inners → HasPast (IsCoefficientOfSkew None shape inner) → HasPast (IsCoproductCoefficient shape)
 past_of_inner shape inner inners l m (c, s, past) =
     (c, record { part = inner; partition = l.partitions inner m; inside = l.inside inner m; is = s }, past)
 
-pub none_past : (shape : List ℕ) (inners : List (List ℕ)) → ListsShapesInside shape inners → ((inner : List ℕ) → Among inner inners → HasPastCoefficient (skew None false shape inner) → ⊥) → HasPastCoefficient (coprod shape) → ⊥
+pub none_past : (shape : List ℕ) (inners : List (List ℕ)) → ListsShapesInside shape inners → ((inner : List ℕ) → Among inner inners → HasPast (IsCoefficientOfSkew None shape inner) → ⊥) → HasPast (IsCoproductCoefficient shape) → ⊥
 none_past shape inners l fits (c, d, past) = fits d.part (l.all d.part d.partition d.inside) (c, d.is, past)

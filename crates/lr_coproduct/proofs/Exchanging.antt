@@ -17,16 +17,14 @@ use Rattle.sym_model.specs.Canonical.{is_reduced}
 use Rattle.sym_model.specs.LabelLimits.{is_label}
 use Rattle.sym_model.specs.Expansion.{Fraction}
 use Rattle.sym_model.specs.WholeTerms.{WholeTerms, as_fractions}
-use Rattle.sym_model.specs.Kind.{product}
-use Rattle.sym_model.specs.Answer.{answer}
 use Rattle.sym_model.specs.Command.{skew}
-use Rattle.sym_model.specs.Target.{Meets}
-use Rattle.sym_model.specs.LargeAnswer.{HasPastCoefficient}
 use Rattle.sym_model.specs.PastLimit.{is_past}
 use Rattle.sym_model.proofs.Orders.{printed_order-total}
 use Rattle.sym_model.proofs.Exponents.{same_apart, same_from, among_or_not}
 use Rattle.sym_model.proofs.Sums.{Among_from_append, Among-append_left, Among-append_right}
 use Rattle.sym_model.proofs.Integers.{zero_or_not}
+use Rattle.sym_model.specs.Products.{ExpandsInSchurs}
+use Rattle.sym_model.specs.PastLimit.{HasPast, IsCoefficientOfSkew}
 use Rattle.linear_combinations.specs.Entries.{IsCanonicalList}
 use Rattle.linear_combinations.proofs.LowestTerms.{is_reduced-lowest}
 use Rattle.linear_combinations.proofs.Ordered.{canonical-append}
@@ -152,7 +150,7 @@ zero_unless_taken shape inner inners at ν o listed there later p few not_taken 
 
 pub exchanged_meets : (shape inner : List ℕ) (inners : List (List ℕ)) (at : ℕ) (terms : WholeTerms) → IsPartition shape → ListsShapesInside shape inners → Among inner inners
     → ((i : ℕ) (x : List ℕ) → IsAt inners i x → at ≤ i → size inner + size x ≡ size shape → ⊥)
-    → ListsExchanged shape inner (take at inners) terms → Meets (skew None false shape inner) (answer product (as_fractions terms))
+    → ListsExchanged shape inner (take at inners) terms → ExpandsInSchurs None (skew_schur shape inner) (as_fractions terms)
 exchanged_meets shape inner inners at terms o listed there later l =
     skew_answers None (rows shape) shape inner terms refl o (listed.partitions inner there) (contains-from shape inner (listed.inside inner there)) (record {
       table = table_in terms l.canonical;
@@ -171,7 +169,7 @@ exchanged_meets shape inner inners at terms o listed there later l =
 
 -- the coefficients of a list are counts
 pub listed_count : (shape second inner : List ℕ) (list : WholeTerms) → IsPartition shape → IsPartition inner → IsPartition second → Holds shape second
-    → IsCanonicalList printed_order is_label whole list → Meets (skew None false shape second) (answer product (as_fractions list))
+    → IsCanonicalList printed_order is_label whole list → ExpandsInSchurs None (skew_schur shape second) (as_fractions list)
     → coefficient list inner ≡ pos (skew_count shape second inner)
 listed_count shape second inner list o i s k canonical meets =
     let n = rows inner in
@@ -180,7 +178,7 @@ listed_count shape second inner list o i s k canonical meets =
 
 -- the coefficient in the list of the other partition
 pub exchanged_term : (shape inner second : List ℕ) (list : WholeTerms) (c : ℤ) → IsPartition shape → IsPartition inner → IsPartition second → Holds shape inner → Holds shape second
-    → IsCanonicalList printed_order is_label whole list → Meets (skew None false shape second) (answer product (as_fractions list)) → c ≡ coefficient list inner
+    → IsCanonicalList printed_order is_label whole list → ExpandsInSchurs None (skew_schur shape second) (as_fractions list) → c ≡ coefficient list inner
     → c ≡ pos (skew_count shape inner second)
 exchanged_term shape inner second list c o i s h k canonical meets e =
     e
@@ -191,7 +189,7 @@ exchanged_term shape inner second list c o i s h k canonical meets e =
 
 -- where none is past it in the lists of the others, none is here
 pub exchanged_fits : (shape inner : List ℕ) (inners : List (List ℕ)) (m : ℕ) → IsPartition shape → ListsShapesInside shape inners → IsAt inners m inner → 2 * size inner < size shape
-    → ((second : List ℕ) → Among second (take m inners) → HasPastCoefficient (skew None false shape second) → ⊥) → HasPastCoefficient (skew None false shape inner) → ⊥
+    → ((second : List ℕ) → Among second (take m inners) → HasPast (IsCoefficientOfSkew None shape second) → ⊥) → HasPast (IsCoefficientOfSkew None shape inner) → ⊥
 exchanged_fits shape inner inners m o listed at small fit (c, d, past) = by (among_or_not d.parts (take m inners))
   where
     there : Among inner inners
@@ -238,7 +236,7 @@ lists_next shape inners lists new inner list here is e have =
         subst (λ (y : List ℕ). IsSkewList shape y l) (sym same_inner) (subst (IsSkewList shape inner) (sym k.1) is)
 
 pub listed_fits : (shape : List ℕ) (inners : List (List ℕ)) (lists : List WholeTerms) → HaveSkewLists shape inners lists
-    → (second : List ℕ) → Among second (take (length lists) inners) → HasPastCoefficient (skew None false shape second) → ⊥
+    → (second : List ℕ) → Among second (take (length lists) inners) → HasPast (IsCoefficientOfSkew None shape second) → ⊥
 listed_fits shape inners lists have second m =
     let r = index_of inners (length lists) second m in
     let list = get_or lists r.0 [] in

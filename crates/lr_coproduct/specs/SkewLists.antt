@@ -1,18 +1,17 @@
 -- Skew Schur polynomials of one shape by partitions inside it, as lists of terms.
 use Rattle.std.specs.Prelude.{ℕ, false, List, None}
 use Rattle.sym_model.specs.WholeTerms.{WholeTerms, as_fractions}
-use Rattle.sym_model.specs.Kind.{product}
-use Rattle.sym_model.specs.Answer.{answer}
 use Rattle.sym_model.specs.Command.{skew}
-use Rattle.sym_model.specs.Target.{Meets}
-use Rattle.sym_model.specs.LargeAnswer.{HasPastCoefficient}
+use Rattle.sym_model.specs.Products.{ExpandsInSchurs}
+use Rattle.sym_model.specs.PastLimit.{HasPast, IsCoefficientOfSkew}
+use Rattle.sym_model.specs.Schur.{skew_schur}
 use Rattle.lr_coproduct.specs.InnerShapeList.{IsAt}
 
 -- the list is the skew Schur polynomial of a shape by a partition,
 -- which has no coefficient over the limit
 pub record IsSkewList (shape inner : List ℕ) (list : WholeTerms) : Type 0 where
-  pub meets : Meets (skew None false shape inner) (answer product (as_fractions list))
-  pub fits : HasPastCoefficient (skew None false shape inner) → ⊥
+  pub meets : ExpandsInSchurs None (skew_schur shape inner) (as_fractions list)
+  pub fits : HasPast (IsCoefficientOfSkew None shape inner) → ⊥
 
 -- each list is that of the partition at its index
 pub record HaveSkewLists (shape : List ℕ) (inners : List (List ℕ))

@@ -11,11 +11,8 @@ ghost use Rattle.sym_model.specs.PrintedOrder.{pair_order};
 ghost use Rattle.sym_model.specs.Schur.{schur, skew_schur};
 ghost use Rattle.sym_model.specs.Expansion.{beside};
 ghost use Rattle.sym_model.specs.WholeTerms.{as_fractions};
-ghost use Rattle.sym_model.specs.Kind as kinds;
-ghost use Rattle.sym_model.specs.Answer.{answer};
-ghost use Rattle.sym_model.specs.Command as commands;
-ghost use Rattle.sym_model.specs.Target.{Meets};
-ghost use Rattle.sym_model.specs.LargeAnswer.{HasPastCoefficient};
+ghost use Rattle.sym_model.specs.Products.{ExpandsInSchurs, IsCoproductOf};
+ghost use Rattle.sym_model.specs.PastLimit.{HasPast, IsCoefficientOfSkew, IsCoproductCoefficient};
 ghost use Rattle.linear_combinations.specs.Entries.{IsCanonicalList};
 ghost use Rattle.lr_coproduct.specs.InnerShapeList.{ListsShapesInside, IsAt};
 ghost use Rattle.lr_coproduct.specs.SkewLists.{HaveSkewLists};
@@ -40,10 +37,10 @@ use std::alloc::Global;
 /// It is refused as `Large` exactly where a coefficient is greater than 2^127 - 1.
 pub fn coprod(alloc: Global, shape: &Partition) -> Result<Terms<Pair, Int>, SumFault>
     ensures meets { IfOk result
-        (λ terms. Meets (commands.coprod shape.now) (answer kinds.pairs (as_fractions terms))) }
+        (λ terms. IsCoproductOf shape.now (as_fractions terms)) }
     ensures counts { IfOk result (HavePairCounts shape.now) }
-    ensures large { IsErrOf result SumFault.Large → HasPastCoefficient (commands.coprod shape.now) }
-    ensures fits { OnOk result (HasPastCoefficient (commands.coprod shape.now) → ⊥) }
+    ensures large { IsErrOf result SumFault.Large → HasPast (IsCoproductCoefficient shape.now) }
+    ensures fits { OnOk result (HasPast (IsCoproductCoefficient shape.now) → ⊥) }
 {
     let inners = inner_shapes(alloc, shape)?;
     // The partitions inside and the terms for each of them come in the printed order,
@@ -87,10 +84,10 @@ fn add_inner(
         ≡ pair_coefficient pairs.old.items first second) }
     ensures count { OnOk result (length lists.new.items ≡ length lists.old.items + 1) }
     ensures lists { OnOk result (HaveSkewLists shape.now inners.now lists.new.items) }
-    ensures fits { OnOk result (HasPastCoefficient (commands.skew None false shape.now inner.now)
+    ensures fits { OnOk result (HasPast (IsCoefficientOfSkew None shape.now inner.now)
         → ⊥) }
     ensures large { IsErrOf result SumFault.Large
-        → HasPastCoefficient (commands.skew None false shape.now inner.now) }
+        → HasPast (IsCoefficientOfSkew None shape.now inner.now) }
 {
     let list = list_of(alloc, shape, inners, lists, inner)?;
     add_list(pairs, lists, inner, list)?;
@@ -110,11 +107,10 @@ fn list_of(
     requires listed { ListsShapesInside shape.now inners.now }
     requires here { IsAt inners.now (length lists.now) inner.now }
     requires lists { HaveSkewLists shape.now inners.now lists.now }
-    ensures meets { IfOk result (λ terms. Meets (commands.skew None false shape.now inner.now)
-        (answer kinds.product (as_fractions terms))) }
+    ensures meets { IfOk result (λ terms. ExpandsInSchurs None (skew_schur shape.now inner.now) (as_fractions terms)) }
     ensures large { IsErrOf result SumFault.Large
-        → HasPastCoefficient (commands.skew None false shape.now inner.now) }
-    ensures fits { OnOk result (HasPastCoefficient (commands.skew None false shape.now inner.now)
+        → HasPast (IsCoefficientOfSkew None shape.now inner.now) }
+    ensures fits { OnOk result (HasPast (IsCoefficientOfSkew None shape.now inner.now)
         → ⊥) }
 {
     if shape.size() <= 2 * inner.size() {

@@ -8,11 +8,9 @@ ghost use Rattle.sym_model.specs.Partition.{IsPartition, size};
 ghost use Rattle.sym_model.specs.Polynomial.{coefficient};
 ghost use Rattle.sym_model.specs.PrintedOrder.{printed_order};
 ghost use Rattle.sym_model.specs.WholeTerms.{as_fractions};
-ghost use Rattle.sym_model.specs.Kind as kinds;
-ghost use Rattle.sym_model.specs.Answer.{answer};
-ghost use Rattle.sym_model.specs.Command as commands;
-ghost use Rattle.sym_model.specs.Target.{Meets};
-ghost use Rattle.sym_model.specs.LargeAnswer.{HasPastCoefficient};
+ghost use Rattle.sym_model.specs.Products.{ExpandsInSchurs};
+ghost use Rattle.sym_model.specs.PastLimit.{HasPast, IsCoefficientOfSkew};
+ghost use Rattle.sym_model.specs.Schur.{skew_schur};
 ghost use Rattle.linear_combinations.specs.Entries.{IsCanonicalList};
 ghost use Rattle.lr_coproduct.specs.InnerShapeList.{ListsShapesInside, IsAt};
 ghost use Rattle.lr_coproduct.specs.SkewLists.{HaveSkewLists};
@@ -38,9 +36,8 @@ pub(crate) fn exchanged(
     requires here { IsAt inners.now (length lists.now) inner.now }
     requires lists { HaveSkewLists shape.now inners.now lists.now }
     requires small { 2 * size inner.now < size shape.now }
-    ensures meets { IfOk result (λ terms. Meets (commands.skew None false shape.now inner.now)
-        (answer kinds.product (as_fractions terms))) }
-    ensures fits { OnOk result (HasPastCoefficient (commands.skew None false shape.now inner.now)
+    ensures meets { IfOk result (λ terms. ExpandsInSchurs None (skew_schur shape.now inner.now) (as_fractions terms)) }
+    ensures fits { OnOk result (HasPast (IsCoefficientOfSkew None shape.now inner.now)
         → ⊥) }
 {
     // The sizes of the two partitions add up to that of the shape.

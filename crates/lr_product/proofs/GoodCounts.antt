@@ -16,12 +16,8 @@ use Rattle.sym_model.specs.WholeTerms.{WholeTerms, as_fractions, absolute_total}
 use Rattle.coeff_rings.specs.Fractions.{whole}
 use Rattle.linear_combinations.proofs.Steps.{IsCombination-empty}
 use Rattle.sym_model.specs.Kind.{product}
-use Rattle.sym_model.specs.Answer.{answer}
-use Rattle.sym_model.specs.Command.{mult, skew, coef}
-use Rattle.sym_model.specs.Target.{Meets}
 use Rattle.sym_model.specs.Products.{schur_product, classical_product}
 use Rattle.sym_model.specs.PastLimit.{IsSchurCoefficientOf, variables_or, is_past}
-use Rattle.sym_model.specs.LargeAnswer.{HasPastCoefficient}
 use Rattle.sym_model.specs.ReductionSteps.{classical_weight}
 use Rattle.sym_model.proofs.Exponents.{same_apart, size-join}
 use Rattle.sym_model.proofs.Polynomials.{at_only, coefficient_pair, pair_times, pair_zero, times_respects, Same_refl}
@@ -29,6 +25,8 @@ use Rattle.sym_model.proofs.WholeTerms.{represents-whole}
 use Rattle.sym_model.proofs.Orders.{is_partition-tells, is_partition-from}
 use Rattle.sym_model.proofs.SortedParts.{IsPartition-none}
 use Rattle.sym_model.proofs.Sums.{total_none, total_map}
+use Rattle.sym_model.specs.Products.{ExpandsInSchurs, IsProductCoefficientOf}
+use Rattle.sym_model.specs.PastLimit.{HasPast, IsCoefficientOfProduct, IsCoefficientOfSkew}
 use Rattle.tableau_laws.specs.ColumnFold.{column_lines, is_sum}
 use Rattle.tableau_laws.proofs.ColumnCounts.{contains_nothing, total_readings_by_columns}
 use Rattle.tableau_laws.proofs.GoodReadings.{total_good_contents}
@@ -195,17 +193,17 @@ mult_counts variables m left right terms e c =
     subst (λ k. ListsCounts k (product_count k left right) (as_fractions terms)) (e ∙ variables_same variables (rows left + rows right)) (lists_counts m (product_count m left right) terms c)
 
 pub mult_answers : (variables : Option ℕ) (m : ℕ) (left right : List ℕ) (terms : WholeTerms) → m ≡ unwrap_or variables (rows left + rows right) → IsPartition left → IsPartition right
-    → HasCounts m (product_count m left right) terms → Meets (mult variables false (left ∷ right ∷ [])) (answer product (as_fractions terms))
+    → HasCounts m (product_count m left right) terms → ExpandsInSchurs variables (schur_product (left ∷ right ∷ [])) (as_fractions terms)
 mult_answers variables m left right terms e p q c =
     mult_meets variables left right (as_fractions terms) p q (mult_counts variables m left right terms e c)
 
 pub mult_past : (variables : Option ℕ) (m : ℕ) (left right : List ℕ) → m ≡ unwrap_or variables (rows left + rows right) → IsPartition left → IsPartition right
-    → IsPastSomewhere m (product_count m left right) → HasPastCoefficient (mult variables false (left ∷ right ∷ []))
+    → IsPastSomewhere m (product_count m left right) → HasPast (IsCoefficientOfProduct variables (left ∷ right ∷ []))
 mult_past variables m left right e p q past =
     subst (λ k. HasPast k (schur_product (left ∷ right ∷ []) k)) (e ∙ enough_same variables left right) (has_past m (schur_product (left ∷ right ∷ []) m) (product_count m left right) (product_counts m left right p q) past)
 
 pub mult_fits : (variables : Option ℕ) (m : ℕ) (left right : List ℕ) → m ≡ unwrap_or variables (rows left + rows right) → IsPartition left → IsPartition right
-    → ((ν : List ℕ) → IsPartition ν → rows ν ≤ m → product_count m left right ν < 2 ^ 127) → HasPastCoefficient (mult variables false (left ∷ right ∷ [])) → ⊥
+    → ((ν : List ℕ) → IsPartition ν → rows ν ≤ m → product_count m left right ν < 2 ^ 127) → HasPast (IsCoefficientOfProduct variables (left ∷ right ∷ [])) → ⊥
 mult_fits variables m left right e p q small past =
     has_none_past m (schur_product (left ∷ right ∷ []) m) (product_count m left right) (product_counts m left right p q) small
     (subst (λ k. HasPast k (schur_product (left ∷ right ∷ []) k)) (sym (e ∙ enough_same variables left right)) past)
@@ -279,17 +277,17 @@ skew_counted variables m outer inner terms e c =
     subst (λ k. ListsCounts k (skew_count outer inner) (as_fractions terms)) (e ∙ variables_same variables (rows outer)) (lists_counts m (skew_count outer inner) terms c)
 
 pub skew_answers : (variables : Option ℕ) (m : ℕ) (outer inner : List ℕ) (terms : WholeTerms) → m ≡ unwrap_or variables (rows outer) → IsPartition outer → IsPartition inner → contains outer inner ≡ true
-    → HasCounts m (skew_count outer inner) terms → Meets (skew variables false outer inner) (answer product (as_fractions terms))
+    → HasCounts m (skew_count outer inner) terms → ExpandsInSchurs variables (skew_schur outer inner) (as_fractions terms)
 skew_answers variables m outer inner terms e o i holds c =
     skew_meets variables outer inner (as_fractions terms) o i holds (skew_counted variables m outer inner terms e c)
 
 pub skew_past : (variables : Option ℕ) (m : ℕ) (outer inner : List ℕ) → m ≡ unwrap_or variables (rows outer) → IsPartition outer → IsPartition inner → contains outer inner ≡ true
-    → IsPastSomewhere m (skew_count outer inner) → HasPastCoefficient (skew variables false outer inner)
+    → IsPastSomewhere m (skew_count outer inner) → HasPast (IsCoefficientOfSkew variables outer inner)
 skew_past variables m outer inner e o i holds past =
     subst (λ k. HasPast k (skew_schur outer inner k)) (e ∙ variables_same variables (rows outer)) (has_past m (skew_schur outer inner m) (skew_count outer inner) (skew_counts m outer inner o i holds) past)
 
 pub skew_fits : (variables : Option ℕ) (m : ℕ) (outer inner : List ℕ) → m ≡ unwrap_or variables (rows outer) → IsPartition outer → IsPartition inner → contains outer inner ≡ true
-    → ((ν : List ℕ) → IsPartition ν → rows ν ≤ m → skew_count outer inner ν < 2 ^ 127) → HasPastCoefficient (skew variables false outer inner) → ⊥
+    → ((ν : List ℕ) → IsPartition ν → rows ν ≤ m → skew_count outer inner ν < 2 ^ 127) → HasPast (IsCoefficientOfSkew variables outer inner) → ⊥
 skew_fits variables m outer inner e o i holds small past =
     has_none_past m (skew_schur outer inner m) (skew_count outer inner) (skew_counts m outer inner o i holds) small (subst (λ k. HasPast k (skew_schur outer inner k)) (sym (e ∙ variables_same variables (rows outer))) past)
 
@@ -300,11 +298,11 @@ contains-false outer inner h = false_from_ne_true (contains outer inner) (λ e. 
 skew_none : (outer inner : List ℕ) (n : ℕ) → contains outer inner ≡ false → skew_schur outer inner n ≡ []
 skew_none outer inner n h = ap (λ (b : Bool). map (λ (T : List (List ℕ)). (content n (letters_of T), pos 1)) (cond b (filter (semistandard inner) (fillings_of n (row_lengths outer inner))) [])) h
 
-pub outside_answers : (variables : Option ℕ) (outer inner : List ℕ) → contains outer inner ≡ false → Meets (skew variables false outer inner) (answer product [])
+pub outside_answers : (variables : Option ℕ) (outer inner : List ℕ) → contains outer inner ≡ false → ExpandsInSchurs variables (skew_schur outer inner) []
 outside_answers None outer inner h = λ n. represents-whole (λ label. schur label n) [] (skew_schur outer inner n) tt (λ α. ap (λ (f : Poly). coefficient f α) (sym (skew_none outer inner n h)))
 outside_answers (Some k) outer inner h = (represents-whole (λ label. schur label k) [] (skew_schur outer inner k) tt (λ α. ap (λ (f : Poly). coefficient f α) (sym (skew_none outer inner k h))), λ t m. absurd m)
 
-pub outside_fits : (variables : Option ℕ) (outer inner : List ℕ) → contains outer inner ≡ false → HasPastCoefficient (skew variables false outer inner) → ⊥
+pub outside_fits : (variables : Option ℕ) (outer inner : List ℕ) → contains outer inner ≡ false → HasPast (IsCoefficientOfSkew variables outer inner) → ⊥
 outside_fits variables outer inner h past =
     let m = variables_or variables (rows outer) in
     has_none_past m [] (λ ν. 0) (λ ν q l. coefficient_pair (times (alternant (staircase m)) []) (join ν (staircase m)) ∙ pair_times (alternant (staircase m)) [] (at_only (join ν (staircase m))) ∙ pair_zero (alternant (staircase m)))
@@ -326,14 +324,14 @@ product_count-other_size outer left right o p q other =
     (λ e. other (omega arith)) in
     omega (arith, ints)
 
-pub coef_past : (outer left right : List ℕ) → IsPartition outer → IsPartition left → IsPartition right → 2 ^ 127 ≤ product_count (rows outer) left right outer → HasPastCoefficient (coef outer left right)
+pub coef_past : (outer left right : List ℕ) → IsPartition outer → IsPartition left → IsPartition right → 2 ^ 127 ≤ product_count (rows outer) left right outer → HasPast (IsProductCoefficientOf outer left right)
 coef_past outer left right o p q h = (
   pos (product_count (rows outer) left right outer),
   sym (product_counts (rows outer) left right p q outer o (omega arith)),
   le-leb (2 ^ 127) (product_count (rows outer) left right outer) h,
 )
 
-pub coef_fits : (outer left right : List ℕ) → IsPartition outer → IsPartition left → IsPartition right → product_count (rows outer) left right outer < 2 ^ 127 → HasPastCoefficient (coef outer left right) → ⊥
+pub coef_fits : (outer left right : List ℕ) → IsPartition outer → IsPartition left → IsPartition right → product_count (rows outer) left right outer < 2 ^ 127 → HasPast (IsProductCoefficientOf outer left right) → ⊥
 coef_fits outer left right o p q h (c, d, past) =
     let is : c ≡ pos (product_count (rows outer) left right outer) = d ∙ product_counts (rows outer) left right p q outer o (omega arith) in
     let l = leb-true (2 ^ 127) (product_count (rows outer) left right outer) (sym (ap is_past is) ∙ past) in

@@ -8,14 +8,12 @@ use Rattle.sym_model.specs.Schur.{schur}
 use Rattle.sym_model.specs.Alternant.{alternant, staircase}
 use Rattle.sym_model.specs.WholeTerms.{WholeTerms, as_fractions}
 use Rattle.sym_model.specs.Kind.{product}
-use Rattle.sym_model.specs.Answer.{answer}
-use Rattle.sym_model.specs.Command.{mult}
-use Rattle.sym_model.specs.Target.{Meets}
 use Rattle.sym_model.specs.Products.{schur_product}
-use Rattle.sym_model.specs.LargeAnswer.{HasPastCoefficient}
 use Rattle.sym_model.specs.PastLimit.{is_past}
 use Rattle.sym_model.proofs.Polynomials.{at_only, coefficient_pair, pair_times, pair_zero, Same_refl, Same_sym, times_respects}
 use Rattle.sym_model.proofs.WholeTerms.{represents-whole}
+use Rattle.sym_model.specs.Products.{ExpandsInSchurs}
+use Rattle.sym_model.specs.PastLimit.{HasPast, IsCoefficientOfProduct}
 use Rattle.product_laws.proofs.Expanding.{product_nothing}
 use Rattle.product_laws.specs.FactorSteps.{HasLong}
 
@@ -30,7 +28,7 @@ coefficient_of_nothing f g α e =
     ∙ coefficient_pair (times f nothing) α ∙ pair_times f nothing (at_only α) ∙ pair_zero f
 
 pub nothing_meets : (given : Option ℕ) (k : ℕ) (factors : List (List ℕ)) (terms : WholeTerms) → k ≡ unwrap_or given (max (size (map rows factors)) 1)
-    → ((parts : List ℕ) → Among parts factors → IsPartition parts) → HasLong k factors → terms ≡ [] → Meets (mult given false factors) (answer product (as_fractions terms))
+    → ((parts : List ℕ) → Among parts factors → IsPartition parts) → HasLong k factors → terms ≡ [] → ExpandsInSchurs given (schur_product factors) (as_fractions terms)
 nothing_meets given k factors (t ∷ terms) e are h none = absurd (cc)
 nothing_meets None k factors [] e are h none = let l = among_rows factors h.0 h.1 in let m = h.2 in absurd (omega arith)
 nothing_meets (Some n) k factors [] e are h none = (
@@ -40,7 +38,7 @@ nothing_meets (Some n) k factors [] e are h none = (
 )
 
 pub nothing_fits : (given : Option ℕ) (k : ℕ) (factors : List (List ℕ)) → k ≡ unwrap_or given (max (size (map rows factors)) 1)
-    → ((parts : List ℕ) → Among parts factors → IsPartition parts) → HasLong k factors → HasPastCoefficient (mult given false factors) → ⊥
+    → ((parts : List ℕ) → Among parts factors → IsPartition parts) → HasLong k factors → HasPast (IsCoefficientOfProduct given factors) → ⊥
 nothing_fits None k factors e are h past = let l = among_rows factors h.0 h.1 in let m = h.2 in omega arith
 nothing_fits (Some n) k factors e are h past =
     let s = past.1 in

@@ -9,11 +9,10 @@ use Rattle.sym_model.specs.Polynomial.{coefficient, times}
 use Rattle.sym_model.specs.GoodTableau.{product_count}
 use Rattle.sym_model.specs.Schur.{schur}
 use Rattle.sym_model.specs.Alternant.{schur_coefficient}
-use Rattle.sym_model.specs.Command.{mult}
 use Rattle.sym_model.specs.Products.{schur_product, classical_product}
 use Rattle.sym_model.specs.PastLimit.{IsSchurCoefficientOf, is_past}
-use Rattle.sym_model.specs.LargeAnswer.{HasPastCoefficient}
 use Rattle.sym_model.proofs.Integers.{is_past-tells, is_past-from}
+use Rattle.sym_model.specs.PastLimit.{HasPast, IsCoefficientOfProduct}
 use Rattle.alternant_laws.proofs.ClassicalProducts.{classical_product-coefficient, classical_product-term}
 use Rattle.product_laws.specs.CountedProducts.{Reaches}
 use Rattle.product_laws.proofs.CountLists.{counts-coefficient, some_term}
@@ -132,16 +131,16 @@ none_reached first rest p e r =
 -- ---- the answer of the command
 
 pub past_answer : (given : Option ℕ) (k : ℕ) (first : List ℕ) (rest : List (List ℕ)) → ArePartitions (first ∷ rest)
-    → k ≡ unwrap_or given (max (size (map rows (first ∷ rest))) 1) → Reaches k (2 ^ 127) (classical_product k (first ∷ rest)) → HasPastCoefficient (mult given false (first ∷ rest))
+    → k ≡ unwrap_or given (max (size (map rows (first ∷ rest))) 1) → Reaches k (2 ^ 127) (classical_product k (first ∷ rest)) → HasPast (IsCoefficientOfProduct given (first ∷ rest))
 past_answer (Some n) k first rest p e r = subst (λ n. IsPastIn n (first ∷ rest)) e (reaches_past k (first ∷ rest) r)
 past_answer None k first rest p e r = by (cases_lt 0 (size (map rows (first ∷ rest))))
   where
-    by : (0 < size (map rows (first ∷ rest))) ⊎ (size (map rows (first ∷ rest)) ≤ 0) → HasPastCoefficient (mult None false (first ∷ rest))
+    by : (0 < size (map rows (first ∷ rest))) ⊎ (size (map rows (first ∷ rest)) ≤ 0) → HasPast (IsCoefficientOfProduct None (first ∷ rest))
     by (inl l) = let n : k ≡ size (map rows (first ∷ rest)) = omega arith in subst (λ n. IsPastIn n (first ∷ rest)) n (reaches_past k (first ∷ rest) r)
     by (inr l) = let n : k ≡ 1 = omega arith in absurd (none_reached first rest p (omega arith) (subst (λ n. Reaches n (2 ^ 127) (classical_product n (first ∷ rest))) n r))
 
 pub small_answer : (given : Option ℕ) (k : ℕ) (first : List ℕ) (rest : List (List ℕ))
-    → k ≡ unwrap_or given (max (size (map rows (first ∷ rest))) 1) → AreSmallCounts (classical_product k (first ∷ rest)) → HasPastCoefficient (mult given false (first ∷ rest)) → ⊥
+    → k ≡ unwrap_or given (max (size (map rows (first ∷ rest))) 1) → AreSmallCounts (classical_product k (first ∷ rest)) → HasPast (IsCoefficientOfProduct given (first ∷ rest)) → ⊥
 small_answer (Some n) k first rest e small h = small_not_past k (first ∷ rest) small (subst (λ n. IsPastIn n (first ∷ rest)) (sym e) h)
 small_answer None k first rest e small h = by (cases_lt 0 (size (map rows (first ∷ rest))))
   where
@@ -150,11 +149,11 @@ small_answer None k first rest e small h = by (cases_lt 0 (size (map rows (first
     by (inr l) = let n : size (map rows (first ∷ rest)) ≡ 0 = omega arith in none_past (first ∷ rest) n (subst (λ n. IsPastIn n (first ∷ rest)) n h)
 
 pub past_factors : (given : Option ℕ) (k : ℕ) (factors : List (List ℕ)) → AreFactors factors → k ≡ unwrap_or given (max (size (map rows factors)) 1)
-    → Reaches k (2 ^ 127) (classical_product k factors) → HasPastCoefficient (mult given false factors)
+    → Reaches k (2 ^ 127) (classical_product k factors) → HasPast (IsCoefficientOfProduct given factors)
 past_factors given k [] f e r = let l = f.least in absurd (omega arith)
 past_factors given k (first ∷ rest) f e r = past_answer given k first rest f.small.partitions e r
 
 pub small_factors : (given : Option ℕ) (k : ℕ) (factors : List (List ℕ)) → AreFactors factors → k ≡ unwrap_or given (max (size (map rows factors)) 1)
-    → AreSmallCounts (classical_product k factors) → HasPastCoefficient (mult given false factors) → ⊥
+    → AreSmallCounts (classical_product k factors) → HasPast (IsCoefficientOfProduct given factors) → ⊥
 small_factors given k [] f e small h = let l = f.least in absurd (omega arith)
 small_factors given k (first ∷ rest) f e small h = small_answer given k first rest e small h

@@ -7,9 +7,8 @@ ghost use Rattle.sym_model.specs.GoodTableau.{product_count};
 ghost use Rattle.sym_model.specs.Expansion.{Terms as TermList};
 ghost use Rattle.sym_model.specs.Kind as kinds;
 ghost use Rattle.sym_model.specs.Answer.{answer, number_in};
-ghost use Rattle.sym_model.specs.Command as commands;
-ghost use Rattle.sym_model.specs.Target.{Meets};
-ghost use Rattle.sym_model.specs.LargeAnswer.{HasPastCoefficient};
+ghost use Rattle.sym_model.specs.PastLimit.{HasPast};
+ghost use Rattle.sym_model.specs.Products.{IsProductCoefficientOf};
 ghost use Rattle.lr_product.specs.WeighedSum.{weighed, comes_to};
 ghost use Rattle.lr_product.specs.Capped.{Agree};
 
@@ -38,10 +37,10 @@ pub fn coef(
     // Every list of terms that is this number is the answer.
     ensures meets { IfOk result (λ c. (terms : TermList (kinds.Label kinds.number))
         → number_in terms ≡ c
-        → Meets (commands.coef outer.now left.now right.now) (answer kinds.number terms)) }
+        → IsProductCoefficientOf outer.now left.now right.now (number_in terms)) }
     ensures large { IsErrOf result SumFault.Large
-        → HasPastCoefficient (commands.coef outer.now left.now right.now) }
-    ensures fits { OnOk result (HasPastCoefficient (commands.coef outer.now left.now right.now)
+        → HasPast (IsProductCoefficientOf outer.now left.now right.now) }
+    ensures fits { OnOk result (HasPast (IsProductCoefficientOf outer.now left.now right.now)
         → ⊥) }
 {
     count_in(alloc, outer, left, right)

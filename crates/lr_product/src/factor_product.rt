@@ -5,12 +5,8 @@ ghost use Rattle.std.specs.Option.{ForSome};
 ghost use Rattle.sym_model.specs.Partition.{size, rows as number_of_rows};
 ghost use Rattle.sym_model.specs.Sum.{Among};
 ghost use Rattle.sym_model.specs.WholeTerms.{as_fractions};
-ghost use Rattle.sym_model.specs.Kind as kinds;
-ghost use Rattle.sym_model.specs.Answer.{answer};
-ghost use Rattle.sym_model.specs.Command as commands;
-ghost use Rattle.sym_model.specs.LargeAnswer.{HasPastCoefficient};
-ghost use Rattle.sym_model.specs.Target.{Meets};
 ghost use Rattle.sym_model.specs.Products.{ExpandsInSchurs, schur_product, classical_product};
+ghost use Rattle.sym_model.specs.PastLimit.{HasPast, IsCoefficientOfProduct};
 ghost use Rattle.product_laws.specs.CountedProducts.{IsShownIn, Reaches};
 ghost use Rattle.lr_product.specs.ProductOfFactors.{AreSmallCounts};
 
@@ -34,10 +30,10 @@ pub fn mult_all(
 ) -> Result<Terms<Partition, Int>, SumFault>
     requires { ForSome rows (λ k. (1 ≤ k) × (k ≤ 512)) }
     ensures meets { IfOk result (λ terms.
-        Meets (commands.mult rows false factors.now) (answer kinds.product (as_fractions terms))) }
+        ExpandsInSchurs rows (schur_product factors.now) (as_fractions terms)) }
     ensures large { IsErrOf result SumFault.Large
-        → HasPastCoefficient (commands.mult rows false factors.now) }
-    ensures fits { OnOk result (HasPastCoefficient (commands.mult rows false factors.now) → ⊥) }
+        → HasPast (IsCoefficientOfProduct rows factors.now) }
+    ensures fits { OnOk result (HasPast (IsCoefficientOfProduct rows factors.now) → ⊥) }
 {
     let variables = rows.unwrap_or(factors.rows().max(1));
     if has_longer(factors, variables) {

@@ -6,14 +6,11 @@ ghost use Rattle.sym_model.specs.Partition.{IsPartition, size, rows as number_of
 ghost use Rattle.sym_model.specs.Polynomial.{Same};
 ghost use Rattle.sym_model.specs.WholeTerms.{as_fractions};
 ghost use Rattle.sym_model.specs.GoodTableau.{product_count};
-ghost use Rattle.sym_model.specs.Kind as kinds;
-ghost use Rattle.sym_model.specs.Answer.{answer};
-ghost use Rattle.sym_model.specs.Command as commands;
-ghost use Rattle.sym_model.specs.Target.{Meets};
 ghost use Rattle.sym_model.specs.Products.{classical_product};
-ghost use Rattle.sym_model.specs.LargeAnswer.{HasPastCoefficient};
 ghost use Rattle.sym_model.specs.ReductionSteps.{classical_weight};
 ghost use Rattle.sym_model.specs.PastLimit.{variables_or};
+ghost use Rattle.sym_model.specs.Products.{ExpandsInSchurs, schur_product};
+ghost use Rattle.sym_model.specs.PastLimit.{HasPast, IsCoefficientOfProduct};
 ghost use Rattle.alternant_laws.specs.GoodSums.{ListsCounts};
 ghost use Rattle.lr_product.specs.Counts.{HasCounts, IsPastSomewhere};
 
@@ -40,8 +37,7 @@ pub fn mult(
     requires lengths { number_of_rows left.now + number_of_rows right.now ≤ 512 }
     requires variables { ForSome rows (λ k. (1 ≤ k) × (k ≤ 512)) }
     ensures meets { IfOk result (λ terms.
-        Meets (commands.mult rows false (left.now ∷ right.now ∷ []))
-        (answer kinds.product (as_fractions terms))) }
+        ExpandsInSchurs rows (schur_product (left.now ∷ right.now ∷ [])) (as_fractions terms)) }
 
     // The coefficients are counts of good tableaux.
     ensures counts { IfOk result (λ terms.
@@ -50,9 +46,8 @@ pub fn mult(
         left.now right.now)
         (as_fractions terms)) }
     ensures large { IsErrOf result SumFault.Large
-        → HasPastCoefficient (commands.mult rows false (left.now ∷ right.now ∷ [])) }
-    ensures fits { OnOk result (HasPastCoefficient
-        (commands.mult rows false (left.now ∷ right.now ∷ [])) → ⊥) }
+        → HasPast (IsCoefficientOfProduct rows (left.now ∷ right.now ∷ [])) }
+    ensures fits { OnOk result (HasPast (IsCoefficientOfProduct rows (left.now ∷ right.now ∷ [])) → ⊥) }
 
     // In a number of variables it is the classical product, and a coefficient that is too large
     // makes the sum of all so.

@@ -4,13 +4,11 @@ ghost use Rattle.std.specs.Option.{ForSome};
 ghost use Rattle.sym_model.specs.Partition.{IsPartition, rows as number_of_rows};
 ghost use Rattle.sym_model.specs.Schur.{contains};
 ghost use Rattle.sym_model.specs.GoodTableau.{skew_count};
-ghost use Rattle.sym_model.specs.Kind as kinds;
-ghost use Rattle.sym_model.specs.Answer.{answer};
-ghost use Rattle.sym_model.specs.Command as commands;
-ghost use Rattle.sym_model.specs.Target.{Meets};
 ghost use Rattle.sym_model.specs.WholeTerms.{as_fractions};
-ghost use Rattle.sym_model.specs.LargeAnswer.{HasPastCoefficient};
 ghost use Rattle.sym_model.specs.PastLimit.{variables_or};
+ghost use Rattle.sym_model.specs.Products.{ExpandsInSchurs};
+ghost use Rattle.sym_model.specs.PastLimit.{HasPast, IsCoefficientOfSkew};
+ghost use Rattle.sym_model.specs.Schur.{skew_schur};
 ghost use Rattle.alternant_laws.specs.GoodSums.{ListsCounts};
 ghost use Rattle.lr_product.specs.Counts.{HasCounts, IsPastSomewhere};
 
@@ -35,8 +33,7 @@ pub fn skew(
 ) -> Result<Terms<Partition, Int>, SumFault>
     requires { ForSome rows (λ k. (1 ≤ k) × (k ≤ 512)) }
     ensures meets { IfOk result (λ terms.
-        Meets (commands.skew rows false outer.now inner.now)
-        (answer kinds.product (as_fractions terms))) }
+        ExpandsInSchurs rows (skew_schur outer.now inner.now) (as_fractions terms)) }
 
     // The coefficients are counts of lattice tableaux.
     ensures counts { contains outer.now inner.now ≡ true
@@ -44,8 +41,8 @@ pub fn skew(
         (skew_count outer.now inner.now)
         (as_fractions terms)) }
     ensures large { IsErrOf result SumFault.Large
-        → HasPastCoefficient (commands.skew rows false outer.now inner.now) }
-    ensures fits { OnOk result (HasPastCoefficient (commands.skew rows false outer.now inner.now)
+        → HasPast (IsCoefficientOfSkew rows outer.now inner.now) }
+    ensures fits { OnOk result (HasPast (IsCoefficientOfSkew rows outer.now inner.now)
         → ⊥) }
 {
     if !outer.contains(inner) {

@@ -1,18 +1,16 @@
 //! The product of two Schubert polynomials.
 ghost use Rattle.std.specs.Prelude.{◌≡◌, ℕ, ◌+◌, ◌*◌, ◌^◌, ◌≤◌, max, nat_abs, length, IfOk};
 ghost use Rattle.std.specs.Prelude.{IsErrOf};
-ghost use Rattle.sym_model.specs.Answer.{answer};
-ghost use Rattle.sym_model.specs.Command as commands;
 ghost use Rattle.sym_model.specs.Expansion.{Represents};
 ghost use Rattle.sym_model.specs.Kind.{permutations};
 ghost use Rattle.sym_model.specs.PastLimit.{shorter, value_at_ones};
-ghost use Rattle.sym_model.specs.LargeAnswer.{IsHeavy};
 ghost use Rattle.sym_model.specs.PlaceOrders.{inversions};
 ghost use Rattle.sym_model.specs.Polynomial.{times};
 ghost use Rattle.sym_model.specs.Schubert as polynomials;
 ghost use Rattle.sym_model.specs.Schubert.{schubert_in};
-ghost use Rattle.sym_model.specs.Target.{Meets};
 ghost use Rattle.sym_model.specs.WholeTerms.{as_fractions};
+ghost use Rattle.sym_model.specs.Products.{IsSchubertProductOf};
+ghost use Rattle.sym_model.specs.PastLimit.{pair_weight};
 
 use crate::monk::TimesVar;
 use calc_base::SumFault;
@@ -30,8 +28,8 @@ use transition_walk::product_of;
 pub fn schubmult(alloc: Global, u: &Perm, v: &Perm) -> Result<Terms<Perm, Int>, SumFault>
     requires { max (length u.now) (length v.now) + inversions (shorter u.now v.now) ≤ 255 }
     ensures meets { IfOk result (λ terms.
-        Meets (commands.schubmult u.now v.now) (answer permutations (as_fractions terms))) }
-    ensures large { IsErrOf result SumFault.Large → IsHeavy (commands.schubmult u.now v.now) }
+        IsSchubertProductOf u.now v.now (as_fractions terms)) }
+    ensures large { IsErrOf result SumFault.Large → 2 ^ 127 ≤ pair_weight u.now v.now }
 {
     if u.inversions() <= v.inversions() {
         act(alloc, u, v)

@@ -1,12 +1,11 @@
 //! Fusion products of several Schur classes.
 ghost use Rattle.std.specs.Prelude.{◌≡◌, ◌+◌, ◌≤◌, IfOk, IsErrOf};
-ghost use Rattle.sym_model.specs.Kind as kinds;
-ghost use Rattle.sym_model.specs.Answer.{answer};
-ghost use Rattle.sym_model.specs.Command as commands;
-ghost use Rattle.sym_model.specs.Target.{Meets};
-ghost use Rattle.sym_model.specs.LargeAnswer.{IsHeavy};
 ghost use Rattle.sym_model.specs.ReductionSteps.{IsReflectedInSteps};
 ghost use Rattle.sym_model.specs.WholeTerms.{as_fractions};
+ghost use Rattle.sym_model.specs.PastLimit.{HasHeavy};
+ghost use Rattle.sym_model.specs.Reductions.{IsAlcoveReductionOf};
+ghost use Rattle.sym_model.specs.ReductionSteps.{IsFusionWeight};
+ghost use Rattle.sym_model.specs.Products.{classical_product};
 
 use crate::alcove_of;
 use crate::collecting::add_signed;
@@ -111,13 +110,12 @@ pub fn fusion(
     requires variables { (1 ≤ rows) × (rows ≤ 64) }
     requires levels { (1 ≤ level) × (level ≤ 64) }
     ensures meets { IfOk result (λ terms.
-        Meets (commands.fusion rows level factors.now)
-        (answer kinds.product (as_fractions terms))) }
+        IsAlcoveReductionOf rows (rows + level) (classical_product rows factors.now) (as_fractions terms)) }
 
     // Each step collects the reflections of the product of the terms so far with the next factor.
     ensures steps { IfOk result (IsReflectedInSteps rows (rows + level) factors.now) }
     ensures large { IsErrOf result SumFault.Large
-        → IsHeavy (commands.fusion rows level factors.now) }
+        → HasHeavy (IsFusionWeight rows (rows + level) factors.now) }
 {
     if has_long(factors, rows) {
         return no_terms(alloc);

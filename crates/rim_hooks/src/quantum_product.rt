@@ -1,15 +1,13 @@
 //! Quantum products of several Schur classes.
 ghost use Rattle.std.specs.Prelude.{◌≡◌, ◌+◌, ◌≤◌, List, IfOk, IsErrOf};
-ghost use Rattle.sym_model.specs.Kind as kinds;
-ghost use Rattle.sym_model.specs.Answer.{answer};
-ghost use Rattle.sym_model.specs.Command as commands;
 ghost use Rattle.sym_model.specs.Target as target;
 ghost use Rattle.sym_model.specs.Reductions.{AreReductions, reduced_terms};
-ghost use Rattle.sym_model.specs.Target.{Meets};
 ghost use Rattle.sym_model.specs.Products.{classical_product};
-ghost use Rattle.sym_model.specs.LargeAnswer.{IsHeavy};
 ghost use Rattle.sym_model.specs.ReductionSteps.{IsReducedInSteps};
 ghost use Rattle.sym_model.specs.WholeTerms.{as_fractions};
+ghost use Rattle.sym_model.specs.PastLimit.{HasHeavy};
+ghost use Rattle.sym_model.specs.ReductionSteps.{IsQuantumWeight};
+ghost use Rattle.sym_model.specs.Reductions.{IsRimHookReduction};
 ghost use Rattle.reduction_laws.specs.AnyOrder.{HaveSameSums};
 
 use crate::collecting::add_signed;
@@ -122,7 +120,7 @@ pub fn quantum(
     requires variables { (1 ≤ rows) × (rows ≤ 64) }
     requires columns { (1 ≤ cols) × (cols ≤ 64) }
     ensures meets { IfOk result (λ terms.
-        Meets (commands.quantum rows cols factors.now) (answer kinds.powers (as_fractions terms))) }
+        IsRimHookReduction rows (rows + cols) (classical_product rows factors.now) (as_fractions terms)) }
 
     // Whichever rim hooks are removed first: these are the sums of every list of reductions of the
     // classical product.
@@ -133,7 +131,7 @@ pub fn quantum(
     // Each step collects the reductions of the product of the terms so far with the next factor.
     ensures steps { IfOk result (IsReducedInSteps rows (rows + cols) factors.now) }
     ensures large { IsErrOf result SumFault.Large
-        → IsHeavy (commands.quantum rows cols factors.now) }
+        → HasHeavy (IsQuantumWeight rows (rows + cols) factors.now) }
 {
     if has_long(factors, rows) {
         return no_terms(alloc);

@@ -19,8 +19,6 @@ use Rattle.sym_model.specs.Schubert.{schubert_in}
 use Rattle.sym_model.specs.Expansion.{Represents}
 use Rattle.sym_model.specs.WholeTerms.{WholeTerms, as_fractions}
 use Rattle.sym_model.specs.LabelLimits.{is_monomial_label}
-use Rattle.sym_model.specs.Command as commands
-use Rattle.sym_model.specs.LargeAnswer.{HasPastCoefficient}
 use Rattle.sym_model.proofs.Sums.{total_ext}
 use Rattle.sym_model.proofs.Exponents.{same_true, same_from, fits_in_length}
 use Rattle.sym_model.proofs.Polynomials.{at_only, coefficient_pair, at_only-nonnegative}
@@ -42,6 +40,7 @@ use Rattle.schubert_transition.specs.TermLists.{AreTerms, IsMonomialTable, IsSch
 use Rattle.schubert_transition.proofs.Acted.{acted_identity, acted_start, acted_at, shown_natural, at_only_here}
 use Rattle.schubert_transition.proofs.VariableShares.{coefficient_share, share_is, exact_share, outside_share, outside_falls, outside_start, within_by, within_terms}
 use Rattle.sym_model.proofs.PolynomialLaws.{restricted_test}
+use Rattle.sym_model.specs.PastLimit.{HasPast, IsCoefficientOfSchubert}
 use Rattle.linear_combinations.specs.Gains.{weighed}
 use Rattle.sparse_polys.proofs.PolynomialValues.{pair_x_to_in}
 
@@ -55,7 +54,7 @@ identity_shows n φ e = acted_identity n φ (1 ∷ []) e one_one_line refl
 coefficient_is : (w α : List ℕ) → coefficient_of (polynomials.schubert w) α ≡ pair (schubert_in w (length w)) (at_only α)
 coefficient_is w α = coefficient_pair (polynomials.schubert w) α ∙ sym (restrict_pair (length w) (polynomials.schubert w) (at_only α) (In_schubert w))
 
-past_from : (w γ : List ℕ) → pos (2 ^ 127) ≤ℤ pair (schubert_in w (length w)) (at_only γ) → HasPastCoefficient (commands.schubert w)
+past_from : (w γ : List ℕ) → pos (2 ^ 127) ≤ℤ pair (schubert_in w (length w)) (at_only γ) → HasPast (IsCoefficientOfSchubert w)
 past_from w γ h = (coefficient_of (polynomials.schubert w) γ, (γ, refl), is_past-from (coefficient_of (polynomials.schubert w) γ) (subst (λ z. pos (2 ^ 127) ≤ℤ z) (sym (coefficient_is w γ)) h))
 
 -- ---- a label is told by its exponents in enough variables
@@ -182,7 +181,7 @@ module _ (w : List ℕ) (short : IsShort (length w) w) (terms : WholeTerms) (is 
       (λ φ. total_ext (λ (t : List ℕ × ℤ). t.1 *ℤ pair (x_to_in t.0 n) φ) (λ (t : List ℕ × ℤ). t.1 *ℤ restricted_test n φ t.0) (λ t. ap (λ z. t.1 *ℤ z) (pair_x_to_in n t.0 φ)) terms ∙ sums n φ)
 
   -- as its coefficients are held, none of the polynomial is past them
-  fits : HasPastCoefficient (commands.schubert w) → ⊥
+  fits : HasPast (IsCoefficientOfSchubert w) → ⊥
   fits (c, (α, e), large) =
       let a = sums (length w) (at_only α) in
       let b = coefficient_is w α in
@@ -217,7 +216,7 @@ final w one (Ok terms) one_line is value table held shares =
     })
 final w one (Err e) one_line is value table held shares = tt
 
-pub fits_of : {E : Type 0} (w : List ℕ) (r : Result WholeTerms E) → IfOk r (IsSchubertOf w) → OnOk r (HasPastCoefficient (commands.schubert w) → ⊥)
+pub fits_of : {E : Type 0} (w : List ℕ) (r : Result WholeTerms E) → IfOk r (IsSchubertOf w) → OnOk r (HasPast (IsCoefficientOfSchubert w) → ⊥)
 fits_of w (Ok terms) h = h.fits
 fits_of w (Err e) h = tt
 
@@ -226,7 +225,7 @@ fits_of w (Err e) h = tt
 -- a coefficient of what waits at the label is one of the polynomial
 reached : (w : List ℕ) → IsOneLine w
     → (o : SharesOverflow (λ r v e. raised_terms r e) (λ e. 255 + size e) (length w) (top_of w 255) (λ share. share w [])) (γ : List ℕ)
-    → at_only o.label o.label ≤ℤ acted (length w) (at_only γ) o.perm o.label → HasPastCoefficient (commands.schubert w)
+    → at_only o.label o.label ≤ℤ acted (length w) (at_only γ) o.perm o.label → HasPast (IsCoefficientOfSchubert w)
 reached w one_line o γ h =
     let one = at_only_here o.label in
     let s = share_is (length w) γ o.perm o.label o.short in
@@ -236,11 +235,11 @@ reached w one_line o γ h =
     past_from w γ (omega (arith, ints))
 
 pub overflow_past : (w one : List ℕ) → IsOneLine w → one ≡ []
-    → SharesOverflow (λ r v e. raised_terms r e) (λ e. 255 + size e) (length w) (top_of w (255 + size one)) (λ share. share w one) → HasPastCoefficient (commands.schubert w)
+    → SharesOverflow (λ r v e. raised_terms r e) (λ e. 255 + size e) (length w) (top_of w (255 + size one)) (λ share. share w one) → HasPast (IsCoefficientOfSchubert w)
 overflow_past w one one_line is over =
     by (subst (λ (e : List ℕ). SharesOverflow (λ r v e. raised_terms r e) (λ e. 255 + size e) (length w) (top_of w (255 + size e)) (λ share. share w e)) is over)
   where
-    by : SharesOverflow (λ r v e. raised_terms r e) (λ e. 255 + size e) (length w) (top_of w 255) (λ share. share w []) → HasPastCoefficient (commands.schubert w)
+    by : SharesOverflow (λ r v e. raised_terms r e) (λ e. 255 + size e) (length w) (top_of w 255) (λ share. share w []) → HasPast (IsCoefficientOfSchubert w)
     by o =
         let few = (within_by (length w) (inversions w) o.perm o.label
         (λ some.

@@ -3,16 +3,15 @@ use Rattle.std.specs.Prelude.{ℕ, ◌^◌, ◌≤◌, ◌≤ℤ◌, ◌<ℤ◌,
 use Rattle.std.specs.Cmp.Lexicographic.{pointwise}
 use Rattle.coeff_rings.specs.Fractions.{whole}
 use Rattle.linear_combinations.specs.Entries.{IsCombination}
-use Rattle.sym_model.specs.Command as commands
 use Rattle.sym_model.specs.DividedDifference.{x_to_in}
 use Rattle.sym_model.specs.Expansion.{Represents}
 use Rattle.sym_model.specs.LabelLimits.{is_monomial_label}
-use Rattle.sym_model.specs.LargeAnswer.{HasPastCoefficient}
 use Rattle.sym_model.specs.Partition.{size}
 use Rattle.sym_model.specs.PlaceOrders.{inversions}
 use Rattle.sym_model.specs.Schubert.{schubert_in}
 use Rattle.sym_model.specs.Sum.{Among}
 use Rattle.sym_model.specs.WholeTerms.{WholeTerms, as_fractions}
+use Rattle.sym_model.specs.PastLimit.{HasPast, IsCoefficientOfSchubert}
 
 -- a term in at most n variables and of at most degree d,
 -- with a coefficient that is not negative and below 2^127
@@ -37,4 +36,4 @@ pub record IsSchubertOf (w : List ℕ) (terms : WholeTerms) : Type 0 where
       (schubert_in w n) 1
   pub terms_of : AreTerms (length w) (inversions w) terms
   pub table : IsMonomialTable terms
-  pub fits : HasPastCoefficient (commands.schubert w) → ⊥
+  pub fits : HasPast (IsCoefficientOfSchubert w) → ⊥

@@ -3,12 +3,10 @@ ghost use Rattle.std.specs.Prelude.{◌≡◌, ◌⊎◌, ◌<◌, ◌≤◌, �
 ghost use Rattle.std.specs.Prelude.{List, IsSome, IfOk, OnOk, OnErr, IfSome, MatchOption, IsErrOf};
 ghost use Rattle.std.specs.Cmp.Lexicographic.{pointwise};
 ghost use Rattle.std.specs.Map.{lookup};
-ghost use Rattle.sym_model.specs.Answer.{answer};
-ghost use Rattle.sym_model.specs.Command as commands;
 ghost use Rattle.sym_model.specs.Kind.{polynomial};
-ghost use Rattle.sym_model.specs.LargeAnswer.{HasPastCoefficient};
-ghost use Rattle.sym_model.specs.Target.{Meets};
 ghost use Rattle.sym_model.specs.WholeTerms.{WholeTerms, as_fractions};
+ghost use Rattle.sym_model.specs.PastLimit.{HasPast, IsCoefficientOfSchubert};
+ghost use Rattle.sym_model.specs.Products.{IsSchubertPolynomialOf};
 ghost use Rattle.lru.specs.LruCache.{lru_cache, promoted, put_entries};
 ghost use Rattle.schubert_transition.specs.Kept.{ComesFirst, GoesFirst, IsSchubertStore, kept_for};
 ghost use Rattle.schubert_transition.specs.TermLists.{IsSchubertOf};
@@ -74,8 +72,8 @@ impl Memo {
     pub fn schubert(&mut self, w: &Perm) -> Result<Polynomial, SumFault>
         ensures is { IfOk result (IsSchubertOf w.now) }
         ensures large { IsErrOf result SumFault.Large
-            → HasPastCoefficient (commands.schubert w.now) }
-        ensures fits { OnOk result (HasPastCoefficient (commands.schubert w.now) → ⊥) }
+            → HasPast (IsCoefficientOfSchubert w.now) }
+        ensures fits { OnOk result (HasPast (IsCoefficientOfSchubert w.now) → ⊥) }
         ensures kept { IsSchubertStore self.new }
         ensures capacity { self.new.cap ≡ self.old.cap }
         ensures found { IsSome (kept_for w.now self.old)
@@ -111,10 +109,10 @@ impl Memo {
     /// It is refused as `Large` exactly if a coefficient exceeds 2^127 - 1.
     pub fn schubert_terms(&mut self, w: &Perm) -> Result<Terms<Monomial, Int>, SumFault>
         ensures meets { IfOk result (λ terms.
-            Meets (commands.schubert w.now) (answer polynomial (as_fractions terms))) }
+            IsSchubertPolynomialOf w.now (as_fractions terms)) }
         ensures large { IsErrOf result SumFault.Large
-            → HasPastCoefficient (commands.schubert w.now) }
-        ensures fits { OnOk result (HasPastCoefficient (commands.schubert w.now) → ⊥) }
+            → HasPast (IsCoefficientOfSchubert w.now) }
+        ensures fits { OnOk result (HasPast (IsCoefficientOfSchubert w.now) → ⊥) }
         ensures kept { IsSchubertStore self.new }
         ensures capacity { self.new.cap ≡ self.old.cap }
         ensures found { IsSome (kept_for w.now self.old)
@@ -155,8 +153,8 @@ impl Memo {
     fn made(&mut self, w: &Perm) -> Result<Polynomial, SumFault>
         ensures is { IfOk result (IsSchubertOf w.now) }
         ensures large { IsErrOf result SumFault.Large
-            → HasPastCoefficient (commands.schubert w.now) }
-        ensures fits { OnOk result (HasPastCoefficient (commands.schubert w.now) → ⊥) }
+            → HasPast (IsCoefficientOfSchubert w.now) }
+        ensures fits { OnOk result (HasPast (IsCoefficientOfSchubert w.now) → ⊥) }
         ensures kept { IsSchubertStore self.new }
         ensures capacity { self.new.cap ≡ self.old.cap }
         ensures put { (self.new ≡ self.old) ⊎ ((polynomial : WholeTerms) × (self.new
@@ -175,8 +173,8 @@ impl Memo {
     fn fresh(&self, w: &Perm) -> Result<Polynomial, SumFault>
         ensures is { IfOk result (IsSchubertOf w.now) }
         ensures large { IsErrOf result SumFault.Large
-            → HasPastCoefficient (commands.schubert w.now) }
-        ensures fits { OnOk result (HasPastCoefficient (commands.schubert w.now) → ⊥) }
+            → HasPast (IsCoefficientOfSchubert w.now) }
+        ensures fits { OnOk result (HasPast (IsCoefficientOfSchubert w.now) → ⊥) }
         ensures kept { IsSchubertStore self.now }
     {
         schubert(self.alloc, w)

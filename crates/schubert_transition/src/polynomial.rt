@@ -1,11 +1,9 @@
 //! The Schubert polynomial of a permutation.
 ghost use Rattle.std.specs.Prelude.{IfOk, OnOk, IsErrOf};
-ghost use Rattle.sym_model.specs.Answer.{answer};
-ghost use Rattle.sym_model.specs.Command as commands;
 ghost use Rattle.sym_model.specs.Kind.{polynomial};
-ghost use Rattle.sym_model.specs.LargeAnswer.{HasPastCoefficient};
-ghost use Rattle.sym_model.specs.Target.{Meets};
 ghost use Rattle.sym_model.specs.WholeTerms.{as_fractions};
+ghost use Rattle.sym_model.specs.PastLimit.{HasPast, IsCoefficientOfSchubert};
+ghost use Rattle.sym_model.specs.Products.{IsSchubertPolynomialOf};
 ghost use Rattle.schubert_transition.specs.TermLists.{IsSchubertOf};
 
 use calc_base::SumFault;
@@ -71,8 +69,8 @@ impl Factor<Monomial> for TimesVar {
 /// It is refused as `Large` exactly where a coefficient exceeds 2^127 - 1.
 pub fn schubert(alloc: Global, w: &Perm) -> Result<Lin<Monomial, Int>, SumFault>
     ensures is { IfOk result (IsSchubertOf w.now) }
-    ensures large { IsErrOf result SumFault.Large → HasPastCoefficient (commands.schubert w.now) }
-    ensures fits { OnOk result (HasPastCoefficient (commands.schubert w.now) → ⊥) }
+    ensures large { IsErrOf result SumFault.Large → HasPast (IsCoefficientOfSchubert w.now) }
+    ensures fits { OnOk result (HasPast (IsCoefficientOfSchubert w.now) → ⊥) }
 {
     let one = Monomial::one(alloc);
     product_of::<Monomial, TimesVar>(alloc, w, &one)
@@ -83,9 +81,9 @@ pub fn schubert(alloc: Global, w: &Perm) -> Result<Lin<Monomial, Int>, SumFault>
 /// It is refused as `Large` exactly where a coefficient exceeds 2^127 - 1.
 pub fn schubert_terms(alloc: Global, w: &Perm) -> Result<Terms<Monomial, Int>, SumFault>
     ensures meets { IfOk result (λ terms.
-        Meets (commands.schubert w.now) (answer polynomial (as_fractions terms))) }
-    ensures large { IsErrOf result SumFault.Large → HasPastCoefficient (commands.schubert w.now) }
-    ensures fits { OnOk result (HasPastCoefficient (commands.schubert w.now) → ⊥) }
+        IsSchubertPolynomialOf w.now (as_fractions terms)) }
+    ensures large { IsErrOf result SumFault.Large → HasPast (IsCoefficientOfSchubert w.now) }
+    ensures fits { OnOk result (HasPast (IsCoefficientOfSchubert w.now) → ⊥) }
 {
     let sum = schubert(alloc, w)?;
     Ok(sum.sorted_terms()?)

@@ -17,11 +17,10 @@ use Rattle.sym_model.specs.Schubert.{schubert_in}
 use Rattle.sym_model.specs.Stanley.{behind, stanley_in}
 use Rattle.sym_model.specs.Expansion.{Fraction, IsExpansionOf, schurs}
 use Rattle.sym_model.specs.WholeTerms.{WholeTerms, as_fractions}
-use Rattle.sym_model.specs.Command.{stanley}
-use Rattle.sym_model.specs.LargeAnswer.{HasPastCoefficient}
 use Rattle.sym_model.proofs.Sums.{Among_from_map}
 use Rattle.sym_model.proofs.Polynomials.{pair_determined}
 use Rattle.sym_model.proofs.Integers.{is_past-tells, is_past-from}
+use Rattle.sym_model.specs.PastLimit.{HasPast, IsCoefficientOfStanley}
 use Rattle.coeff_rings.specs.Fractions.{whole}
 use Rattle.linear_combinations.specs.Entries.{HasSameCoefficients, IsWholeTable}
 use Rattle.linear_combinations.specs.Gains.{over, only}
@@ -41,7 +40,7 @@ start_pairs m w start φ o e = ap (λ u. pair (schubert_in u m) φ) e ∙ pair_d
 
 module _ (m : ℕ) (w start : List ℕ) (o : IsOneLine w) (e : start ≡ kept (behind m w)) where
   -- some Schur coefficient is past the limit
-  pub past_from : HasLargeShape m (λ φ. pair (schubert_in start m) φ) → HasPastCoefficient (stanley m w)
+  pub past_from : HasLargeShape m (λ φ. pair (schubert_in start m) φ) → HasPast (IsCoefficientOfStanley m w)
   past_from (κ, q, few, large) =
       let is : pair (schubert_in start m) (schur_test m κ) ≡ schur_coefficient m κ (stanley_in w m) =
       start_pairs m w start (schur_test m κ) o e ∙ sym (schur_coefficient_is m κ (stanley_in w m)) in (
@@ -58,7 +57,7 @@ module _ (m : ℕ) (w start : List ℕ) (o : IsOneLine w) (e : start ≡ kept (b
     sum_represents = represents_sums (λ κ. schur κ m) sum (stanley_in w m) sum_pairs
 
     -- no Schur coefficient is past the limit
-    pub none_past : AreShapes m sum → HasPastCoefficient (stanley m w) → ⊥
+    pub none_past : AreShapes m sum → HasPast (IsCoefficientOfStanley m w) → ⊥
     none_past is (c, d, large) =
         let a : c ≡ over (only (pointwise nat_eq) d.parts) sum =
         d.is ∙ schur_coefficient_is m d.parts (stanley_in w m) ∙ sym (sum_pairs (schur_test m d.parts)) ∙ over_schurs m d.parts sum is.table d.partition d.within in

@@ -1,11 +1,9 @@
 //! The Stanley polynomial of a permutation in Schur polynomials.
 ghost use Rattle.std.specs.Prelude.{◌≤◌, length, IfOk, OnOk, IsErrOf};
-ghost use Rattle.sym_model.specs.Answer.{answer};
-ghost use Rattle.sym_model.specs.Command as commands;
-ghost use Rattle.sym_model.specs.Kind.{product};
-ghost use Rattle.sym_model.specs.LargeAnswer.{HasPastCoefficient};
-ghost use Rattle.sym_model.specs.Target.{Meets};
 ghost use Rattle.sym_model.specs.WholeTerms.{as_fractions};
+ghost use Rattle.sym_model.specs.Products.{ExpandsInSchurs};
+ghost use Rattle.sym_model.specs.PastLimit.{HasPast, IsCoefficientOfStanley};
+ghost use Rattle.sym_model.specs.Stanley.{stanley_in};
 
 use crate::behind::behind_fixed;
 use crate::walk::in_schurs;
@@ -29,10 +27,10 @@ pub fn stanley(alloc: Global, w: &Perm, rows: u16) -> Result<Terms<Partition, In
     requires variables { (1 ≤ rows) × (rows ≤ 64) }
     requires letters { length w.now ≤ 16 }
     ensures meets { IfOk result (λ terms.
-        Meets (commands.stanley rows w.now) (answer product (as_fractions terms))) }
+        ExpandsInSchurs (Some rows) (stanley_in w.now) (as_fractions terms)) }
     ensures large { IsErrOf result SumFault.Large
-        → HasPastCoefficient (commands.stanley rows w.now) }
-    ensures fits { OnOk result (HasPastCoefficient (commands.stanley rows w.now) → ⊥) }
+        → HasPast (IsCoefficientOfStanley rows w.now) }
+    ensures fits { OnOk result (HasPast (IsCoefficientOfStanley rows w.now) → ⊥) }
 {
     let sum = in_schurs(alloc, behind_fixed(alloc, w, rows)?, rows)?;
     Ok(sum.sorted_terms()?)

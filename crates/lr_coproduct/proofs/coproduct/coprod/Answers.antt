@@ -8,15 +8,12 @@ use Rattle.sym_model.specs.Polynomial.{Same}
 use Rattle.sym_model.specs.GoodTableau.{skew_count}
 use Rattle.sym_model.specs.Schur.{schur, skew_schur}
 use Rattle.sym_model.specs.Expansion.{beside}
-use Rattle.sym_model.specs.Kind.{pairs}
-use Rattle.sym_model.specs.Answer.{answer}
-use Rattle.sym_model.specs.Command.{skew, coprod}
-use Rattle.sym_model.specs.Target.{Meets}
-use Rattle.sym_model.specs.LargeAnswer.{HasPastCoefficient}
 use Rattle.sym_model.proofs.Sums.{Among-append_left, Among-append_right}
 use Rattle.sym_model.specs.LabelLimits.{is_pair_label}
 use Rattle.sym_model.specs.PrintedOrder.{pair_order}
 use Rattle.sym_model.specs.WholeTerms.{as_fractions}
+use Rattle.sym_model.specs.PastLimit.{HasPast, IsCoefficientOfSkew}
+use Rattle.sym_model.specs.Products.{IsCoproductOf}
 use Rattle.linear_combinations.specs.Entries.{IsCanonicalList}
 use Rattle.linear_combinations.proofs.Steps.{error_is}
 use Rattle.lr_coproduct.specs.PairTerms.{pair_sum, pair_coefficient, HavePairCounts, AreBefore}
@@ -98,7 +95,7 @@ loop-at-preserved c =
           (λ k. c.in_ok-add_inner.ensures.others first second (λ e. not_before first inner
           (earlier_before items at inner first c.in_ok-inners.ensures.listed.ordered here k)
           (sym e)) ∙ c.loop-at.invariant.counts first k second q);
-      fits = λ i m. either_at (λ j. HasPastCoefficient (skew None false shape j) → ⊥) items at inner
+      fits = λ i m. either_at (λ j. HasPast (IsCoefficientOfSkew None shape j) → ⊥) items at inner
           i here m c.in_ok-add_inner.ensures.fits (c.loop-at.invariant.fits i);
     }
 
@@ -109,7 +106,7 @@ returns-clause-meets c =
     let list = c.loop-at.pairs.items in
     let all : take c.loop-at.at items ≡ items = take_all c.loop-at.at items
     (omega (arith, c.loop-at.invariant.end, c.loop-at-test.false)) in
-    subst (λ terms. Meets (coprod shape) (answer pairs (as_fractions terms)))
+    subst (λ terms. IsCoproductOf shape (as_fractions terms))
     (sym (unwrapped (IsCanonicalList pair_order is_pair_label whole list) c.from_pairs.result
     c.unwrap.result list c.unwrap.ensures c.from_pairs.ensures))
     (coproduct_meets shape items list c.in_ok-inners.ensures.shape c.in_ok-inners.ensures.listed

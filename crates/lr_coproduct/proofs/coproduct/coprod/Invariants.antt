@@ -7,10 +7,9 @@ use Rattle.sym_model.specs.Polynomial.{Same}
 use Rattle.sym_model.specs.GoodTableau.{skew_count}
 use Rattle.sym_model.specs.Schur.{schur, skew_schur}
 use Rattle.sym_model.specs.Expansion.{beside}
-use Rattle.sym_model.specs.Command.{skew}
 use Rattle.sym_model.specs.LabelLimits.{is_pair_label}
-use Rattle.sym_model.specs.LargeAnswer.{HasPastCoefficient}
 use Rattle.sym_model.specs.PrintedOrder.{pair_order}
+use Rattle.sym_model.specs.PastLimit.{HasPast, IsCoefficientOfSkew}
 use Rattle.linear_combinations.specs.Entries.{IsCanonicalList}
 use Rattle.lr_coproduct.specs.PairTerms.{pair_sum, pair_coefficient}
 use Rattle.lr_coproduct.specs.SkewLists.{HaveSkewLists}
@@ -26,5 +25,5 @@ invariant-loop-at l = record {
   firsts : (t : (List ℕ × List ℕ) × ℤ) → Among t l.pairs.items → Among t.0.0 (take l.at l.inners.items);
   counts : (first : List ℕ) → Among first (take l.at l.inners.items) → (second : List ℕ) → IsPartition second
       → pair_coefficient l.pairs.items first second ≡ pos (skew_count l.shape first second);
-  fits : (inner : List ℕ) → Among inner (take l.at l.inners.items) → HasPastCoefficient (skew None false l.shape inner) → ⊥;
+  fits : (inner : List ℕ) → Among inner (take l.at l.inners.items) → HasPast (IsCoefficientOfSkew None l.shape inner) → ⊥;
 }

@@ -4,11 +4,9 @@ use Rattle.coeff_rings.specs.Fractions.{whole}
 use Rattle.sym_model.specs.LabelLimits.{is_label}
 use Rattle.sym_model.specs.Partition.{size}
 use Rattle.sym_model.specs.PrintedOrder.{printed_order}
-use Rattle.sym_model.specs.Kind.{product}
-use Rattle.sym_model.specs.Answer.{answer}
-use Rattle.sym_model.specs.Command.{skew}
-use Rattle.sym_model.specs.Target.{Meets}
 use Rattle.sym_model.specs.WholeTerms.{as_fractions}
+use Rattle.sym_model.specs.Products.{ExpandsInSchurs}
+use Rattle.sym_model.specs.Schur.{skew_schur}
 use Rattle.linear_combinations.specs.Entries.{IsCanonicalList}
 use Rattle.lr_coproduct.proofs.Prefixes.{IsAt, at_among}
 use Rattle.lr_coproduct.proofs.OrderedPairs.{unwrapped}
@@ -60,7 +58,7 @@ returns-clause-meets c =
     let inner = c.args.inner.now in
     let inners = c.args.inners.now in
     let list = c.loop-at.terms.items in
-    subst (λ terms. Meets (skew None false shape inner) (answer product (as_fractions terms)))
+    subst (λ terms. ExpandsInSchurs None (skew_schur shape inner) (as_fractions terms))
     (sym (unwrapped (IsCanonicalList printed_order is_label whole list) c.from_pairs.result
     c.unwrap.result list c.unwrap.ensures c.from_pairs.ensures))
     (exchanged_meets shape inner inners c.loop-at.at list c.size.ensures.limits.partition

@@ -1,11 +1,9 @@
 use Rattle.std.proofs.Common.{◌≡◌, true, false, subst, sym, ap, ◌∙◌}
 use Rattle.std.specs.Option.{unwrap_or}
 use Rattle.sym_model.specs.Partition.{rows}
-use Rattle.sym_model.specs.Command.{skew}
-use Rattle.sym_model.specs.Kind.{product}
-use Rattle.sym_model.specs.Answer.{answer}
-use Rattle.sym_model.specs.Target.{Meets}
 use Rattle.sym_model.specs.WholeTerms.{as_fractions}
+use Rattle.sym_model.specs.Products.{ExpandsInSchurs}
+use Rattle.sym_model.specs.Schur.{skew_schur}
 use Rattle.linear_combinations.proofs.Steps.{if_answered}
 use Rattle.linear_combinations.proofs.Steps.{on_ok}
 use Rattle.strip_laws.proofs.Containment.{contains-from, contains-tells}
@@ -19,8 +17,7 @@ returns-then-not-contains-clause-meets c =
     let outside = contains-false c.args.outer.now c.args.inner.now (λ h. let yes : c.contains.result
     ≡ true = c.contains.ensures.1 h in absurd (cc)) in
     if_answered c.no_terms.result c.no_terms.ensures.none
-    (λ terms e. subst (λ ts. Meets (skew c.args.rows false c.args.outer.now c.args.inner.now)
-    (answer product (as_fractions ts))) (sym e) (outside_answers c.args.rows c.args.outer.now
+    (λ terms e. subst (λ ts. ExpandsInSchurs c.args.rows (skew_schur c.args.outer.now c.args.inner.now) (as_fractions ts)) (sym e) (outside_answers c.args.rows c.args.outer.now
     c.args.inner.now outside))
 
 pub returns-then-not-contains-clause-counts : goal.returns-then-not-contains-clause-counts

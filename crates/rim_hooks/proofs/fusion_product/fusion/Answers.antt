@@ -1,10 +1,8 @@
 use Rattle.std.proofs.Common.{◌+◌, sym, subst, arith}
-use Rattle.sym_model.specs.Answer.{answer}
-use Rattle.sym_model.specs.Command.{fusion}
-use Rattle.sym_model.specs.Kind.{product}
 use Rattle.sym_model.specs.ReductionSteps.{IsReflectedInSteps}
-use Rattle.sym_model.specs.Target.{Meets}
 use Rattle.sym_model.specs.WholeTerms.{as_fractions}
+use Rattle.sym_model.specs.Reductions.{IsAlcoveReductionOf}
+use Rattle.sym_model.specs.Products.{classical_product}
 use Rattle.linear_combinations.proofs.Steps.{if_answered}
 use Rattle.product_laws.proofs.FusionSteps.{fusion_steps_answer}
 use Rattle.rim_hooks.proofs.FusionSteps.{fusion_none, fusion_led, fusion_heavy}
@@ -46,8 +44,7 @@ returns-then-has_long-clause-meets c =
     let some = c.requires.variables.0 in
     let l = c.has_long.ensures.limits in
     if_answered c.no_terms.result c.no_terms.ensures.none
-    (λ terms none. subst (λ ts. Meets (fusion c.args.rows c.args.level c.args.factors.now)
-    (answer product (as_fractions ts))) (sym none)
+    (λ terms none. subst (λ ts. IsAlcoveReductionOf c.args.rows (c.args.rows + c.args.level) (classical_product c.args.rows c.args.factors.now) (as_fractions ts)) (sym none)
     (fusion_steps_answer c.args.rows c.args.level c.args.factors.now _ (omega arith)
     l.least l.small.partitions
     (fusion_none c.args.rows (c.args.rows + c.args.level) c.args.factors.now l.least

@@ -1,10 +1,8 @@
 use Rattle.std.proofs.Common.{◌+◌, sym, subst, arith}
-use Rattle.sym_model.specs.Answer.{answer}
-use Rattle.sym_model.specs.Command.{quantum}
-use Rattle.sym_model.specs.Kind.{powers}
 use Rattle.sym_model.specs.ReductionSteps.{IsReducedInSteps}
-use Rattle.sym_model.specs.Target.{Meets}
 use Rattle.sym_model.specs.WholeTerms.{as_fractions}
+use Rattle.sym_model.specs.Reductions.{IsRimHookReduction}
+use Rattle.sym_model.specs.Products.{classical_product}
 use Rattle.linear_combinations.proofs.Steps.{if_answered}
 use Rattle.product_laws.proofs.QuantumSteps.{quantum_steps_answer}
 use Rattle.reduction_laws.proofs.AnyReductions.{any_whole_reductions}
@@ -26,8 +24,7 @@ returns-then-has_long-clause-meets c =
     let some = c.requires.variables.0 in
     let l = c.has_long.ensures.limits in
     if_answered c.no_terms.result c.no_terms.ensures.none
-    (λ terms none. subst (λ ts. Meets (quantum c.args.rows c.args.cols c.args.factors.now)
-    (answer powers (as_fractions ts))) (sym none)
+    (λ terms none. subst (λ ts. IsRimHookReduction c.args.rows (c.args.rows + c.args.cols) (classical_product c.args.rows c.args.factors.now) (as_fractions ts)) (sym none)
     (quantum_steps_answer c.args.rows c.args.cols c.args.factors.now _ (omega arith)
     l.least l.small.partitions
     (quantum_none c.args.rows (c.args.rows + c.args.cols) c.args.factors.now (omega arith) l.least
