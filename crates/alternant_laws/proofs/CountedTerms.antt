@@ -1,6 +1,6 @@
 -- The Schur coefficients of products and of skew Schur polynomials are counts of good tableaux, in every number of variables;
 -- so a list with these counts as its coefficients stands for the polynomial in every number of variables.
-use Rattle.std.proofs.Common.{◌≡◌, ℕ, ◌+◌, ◌<◌, ◌≤◌, ◌⊎◌, Bool, true, false, cond, List, [], ◌∷◌, map, length, nat_le, sym, ◌∙◌, ap, subst, inl, inr, arith, pos, ◌*ℤ◌, Option, Some, None, filter, flat_map}
+use Rattle.std.proofs.Common.{ℤ, ◌≡◌, ℕ, ◌+◌, ◌<◌, ◌≤◌, ◌⊎◌, Bool, true, false, cond, List, [], ◌∷◌, map, length, nat_le, sym, ◌∙◌, ap, subst, inl, inr, arith, pos, ◌*ℤ◌, Option, Some, None, filter, flat_map}
 use Rattle.std.proofs.lemmas.Int.{ints}
 use Rattle.std.proofs.lemmas.Bool.{cases_lt, cases_Bool, both_ways, lt-leb}
 use Rattle.sym_model.specs.Sum.{total, Among}
@@ -12,10 +12,6 @@ use Rattle.sym_model.specs.Alternant.{alternant, staircase, schur_coefficient}
 use Rattle.sym_model.specs.LabelLimits.{is_partition}
 use Rattle.sym_model.specs.Expansion.{Terms, Fraction}
 use Rattle.sym_model.specs.WholeTerms.{WholeTerms, numerators, combined}
-use Rattle.sym_model.specs.Kind.{Label, number, product}
-use Rattle.sym_model.specs.Answer.{answer, number_in}
-use Rattle.sym_model.specs.Command.{mult, skew, coef}
-use Rattle.sym_model.specs.Target.{Meets}
 use Rattle.sym_model.specs.PastLimit.{variables_or}
 use Rattle.sym_model.proofs.Ring.{one-product}
 use Rattle.sym_model.proofs.Sums.{total_ext, total_among, total_none, total_map, length-select}
@@ -26,6 +22,7 @@ use Rattle.sym_model.proofs.SortedParts.{IsPartition-none, IsPartition-without_l
 use Rattle.sym_model.proofs.Orders.{is_partition-tells, is_partition-from}
 use Rattle.sym_model.proofs.WholeTerms.{pair_of_combined, combined_respects, represents-whole}
 use Rattle.sym_model.proofs.Parts.{length-without_last_zeros}
+use Rattle.sym_model.specs.Products.{ExpandsInSchurs, IsProductCoefficientOf, schur_product}
 use Rattle.tableau_laws.proofs.GoodReadings.{good_falls, total_good_contents}
 use Rattle.tableau_laws.proofs.FewerLetters.{restrict-skew_schur}
 use Rattle.tableau_laws.proofs.ColumnCounts.{contains_nothing, falling-resize}
@@ -256,7 +253,7 @@ combined_once n count terms start outer inner p o i c e =
 
 pub mult_meets : (variables : Option ℕ) (left right : List ℕ) (terms : Terms (List ℕ)) → IsPartition left → IsPartition right
     → ListsCounts (variables_or variables (rows left + rows right)) (product_count (variables_or variables (rows left + rows right)) left right) terms
-    → Meets (mult variables false (left ∷ right ∷ [])) (answer product terms)
+    → ExpandsInSchurs variables (schur_product (left ∷ right ∷ [])) terms
 mult_meets None left right terms p q c =
     λ n. represents-whole (λ label. schur label n) terms (times (schur left n) (schur right n)) c.whole
     (combined_always n (product_count (rows left + rows right) left right) terms left right [] p q IsPartition-none (contains_nothing right) c
@@ -268,7 +265,7 @@ mult_meets (Some k) left right terms p q c = (
 )
 
 pub skew_meets : (variables : Option ℕ) (outer inner : List ℕ) (terms : Terms (List ℕ)) → IsPartition outer → IsPartition inner → contains outer inner ≡ true
-    → ListsCounts (variables_or variables (rows outer)) (skew_count outer inner) terms → Meets (skew variables false outer inner) (answer product terms)
+    → ListsCounts (variables_or variables (rows outer)) (skew_count outer inner) terms → ExpandsInSchurs variables (skew_schur outer inner) terms
 skew_meets None outer inner terms o i holds c =
     λ n. represents-whole (λ label. schur label n) terms (skew_schur outer inner n) c.whole
     (Same_trans (combined (λ label. schur label n) (numerators terms)) (times (schur [] n) (skew_schur outer inner n)) (skew_schur outer inner n)
@@ -286,6 +283,6 @@ skew_meets (Some k) outer inner terms o i holds c = (
   (λ t m. let l = c.labels t m in l.1),
 )
 
-pub coef_meets : (outer left right : List ℕ) (terms : Terms (Label number)) → IsPartition outer → IsPartition left → IsPartition right
-    → number_in terms ≡ pos (product_count (rows outer) left right outer) → Meets (coef outer left right) (answer number terms)
-coef_meets outer left right terms o p q e = e ∙ sym (product_coefficients (rows outer) left right outer p q o (omega arith))
+pub coef_meets : (outer left right : List ℕ) (c : ℤ) → IsPartition outer → IsPartition left → IsPartition right
+    → c ≡ pos (product_count (rows outer) left right outer) → IsProductCoefficientOf outer left right c
+coef_meets outer left right c o p q e = e ∙ sym (product_coefficients (rows outer) left right outer p q o (omega arith))

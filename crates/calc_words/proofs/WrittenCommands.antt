@@ -9,7 +9,8 @@ use Rattle.sym_model.specs.Phrase.{tree, spelling}
 use Rattle.sym_model.specs.PrintedBlock.{decimal_value}
 use Rattle.sym_model.specs.Form.{Written, words_of, EachOf}
 use Rattle.sym_model.specs.Command.{Command, quantum}
-use Rattle.sym_model.specs.CommandOffence.{Offence, first_offence, most_factors, part_offences, factor_offences, most_doubled, permutation_offences, permutation_offences_within, offences_by, rows_rule, lines_rule, seed_rule, judged_against, rows_in, is_lattice_tableau, offences_in_word}
+use Rattle.sym_model.specs.CommandOffence.{Offence, first_offence, most_factors, part_offences, factor_offences, most_doubled, permutation_offences, permutation_offences_within, offences_by, rows_rule, lines_rule, seed_rule, judged_against, rows_in, offences_in_word}
+use Rattle.sym_model.specs.TableauList.{is_lattice_tableau}
 use Rattle.sym_model.specs.ExpressionOffence.{range, shape, degree_limit, plethysm_degree_limit, offences_within, inner_offences, sign_offences}
 use Rattle.sym_model.specs.GoodTableau.{column_reading, is_among, lattice_readings}
 use Rattle.sym_model.specs.Polynomial.{same}

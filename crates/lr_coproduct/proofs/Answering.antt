@@ -1,6 +1,6 @@
 -- What a coproduct answers.
 use Rattle.std.proofs.Common.{◌≡◌, ℕ, ◌+◌, List, [], ◌∷◌, ◌++◌, map, refl, sym, ap, ◌∙◌, arith, ℤ, pos, ◌+ℤ◌, ◌*ℤ◌, flat_map}
-use Rattle.std.specs.Prelude.{None, false}
+use Rattle.std.specs.Prelude.{None}
 use Rattle.std.proofs.lemmas.Int.{ints}
 use Rattle.sym_model.specs.Sum.{total, Among}
 use Rattle.sym_model.specs.Partition.{IsPartition, columns, without_last_zeros}

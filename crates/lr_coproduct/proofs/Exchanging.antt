@@ -17,7 +17,6 @@ use Rattle.sym_model.specs.Canonical.{is_reduced}
 use Rattle.sym_model.specs.LabelLimits.{is_label}
 use Rattle.sym_model.specs.Expansion.{Fraction}
 use Rattle.sym_model.specs.WholeTerms.{WholeTerms, as_fractions}
-use Rattle.sym_model.specs.Command.{skew}
 use Rattle.sym_model.specs.PastLimit.{is_past}
 use Rattle.sym_model.proofs.Orders.{printed_order-total}
 use Rattle.sym_model.proofs.Exponents.{same_apart, same_from, among_or_not}

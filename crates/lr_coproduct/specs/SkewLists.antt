@@ -1,7 +1,6 @@
 -- Skew Schur polynomials of one shape by partitions inside it, as lists of terms.
-use Rattle.std.specs.Prelude.{ℕ, false, List, None}
+use Rattle.std.specs.Prelude.{ℕ, List, None}
 use Rattle.sym_model.specs.WholeTerms.{WholeTerms, as_fractions}
-use Rattle.sym_model.specs.Command.{skew}
 use Rattle.sym_model.specs.Products.{ExpandsInSchurs}
 use Rattle.sym_model.specs.PastLimit.{HasPast, IsCoefficientOfSkew}
 use Rattle.sym_model.specs.Schur.{skew_schur}

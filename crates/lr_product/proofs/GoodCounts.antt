@@ -1,6 +1,6 @@
 -- Counts of good tableaux and Schur coefficients.
 use Rattle.std.proofs.Common.{◌≡◌, ℕ, ◌+◌, ◌^◌, ◌<◌, ◌≤◌, ◌⊎◌, inl, inr, min, nat_abs, Bool, true, false, cond, List, [], ◌∷◌, map, length, refl, sym, ap, ◌∙◌, subst, arith, ℤ, pos, negsuc, ◌+ℤ◌, ◌≤ℤ◌, filter}
-use Rattle.std.specs.Prelude.{Result, Ok, Err, Option, Some, None, IfOk, OnOk, IfSome, IsTrue, nat_eq}
+use Rattle.std.specs.Prelude.{Result, Ok, Err, Option, Some, None, IfOk, OnOk, IfSome, nat_eq}
 use Rattle.std.specs.Cmp.Lexicographic.{pointwise}
 use Rattle.std.specs.Option.{unwrap_or}
 use Rattle.std.proofs.lemmas.Bool.{cases_lt, cases_Bool, le-leb, leb-true, false_from_ne_true, both_ways}
@@ -15,7 +15,6 @@ use Rattle.sym_model.specs.LabelLimits.{is_partition, is_label}
 use Rattle.sym_model.specs.WholeTerms.{WholeTerms, as_fractions, absolute_total}
 use Rattle.coeff_rings.specs.Fractions.{whole}
 use Rattle.linear_combinations.proofs.Steps.{IsCombination-empty}
-use Rattle.sym_model.specs.Kind.{product}
 use Rattle.sym_model.specs.Products.{schur_product, classical_product}
 use Rattle.sym_model.specs.PastLimit.{IsSchurCoefficientOf, variables_or, is_past}
 use Rattle.sym_model.specs.ReductionSteps.{classical_weight}
@@ -151,18 +150,14 @@ none_counted m count e = record { table = IsCombination-empty (pointwise nat_eq)
 
 -- ---- coefficients past the limit
 
--- some Schur coefficient of f in m variables is past it
-abbrev pub HasPast : ℕ → Poly → Type 0
-HasPast m f = (c : ℤ) × IsSchurCoefficientOf f m c × IsTrue (is_past c)
-
-pub has_past : (m : ℕ) (f : Poly) (count : List ℕ → ℕ) → Counts m f count → IsPastSomewhere m count → HasPast m f
+pub has_past : (m : ℕ) (f : Poly) (count : List ℕ → ℕ) → Counts m f count → IsPastSomewhere m count → HasPast (IsSchurCoefficientOf f m)
 has_past m f count e p = (
   pos (count p.parts),
   record { parts = p.parts; partition = p.partition; within = p.within; is = sym (e p.parts p.partition p.within) },
   le-leb (2 ^ 127) (count p.parts) p.past,
 )
 
-pub has_none_past : (m : ℕ) (f : Poly) (count : List ℕ → ℕ) → Counts m f count → ((ν : List ℕ) → IsPartition ν → rows ν ≤ m → count ν < 2 ^ 127) → HasPast m f → ⊥
+pub has_none_past : (m : ℕ) (f : Poly) (count : List ℕ → ℕ) → Counts m f count → ((ν : List ℕ) → IsPartition ν → rows ν ≤ m → count ν < 2 ^ 127) → HasPast (IsSchurCoefficientOf f m) → ⊥
 has_none_past m f count e small (c, d, past) =
     let is : c ≡ pos (count d.parts) = d.is ∙ e d.parts d.partition d.within in
     let l = leb-true (2 ^ 127) (count d.parts) (sym (ap is_past is) ∙ past) in
@@ -200,13 +195,13 @@ mult_answers variables m left right terms e p q c =
 pub mult_past : (variables : Option ℕ) (m : ℕ) (left right : List ℕ) → m ≡ unwrap_or variables (rows left + rows right) → IsPartition left → IsPartition right
     → IsPastSomewhere m (product_count m left right) → HasPast (IsCoefficientOfProduct variables (left ∷ right ∷ []))
 mult_past variables m left right e p q past =
-    subst (λ k. HasPast k (schur_product (left ∷ right ∷ []) k)) (e ∙ enough_same variables left right) (has_past m (schur_product (left ∷ right ∷ []) m) (product_count m left right) (product_counts m left right p q) past)
+    subst (λ k. HasPast (IsSchurCoefficientOf (schur_product (left ∷ right ∷ []) k) k)) (e ∙ enough_same variables left right) (has_past m (schur_product (left ∷ right ∷ []) m) (product_count m left right) (product_counts m left right p q) past)
 
 pub mult_fits : (variables : Option ℕ) (m : ℕ) (left right : List ℕ) → m ≡ unwrap_or variables (rows left + rows right) → IsPartition left → IsPartition right
     → ((ν : List ℕ) → IsPartition ν → rows ν ≤ m → product_count m left right ν < 2 ^ 127) → HasPast (IsCoefficientOfProduct variables (left ∷ right ∷ [])) → ⊥
 mult_fits variables m left right e p q small past =
     has_none_past m (schur_product (left ∷ right ∷ []) m) (product_count m left right) (product_counts m left right p q) small
-    (subst (λ k. HasPast k (schur_product (left ∷ right ∷ []) k)) (sym (e ∙ enough_same variables left right)) past)
+    (subst (λ k. HasPast (IsSchurCoefficientOf (schur_product (left ∷ right ∷ []) k) k)) (sym (e ∙ enough_same variables left right)) past)
 
 -- the list is the classical product
 pub classical_answer : (k : ℕ) (left right : List ℕ) (terms : WholeTerms) → IsPartition left → IsPartition right → HasCounts k (product_count k left right) terms
@@ -284,12 +279,12 @@ skew_answers variables m outer inner terms e o i holds c =
 pub skew_past : (variables : Option ℕ) (m : ℕ) (outer inner : List ℕ) → m ≡ unwrap_or variables (rows outer) → IsPartition outer → IsPartition inner → contains outer inner ≡ true
     → IsPastSomewhere m (skew_count outer inner) → HasPast (IsCoefficientOfSkew variables outer inner)
 skew_past variables m outer inner e o i holds past =
-    subst (λ k. HasPast k (skew_schur outer inner k)) (e ∙ variables_same variables (rows outer)) (has_past m (skew_schur outer inner m) (skew_count outer inner) (skew_counts m outer inner o i holds) past)
+    subst (λ k. HasPast (IsSchurCoefficientOf (skew_schur outer inner k) k)) (e ∙ variables_same variables (rows outer)) (has_past m (skew_schur outer inner m) (skew_count outer inner) (skew_counts m outer inner o i holds) past)
 
 pub skew_fits : (variables : Option ℕ) (m : ℕ) (outer inner : List ℕ) → m ≡ unwrap_or variables (rows outer) → IsPartition outer → IsPartition inner → contains outer inner ≡ true
     → ((ν : List ℕ) → IsPartition ν → rows ν ≤ m → skew_count outer inner ν < 2 ^ 127) → HasPast (IsCoefficientOfSkew variables outer inner) → ⊥
 skew_fits variables m outer inner e o i holds small past =
-    has_none_past m (skew_schur outer inner m) (skew_count outer inner) (skew_counts m outer inner o i holds) small (subst (λ k. HasPast k (skew_schur outer inner k)) (sym (e ∙ variables_same variables (rows outer))) past)
+    has_none_past m (skew_schur outer inner m) (skew_count outer inner) (skew_counts m outer inner o i holds) small (subst (λ k. HasPast (IsSchurCoefficientOf (skew_schur outer inner k) k)) (sym (e ∙ variables_same variables (rows outer))) past)
 
 pub contains-false : (outer inner : List ℕ) → (Holds outer inner → ⊥) → contains outer inner ≡ false
 contains-false outer inner h = false_from_ne_true (contains outer inner) (λ e. h (contains-tells outer inner e))
@@ -306,7 +301,7 @@ pub outside_fits : (variables : Option ℕ) (outer inner : List ℕ) → contain
 outside_fits variables outer inner h past =
     let m = variables_or variables (rows outer) in
     has_none_past m [] (λ ν. 0) (λ ν q l. coefficient_pair (times (alternant (staircase m)) []) (join ν (staircase m)) ∙ pair_times (alternant (staircase m)) [] (at_only (join ν (staircase m))) ∙ pair_zero (alternant (staircase m)))
-    (λ ν q l. omega arith) (subst (λ (f : Poly). HasPast m f) (skew_none outer inner m h) past)
+    (λ ν q l. omega arith) (subst (λ (f : Poly). HasPast (IsSchurCoefficientOf f m)) (skew_none outer inner m h) past)
 
 -- ---- one coefficient
 

@@ -1,5 +1,5 @@
 -- A factor with more rows than there are variables leaves nothing of the product.
-use Rattle.std.proofs.Common.{◌≡◌, ◌≤◌, inl, inr, ℕ, max, List, [], ◌∷◌, map, true, false, ◌∙◌, ap, arith, ℤ, pos, Option, Some, None}
+use Rattle.std.proofs.Common.{◌≡◌, ◌≤◌, inl, inr, ℕ, max, List, [], ◌∷◌, map, true, ◌∙◌, ap, arith, ℤ, pos, Option, Some, None}
 use Rattle.std.specs.Option.{unwrap_or}
 use Rattle.sym_model.specs.Sum.{Among}
 use Rattle.sym_model.specs.Polynomial.{Poly, Same, nothing, join, coefficient, times}
@@ -7,7 +7,6 @@ use Rattle.sym_model.specs.Partition.{IsPartition, size, rows}
 use Rattle.sym_model.specs.Schur.{schur}
 use Rattle.sym_model.specs.Alternant.{alternant, staircase}
 use Rattle.sym_model.specs.WholeTerms.{WholeTerms, as_fractions}
-use Rattle.sym_model.specs.Kind.{product}
 use Rattle.sym_model.specs.Products.{schur_product}
 use Rattle.sym_model.specs.PastLimit.{is_past}
 use Rattle.sym_model.proofs.Polynomials.{at_only, coefficient_pair, pair_times, pair_zero, Same_refl, Same_sym, times_respects}

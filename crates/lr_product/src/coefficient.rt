@@ -4,9 +4,6 @@ ghost use Rattle.std.specs.Prelude.{IfOk, OnOk, IsErrOf};
 ghost use Rattle.std.specs.Cmp.Lexicographic.{pointwise};
 ghost use Rattle.sym_model.specs.Partition.{IsPartition, ArePositive, size, rows};
 ghost use Rattle.sym_model.specs.GoodTableau.{product_count};
-ghost use Rattle.sym_model.specs.Expansion.{Terms as TermList};
-ghost use Rattle.sym_model.specs.Kind as kinds;
-ghost use Rattle.sym_model.specs.Answer.{answer, number_in};
 ghost use Rattle.sym_model.specs.PastLimit.{HasPast};
 ghost use Rattle.sym_model.specs.Products.{IsProductCoefficientOf};
 ghost use Rattle.lr_product.specs.WeighedSum.{weighed, comes_to};
@@ -34,10 +31,7 @@ pub fn coef(
     requires { size left.now + size right.now ≤ 4096 }
     ensures count { IfOk result (λ c. c
         ≡ pos (product_count (rows outer.now) left.now right.now outer.now)) }
-    // Every list of terms that is this number is the answer.
-    ensures meets { IfOk result (λ c. (terms : TermList (kinds.Label kinds.number))
-        → number_in terms ≡ c
-        → IsProductCoefficientOf outer.now left.now right.now (number_in terms)) }
+    ensures meets { IfOk result (λ c. IsProductCoefficientOf outer.now left.now right.now c) }
     ensures large { IsErrOf result SumFault.Large
         → HasPast (IsProductCoefficientOf outer.now left.now right.now) }
     ensures fits { OnOk result (HasPast (IsProductCoefficientOf outer.now left.now right.now)

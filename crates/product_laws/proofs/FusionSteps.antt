@@ -6,10 +6,6 @@ use Rattle.std.proofs.Common.{◌≡◌, ℕ, ◌+◌, ◌≤◌, List, [], ◌�
 use Rattle.std.proofs.Common.{append_assoc, ℤ, pos, inl, refl, sym, ◌∙◌, ap, subst, arith}
 use Rattle.sym_model.specs.Polynomial.{Same, same, coefficient, scale}
 use Rattle.sym_model.specs.WholeTerms.{WholeTerms, as_fractions}
-use Rattle.sym_model.specs.Kind.{product}
-use Rattle.sym_model.specs.Answer.{answer}
-use Rattle.sym_model.specs.Command.{fusion}
-use Rattle.sym_model.specs.Target.{Meets}
 use Rattle.sym_model.specs.Products.{classical_product}
 use Rattle.sym_model.specs.Reductions.{reflected_terms}
 use Rattle.sym_model.specs.ReductionSteps.{AreCollected, IsFusionStep, StepsLead, IsReflectedInSteps}
@@ -22,6 +18,7 @@ use Rattle.product_laws.proofs.Fusion.{fusion_step}
 use Rattle.product_laws.proofs.GatheredLists.{gathered, coefficient-gathered, collected-gathered}
 use Rattle.product_laws.proofs.LeadingSteps.{last_changed, last_is, some_lead}
 use Rattle.sym_model.specs.Partition.{ArePartitions}
+use Rattle.sym_model.specs.Reductions.{IsAlcoveReductionOf}
 
 -- ---- from steps to the whole
 
@@ -69,7 +66,7 @@ fusion_steps_meet k n (first ∷ second ∷ factors) terms h l p s =
 pub fusion_steps_answer : (k level : ℕ) (factors : List (List ℕ)) (terms : WholeTerms)
     → 1 ≤ k + level → 2 ≤ length factors → ArePartitions factors
     → IsReflectedInSteps k (k + level) factors terms
-    → Meets (fusion k level factors) (answer product (as_fractions terms))
+    → IsAlcoveReductionOf k (k + level) (classical_product k factors) (as_fractions terms)
 fusion_steps_answer k level factors terms h l p s =
     let reflected = reflected_terms k (k + level) (classical_product k factors) in
     subst (λ (list : WholeTerms). Same list reflected) (sym (numerators-as_fractions terms))

@@ -8,10 +8,6 @@ use Rattle.std.proofs.Common.{◌≡◌, ℕ, ◌+◌, ◌≤◌, true, List, []
 use Rattle.std.proofs.lemmas.Bool.{and_parts, and_from, eq-eqb, eqb-true}
 use Rattle.sym_model.specs.Expansion.{Terms}
 use Rattle.sym_model.specs.WholeTerms.{coefficient_by, same_power, numerators, as_fractions}
-use Rattle.sym_model.specs.Kind.{powers}
-use Rattle.sym_model.specs.Answer.{answer}
-use Rattle.sym_model.specs.Command.{quantum}
-use Rattle.sym_model.specs.Target.{Meets}
 use Rattle.sym_model.specs.Reductions.{Reduction, IsRimHookReduction}
 use Rattle.sym_model.specs.Products.{classical_product}
 use Rattle.sym_model.specs.Reductions.{reduced_terms}
@@ -138,7 +134,7 @@ quantum_steps_meet k n factors terms h l p s = record {
 pub quantum_steps_answer : (k width : ℕ) (factors : List (List ℕ)) (terms : PowerTerms)
     → 1 ≤ k + width → 2 ≤ length factors → ArePartitions factors
     → IsReducedInSteps k (k + width) factors terms
-    → Meets (quantum k width factors) (answer powers (as_fractions terms))
+    → IsRimHookReduction k (k + width) (classical_product k factors) (as_fractions terms)
 quantum_steps_answer k width factors terms h l p s =
     quantum_steps_meet k (k + width) factors (as_fractions terms) h l p
     (subst (IsReducedInSteps k (k + width) factors) (sym (numerators-as_fractions terms)) s)

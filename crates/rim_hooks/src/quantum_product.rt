@@ -1,7 +1,6 @@
 //! Quantum products of several Schur classes.
 ghost use Rattle.std.specs.Prelude.{◌≡◌, ◌+◌, ◌≤◌, List, IfOk, IsErrOf};
-ghost use Rattle.sym_model.specs.Target as target;
-ghost use Rattle.sym_model.specs.Reductions.{AreReductions, reduced_terms};
+ghost use Rattle.sym_model.specs.Reductions.{AreReductions, Reduction as TermReduction, reduced_terms};
 ghost use Rattle.sym_model.specs.Products.{classical_product};
 ghost use Rattle.sym_model.specs.ReductionSteps.{IsReducedInSteps};
 ghost use Rattle.sym_model.specs.WholeTerms.{as_fractions};
@@ -124,7 +123,7 @@ pub fn quantum(
 
     // Whichever rim hooks are removed first: these are the sums of every list of reductions of the
     // classical product.
-    ensures only { IfOk result (λ terms. (reductions : List target.Reduction)
+    ensures only { IfOk result (λ terms. (reductions : List TermReduction)
         → AreReductions rows (rows + cols) (classical_product rows factors.now) reductions
         → HaveSameSums terms (reduced_terms (classical_product rows factors.now) reductions)) }
 

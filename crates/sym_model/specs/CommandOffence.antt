@@ -3,10 +3,7 @@
 use Rattle.std.specs.Prelude.{◌≡◌, ◌⊎◌, ◌<◌, ℕ, ◌+◌, ◌-◌, ◌*◌, ◌==◌, nat_le, nat_lt, Bool, false}
 use Rattle.std.specs.Prelude.{◌&&◌, ◌||◌, cond, List, [], ◌∷◌, ◌++◌, map, length, drop, slice_get}
 use Rattle.std.specs.Prelude.{Option, Some, None, flat_map}
-use Rattle.sym_model.specs.Polynomial.{same}
 use Rattle.sym_model.specs.Partition.{part, size}
-use Rattle.sym_model.specs.Schur.{row_lengths}
-use Rattle.sym_model.specs.GoodTableau.{is_among, column_reading, lattice_readings}
 use Rattle.sym_model.specs.Expansion.{Basis}
 use Rattle.sym_model.specs.Expression.{degree}
 use Rattle.sym_model.specs.Phrase.{Phrase, spelling, tree}
@@ -269,12 +266,6 @@ entries rows = map (λ (row : PlacedRow). row.1) rows
 abbrev pub rows_in : List ℕ → List (List ℕ) → List (List ℕ)
 rows_in [] ([] ∷ []) = []
 rows_in outer rows = rows
-
--- whether these are the rows of a tableau in the list of the lattice tableaux of outer/inner
-abbrev pub is_lattice_tableau : List ℕ → List ℕ → List (List ℕ) → Bool
-is_lattice_tableau outer inner rows =
-    same (map length rows) (row_lengths outer inner)
-    && is_among (column_reading outer inner rows) (lattice_readings outer inner)
 
 -- the offences of a word, at their place in the command
 abbrev pub offences_in_word : ℕ → List WordOffence → List Offence

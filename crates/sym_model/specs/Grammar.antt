@@ -22,7 +22,8 @@ use Rattle.sym_model.specs.CommandOffence.{most_doubled, permutation_offences}
 use Rattle.sym_model.specs.CommandOffence.{permutation_offences_within, PlacedRow, row_offences}
 use Rattle.sym_model.specs.CommandOffence.{count_offences, order_offences, length_offences}
 use Rattle.sym_model.specs.CommandOffence.{empty_row_offences, standard_offences, rows_in}
-use Rattle.sym_model.specs.CommandOffence.{is_lattice_tableau, expression_offences}
+use Rattle.sym_model.specs.CommandOffence.{expression_offences}
+use Rattle.sym_model.specs.TableauList.{is_lattice_tableau}
 use Rattle.sym_model.specs.CommandOffence.{plethysm_offences}
 use Rattle.sym_model.specs.WordForms.{the, in_turn, optional, partition_words, permutation_words}
 use Rattle.sym_model.specs.WordForms.{rows_words, form_words, factors_words, tableau_words}

@@ -1,10 +1,10 @@
 -- The lists of the tableaux of a skew shape by their column readings, and the filling of a reading.
 use Rattle.std.specs.Prelude.{ℕ, ◌-◌, ◌==◌, nat_le, nat_lt, ◌&&◌, cond, List, [], ◌∷◌, map, length}
-use Rattle.std.specs.Prelude.{reverse, filter, flat_map}
+use Rattle.std.specs.Prelude.{reverse, filter, flat_map, Bool}
 use Rattle.sym_model.specs.Polynomial.{same}
 use Rattle.sym_model.specs.Partition.{part, rows, columns, after, cells}
-use Rattle.sym_model.specs.Schur.{words, tableaux, content}
-use Rattle.sym_model.specs.GoodTableau.{column_reading, is_among}
+use Rattle.sym_model.specs.Schur.{words, tableaux, content, row_lengths}
+use Rattle.sym_model.specs.GoodTableau.{column_reading, is_among, lattice_readings}
 
 -- the column readings of the semistandard tableaux of outer/inner with entries from 1 to n, in
 -- rising lexicographic order: the words with letters from 1 to n that are the column reading of
@@ -50,3 +50,9 @@ filling_of outer inner w =
     (λ row. map (λ column. letter_of_cell row column (reading_cells outer inner) w)
     (after (part inner row) (part outer row - part inner row)))
     (after 0 (rows outer))
+
+-- whether these are the rows of a tableau in the list of the lattice tableaux of outer/inner
+abbrev pub is_lattice_tableau : List ℕ → List ℕ → List (List ℕ) → Bool
+is_lattice_tableau outer inner rows =
+    same (map length rows) (row_lengths outer inner)
+    && is_among (column_reading outer inner rows) (lattice_readings outer inner)

@@ -1,5 +1,5 @@
 -- What the answer to each command must be, by the polynomials that the command names.
-use Rattle.std.specs.Prelude.{◌≡◌, ℕ, ◌+◌, List, [], ◌∷◌, Some}
+use Rattle.std.specs.Prelude.{ℕ, ◌+◌, Some}
 use Rattle.sym_model.specs.Schur.{skew_schur}
 use Rattle.sym_model.specs.Stanley.{stanley_in}
 use Rattle.sym_model.specs.Plethysm.{plethysm as plethysm_of}

@@ -1,7 +1,7 @@
 -- The entries of a lattice tableau are from 1 to the number of rows.
 use Rattle.std.proofs.Common.{◌≡◌, ℕ, true, List, map, length, subst, sym, ap, ◌∙◌}
 use Rattle.std.proofs.lemmas.Bool.{and_parts}
-use Rattle.sym_model.specs.CommandOffence.{is_lattice_tableau}
+use Rattle.sym_model.specs.TableauList.{is_lattice_tableau}
 use Rattle.sym_model.specs.GoodTableau.{column_reading, is_among, lattice_readings}
 use Rattle.sym_model.specs.Partition.{Falls, cells}
 use Rattle.sym_model.specs.Polynomial.{same}

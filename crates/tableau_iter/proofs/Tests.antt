@@ -3,7 +3,7 @@ use Rattle.std.proofs.Common.{◌≡◌, ℕ, Bool, true, false, ◌&&◌, List,
 use Rattle.std.proofs.lemmas.List.{length-map}
 use Rattle.std.proofs.lemmas.Bool.{false_from_ne_true}
 use Rattle.strip_laws.proofs.Containment.{contains-tells}
-use Rattle.sym_model.specs.CommandOffence.{is_lattice_tableau}
+use Rattle.sym_model.specs.TableauList.{is_lattice_tableau}
 use Rattle.sym_model.specs.GoodTableau.{column_reading, is_among, lattice_readings}
 use Rattle.sym_model.specs.Partition.{Falls, Holds, cells}
 use Rattle.sym_model.specs.Polynomial.{same}

@@ -1,6 +1,6 @@
 //! Whether rows of numbers are a lattice tableau.
 ghost use Rattle.std.specs.Prelude.{◌≡◌, true, false, length, map, IfOk, MatchOption};
-ghost use Rattle.sym_model.specs.CommandOffence.{is_lattice_tableau};
+ghost use Rattle.sym_model.specs.TableauList.{is_lattice_tableau};
 ghost use Rattle.sym_model.specs.GoodTableau.{column_reading, is_among, lattice_readings};
 ghost use Rattle.sym_model.specs.Partition.{cells};
 ghost use Rattle.sym_model.specs.Polynomial.{same};

@@ -12,7 +12,8 @@ use Rattle.sym_model.specs.PrintedBlock.{decimal_value}
 use Rattle.sym_model.specs.ExpressionOffence.{shape, is_wide}
 use Rattle.sym_model.specs.Form.{Written}
 use Rattle.sym_model.specs.Command.{tab}
-use Rattle.sym_model.specs.CommandOffence.{Offence, first_offence, offences_after, part_offences, part_rule, judged_against, entry_rule, greatest_letter, row_offences, rows_in, is_lattice_tableau}
+use Rattle.sym_model.specs.CommandOffence.{Offence, first_offence, offences_after, part_offences, part_rule, judged_against, entry_rule, greatest_letter, row_offences, rows_in}
+use Rattle.sym_model.specs.TableauList.{is_lattice_tableau}
 use Rattle.sym_model.specs.Grammar.{tab_entry, tab_offends, two_partitions, last_reading}
 use Rattle.sym_model.specs.WordForms.{optional, from_words, numbers, partition, placed_rows}
 use Rattle.word_laws.specs.Words.{Words}

@@ -2,7 +2,8 @@
 use Rattle.std.specs.Prelude.{◌≡◌, ℕ, ◌+◌, cond, List, [], ◌∷◌, ◌++◌, map, length, codes, Option}
 use Rattle.std.specs.Prelude.{Some, None}
 use Rattle.sym_model.specs.CommandOffence.{Offence, judged_against, row_offences, entry_rule}
-use Rattle.sym_model.specs.CommandOffence.{rows_in, is_lattice_tableau}
+use Rattle.sym_model.specs.CommandOffence.{rows_in}
+use Rattle.sym_model.specs.TableauList.{is_lattice_tableau}
 use Rattle.sym_model.specs.ExpressionOffence.{shape}
 use Rattle.std.proofs.Common.{inl, inr}
 use Rattle.sym_model.specs.Form.{Written, EachOf, Has}

@@ -1,4 +1,3 @@
-use Rattle.std.proofs.Common.{◌∙◌}
 use Rattle.lr_product.proofs.GoodCounts.{coef_past, coef_fits}
 use Rattle.alternant_laws.proofs.CountedTerms.{coef_meets}
 use Rattle.linear_combinations.proofs.Steps.{if_answered}
@@ -8,9 +7,8 @@ use Rattle.lr_product.proofs.coefficient.coef.Goals as goal
 pub returns-clause-meets : goal.returns-clause-meets
 returns-clause-meets c =
     if_answered c.count_in.result c.count_in.ensures.value
-    (λ z is terms e. coef_meets c.args.outer.now c.args.left.now c.args.right.now terms
-    c.count_in.ensures.factors.0 c.count_in.ensures.factors.1 c.count_in.ensures.factors.2
-    (e ∙ is))
+    (λ z is. coef_meets c.args.outer.now c.args.left.now c.args.right.now z
+    c.count_in.ensures.factors.0 c.count_in.ensures.factors.1 c.count_in.ensures.factors.2 is)
 
 pub returns-clause-large : goal.returns-clause-large
 returns-clause-large c = λ e. coef_past c.args.outer.now c.args.left.now c.args.right.now
