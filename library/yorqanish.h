@@ -12,37 +12,36 @@
 extern "C" {
 #endif
 
-/* How a command ended. */
+/* The statuses of a command. */
 enum calc_status {
     CALC_DONE = 0,         /* the text is the answer */
-    CALC_SOME_REFUSED = 1, /* of `batch`: a line was refused; the text has the answers of all lines */
-    CALC_SYNTAX = 2,       /* the words are no command; the text is `! Syntax W:B` */
-    CALC_RANGE = 3,        /* a limit is passed, or a list is none that may stand there: `! Range W:B` or `! Shape W:B` */
-    CALC_PAST = 4,         /* a number is past 2^127 - 1, or the answer is: `! Literal W:B` or `! Large` */
-    CALC_NO_TEXT = 5,      /* out of memory for the text: what is there is its beginning */
-    CALC_NO_MEMORY = 7     /* out of memory for the answer: no text; of a batch the text of its first lines */
+    CALC_SOME_REFUSED = 1, /* `batch`: a line was refused; the text has the answers to all lines */
+    CALC_SYNTAX = 2,       /* the words are not a command; the text is `! Syntax W:B` */
+    CALC_RANGE = 3,        /* a limit is exceeded, or a list is not of its kind: `! Range W:B` or `! Shape W:B` */
+    CALC_PAST = 4,         /* a number in the command exceeds 2^127 - 1, or the answer is too large: `! Literal W:B` or `! Large` */
+    CALC_NO_TEXT = 5,      /* out of memory for the text, which is a prefix of the whole one */
+    CALC_NO_MEMORY = 7     /* out of memory for the answer: no text; for `batch`, the text of its first lines */
 };
 
 /* Runs the command that the words of the line name.
  *
- *   line    the words, between spaces and tabs, as in a line of a batch, without a line feed
- *   input   what `batch` reads; other commands do not look at it
- *   out     where the text goes; there are `room` bytes
+ *   line    the words, separated by spaces and tabs, as in a line of a batch, without a line feed
+ *   input   the lines of `batch`; other commands do not read it
+ *   out     the buffer for the text, of `room` bytes
  *   needed  is set to the length of the text
  *
- * If *needed <= room, the text is at the beginning of out, and the bytes after it are as they were. Otherwise all of out is as it was, and
- * the same call with more room gives the text. The text has no zero byte at its end.
+ * If *needed <= room, the text is at the beginning of out, and the bytes after it are unchanged. Otherwise all of out is unchanged, and
+ * the same call with more room gives the text. The text does not end with a zero byte.
  *
- * What is proved: with the codes 0 to 4 the text is the whole text that is defined for the words, over the input if they are `batch`; with 5
- * it is a beginning of one that is defined over the first lines of the input; with 7 it is empty, or, of a batch, the text of its first
- * lines. In each case *needed is its length, and out is as said above. If the status is CALC_DONE and the text had room, then the text, read
- * back, is a canonical list of terms, and this list is what the command names, by the defining polynomials; of a batch each block is. Words
- * with an error, and words that are no command, are refused by their own line; other words only if the answer is too large or memory ran
- * out. No other code than these seven ever comes.
+ * What is proved: with the codes 0 to 4 the text is the whole text that is defined for the words, for `batch` over the input; with 5
+ * it is a prefix of one that is defined over the first lines of the input; with 7 it is empty, or, for `batch`, the text of its first
+ * lines. In each case *needed is its length, and out is as said above. If the status is CALC_DONE and the text fits, then the text, read
+ * back, is a canonical list of terms, and this list is what the command names, by the defining polynomials; for `batch`, each block is.
+ * (Commands on tableaux: the text is the defined one.) Words with an error, and words that are not a command, are refused by the line of
+ * their first error; other words only if the answer is too large or memory runs out. No code other than these seven is returned.
  *
- * What the caller owes: no pointer is NULL, also not where the length is 0; the buffers lie where he says, do not overlap, and are
- * shorter than 2^63 bytes. Memory comes from malloc and is given back before the call returns. The stack of the calling thread needs
- * 256 kB. */
+ * Requirements: no pointer may be NULL, even if its length is 0; buffers must be valid, must not overlap, and must be shorter than
+ * 2^63 bytes. Memory comes from malloc and is freed before the call returns. The calling thread needs 256 kB of stack. */
 uint8_t calc_run(const uint8_t *line, size_t line_length,
                  const uint8_t *input, size_t input_length,
                  uint8_t *out, size_t room, size_t *needed);
