@@ -1,4 +1,4 @@
-"""What the scripts beside this file share: runs of the program, its lines as Python's values, partitions.
+"""Shared by the scripts of this folder: runs of the program, its lines as Python's values, partitions.
 
 Each script is called with the path of the program, prints a line for each mismatch, and ends with status 0 where there is none,
 1 where there is one, and 77 where what it compares with can't be had."""
@@ -13,7 +13,7 @@ SECONDS = 600
 
 
 def printed(*words, given=""):
-    """What a program writes for these words and this standard input; it must end with status 0."""
+    """The output of a program for these words and this standard input; it must end with status 0."""
     return run(*words, given=given, check=True).stdout
 
 
@@ -24,7 +24,7 @@ def run(*words, given="", check=False):
 
 
 def symmetrica(requests):
-    """Symmetrica's answers, by the driver beside this file; none where that can't be built."""
+    """Symmetrica's answers, by the driver beside this file; none if that can't be built."""
     source = os.path.join(os.path.dirname(os.path.abspath(__file__)), "symmetrica.c")
     with tempfile.TemporaryDirectory() as folder:
         driver = os.path.join(folder, "symmetrica")
@@ -93,6 +93,6 @@ class Differences:
             print(f"{what}: {ours!r}, and not {theirs!r}"[:2000], flush=True)
 
     def status(self, what):
-        """Says how much was compared; the status to end with."""
+        """Prints the number of comparisons; returns the status to end with."""
         print(f"{what}: {self.compared} compared, {self.different} differ")
         return int(self.different > 0)

@@ -109,7 +109,7 @@ def product(u, v):
 
 
 def at_no_y(text):
-    """The lines without a y, where each y is 0."""
+    """The lines without a y: the product with each y set to 0."""
     return "".join(line.removesuffix(" ()\n") + "\n" for line in text.splitlines(True) if line.endswith(" ()\n")) or "0\n"
 
 

@@ -29,7 +29,7 @@ def schur_coefficients(d):
 
 
 def block(coefficients):
-    """The printed lines: the labels in falling lexicographic order."""
+    """The printed lines: the labels in decreasing lexicographic order."""
     lines = [f"{c}  ({','.join(map(str, label))})\n" for label, c in sorted(coefficients.items(), reverse=True) if c]
     return "".join(lines) or "0\n"
 

@@ -1,5 +1,5 @@
 #!/usr/bin/env python3
-"""Prints how many semistandard tableaux of some skew shapes have some contents, by Debian's `lrcalc`: `skew_kostka.py`.
+"""Prints the numbers of semistandard tableaux of some skew shapes with some contents, by Debian's `lrcalc`: `skew_kostka.py`.
 
 A skew Schur polynomial is expanded in Schur polynomials by `lrcalc skew`, and the coefficient of each in the product of
 the rows of the content is counted by `lrcalc mult`. The order of the content does not count. Each line is one of those that

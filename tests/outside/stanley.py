@@ -49,7 +49,7 @@ def coefficients(w, rows):
 
 
 def block(found):
-    """The printed lines: the labels in falling lexicographic order."""
+    """The printed lines: the labels in decreasing lexicographic order."""
     lines = [f"{c}  ({','.join(map(str, label))})\n" for label, c in sorted(found.items(), reverse=True)]
     return "".join(lines) or "0\n"
 
@@ -75,7 +75,7 @@ def exponents(label):
 
 
 def in_front(program, w, rows):
-    """The Schubert polynomial behind so many fixed letters, without the terms of later variables."""
+    """The Schubert polynomial of 1^M × w, without the terms of later variables."""
     behind = [*range(1, rows + 1), *(letter + rows for letter in w)]
     found = terms(printed(program, "schubert", *behind), exponents)
     return {e + (0,) * (rows - len(e)): c for e, c in found.items() if len(e) <= rows}

@@ -62,7 +62,7 @@ def summed(program, count, seed):
 
 
 def allocations(library, counts, *words, given=""):
-    """How many allocations a run makes, of which none is refused."""
+    """The number of allocations of a run in which none is refused."""
     with open(counts, "wb") as file:
         file.write(bytes(8))
     told = {"LD_PRELOAD": library, "REFUSE": "0", "REFUSE_COUNT": counts}
@@ -72,7 +72,7 @@ def allocations(library, counts, *words, given=""):
 
 
 def more_than_a_batch(program, count, seed):
-    """How many allocations `work` makes beyond those of a batch of the same lines; none where they can't be counted."""
+    """The number of allocations of `work` beyond those of a batch of the same lines; None if they can't be counted."""
     with tempfile.TemporaryDirectory() as folder:
         library, counts = os.path.join(folder, "counting.so"), os.path.join(folder, "counts")
         if not shutil.which("cc") or run("cc", "-O1", "-shared", "-fPIC", "-o", library, COUNTING, "-ldl").returncode:
@@ -87,7 +87,7 @@ def main():
         wanted = summed(program, count, seed)
         for _ in range(2):
             differences.compare(f"work {count} {seed}", printed(program, "work", count, seed), wanted)
-    # What is kept for all lines, as the store of Schubert polynomials is, is made once.
+    # Values that serve all lines, as the store of Schubert polynomials, are made once.
     more = more_than_a_batch(program, 500, 7)
     differences.compare("allocations of work beyond those of a batch", max(more, 100), 100)
     return differences.status("the sums of work against a batch")
