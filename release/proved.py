@@ -126,8 +126,19 @@ def sum_of(*paths):
 
 
 def digest():
-    """The digest of the sources, of crates/ and crates.txt."""
-    return said_by(f"{TOP}/release/digest")
+    """The digest of the sources that decide the program."""
+    return said_by("sh", f"{TOP}/release/genuine", "--digest")
+
+
+def note(sources, *made):
+    """Writes beside what was made here that it is of the sources with this digest, if they are still here."""
+    run("sh", f"{TOP}/release/genuine", "--note", sources, *made)
+
+
+def recorded(path):
+    """What MADE_OF, or the note beside a file that was built here, says by its words."""
+    with open(path, encoding="ascii") as file:
+        return dict(line.rstrip("\n").split(" ", 1) for line in file)
 
 
 def tools():
