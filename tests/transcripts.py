@@ -1,4 +1,5 @@
 """Transcripts of the program, and runs of it. The head of tests/run says how a transcript is written."""
+import atexit
 import base64
 import collections
 import functools
@@ -7,6 +8,7 @@ import os
 import re
 import shlex
 import subprocess
+import sys
 from dataclasses import dataclass
 
 TOP = os.path.join(os.path.dirname(os.path.abspath(__file__)), "..")
@@ -35,6 +37,9 @@ class Tally:
     def __init__(self):
         self.passed = self.failed = 0
         self.wanted = collections.Counter()
+        self.is_ended = False
+        # (what was counted is not lost where a script breaks off)
+        atexit.register(self.break_off)
 
     def count(self, name, wrong):
         if wrong:
@@ -55,8 +60,14 @@ class Tally:
         self.wanted[want] += 1
         print(f"skipped: {what}, for want of {want}", flush=True)
 
+    def break_off(self):
+        if not self.is_ended:
+            self.count(os.path.basename(sys.argv[0]), "it broke off")
+            self.end()
+
     def end(self):
         """Prints the sums; the status to end with."""
+        self.is_ended = True
         if self.wanted:
             each = "; ".join(f"{count} for want of {want}" for want, count in self.wanted.most_common())
             print(f"{sum(self.wanted.values())} skipped: {each}")
