@@ -2,8 +2,9 @@
 """Makes the wheel of the Python package: `python/make_wheel.py [FOLDER] [--program FILE] [--library FILE]`, into build/ without a folder.
 
 It is also the backend that pip calls for `pip install ./python`, of a checkout or of a released archive. The program and the library go
-into the wheel, each from where it is: given, in the folder, beside this one in an archive, or as the checkout has built it. Nothing but
-Python 3.8 is needed: a wheel of a package without dependencies is an archive with some small files about itself."""
+into the wheel: those that are given, or else those that release/genuine finds to be of the sources that are here, or in the sums of the archive.
+If the sources changed, or a file was altered, no wheel is made; if there is none, the wheel has none, and that is said. Nothing but
+Python 3.8 and a shell is needed: a wheel of a package without dependencies is an archive with some small files about itself."""
 import argparse
 import base64
 import hashlib
@@ -17,9 +18,6 @@ import zipfile
 HERE = os.path.dirname(os.path.abspath(__file__))
 TOP = os.path.dirname(HERE)
 BUILD = os.path.join(TOP, "build")
-PREBUILT = os.path.join(TOP, "prebuilt")
-PROGRAMS = [f"{TOP}/calc", f"{TOP}/crates/calc/out/calc"]
-LIBRARIES = [f"{TOP}/libyorqanish.so", f"{BUILD}/libyorqanish.so"]
 LICENCES = ("LICENSE", "NOTICE", "LGPL-2.1")
 # The oldest glibc that a tag of pip names, and the tag's older name.
 OLDEST, OLDEST_TAG = 17, "manylinux_2_17_x86_64.manylinux2014_x86_64"
@@ -40,18 +38,20 @@ def version():
     return text_of(next(it for it in (f"{TOP}/VERSION", f"{HERE}/yorqanish/VERSION") if os.path.exists(it))).strip()
 
 
-def binary(paths):
-    """The first of the files that is there and no script."""
-    return next((it for it in paths if it and os.path.isfile(it) and content_of(it)[:4] == b"\x7fELF"), None)
+def is_binary(path):
+    """Whether the file is there and no script."""
+    return os.path.isfile(path) and content_of(path)[:4] == b"\x7fELF"
 
 
-def prebuilt(name):
-    """The file of a checkout's prebuilt/, if that was made of the sources that are here."""
-    if not os.path.isfile(f"{PREBUILT}/MADE_OF"):
+def genuine(name):
+    """The file of this name that is of the sources that are here, or none where there is no file. Of a source archive what lies above is of others."""
+    if os.path.exists(f"{HERE}/PKG-INFO") or not os.path.exists(f"{TOP}/release/genuine"):
         return None
-    recorded = dict(line.split(" ", 1) for line in text_of(f"{PREBUILT}/MADE_OF").splitlines())
-    sources = subprocess.run(["sh", f"{TOP}/release/digest"], stdout=subprocess.PIPE, universal_newlines=True, check=False).stdout.strip()
-    return f"{PREBUILT}/{name}" if recorded.get("sources") == sources else None
+    done = subprocess.run(["sh", f"{TOP}/release/genuine", "--prebuilt", name], stdout=subprocess.PIPE, universal_newlines=True, check=False)
+    said = done.stdout.strip()
+    if done.returncode not in (0, 4):
+        raise SystemExit(f"make_wheel: {said}")
+    return said if done.returncode == 0 else None
 
 
 def tag_of(binaries):
@@ -120,13 +120,12 @@ def digest(content):
 def make(out, program=None, library=None):
     """Makes the wheel in a folder; its name. A file that is named has to be there."""
     for path in (program, library):
-        if path and not binary([path]):
+        if path and not is_binary(path):
             raise SystemExit(f"make_wheel: {path} is no program and no library")
-    program = binary([program, f"{out}/calc", prebuilt("calc"), *PROGRAMS])
-    library = binary([library, f"{out}/libyorqanish.so", prebuilt("libyorqanish.so"), *LIBRARIES])
+    program, library = program or genuine("calc"), library or genuine("libyorqanish.so")
     for path, what in ((program, "the program calc"), (library, "libyorqanish.so")):
         if not path:
-            print(f"make_wheel: {what} is not built, and is left out", file=sys.stderr)
+            print(f"make_wheel: {what} is not here, and is left out", file=sys.stderr)
     tag = tag_of([it for it in (program, library) if it])
     name = f"yorqanish-{version()}-{tag}.whl"
     with zipfile.ZipFile(os.path.join(out, name), "w", zipfile.ZIP_DEFLATED) as wheel:

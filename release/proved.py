@@ -15,6 +15,9 @@ SOURCES = ("src", "specs", "proofs")
 # What each program and each library for C is linked with of the kit, beside its C library.
 PROGRAM, LIBRARY = ("c/libos_c.a", "c/liblibc_c.a"), ("c/liblibc_c.a",)
 
+# What a program that is linked with the library asks for: its number changes where the call does (library/yorqanish.h).
+SONAME = "libyorqanish.so.0"
+
 # The kit's clang, in front of which the LLVM module is kept.
 KEEPING = """#!/bin/sh
 for it in "$@"; do case "$it" in *.bc | *.ll) cp "$it" "{kept}" ;; esac; done
@@ -103,14 +106,14 @@ def join_program(made, whole):
 
 
 def link_static(whole, program):
-    """Links such an object with the system's static C library."""
-    run("gcc", "-static-pie", "-s", "-Wl,--build-id=none", "-o", program, whole)
+    """Links such an object with the system's static C library. (The build-id is a sum of the contents.)"""
+    run("gcc", "-static-pie", "-s", "-Wl,-z,relro,-z,now,--build-id=sha1", "-o", program, whole)
 
 
 def link_library(made, library, exports):
     """Links the archive of a static library as a shared one, by the kit's own linker and with its own C library, so that the same
     sources and the same kit make the same bytes on any machine."""
-    how = f"-shared -soname {os.path.basename(library)} --hash-style=gnu --build-id=none --gc-sections --strip-all -z defs -z relro -z now"
+    how = f"-shared -soname {SONAME} --hash-style=gnu --build-id=sha1 --gc-sections --strip-all -z defs -z relro -z now"
     parts = ["--whole-archive", made, "--no-whole-archive", *(f"{kit()}/{it}" for it in LIBRARY)]
     system = [f"{kit()}/toolchain/lib/{it}" for it in ("libc.so.6", "libgcc.a")]
     run(f"{kit()}/toolchain/bin/ld.lld", *how.split(), f"--version-script={exports}", "-o", library, *parts, *system)
@@ -126,8 +129,19 @@ def sum_of(*paths):
 
 
 def digest():
-    """The digest of the sources, of crates/ and crates.txt."""
-    return said_by(f"{TOP}/release/digest")
+    """The digest of the sources that decide the program."""
+    return said_by("sh", f"{TOP}/release/genuine", "--digest")
+
+
+def note(sources, *made):
+    """Writes beside what was made here that it is of the sources with this digest, if they are still here."""
+    run("sh", f"{TOP}/release/genuine", "--note", sources, *made)
+
+
+def recorded(path):
+    """What MADE_OF, or the note beside a file that was built here, says by its words."""
+    with open(path, encoding="ascii") as file:
+        return dict(line.rstrip("\n").split(" ", 1) for line in file)
 
 
 def tools():

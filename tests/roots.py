@@ -5,8 +5,8 @@ import shutil
 import subprocess
 import tempfile
 
-# What ./calc needs beside a shell.
-TOOLS = ("sh", "sha256sum", "sort", "mkdir", "mv")
+# What ./calc uses, of which it needs the first two.
+TOOLS = ("sh", "sha256sum", "ls", "cmp", "touch", "stat", "mkdir", "mv", "rm", "chmod")
 
 
 class Skipped(Exception):

@@ -1,11 +1,14 @@
 """Transcripts of the program, and runs of it. The head of tests/run says how a transcript is written."""
+import atexit
 import base64
+import collections
 import functools
 import gzip
 import os
 import re
 import shlex
 import subprocess
+import sys
 from dataclasses import dataclass
 
 TOP = os.path.join(os.path.dirname(os.path.abspath(__file__)), "..")
@@ -29,10 +32,14 @@ class Case:
 
 
 class Tally:
-    """Counts what is tried, and prints what failed."""
+    """Counts what is tried and what is skipped, and prints what failed, and for want of what something is skipped."""
 
     def __init__(self):
         self.passed = self.failed = 0
+        self.wanted = collections.Counter()
+        self.is_ended = False
+        # (what was counted is not lost where a script breaks off)
+        atexit.register(self.break_off)
 
     def count(self, name, wrong):
         if wrong:
@@ -46,37 +53,56 @@ class Tally:
         if CLOCKS:
             self.count(name, "" if seconds <= goal else f"{seconds:.2f} s, and the goal is {goal} s")
         else:
-            print(f"skipped: {name}: {seconds:.2f} s, whose goal of {goal} s is tried where YORQANISH_CLOCKS is 1", flush=True)
+            print(f"{name}: {seconds:.3f} s (with YORQANISH_CLOCKS=1 it is held to {goal} s)", flush=True)
+
+    def skip(self, what, want):
+        """Says that something is not tried, and what is missing for it."""
+        self.wanted[want] += 1
+        print(f"skipped: {what}, for want of {want}", flush=True)
+
+    def break_off(self):
+        if not self.is_ended:
+            self.count(os.path.basename(sys.argv[0]), "it broke off")
+            self.end()
 
     def end(self):
         """Prints the sums; the status to end with."""
+        self.is_ended = True
+        if self.wanted:
+            each = "; ".join(f"{count} for want of {want}" for want, count in self.wanted.most_common())
+            print(f"{sum(self.wanted.values())} skipped: {each}")
         print(f"{self.passed} passed, {self.failed} failed", flush=True)
         return int(self.failed > 0)
 
 
-def program():
-    """The program that is tried: that of the environment's CALC, the one that was built here, or else that of prebuilt/."""
-    built = os.path.join(TOP, "crates/calc/out/calc")
-    return os.path.abspath(os.environ.get("CALC") or (built if os.path.exists(built) else os.path.join(TOP, "prebuilt/calc")))
-
-
 @functools.lru_cache(maxsize=None)
+def genuine(name, *flags):
+    """The file of this name that is of the sources that are here, or nothing, and why there is none (release/genuine)."""
+    done = subprocess.run(["sh", f"{TOP}/release/genuine", *flags, name], capture_output=True, text=True)
+    said = done.stdout.strip()
+    return (os.path.abspath(said), "") if done.returncode == 0 else (None, said or done.stderr.strip())
+
+
+def program():
+    """The program that is tried: that of the environment's CALC, or the one of the sources that are here, which was built here or is that of
+    prebuilt/."""
+    if os.environ.get("CALC"):
+        return os.path.abspath(os.environ["CALC"])
+    found, why = genuine("calc")
+    if not found:
+        raise SystemExit(f"there is no program of these sources: {why}")
+    return found
+
+
 def is_prebuilt_of_sources():
-    """Whether prebuilt/ is there and was made of the sources that are here."""
-    made_of = os.path.join(TOP, "prebuilt/MADE_OF")
-    if not os.path.exists(made_of):
-        return False
-    digest = subprocess.run([os.path.join(TOP, "release/digest")], capture_output=True, text=True).stdout
-    with open(made_of, encoding="ascii") as file:
-        return f"sources {digest}" in file
+    """Whether prebuilt/ is there, whole, and made of the sources that are here."""
+    return (genuine("calc", "--prebuilt")[0] or "").startswith(os.path.join(os.path.abspath(TOP), "prebuilt/"))
 
 
 def made(name):
-    """What library/build or web/build made here since the program was built, or else what prebuilt/ has, if that is of the sources that are
-    here. The path of a file that is not there, where there is neither."""
-    here = os.path.join(TOP, "build", name)
-    is_new = os.path.exists(here) and os.path.exists(program()) and os.path.getmtime(here) >= os.path.getmtime(program())
-    return here if is_new else os.path.join(TOP, "prebuilt" if is_prebuilt_of_sources() else "prebuilt/none", name)
+    """What library/build or web/build made here of these sources, or else what prebuilt/ has of them. The path of a file that is not there, where
+    there is neither."""
+    return genuine(name)[0] or os.path.join(TOP, "build/none", name)
 
 
 def module_in(room):
