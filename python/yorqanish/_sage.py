@@ -58,7 +58,8 @@ def is_same(expansion: "Expansion[Any, Any]", value: Any) -> bool:
 
 def refuse_residue(scalar: Any) -> None:
     """A number that is not exact is no scalar, and Sage is not to take it for one."""
-    if scalar.parent().characteristic() != 0:
+    base = getattr(scalar.parent(), "base_ring", None)
+    if callable(base) and getattr(base(), "characteristic", int)() != 0:
         raise TypeError(f"{scalar!r} is not an exact number")
 
 
