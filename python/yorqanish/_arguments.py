@@ -1,39 +1,75 @@
-"""Arguments as they are given, of whatever type, and the words that are sent for them."""
+"""What is taken for a number, a list of numbers, a tableau and a time: it is decided here alone, and all else is refused. The words that are
+sent for them."""
 from __future__ import annotations
 
-from collections.abc import Mapping, Set
-from itertools import islice
+import math
+from collections import UserString
+from collections.abc import Sequence as AnySequence
+from numbers import Integral, Rational
 from operator import index
-from typing import Iterable, List, Optional, SupportsIndex, Tuple, Union
+from typing import Any, Collection, Iterable, List, Optional, Set, SupportsFloat, SupportsIndex, Tuple, Union
 
 Numbers = Tuple[int, ...]
 Partition = Numbers
 Permutation = Numbers
 Exponents = Numbers
-# What is taken for a partition, a permutation or a word: tuples, lists, ranges, arrays of numpy, partitions and permutations of Sage, ..
-Shape = Iterable[SupportsIndex]
-# What is taken for a tableau: its rows from the top.
-Rows = Iterable[Iterable[SupportsIndex]]
+# What is taken for a partition, a permutation or a word: sequences (tuples, lists, ranges, ..) and the types of LISTS.
+Shape = Collection[SupportsIndex]
+# What is taken for a tableau: a sequence of its rows from the top, or one of the types of TABLES.
+Rows = Collection[Collection[SupportsIndex]]
+
+# The types of other packages that are lists of numbers, beside sequences. They are known by their names, so that no package is imported.
+LISTS = {
+    "array.array",
+    "numpy.ndarray",
+    "pandas.core.series.Series",
+    "pandas.core.indexes.base.Index",
+    "sage.combinat.composition.Composition",
+    "sage.combinat.partition.Partition",
+    "sage.combinat.permutation.Permutation",
+    "sage.combinat.words.finite_word.FiniteWord_class",
+    "sage.modules.free_module_element.FreeModuleElement",
+    "sympy.core.containers.Tuple",
+    "sympy.tensor.array.ndim_array.NDimArray",
+}
+# Those that are lists of rows.
+TABLES = {"numpy.ndarray", "sage.combinat.tableau.Tableau"}
+# Sequences of characters are no lists of numbers, even if they are empty.
+TEXTS = (str, bytes, bytearray, memoryview, UserString)
 
 # More numbers or digits than a line of `calc` holds.
 MOST_NUMBERS, MOST_BITS = 4096, 12000
 
 
 def integer(value: object) -> Optional[int]:
-    """The number that a value of any type is that `operator.index` takes. A residue class of Sage is none, though it has an index."""
-    try:
-        number = index(value)  # type: ignore[arg-type]
-    except TypeError:
+    """The number that a value is whose type is registered as integral: `int`, and the integers of numpy, Sage, sympy and gmpy2. A truth
+    value is none, nor is a residue class. Of a subclass of `int` only the number is kept."""
+    if type(value) is int:
+        return value
+    if not isinstance(value, Integral) or isinstance(value, bool):
         return None
-    parent = None if type(value) is int else getattr(value, "parent", None)
-    characteristic = getattr(parent(), "characteristic", None) if callable(parent) else None
-    return None if callable(characteristic) and characteristic() != 0 else number
+    try:
+        return int(index(value))
+    except TypeError:
+        # (numpy's spans of time are registered, and are none)
+        return None
+
+
+def ratio(value: Any) -> "Optional[Tuple[int, int]]":
+    """Numerator and denominator of a number whose type is registered as rational: those above, and fractions of Python, Sage and sympy."""
+    number = integer(value)
+    if number is not None:
+        return number, 1
+    if not isinstance(value, Rational) or isinstance(value, bool):
+        return None
+    # (Sage's numbers have methods where Python's have attributes)
+    top, bottom = (integer(it() if callable(it) else it) for it in (value.numerator, value.denominator))
+    return None if top is None or not bottom else (top, bottom)
 
 
 def whole(value: SupportsIndex, name: str) -> int:
-    """A number that is at least 0; a truth value is none."""
-    # (numpy has a truth value of its own)
-    number = None if type(value).__name__ in ("bool", "bool_") else integer(value)
+    """A number that is at least 0."""
+    number = integer(value)
     if number is None:
         raise TypeError(f"{name}: {value!r} is not an integer")
     if number < 0:
@@ -41,6 +77,18 @@ def whole(value: SupportsIndex, name: str) -> int:
     if number.bit_length() > MOST_BITS:
         raise ValueError(f"{name}: a number of {number.bit_length()} bits is too long to be sent")
     return number
+
+
+def seconds(value: Optional[SupportsFloat], name: str = "timeout") -> Optional[float]:
+    """A time in seconds; nothing, and what is infinite, is no limit."""
+    if value is None:
+        return None
+    if isinstance(value, TEXTS) or type(value).__name__ in ("bool", "bool_") or not hasattr(value, "__float__"):
+        raise TypeError(f"{name}: {value!r} is not a number of seconds")
+    number = float(value)
+    if not number >= 0:
+        raise ValueError(f"{name}: {value!r} is not a number of seconds that is at least 0")
+    return None if math.isinf(number) else number
 
 
 def are_plain(values: Iterable[object]) -> bool:
@@ -51,27 +99,38 @@ def are_plain(values: Iterable[object]) -> bool:
     return True
 
 
-def is_no_list(values: object) -> bool:
-    """Whether values can be gone through, but not as a list: a text, what has no order, and what has another number of dimensions (a table
-    of pandas is gone through by the names of its columns, a matrix of sympy by all its entries)."""
-    is_set = isinstance(values, (Mapping, Set)) or hasattr(values, "issubset")
+def is_one_of(value: object, names: Set[str]) -> bool:
+    """Whether a value is of one of these types, or of a type that is derived from one."""
+    return any(f"{it.__module__}.{it.__qualname__}" in names for it in type(value).__mro__)
+
+
+def items_of(values: Any, what: str, names: Set[str], dimensions: int) -> "Tuple[Any, ...]":
+    """The items of a sequence, or of one of the named types. What can be gone through once only, or has no order or another number of
+    dimensions, is none of them."""
+    is_list = isinstance(values, AnySequence) and not isinstance(values, TEXTS) or is_one_of(values, names)
+    # (Sage's tableaux and permutations have a method of this name)
     shape = getattr(values, "shape", None)
-    has_dimensions = isinstance(shape, tuple) and len(shape) != 1
-    return is_set or has_dimensions or isinstance(values, (str, bytes, bytearray, memoryview))
+    is_other = isinstance(shape, tuple) and (len(shape) != dimensions or dimensions > 1 and 0 in shape)
+    if not is_list or is_other:
+        raise TypeError(f"{values!r} is not {what}")
+    if len(values) > MOST_NUMBERS:
+        raise ValueError(f"a list of more than {MOST_NUMBERS} items is too long to be sent")
+    items = tuple(values)
+    if len(items) != len(values):
+        raise TypeError(f"{values!r} is not {what}")
+    return items
 
 
 def numbers(values: Shape, name: str) -> Numbers:
-    """The numbers of a shape in their order."""
-    if type(values) in (tuple, list) and are_plain(values):
-        return tuple(values)  # type: ignore[arg-type]
-    if is_no_list(values):
-        raise TypeError(f"{name}: {values!r} is not a list of numbers")
+    """The numbers of a list in their order."""
+    if type(values) in (tuple, list):
+        plain: Tuple[Any, ...] = tuple(values)
+        if are_plain(plain) and len(plain) <= MOST_NUMBERS:
+            return plain
     try:
-        items = list(islice(iter(values), MOST_NUMBERS + 1))
-    except TypeError:
-        raise TypeError(f"{name}: {values!r} is not a list of numbers") from None
-    if len(items) > MOST_NUMBERS:
-        raise ValueError(f"{name}: a list of more than {MOST_NUMBERS} numbers is too long to be sent")
+        items = items_of(values, "a list of numbers", LISTS, 1)
+    except (TypeError, ValueError) as error:
+        raise type(error)(f"{name}: {error}") from None
     return tuple(whole(it, name) for it in items)
 
 
@@ -90,17 +149,21 @@ def partition(values: Shape, name: str) -> Numbers:
 
 def tableau(rows: Rows, name: str) -> Tuple[Numbers, ...]:
     """The rows of a tableau."""
-    if isinstance(rows, (str, bytes, Mapping, Set)):
-        raise TypeError(f"{name}: {rows!r} is not a list of rows")
     try:
-        return tuple(numbers(row, f"row {i} of {name}") for i, row in enumerate(rows, 1))
-    except TypeError as error:
-        raise TypeError(str(error) if name in str(error) else f"{name}: {rows!r} is not a list of rows") from None
+        items = items_of(rows, "a list of rows", TABLES, 2)
+    except (TypeError, ValueError) as error:
+        raise type(error)(f"{name}: {error}") from None
+    return tuple(numbers(row, f"row {i} of {name}") for i, row in enumerate(items, 1))
 
 
 def spoken(rows: Rows, name: str = "the tableau") -> str:
     """A tableau as it is typed: `1 1 / 2`."""
     return " / ".join(" ".join(map(str, row)) or "." for row in tableau(rows, name)) or "."
+
+
+def text_of(value: str) -> str:
+    """The characters of a string, also of a type that is derived from `str` and shows itself in another way."""
+    return value if type(value) is str else str.__str__(value)
 
 
 def words(*parts: Union[str, int, Numbers]) -> str:

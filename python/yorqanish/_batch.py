@@ -3,17 +3,19 @@ from __future__ import annotations
 
 import os
 import random
+import threading
 import time
 from collections import deque
-from concurrent.futures import Executor, Future, ThreadPoolExecutor
+from concurrent.futures import Executor, Future
 from functools import partial
 from itertools import islice
 from queue import SimpleQueue
-from typing import Any, Callable, Deque, Dict, Iterable, Iterator, List, NamedTuple, Optional, Set
+from typing import Any, Callable, Deque, Dict, Iterable, Iterator, List, NamedTuple, Optional, Set, Tuple
 
 from ._answers import answer_of
+from ._arguments import text_of
 from ._refusals import Refusal
-from ._ways import Ended, Way, sent
+from ._ways import Ended, NoCalculator, Way, sent
 
 # A window is to take about this long, in seconds, and so is a piece; what of a piece is not done after its time is handed out anew.
 WINDOW, PIECE, TIME = 0.15, 0.2, 0.5
@@ -22,6 +24,8 @@ MOST_IN_WINDOW, MOST_IN_PIECE = 1024, 10000
 FIRST = 8
 # How many pieces are read ahead of one that is not done.
 MOST_AHEAD = 4096
+# For so long, in seconds, lines are read before those that are there are sent.
+READING = 0.05
 
 
 class Block(NamedTuple):
@@ -77,13 +81,42 @@ def outcomes(way: Way, lines: List[str], seconds: Optional[float]) -> List[Outco
     return [None if data is None else next(blocks) for data in datas]
 
 
-def windows(way: Way, lines: Iterator[str], seconds: Optional[float], count: int = 1) -> Iterator[List[Outcome]]:
+class Source:
+    """Lines as they are read. What is raised where they come from is kept until those before it are answered."""
+
+    def __init__(self, lines: Iterable[str]) -> None:
+        self._lines, self._is_there = iter(lines), isinstance(lines, (list, tuple))
+        self._error: Optional[Exception] = None
+
+    def take(self, count: int) -> List[str]:
+        """The next lines: at most so many, and fewer if they come slowly; none at the end."""
+        taken: List[str] = []
+        began = time.monotonic()
+        try:
+            for line in islice(self._lines, 0 if self._error else count):
+                if not isinstance(line, str):
+                    raise TypeError(f"a line is a string, and {line!r} is not")
+                taken.append(text_of(line))
+                if not self._is_there and time.monotonic() - began > READING:
+                    break
+        except Exception as error:
+            self._error = error
+        return taken
+
+    def end(self) -> None:
+        """Raises what was raised."""
+        if self._error:
+            raise self._error
+
+
+def windows(way: Way, lines: Source, seconds: Optional[float], count: int = 1) -> Iterator[List[Outcome]]:
     """The outcomes of lines that are sent at once: of `count` lines at first, and of more while they are quick."""
-    while window := list(islice(lines, count)):
+    while window := lines.take(count):
         began = time.monotonic()
         yield outcomes(way, window, seconds)
         took = time.monotonic() - began
         count = min(2 * count, MOST_IN_WINDOW) if took < WINDOW else max(1, count // 4) if took > 5 * WINDOW else count
+    lines.end()
 
 
 class Done(NamedTuple):
@@ -100,7 +133,7 @@ def piece(way: Way, lines: List[str], seconds: Optional[float]) -> Done:
     # (not one line at first: on a busy machine each exchange waits for a processor, and many small ones would use up the piece's time; with
     # a time limit the lines are sent one by one anyway)
     first = max(1, min(len(lines) // FIRST, MOST_IN_WINDOW)) if seconds is None else 1
-    for window in windows(way, iter(lines), seconds, first):
+    for window in windows(way, Source(lines), seconds, first):
         done += window
         if time.monotonic() - began > TIME:
             break
@@ -156,7 +189,7 @@ class Deal:
 class Spread:
     """Lines that are handed out in pieces, `dealt` of them at a time, whose outcomes come in the order of the lines."""
 
-    def __init__(self, submit: "Callable[[List[str]], Future[Done]]", lines: Iterator[str], at_a_time: int, dealt: int) -> None:
+    def __init__(self, submit: "Callable[[List[str]], Future[Done]]", lines: Source, at_a_time: int, dealt: int) -> None:
         self._submit, self._lines, self._at_a_time, self._dealt = submit, lines, at_a_time, dealt
         self._deals: Deque[Deal] = deque()
         # (the same draws each time, so that what is slow once can be seen again)
@@ -171,17 +204,20 @@ class Spread:
         if not self._cut and len(self._deals) * self._dealt < MOST_AHEAD:
             # (single lines are not dealt, so that each comes as soon as it is done)
             count = self._dealt if self._size >= 2 else 1
-            lines = list(islice(self._lines, int(self._size) * count))
+            lines = self._lines.take(int(self._size) * count)
             if lines:
                 self._deals.append(Deal(lines, min(count, len(lines)), self._draw))
                 self._cut.extend(self._deals[-1].slots)
         return self._cut.popleft() if self._cut else None
 
-    def _hand_out(self) -> None:
-        while len(self._running) < self._at_a_time and (slot := self._next()):
+    def _hand_out(self) -> bool:
+        """Hands out a piece, if a process is free for it and there is one."""
+        slot = self._next() if len(self._running) < self._at_a_time else None
+        if slot:
             self._running.add(slot)
             slot.future = self._submit(slot.lines)
             slot.future.add_done_callback(partial(self._finish, slot))
+        return slot is not None
 
     def _finish(self, slot: Slot, _: "Future[Done]") -> None:
         self._finished.put(slot)
@@ -198,17 +234,22 @@ class Spread:
         self._size = max(1.0, min(2 * self._size, PIECE * self._count / max(self._time, 1e-9), MOST_IN_PIECE))
 
     def outcomes(self) -> Iterator[Outcome]:
+        owner = os.getpid()
         try:
             while True:
-                self._hand_out()
+                while not self._finished.empty():
+                    self._finish_one()
                 while self._deals and self._deals[0].is_whole():
                     yield from self._deals.popleft().outcomes()
-                    self._hand_out()
+                if self._hand_out():
+                    continue
                 if not self._running:
-                    return
+                    break
                 self._finish_one()
+            self._lines.end()
         finally:
-            for slot in self._running:
+            # (in a copy that a fork has made their locks may be held for ever)
+            for slot in self._running if owner == os.getpid() else ():
                 if slot.future:
                     slot.future.cancel()
 
@@ -228,29 +269,70 @@ def remote(calculator: Any, lines: List[str], seconds: Optional[float]) -> Done:
     return piece(way, lines, seconds)
 
 
-def over_executor(
-    executor: Executor, arguments: Any, lines: Iterator[str], workers: Optional[int], seconds: Optional[float]
-) -> Iterator[Outcome]:
+def over_executor(executor: Executor, arguments: Any, lines: Source, workers: Optional[int], seconds: Optional[float]) -> Iterator[Outcome]:
     """The outcomes of lines over an executor of `concurrent.futures`, or one that does as these do."""
     count = workers or getattr(executor, "_max_workers", None) or os.cpu_count() or 1
     return Spread(lambda it: executor.submit(remote, arguments, it, seconds), lines, 2 * count, count).outcomes()
 
 
-def over_workers(open_way: Callable[[], Way], lines: Iterator[str], workers: int, seconds: Optional[float]) -> Iterator[Outcome]:
+# ---- over processes of its own
+
+class Threads:
+    """At most so many threads that wait for processes. Python ends without them, in the middle of whatever they wait for: those of a
+    `ThreadPoolExecutor` would keep it from ending."""
+
+    def __init__(self, count: int) -> None:
+        self._count, self._started = count, 0
+        self._tasks: "SimpleQueue[Optional[Tuple[Future[Done], Callable[[], Done]]]]" = SimpleQueue()
+
+    def submit(self, task: Callable[[], Done]) -> "Future[Done]":
+        future: "Future[Done]" = Future()
+        self._tasks.put((future, task))
+        if self._started < self._count:
+            self._started += 1
+            threading.Thread(target=self._work, args=(self._tasks,), daemon=True).start()
+        return future
+
+    @staticmethod
+    def _work(tasks: "SimpleQueue[Optional[Tuple[Future[Done], Callable[[], Done]]]]") -> None:
+        while given := tasks.get():
+            future, task = given
+            if future.set_running_or_notify_cancel():
+                try:
+                    future.set_result(task())
+                except BaseException as error:
+                    future.set_exception(error)
+
+    def end(self) -> None:
+        for _ in range(self._started):
+            self._tasks.put(None)
+
+
+def over_workers(open_way: Callable[[], Way], lines: Source, workers: int, seconds: Optional[float]) -> Iterator[Outcome]:
     """The outcomes of lines over this many processes of the program, each of which a thread waits for."""
-    way = open_way()
-    threads = ThreadPoolExecutor(workers)
+    way, threads, owner = open_way(), Threads(workers), os.getpid()
     try:
-        yield from Spread(lambda it: threads.submit(piece, way, it, seconds), lines, workers + 1, workers).outcomes()
+        yield from Spread(lambda it: threads.submit(partial(piece, way, it, seconds)), lines, workers + 1, workers).outcomes()
     finally:
         way.close()
-        threads.shutdown(wait=False)
+        if owner == os.getpid():
+            threads.end()
 
 
-def blocks(outcomes_of: Iterable[Outcome], progress: Optional[Callable[[int], None]]) -> Iterator[Block]:
-    """The blocks among the outcomes. `progress` is told how many lines are done."""
+def blocks(outcomes_of: Iterable[Outcome], progress: Optional[Callable[[int], None]], check: Callable[[], None]) -> Iterator[Block]:
+    """The blocks among the outcomes. `progress` is told how many lines are done. `check` raises if there is no going on."""
+    owner = os.getpid()
+    check()
     for done, outcome in enumerate(outcomes_of, 1):
         if outcome:
             yield outcome
         if progress:
             progress(done)
+        check()
+        own(owner)
+
+
+def own(process: int) -> None:
+    """A process goes on with its own iterators alone: what they read from is not copied by a fork."""
+    if process != os.getpid():
+        raise NoCalculator("this iterator belongs to the process that was forked, and not to its copy")

@@ -1,18 +1,19 @@
 """The commands of `calc` as methods."""
 from __future__ import annotations
 
+import os
 from concurrent.futures import Executor
-from typing import Any, Callable, Iterable, Iterator, Optional, SupportsIndex, Tuple, Union
+from typing import Any, Callable, Iterable, Iterator, Optional, SupportsFloat, SupportsIndex, Tuple, Union
 
-from . import _batch
+from . import _arguments, _batch
 from ._answers import Grid, grid_of, letters_of
-from ._arguments import Exponents, Numbers, Partition, Permutation, Rows, Shape, factors, limit, numbers, partition, spoken, whole, words
+from ._arguments import Exponents, Numbers, Partition, Permutation, Rows, Shape, factors, limit, numbers, partition, spoken, text_of, whole, words
 from ._batch import Block
-from ._expansion import Expansion, Number
+from ._expansion import BASES, Expansion, Number
 from ._refusals import Refusal, SyntaxRefusal
 from ._search import way
 from ._tableaux import Pair, Tableau, pair_of, tableau_of
-from ._ways import sent
+from ._ways import closed, sent
 
 Words = Union[str, SupportsIndex, Shape]
 # An expression: its text, an answer of this package, or an element of a basis of Sage's symmetric functions.
@@ -29,19 +30,26 @@ class Calculator:
 
     >>> calc = Calculator()
     >>> calc.mult([1], [1])
-    {(2,): 1, (1, 1): 1}
+    Expansion({(2,): 1, (1, 1): 1}, basis='s')
     >>> calc.mult([1, 2], [1])
     Traceback (most recent call last):
         ...
     yorqanish._refusals.ShapeRefusal: part 2 of factor 1 is greater than part 1, in mult 1 [2] - 1
     """
 
-    def __init__(self, *, program: Optional[str] = None, library: Union[bool, str, None] = None, timeout: Optional[float] = None) -> None:
-        if timeout is not None and library:
-            raise ValueError("timeout: a command of the library cannot be stopped")
-        self._arguments = (library, program)
-        self._seconds = timeout
-        self._way = way(library, program)
+    def __init__(
+        self, *, program: Optional[str] = None, library: Union[bool, str, None] = None, timeout: Optional[SupportsFloat] = None
+    ) -> None:
+        self._open(program, library, timeout)
+
+    def _open(self, program: Any, library: Any, timeout: Optional[SupportsFloat], digest: Optional[str] = None) -> None:
+        program, library = _path(program), library if library in (True, False, None) else _path(library)
+        if library and program:
+            raise ValueError("a Calculator has either a program or the library")
+        self._library, self._seconds, self._is_closed = bool(library), None, False
+        self._seconds = self._limit(timeout)
+        self._way = way(library, program, digest)
+        self._arguments = library, program, getattr(self._way, "digest", None)
 
     def __enter__(self) -> "Calculator":
         return self
@@ -53,21 +61,27 @@ class Calculator:
         return _opened, (*self._arguments, self._seconds)
 
     def close(self) -> None:
-        """Ends the program, even if other threads are using it."""
+        """Ends the program, even if other threads are using it. A call that comes later is refused."""
+        self._is_closed = True
         self._way.close()
+
+    def _check(self) -> None:
+        if self._is_closed:
+            raise closed()
 
     # ---- one line
 
-    def _limit(self, timeout: Optional[float]) -> Optional[float]:
+    def _limit(self, timeout: Optional[SupportsFloat]) -> Optional[float]:
         """The seconds that a command may take."""
-        seconds = self._seconds if timeout is None else timeout
-        if seconds is not None and self._arguments[0]:
+        seconds = self._seconds if timeout is None else _arguments.seconds(timeout)
+        if seconds is not None and self._library:
             raise ValueError("timeout: a command of the library cannot be stopped")
         return seconds
 
-    def _text(self, line: str, timeout: Optional[float]) -> str:
+    def _text(self, line: str, timeout: Optional[SupportsFloat]) -> str:
         """The text of a line. What is refused is raised."""
         data, seconds = sent(line), self._limit(timeout)
+        self._check()
         if data is None:
             raise SyntaxRefusal(line, 0, 0)
         try:
@@ -78,7 +92,7 @@ class Calculator:
             raise Refusal.of(text, line)
         return text
 
-    def text(self, *parts: Words, timeout: Optional[float] = None) -> str:
+    def text(self, *parts: Words, timeout: Optional[SupportsFloat] = None) -> str:
         """The text that `calc` prints for these arguments: strings, numbers and shapes. An error of `calc` is raised.
 
         >>> Calculator().text("coef", (3, 2, 1), "-", (2, 1), "-", (2, 1))
@@ -88,7 +102,7 @@ class Calculator:
 
     # ---- products of Schur functions
 
-    def mult(self, *shapes: Shape, rows: Optional[SupportsIndex] = None, timeout: Optional[float] = None) -> "Expansion[Partition, int]":
+    def mult(self, *shapes: Shape, rows: Optional[SupportsIndex] = None, timeout: Optional[SupportsFloat] = None) -> "Expansion[Partition, int]":
         """The product of two to eight Schur functions, in Schur functions; with `rows=K`, in K variables.
 
         >>> Calculator().mult([2, 1], [2, 1], rows=2)
@@ -97,7 +111,7 @@ class Calculator:
         return Expansion.of(self._text(words("mult", limit(rows), *factors(shapes)), timeout))
 
     def skew(
-        self, outer: Shape, inner: Shape, rows: Optional[SupportsIndex] = None, timeout: Optional[float] = None
+        self, outer: Shape, inner: Shape, rows: Optional[SupportsIndex] = None, timeout: Optional[SupportsFloat] = None
     ) -> "Expansion[Partition, int]":
         """The skew Schur function of outer/inner, in Schur functions; with `rows=K`, in K variables.
 
@@ -106,7 +120,7 @@ class Calculator:
         """
         return Expansion.of(self._text(words("skew", limit(rows), *_over(outer, inner)), timeout))
 
-    def coef(self, outer: Shape, left: Shape, right: Shape, timeout: Optional[float] = None) -> int:
+    def coef(self, outer: Shape, left: Shape, right: Shape, timeout: Optional[SupportsFloat] = None) -> int:
         """A Littlewood-Richardson coefficient: that of the Schur function of `outer` in the product of those of `left` and `right`.
 
         >>> Calculator().coef([3, 2, 1], [2, 1], [2, 1])
@@ -115,7 +129,7 @@ class Calculator:
         shapes = partition(outer, "outer"), "-", partition(left, "left"), "-", partition(right, "right")
         return int(self._text(words("coef", *shapes), timeout))
 
-    def coprod(self, shape: Shape, timeout: Optional[float] = None) -> "Expansion[Tuple[Partition, Partition], int]":
+    def coprod(self, shape: Shape, timeout: Optional[SupportsFloat] = None) -> "Expansion[Tuple[Partition, Partition], int]":
         """The coproduct of a Schur function. Labels are pairs of partitions.
 
         >>> Calculator().coprod([1])
@@ -124,7 +138,7 @@ class Calculator:
         return Expansion.of(self._text(words("coprod", partition(shape, "shape")), timeout), "pairs")
 
     def quantum(
-        self, rows: SupportsIndex, cols: SupportsIndex, *shapes: Shape, timeout: Optional[float] = None
+        self, rows: SupportsIndex, cols: SupportsIndex, *shapes: Shape, timeout: Optional[SupportsFloat] = None
     ) -> "Expansion[Tuple[int, Partition], int]":
         """The product of two to eight classes in the quantum cohomology of the Grassmannian Gr(rows, rows + cols). Labels are
         pairs of the exponent of q and a partition.
@@ -136,7 +150,7 @@ class Calculator:
         return Expansion.of(self._text(line, timeout), "powers")
 
     def fusion(
-        self, rows: SupportsIndex, level: SupportsIndex, *shapes: Shape, timeout: Optional[float] = None
+        self, rows: SupportsIndex, level: SupportsIndex, *shapes: Shape, timeout: Optional[SupportsFloat] = None
     ) -> "Expansion[Partition, int]":
         """The fusion product of two to eight factors for su(rows) at this level. Columns of length `rows` are not removed.
 
@@ -148,7 +162,7 @@ class Calculator:
 
     # ---- Schubert polynomials
 
-    def schubert(self, perm: Shape, timeout: Optional[float] = None) -> "Expansion[Exponents, int]":
+    def schubert(self, perm: Shape, timeout: Optional[SupportsFloat] = None) -> "Expansion[Exponents, int]":
         """The Schubert polynomial of a permutation. Labels are the exponents of monomials.
 
         >>> Calculator().schubert([1, 3, 2])
@@ -156,7 +170,7 @@ class Calculator:
         """
         return Expansion.of(self._text(words("schubert", numbers(perm, "perm")), timeout), "monomials")
 
-    def schubmult(self, left: Shape, right: Shape, timeout: Optional[float] = None) -> "Expansion[Permutation, int]":
+    def schubmult(self, left: Shape, right: Shape, timeout: Optional[SupportsFloat] = None) -> "Expansion[Permutation, int]":
         """The product of two Schubert polynomials, in Schubert polynomials.
 
         >>> Calculator().schubmult([2, 1], [2, 1])
@@ -164,7 +178,7 @@ class Calculator:
         """
         return Expansion.of(self._text(words("schubmult", *_two(left, right)), timeout), "permutations")
 
-    def dschubmult(self, left: Shape, right: Shape, timeout: Optional[float] = None) -> "Expansion[Tuple[Permutation, Exponents], int]":
+    def dschubmult(self, left: Shape, right: Shape, timeout: Optional[SupportsFloat] = None) -> "Expansion[Tuple[Permutation, Exponents], int]":
         """The product of two double Schubert polynomials, in double Schubert polynomials. Labels are pairs of a permutation and the
         exponents of a monomial in y.
 
@@ -173,7 +187,7 @@ class Calculator:
         """
         return Expansion.of(self._text(words("dschubmult", *_two(left, right)), timeout), "shifts")
 
-    def stanley(self, rows: SupportsIndex, perm: Shape, timeout: Optional[float] = None) -> "Expansion[Partition, int]":
+    def stanley(self, rows: SupportsIndex, perm: Shape, timeout: Optional[SupportsFloat] = None) -> "Expansion[Partition, int]":
         """The Stanley symmetric function of a permutation in K variables, where K is `rows`, in Schur functions.
 
         >>> Calculator().stanley(2, [2, 1, 4, 3])
@@ -183,7 +197,7 @@ class Calculator:
 
     # ---- changes of basis
 
-    def expand(self, target: str, expression: Expression, timeout: Optional[float] = None) -> "Expansion[Partition, Number]":
+    def expand(self, target: str, expression: Expression, timeout: Optional[SupportsFloat] = None) -> "Expansion[Partition, Number]":
         """An expression in the basis `target`: m, e, h, p or s. The expression is a string without blanks, or an Expansion or a symmetric
         function of Sage in one of these bases.
 
@@ -196,7 +210,7 @@ class Calculator:
         return Expansion.of(self._text(words("expand", _basis(target), _expression(expression, "expression")), timeout), basis=target)
 
     def plethysm(
-        self, target: str, outer: Expression, inner: Expression, timeout: Optional[float] = None
+        self, target: str, outer: Expression, inner: Expression, timeout: Optional[SupportsFloat] = None
     ) -> "Expansion[Partition, Number]":
         """The plethysm outer[inner] of two expressions, in the basis `target`: the monomials of `inner` are substituted for the variables
         of `outer`.
@@ -207,9 +221,18 @@ class Calculator:
         line = words("plethysm", _basis(target), _expression(outer, "outer"), _expression(inner, "inner"))
         return Expansion.of(self._text(line, timeout), basis=target)
 
+    def same_function(self, left: Expression, right: Expression, timeout: Optional[SupportsFloat] = None) -> bool:
+        """Whether two expressions are the same symmetric function: both are expanded in s.
+
+        >>> calc = Calculator()
+        >>> calc.same_function(calc.expand("p", "s[2,1]"), "h[2,1]-h[3]")
+        True
+        """
+        return self.expand("s", left, timeout) == self.expand("s", right, timeout)
+
     # ---- tableaux
 
-    def tab(self, outer: Shape, inner: Shape, after: Optional[Rows] = None, timeout: Optional[float] = None) -> Iterator[Tableau]:
+    def tab(self, outer: Shape, inner: Shape, after: Optional[Rows] = None, timeout: Optional[SupportsFloat] = None) -> Iterator[Tableau]:
         """The Littlewood-Richardson tableaux of a skew shape, each as soon as it is listed; with `after`, those after this one. `timeout`
         is the time for each. They come from the program also with `library=True`.
 
@@ -219,21 +242,23 @@ class Calculator:
         after_words = () if after is None else ("-from", spoken(after, "after"))
         shape = partition(inner, "inner")
         line = words("tab", partition(outer, "outer"), "/", shape, *after_words)
-        seconds = self._seconds if timeout is None else timeout
-        return self._listed(line, shape, seconds)
+        return self._listed(line, shape, self._seconds if timeout is None else _arguments.seconds(timeout))
 
     def _listed(self, line: str, inner: Partition, seconds: Optional[float]) -> Iterator[Tableau]:
-        lines = self._way.listed(line.encode(), seconds)
+        self._check()
+        owner, lines = os.getpid(), self._way.listed(line.encode(), seconds)
         try:
             for text in lines:
                 if text.startswith("! "):
                     raise Refusal.of(f"{text}\n", line)
                 if text != "0":
                     yield tableau_of(text, inner)
+                self._check()
+                _batch.own(owner)
         except TimeoutError:
             raise _batch.late(line, seconds) from None
 
-    def rsk(self, letters: Shape, timeout: Optional[float] = None) -> Pair:
+    def rsk(self, letters: Shape, timeout: Optional[SupportsFloat] = None) -> Pair:
         """The insertion tableau and the recording tableau of a word, by RSK row insertion.
 
         >>> Calculator().rsk([3, 1, 2])
@@ -241,7 +266,7 @@ class Calculator:
         """
         return pair_of(self._text(words("rsk", numbers(letters, "letters")), timeout))
 
-    def unrsk(self, insertion: Rows, recording: Rows, timeout: Optional[float] = None) -> Numbers:
+    def unrsk(self, insertion: Rows, recording: Rows, timeout: Optional[SupportsFloat] = None) -> Numbers:
         """The inverse of `rsk`: the word with this insertion tableau and this recording tableau.
 
         >>> Calculator().unrsk(((1, 2), (3,)), ((1, 3), (2,)))
@@ -249,7 +274,7 @@ class Calculator:
         """
         return letters_of(self._text(words("unrsk", spoken(insertion, "insertion"), "-", spoken(recording, "recording")), timeout))
 
-    def rect(self, outer: Shape, inner: Shape, tableau: Rows, timeout: Optional[float] = None) -> Tableau:
+    def rect(self, outer: Shape, inner: Shape, tableau: Rows, timeout: Optional[SupportsFloat] = None) -> Tableau:
         """The rectification of a skew tableau by jeu de taquin. The tableau is given by its shape and its rows.
 
         >>> Calculator().rect([2, 2], [1], ((1,), (1, 2)))
@@ -258,7 +283,7 @@ class Calculator:
         text = self._text(words("rect", *_over(outer, inner), "-", spoken(tableau, "tableau")), timeout)
         return tableau_of(text.rstrip("\n"))
 
-    def growth(self, perm: Shape, timeout: Optional[float] = None) -> Grid:
+    def growth(self, perm: Shape, timeout: Optional[SupportsFloat] = None) -> Grid:
         """The growth diagram of a permutation of n letters: a tuple of rows 0 to n, where row i has the partitions at (i, 0) to (i, n).
 
         >>> Calculator().growth([1])
@@ -274,7 +299,7 @@ class Calculator:
         progress: Optional[Callable[[int], None]] = None,
         workers: Optional[int] = None,
         executor: Optional[Executor] = None,
-        timeout: Optional[float] = None,
+        timeout: Optional[SupportsFloat] = None,
     ) -> Iterator[Block]:
         """An iterator over the outcomes of lines, in their order. An error in one line does not stop the others.
 
@@ -292,27 +317,35 @@ class Calculator:
         count = None if workers is None else whole(workers, "workers")
         if count == 0:
             raise ValueError("workers: at least 1")
-        each, seconds, arguments = iter(lines), self._limit(timeout), self._arguments
+        self._check()
+        source, seconds, arguments = _batch.Source(lines), self._limit(timeout), self._arguments
         if executor is not None:
-            return _batch.blocks(_batch.over_executor(executor, arguments, each, count, seconds), progress)
-        if count and count > 1:
-            return _batch.blocks(_batch.over_workers(lambda: way(*arguments), each, count, seconds), progress)
-        outcomes = (it for window in _batch.windows(self._way, each, seconds) for it in window)
-        return _batch.blocks(outcomes, progress)
+            outcomes = _batch.over_executor(executor, arguments, source, count, seconds)
+        elif count and count > 1:
+            outcomes = _batch.over_workers(lambda: way(*arguments), source, count, seconds)
+        else:
+            outcomes = (it for window in _batch.windows(self._way, source, seconds) for it in window)
+        return _batch.blocks(outcomes, progress, self._check)
 
 
-def _opened(library: Union[bool, str, None], program: Optional[str], timeout: Optional[float]) -> Calculator:
+def _path(given: Any) -> Optional[str]:
+    """A path that means the same file in another folder."""
+    return None if given is None else os.path.abspath(os.fspath(given))
+
+
+def _opened(library: Optional[str], program: Optional[str], digest: Optional[str], seconds: Optional[float]) -> Calculator:
     """A Calculator that was pickled, opened anew."""
-    return Calculator(library=library, program=program, timeout=timeout)
+    calculator = Calculator.__new__(Calculator)
+    calculator._open(program, library, seconds, digest)
+    return calculator
 
 
 def _word(part: Words) -> Union[str, int, Numbers]:
     """A part of a line: a text, a number or a shape."""
     if isinstance(part, str):
-        return part
-    if isinstance(part, SupportsIndex) and not hasattr(part, "__iter__"):
-        return whole(part, "a word")
-    return numbers(part, "a word")  # type: ignore[arg-type]
+        return text_of(part)
+    number = _arguments.integer(part)
+    return numbers(part, "a word") if number is None else whole(number, "a word")  # type: ignore[arg-type]
 
 
 def _over(outer: Shape, inner: Shape) -> "Tuple[Union[str, Numbers], ...]":
@@ -324,9 +357,9 @@ def _two(left: Shape, right: Shape) -> "Tuple[Union[str, Numbers], ...]":
 
 
 def _basis(target: str) -> str:
-    if target not in ("m", "e", "h", "p", "s"):
+    if not isinstance(target, str) or target not in BASES:
         raise ValueError(f"target: {target!r} is not m, e, h, p or s")
-    return target
+    return text_of(target)
 
 
 def _expression(value: Any, name: str) -> str:
@@ -334,7 +367,7 @@ def _expression(value: Any, name: str) -> str:
     if isinstance(value, str):
         if not value.strip():
             raise ValueError(f"{name}: a text without a word is not an expression")
-        return value
+        return text_of(value)
     if not isinstance(value, Expansion):
         from ._sage import expansion_of
 

@@ -1,44 +1,51 @@
 """Lists of terms, which most commands return."""
 from __future__ import annotations
 
-from collections.abc import Mapping as AnyMapping
+import json
+from collections.abc import ItemsView, Iterator as AnyIterator, Mapping as AnyMapping
 from fractions import Fraction
-from typing import Any, Callable, Dict, Generic, Iterable, Iterator, List, Mapping, Tuple, TypeVar, Union, cast
+from numbers import Rational
+from typing import Any, Callable, Dict, Generic, Iterable, Iterator, List, Mapping, NoReturn, Optional, SupportsIndex, Tuple, TypeVar, Union, cast
 
-from ._arguments import integer
+from ._arguments import integer, ratio
 from ._kinds import KINDS
 
 Number = Union[int, Fraction]
+# What an expansion can be multiplied by: exact numbers of any package.
+Scalar = Union[SupportsIndex, Rational]
 Label = TypeVar("Label")
 Coefficient = TypeVar("Coefficient", bound=Number, covariant=True)
 
+BASES = ("m", "e", "h", "p", "s")
 # A list of more terms is shown by its first and last ones in a notebook.
 MOST_SHOWN, SHOWN_AT_END = 60, 5
 
 
 def exact(value: Any) -> Number:
     """A coefficient of any exact type: an `int` if it is whole."""
-    number = integer(value)
-    if number is not None:
-        return number
-    # (Sage's numbers have methods where Python's have attributes)
-    parts = [getattr(value, it, None) for it in ("numerator", "denominator")]
-    top, bottom = (integer(it() if callable(it) else it) for it in parts)
-    if top is None or bottom is None:
+    if type(value) is int:
+        return value
+    parts = ratio(value)
+    if parts is None:
         raise TypeError(f"{value!r} is not an exact number")
-    fraction = Fraction(top, bottom)
-    return fraction if fraction.denominator > 1 else fraction.numerator
+    top, bottom = parts
+    return top // bottom if top % bottom == 0 else Fraction(top, bottom)
 
 
 def given(terms: Any, kind: str) -> "Dict[Any, Number]":
-    """The terms of a mapping, or of pairs of labels and coefficients, by labels of this kind. A label stands there once."""
+    """The terms of a mapping, or of a sequence or an iterator of pairs, by labels of this kind, without those whose coefficient is 0. A label
+    is given once."""
+    if isinstance(terms, AnyMapping):
+        terms = terms.items()
+    if not isinstance(terms, (list, tuple, ItemsView, AnyIterator)):
+        raise TypeError(f"{terms!r} is neither a mapping nor a list of pairs")
     find, found = KINDS[kind].find, {}
-    for given_as, c in terms.items() if isinstance(terms, AnyMapping) else terms:
+    for given_as, c in terms:
         label = find(given_as)
         if label in found:
             raise ValueError(f"the label {label!r} is given twice")
         found[label] = exact(c)
-    return found
+    return {label: c for label, c in found.items() if c}
 
 
 def latex_number(size: Number) -> str:
@@ -46,7 +53,7 @@ def latex_number(size: Number) -> str:
 
 
 class Expansion(Mapping[Label, Coefficient], Generic[Label, Coefficient]):
-    """A list of terms: labels and their coefficients, in the order in which `calc` prints them.
+    """A list of terms: labels and their coefficients, in the order in which `calc` prints them. It does not change.
 
     A label is a tuple of numbers: a partition, a permutation, or the exponents of a monomial. In a coproduct it is a pair of partitions, in
     a quantum product the exponent of q and a partition, in a product of double Schubert polynomials a permutation and the exponents of y.
@@ -54,6 +61,8 @@ class Expansion(Mapping[Label, Coefficient], Generic[Label, Coefficient]):
     of a mapping or of pairs; a label that is given twice is an error, and one with the coefficient 0 is left out.
 
     >>> a = Expansion({(2,): 1, (1, 1): 1})
+    >>> a
+    Expansion({(2,): 1, (1, 1): 1}, basis='s')
     >>> a[2], a[[1, 1]], a[1, 1, 0], a[3]
     (1, 1, 1, 0)
     >>> a["spam"]
@@ -64,31 +73,69 @@ class Expansion(Mapping[Label, Coefficient], Generic[Label, Coefficient]):
     4/3*s[2]+2*s[1,1]
 
     `kind` is one of `symmetric`, `pairs`, `powers`, `monomials`, `permutations`, `shifts`; `basis` is the letter of the basis
-    of a symmetric function. Expansions of one kind and basis can be added and subtracted, and any can be multiplied and divided by numbers.
+    of a symmetric function, and `s` for the other kinds. Expansions of one kind and basis can be added and subtracted, and any can be
+    multiplied and divided by numbers.
+
+    `==` compares lists of terms. Two expansions are equal if they have the same kind, basis and terms; those without terms are all equal to
+    each other and to 0, and a mapping is compared with the terms. One function in two bases is two lists: `Calculator.same_function`
+    compares functions.
+
+    >>> a == {(2, 0): 1, (1, 1): 1, (3,): 0}, a - a == 0, a == Expansion(a, basis="s"), a == Expansion(dict(a), basis="p")
+    (True, True, True, False)
     """
+
+    __slots__ = ("kind", "basis", "_terms", "__weakref__")
+
+    kind: str
+    basis: str
+    _terms: "Dict[Any, Any]"
 
     # (numpy's numbers leave products to this class)
     __array_ufunc__ = None
 
-    def __init__(self, terms: Any = (), kind: str = "symmetric", basis: str = "s") -> None:
-        if kind not in KINDS:
+    def __array__(self, dtype: Any = None, copy: Any = None) -> Any:
+        """What numpy takes for the expansion: one object, not the coefficients of the labels 0, 1, .."""
+        import numpy
+
+        one = numpy.empty((), dtype=object)
+        one[()] = self
+        return one
+
+    def __new__(cls, terms: Any = (), kind: Optional[str] = None, basis: Optional[str] = None) -> "Expansion[Any, Any]":
+        from ._sage import expansion_of
+
+        known = terms if isinstance(terms, Expansion) else expansion_of(terms)
+        if known is not None:
+            if (kind or known.kind, basis or known.basis) != (known.kind, known.basis):
+                raise ValueError(f"an expansion of {known._said()} is not one of {kind or known.kind} in {basis or known.basis}")
+            return known
+        kind, basis = "symmetric" if kind is None else kind, "s" if basis is None else basis
+        if not isinstance(kind, str) or kind not in KINDS:
             raise ValueError(f"{kind!r} is not a kind of expansion")
-        self.kind, self.basis = kind, basis
-        self._terms: Dict[Any, Any] = {label: c for label, c in given(terms, kind).items() if c}
+        if not isinstance(basis, str) or basis not in BASES or basis != "s" and kind != "symmetric":
+            raise ValueError(f"{basis!r} is not a basis of {kind}")
+        return cls._made(in_order(given(terms, kind), kind), kind, basis)
 
     @classmethod
     def _made(cls, terms: "Dict[Any, Any]", kind: str, basis: str) -> "Expansion[Any, Any]":
-        """An expansion of terms whose labels are known to be of this kind."""
-        made = cls.__new__(cls)
-        made._terms, made.kind, made.basis = terms, kind, basis
+        """An expansion of terms that are known to be of this kind and in its order."""
+        made = object.__new__(cls)
+        for name, value in (("_terms", terms), ("kind", kind), ("basis", basis)):
+            object.__setattr__(made, name, value)
         return made
+
+    def __setattr__(self, name: str, value: object) -> NoReturn:
+        raise AttributeError(f"an expansion does not change: {name} cannot be set")
+
+    def __delattr__(self, name: str) -> NoReturn:
+        raise AttributeError(f"an expansion does not change: {name} cannot be deleted")
 
     @staticmethod
     def of(text: str, kind: str = "symmetric", basis: str = "s") -> "Expansion[Any, Any]":
         """Parses a list of terms that `calc` has printed.
 
         >>> Expansion.of("1  (2)\\n-1/2  (1,1)\\n", basis="p")
-        {(2,): 1, (1, 1): Fraction(-1, 2)}
+        Expansion({(2,): 1, (1, 1): Fraction(-1, 2)}, basis='p')
         """
         terms: Dict[Any, Any] = {}
         if text != "0\n":
@@ -100,13 +147,14 @@ class Expansion(Mapping[Label, Coefficient], Generic[Label, Coefficient]):
                 raise ValueError(f"{text!r} is not a list of terms")
         return Expansion._made(terms, kind, basis)
 
+    def _with(self, terms: "Dict[Any, Any]") -> "Expansion[Any, Any]":
+        """An expansion of the same kind and basis, of terms in any order."""
+        return Expansion._made(in_order({label: c for label, c in terms.items() if c}, self.kind), self.kind, self.basis)
+
     # ---- a mapping in which what is missing is 0
 
     def __getitem__(self, label: Any) -> Coefficient:
-        try:
-            return cast(Coefficient, self._terms[label])
-        except (KeyError, TypeError):
-            return cast(Coefficient, self._terms.get(KINDS[self.kind].find(label), 0))
+        return cast(Coefficient, self._terms.get(KINDS[self.kind].find(label), 0))
 
     def __contains__(self, label: object) -> bool:
         return KINDS[self.kind].find(label) in self._terms
@@ -122,66 +170,112 @@ class Expansion(Mapping[Label, Coefficient], Generic[Label, Coefficient]):
         return len(self._terms)
 
     def __repr__(self) -> str:
-        return repr(self._terms)
+        return f"Expansion({self._terms!r}, " + (f"basis={self.basis!r})" if self.kind == "symmetric" else f"kind={self.kind!r})")
 
     def __eq__(self, other: object) -> bool:
         if isinstance(other, Expansion):
-            return (self.kind, self.basis, self._terms) == (other.kind, other.basis, other._terms)
-        if isinstance(other, dict):
-            return self._terms == other
+            return self._terms == other._terms and (not self._terms or (self.kind, self.basis) == (other.kind, other.basis))
+        if isinstance(other, AnyMapping):
+            try:
+                return self._terms == given(other, self.kind)
+            except (TypeError, ValueError):
+                return False
+        number = integer(other)
+        if number is not None:
+            from ._sage import forbid_as_coefficient
+
+            forbid_as_coefficient(other)
+            return number == 0 and not self._terms
+        from ._sage import is_element, is_same
+
+        if is_element(other):
+            return is_same(self, other)
         return NotImplemented
 
     def __hash__(self) -> int:
-        return hash((self.kind, self.basis, frozenset(self._terms.items())))
+        return hash((self.kind, self.basis, frozenset(self._terms.items()))) if self._terms else 0
 
     def __reduce__(self) -> "Tuple[Any, ...]":
-        return _restored, (self._terms, self.kind, self.basis)
+        return Expansion, (dict(self._terms), self.kind, self.basis)
 
     def copy(self) -> "Expansion[Label, Coefficient]":
-        """A copy."""
-        return Expansion._made(dict(self._terms), self.kind, self.basis)
+        """The expansion itself, since it does not change."""
+        return self
+
+    def __copy__(self) -> "Expansion[Label, Coefficient]":
+        return self
+
+    def __deepcopy__(self, memo: Any) -> "Expansion[Label, Coefficient]":
+        return self
 
     def __or__(self, other: "Mapping[Label, Coefficient]") -> "Expansion[Label, Coefficient]":
         """The terms of both; a label that is in both has the coefficient of the second."""
-        added = self._fitting(other) if isinstance(other, Expansion) else given(other, self.kind)
-        return Expansion._made({label: c for label, c in {**self._terms, **added}.items() if c}, self.kind, self.basis)
+        if isinstance(other, Expansion):
+            return self._with({**self._terms, **self._fitting(other)})
+        if not isinstance(other, AnyMapping):
+            return NotImplemented
+        zeros = {KINDS[self.kind].find(label): 0 for label in other}
+        return self._with({**self._terms, **zeros, **given(other, self.kind)})
 
     # ---- sums and multiples
+
+    def _said(self) -> str:
+        return f"{self.kind} in {self.basis}"
 
     def _fitting(self, other: "Expansion[Any, Any]") -> "Dict[Any, Any]":
         """The terms of an expansion of the same kind and basis."""
         if (self.kind, self.basis) != (other.kind, other.basis):
-            raise ValueError(f"{other.kind} in {other.basis} cannot be joined with {self.kind} in {self.basis}")
+            raise ValueError(f"{other._said()} cannot be joined with {self._said()}")
         return other._terms
 
     def _plus(self, other: object, sign: int) -> Any:
         if not isinstance(other, Expansion):
-            return NotImplemented
+            return self if integer(other) == 0 else NotImplemented
         terms = dict(self._terms)
         for label, c in self._fitting(other).items():
             terms[label] = exact(terms.get(label, 0) + sign * c)
-        return Expansion._made({label: c for label, c in terms.items() if c}, self.kind, self.basis)
+        return self._with(terms)
 
-    def __add__(self, other: "Expansion[Label, Coefficient]") -> "Expansion[Label, Coefficient]":
+    def __add__(self, other: "Union[Expansion[Label, Coefficient], int]") -> "Expansion[Label, Coefficient]":
         return cast("Expansion[Label, Coefficient]", self._plus(other, 1))
 
-    def __sub__(self, other: "Expansion[Label, Coefficient]") -> "Expansion[Label, Coefficient]":
+    __radd__ = __add__
+
+    def __sub__(self, other: "Union[Expansion[Label, Coefficient], int]") -> "Expansion[Label, Coefficient]":
         return cast("Expansion[Label, Coefficient]", self._plus(other, -1))
+
+    def __rsub__(self, other: int) -> "Expansion[Label, Coefficient]":
+        if integer(other) == 0:
+            return -self
+        return NotImplemented
+
+    def __pos__(self) -> "Expansion[Label, Coefficient]":
+        return self
 
     def __neg__(self) -> "Expansion[Label, Coefficient]":
         return self * -1
 
-    def __mul__(self, scalar: Any) -> "Expansion[Label, Coefficient]":
+    def __mul__(self, scalar: Scalar) -> "Expansion[Label, Coefficient]":
         if isinstance(scalar, Expansion):
-            raise TypeError("an expansion is multiplied by numbers alone; products are commands of a Calculator")
+            raise TypeError("an expansion is multiplied by numbers alone; products are commands of a Calculator, and of its rings")
+        parts = ratio(scalar)
+        if parts is None:
+            from ._sage import is_element, refuse_residue
+
+            if is_element(scalar):
+                refuse_residue(scalar)
+                return NotImplemented
+            raise TypeError(f"{scalar!r} is not an exact number")
         by = exact(scalar)
-        return Expansion._made({label: exact(c * by) for label, c in self._terms.items() if by}, self.kind, self.basis)
+        return self._with({label: exact(c * by) for label, c in self._terms.items()})
 
     __rmul__ = __mul__
 
-    def __truediv__(self, scalar: Any) -> "Expansion[Label, Union[int, Fraction]]":
+    def __truediv__(self, scalar: Scalar) -> "Expansion[Label, Union[int, Fraction]]":
         by = Fraction(exact(scalar))
-        return Expansion._made({label: exact(c / by) for label, c in self._terms.items()}, self.kind, self.basis)
+        if not by:
+            raise ZeroDivisionError("an expansion is divided by 0")
+        return self._with({label: exact(c / by) for label, c in self._terms.items()})
 
     # ---- written forms
 
@@ -228,10 +322,12 @@ class Expansion(Mapping[Label, Coefficient], Generic[Label, Coefficient]):
         first, last = self._latex_of(terms[: MOST_SHOWN - SHOWN_AT_END]), self._latex_of(terms[-SHOWN_AT_END:])
         return f"${first}+\\cdots{'' if last.startswith('-') else '+'}{last}$ ({len(self):,} terms)"
 
+    # ---- other forms
+
     def to_sage(self, ring: Any = None) -> Any:
         """The expansion as an element of Sage: of `SymmetricFunctions(QQ)`, of its tensor square for a coproduct, of
-        `SymmetricFunctions` over QQ[q] for a quantum product, of a polynomial ring for monomials, of `SchubertPolynomialRing(ZZ)` for
-        permutations.
+        `SymmetricFunctions` over QQ[q] for a quantum product, of a polynomial ring in x0, x1, .. for monomials, of
+        `SchubertPolynomialRing(ZZ)` for permutations.
 
         This needs Sage. `ring` is the ring of coefficients if it is not QQ; it is an error if a coefficient is not in it. For a product of
         double Schubert polynomials Sage has no ring, and it is a TypeError.
@@ -240,6 +336,43 @@ class Expansion(Mapping[Label, Coefficient], Generic[Label, Coefficient]):
 
         return element(self, ring)
 
+    def _sage_(self) -> Any:
+        """The element that takes part in an operation with one of Sage's elements, whose answer is Sage's."""
+        return self.to_sage()
 
-def _restored(terms: "Dict[Any, Any]", kind: str, basis: str) -> "Expansion[Any, Any]":
-    return Expansion._made(terms, kind, basis)
+    def to_pandas(self) -> Any:
+        """The expansion as a table of pandas with the columns `label` and `coefficient`, of Python's tuples and numbers."""
+        import pandas  # type: ignore
+
+        table = pandas.DataFrame({"label": pandas.Series(dtype=object), "coefficient": pandas.Series(dtype=object)}, index=range(len(self)))
+        table["label"], table["coefficient"] = (pandas.Series(list(it), dtype=object) for it in (self._terms.keys(), self._terms.values()))
+        return table
+
+    def to_json(self) -> str:
+        """The expansion as JSON, which `from_json` reads. Coefficients are texts, since a number of JSON may be rounded by who reads it.
+
+        >>> Expansion({(2,): Fraction(1, 2)}, basis="p").to_json()
+        '{"kind": "symmetric", "basis": "p", "terms": [[[2], "1/2"]]}'
+        """
+        return json.dumps({"kind": self.kind, "basis": self.basis, "terms": [(label, str(c)) for label, c in self._terms.items()]})
+
+    @staticmethod
+    def from_json(text: str) -> "Expansion[Any, Any]":
+        """The expansion that `to_json` has written."""
+        read = json.loads(text)
+        return Expansion([(label, Fraction(c)) for label, c in read["terms"]], read["kind"], read["basis"])
+
+    def to_csv(self) -> str:
+        """The expansion as a table of comma-separated values: a line for each term, after one with the names of the columns.
+
+        >>> print(Expansion({(2, 1): 1}).to_csv(), end="")
+        coefficient,label
+        1,"(2, 1)"
+        """
+        return "coefficient,label\n" + "".join(f'{c},"{label}"\n' for label, c in self._terms.items())
+
+
+def in_order(terms: "Dict[Any, Any]", kind: str) -> "Dict[Any, Any]":
+    """Terms in the order in which `calc` prints them."""
+    order = KINDS[kind].order
+    return {label: terms[label] for label in sorted(terms, key=order)}

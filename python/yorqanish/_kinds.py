@@ -1,17 +1,19 @@
-"""The kinds of answers that are lists of terms: how the labels of each are read, looked up, and written."""
+"""The kinds of answers that are lists of terms: how the labels of each are read, looked up, ordered and written."""
 from __future__ import annotations
 
 from functools import lru_cache
 from typing import Any, Callable, Dict, NamedTuple, Tuple
 
-from ._arguments import Numbers, numbers, partition, whole, without_zeros
+from ._arguments import Numbers, integer, numbers, partition, whole, without_zeros
 
 
 class Kind(NamedTuple):
-    """`read` reads a printed label, `find` makes a label of what is asked for, `plain` and `latex` write one; `letter` is the basis."""
+    """`read` reads a printed label, `find` makes a label of what is asked for, `order` is the key by which `calc` sorts labels, `plain` and
+    `latex` write one; `letter` is the basis."""
 
     read: Callable[[str], Any]
     find: Callable[[Any], Any]
+    order: Callable[[Any], Any]
     plain: Callable[[str, Any], str]
     latex: Callable[[str, Any], str]
 
@@ -43,7 +45,7 @@ def power(label: str) -> "Tuple[int, Numbers]":
 
 def one_list(label: Any) -> Any:
     """A label of one number may be asked for by the number: a[2] is a[(2,)]."""
-    return (label,) if hasattr(label, "__index__") and not hasattr(label, "__iter__") else label
+    return label if integer(label) is None else (label,)
 
 
 def a_partition(label: Any) -> Numbers:
@@ -71,14 +73,29 @@ def both(first: Callable[[Any], Any], second: Callable[[Any], Any]) -> Callable[
     """How a label of two parts is looked up."""
 
     def find(label: Any) -> Any:
-        if isinstance(label, (str, bytes)) or not hasattr(label, "__iter__"):
+        if not isinstance(label, (tuple, list)):
             raise TypeError(f"the label: {label!r} is not a pair")
-        parts = tuple(label)
-        if len(parts) != 2:
+        if len(label) != 2:
             raise ValueError(f"the label: {label!r} is not a pair")
-        return first(parts[0]), second(parts[1])
+        return first(label[0]), second(label[1])
 
     return find
+
+
+# ---- the order of the terms, by increasing keys
+
+def by_degree(label: Numbers) -> Any:
+    """By decreasing size, then in decreasing lexicographic order."""
+    return -sum(label), tuple(-it for it in label)
+
+
+def inversions(perm: Numbers) -> int:
+    return sum(a > b for i, a in enumerate(perm) for b in perm[i + 1 :])
+
+
+def by_inversions(label: Numbers) -> Any:
+    """By increasing number of inversions, then in increasing lexicographic order."""
+    return inversions(label), label
 
 
 # ---- one-line forms
@@ -112,7 +129,8 @@ def product(letter: str, label: Numbers) -> str:
 
 
 def permuted(label: Numbers) -> str:
-    return f"\\mathfrak{{S}}_{{{' '.join(map(str, label))}}}"
+    """A Schubert polynomial. (Between the letters of a permutation LaTeX drops blanks, so that a letter over 9 needs commas.)"""
+    return f"\\mathfrak{{S}}_{{{('' if max(label) < 10 else ',').join(map(str, label))}}}"
 
 
 def powered(label: "Tuple[int, Numbers]") -> str:
@@ -121,24 +139,27 @@ def powered(label: "Tuple[int, Numbers]") -> str:
 
 
 KINDS: Dict[str, Kind] = {
-    "symmetric": Kind(listed, a_partition, atom, indexed),
+    "symmetric": Kind(listed, a_partition, by_degree, atom, indexed),
     "pairs": Kind(
         two,
         both(a_partition, a_partition),
+        lambda it: (by_degree(it[0]), by_degree(it[1])),
         lambda letter, it: f"{atom('s', it[0])}#{atom('s', it[1])}",
         lambda letter, it: f"{indexed('s', it[0])} \\otimes {indexed('s', it[1])}",
     ),
     "powers": Kind(
         power,
         both(lambda it: whole(it, "the power of q"), a_partition),
+        lambda it: (it[0], by_degree(it[1])),
         lambda letter, it: after(power_of_q(it[0]), atom("s", it[1])),
         lambda letter, it: powered(it),
     ),
-    "monomials": Kind(listed, exponents, lambda letter, it: powers_of("x", it), lambda letter, it: product("x", it)),
-    "permutations": Kind(listed, a_permutation, lambda letter, it: atom("X", it), lambda letter, it: permuted(it)),
+    "monomials": Kind(listed, exponents, by_degree, lambda letter, it: powers_of("x", it), lambda letter, it: product("x", it)),
+    "permutations": Kind(listed, a_permutation, by_inversions, lambda letter, it: atom("X", it), lambda letter, it: permuted(it)),
     "shifts": Kind(
         two,
         both(a_permutation, exponents),
+        lambda it: (by_inversions(it[0]), by_degree(it[1])),
         lambda letter, it: after(powers_of("y", it[1]), atom("X", it[0])),
         lambda letter, it: f"{product('y', it[1])} {permuted(it[0])}".strip(),
     ),

@@ -5,15 +5,14 @@ import ctypes
 import threading
 from typing import Iterator, List, Optional, Sequence, Tuple
 
-from ._ways import ANSWER, NO_MEMORY, NO_TEXT, PATIENCE, QUESTION, NoCalculator, no_memory
+from ._ways import BREAK, LONGEST, NO_MEMORY, NO_TEXT, PATIENCE, QUESTIONS, NoCalculator, Way, closed, is_of_batch, no_memory
 
-
-# The room for a first text; where a longer text has been, so much is kept at most for the next.
+# The room for a first text; a buffer that had to be longer is kept for later calls up to this length.
 ROOM, MOST_KEPT = 1 << 16, 1 << 24
 
 
 class Buffer:
-    """Where the library leaves its texts, one after the other. The addresses are numbers, which ctypes passes on the fastest."""
+    """Where the library leaves a text. The addresses are numbers, which ctypes passes on the fastest."""
 
     def __init__(self, room: int) -> None:
         self.room, held, self.length = room, ctypes.create_string_buffer(room), ctypes.c_size_t()
@@ -21,15 +20,9 @@ class Buffer:
         self.place = ctypes.addressof(held), room, ctypes.addressof(self.length)
 
 
-class Buffers(threading.local):
-    """A buffer for each thread."""
-
-    def __init__(self) -> None:
-        self.buffer = Buffer(ROOM)
-
-
 class Library:
-    """The C library. Calls from several threads do not disturb each other, and run at the same time."""
+    """The C library. A call has its buffer to itself until its text is read: calls of several threads, and calls that a signal handler or a
+    `__del__` makes in the middle of another one, do not disturb each other."""
 
     def __init__(self, path: str) -> None:
         self.path = path
@@ -42,30 +35,40 @@ class Library:
         size = ctypes.c_size_t
         self._run.argtypes = [ctypes.c_char_p, size, ctypes.c_char_p, size, ctypes.c_void_p, size, ctypes.c_void_p]
         self._run.restype = ctypes.c_uint8
-        self._own = Buffers()
+        # The buffers that no call has (a list's `append` and `pop` are not interrupted).
+        self._free: List[Buffer] = []
+        self._is_closed = False
+        self._lister: Optional[Way] = None
         self._meet()
 
     def _meet(self) -> None:
-        """The first exchange, by which another library of this name is found out. It is waited for in vain in a thread of its own."""
+        """The first exchange, by which another library of this name is found out, or another version. It is waited for in vain in a thread of
+        its own."""
         got: "List[Tuple[int, bytes]]" = []
-        thread = threading.Thread(target=lambda: got.append(self.run(QUESTION)), daemon=True)
+        thread = threading.Thread(target=lambda: got.append(self.run(b"batch", b"\n".join((*QUESTIONS, b"")))), daemon=True)
         thread.start()
         thread.join(PATIENCE)
-        if got != [(0, ANSWER)]:
-            raise NoCalculator(f"{self.path} does not answer as calc does; is it another library of this name?")
+        if got != [(1, BREAK.join(QUESTIONS.values()))]:
+            raise NoCalculator(f"{self.path} does not answer as calc does; is it another library of this name, or another version?")
 
     def run(self, line: bytes, given: bytes = b"") -> "Tuple[int, bytes]":
         """The status of the line's command, and its text. The text is asked for once more if it is longer than the buffer."""
-        buffer = self._own.buffer
+        if self._is_closed:
+            raise closed()
+        try:
+            buffer = self._free.pop()
+        except IndexError:
+            buffer = Buffer(ROOM)
         status = self._run(line, len(line), given, len(given), *buffer.place)
         length = buffer.length.value
         while length > buffer.room:
             buffer = Buffer(length)
             status = self._run(line, len(line), given, len(given), *buffer.place)
             length = buffer.length.value
-            if length <= MOST_KEPT:
-                self._own.buffer = buffer
-        return status, buffer.bytes[:length].tobytes()
+        text = buffer.bytes[:length].tobytes()
+        if buffer.room <= MOST_KEPT:
+            self._free.append(buffer)
+        return status, text
 
     def _text(self, line: bytes, given: bytes = b"") -> str:
         status, text = self.run(line, given)
@@ -75,9 +78,7 @@ class Library:
 
     def answer(self, line: bytes, seconds: Optional[float]) -> str:
         # (in a line `batch` and `work` are no commands, and the library would run them)
-        if line.split(None, 1)[0] in (b"batch", b"work"):
-            return self.blocks([line], seconds)[0]
-        return self._text(line)
+        return self.blocks([line], seconds)[0] if len(line) <= LONGEST or is_of_batch(line) else self._text(line)
 
     def blocks(self, lines: Sequence[bytes], seconds: Optional[float]) -> List[str]:
         texts = self._text(b"batch", b"".join(it + b"\n" for it in lines)).split("--\n")
@@ -89,7 +90,13 @@ class Library:
         """The program lists one line after another; the library would list them all first."""
         from ._search import program
 
-        return program(None).listed(line, seconds)
+        if self._is_closed:
+            raise closed()
+        if self._lister is None:
+            self._lister = program(None)
+        return self._lister.listed(line, seconds)
 
     def close(self) -> None:
-        pass
+        self._is_closed = True
+        if self._lister:
+            self._lister.close()

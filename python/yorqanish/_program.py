@@ -1,6 +1,7 @@
 """The program: `calc batch` in processes of its own, one for each call that runs at a time."""
 from __future__ import annotations
 
+import hashlib
 import os
 import select
 import signal
@@ -10,14 +11,48 @@ import time
 import weakref
 from typing import Any, Dict, Iterator, List, Optional, Sequence, Tuple
 
-from ._ways import ANSWER, BREAK, END, LAST, LONGEST, NO_MEMORY, PATIENCE, QUESTION, Ended, NoCalculator, no_memory
+from ._ways import BREAK, END, LAST, LONGEST, NO_MEMORY, PATIENCE, QUESTIONS, Ended, NoCalculator, closed, is_of_batch, no_memory
 
-# The processes that this one has started, each with the writing end of the pipe that ties it to this one. A process made by fork closes its
-# copies of their pipes and forgets them.
-STARTED: "Dict[subprocess.Popen[bytes], int]" = {}
+# The processes that this one has started, each with the writing end of the pipe that ties it to this one, and with whoever reads from it. A
+# process made by fork closes its copies of their pipes and forgets them.
+STARTED: "Dict[subprocess.Popen[bytes], Tuple[Any, weakref.ref[Running]]]" = {}
 NOTHING = memoryview(b"")
 # A group of its own; before Python 3.11 that takes a session of its own.
 GROUP: "Dict[str, Any]" = {"process_group": 0} if sys.version_info >= (3, 11) else {"start_new_session": True}
+# The longest wait at a time, in seconds: the system counts milliseconds in a machine word.
+LONGEST_WAIT = 86400.0
+
+
+class File:
+    """A file that is kept open: what is started of it later is what was tried first, also if another file has its name by then. Whether it
+    was written over is seen by its content."""
+
+    def __init__(self, path: str, place: str) -> None:
+        self.path = path
+        self._file = open(place, "rb", buffering=0)
+        self.number = self._file.fileno()
+        self.place = f"/proc/self/fd/{self.number}"
+        self.is_program = os.pread(self.number, 4, 0) == b"\x7fELF" and os.path.exists(self.place)
+        self._stamp, self.digest = self._times(), self._content()
+
+    def _times(self) -> "Tuple[int, ...]":
+        it = os.fstat(self.number)
+        return it.st_mtime_ns, it.st_ctime_ns, it.st_size
+
+    def _content(self) -> str:
+        digest, at = hashlib.sha256(), 0
+        while piece := os.pread(self.number, 1 << 20, at):
+            digest.update(piece)
+            at += len(piece)
+        return digest.hexdigest()
+
+    def check(self) -> None:
+        """The file has the content that was tried."""
+        times = self._times()
+        if times != self._stamp:
+            if self._content() != self.digest:
+                raise NoCalculator(f"{self.path} was changed while it was in use")
+            self._stamp = times
 
 
 def tie(process: "subprocess.Popen[bytes]", watched: int) -> None:
@@ -36,42 +71,49 @@ def tie(process: "subprocess.Popen[bytes]", watched: int) -> None:
             pass
 
 
-def start(words: List[str]) -> "subprocess.Popen[bytes]":
+def start(path: str, words: List[str], file: Optional[File], reader: "Running") -> "subprocess.Popen[bytes]":
     """Starts the program, out of reach of the terminal's Ctrl-C: who is interrupted ends it."""
+    end_abandoned()
     try:
-        watched, kept = os.pipe()
-        try:
+        if file:
+            file.check()
+        # (files that are closed with their last reference, wherever this is interrupted)
+        ends = os.pipe()
+        watched, kept = open(ends[0], "rb", buffering=0), open(ends[1], "wb", buffering=0)
+        with watched:
             # (the reading end stays open in the program, and in it alone)
-            process = subprocess.Popen(
-                words, bufsize=0, stdin=subprocess.PIPE, stdout=subprocess.PIPE, stderr=subprocess.DEVNULL, pass_fds=(watched,), **GROUP
-            )
-            STARTED[process] = kept
-            tie(process, watched)
-        except OSError:
-            os.close(kept)
-            raise
-        finally:
-            os.close(watched)
+            passed = (watched.fileno(), file.number) if file else (watched.fileno(),)
+            where = file.place if file else path
+            pipes: "Dict[str, Any]" = {"stdin": subprocess.PIPE, "stdout": subprocess.PIPE, "stderr": subprocess.DEVNULL}
+            process = subprocess.Popen([path, *words], executable=where, bufsize=0, pass_fds=passed, **pipes, **GROUP)
+            STARTED[process] = kept, weakref.ref(reader)
+            tie(process, watched.fileno())
     except OSError as error:
-        raise NoCalculator(f"{words[0]} cannot be started: {error.strerror}") from None
+        raise NoCalculator(f"{path} cannot be started: {error.strerror}") from None
     return process
 
 
 def end(process: "subprocess.Popen[bytes]") -> None:
-    """Ends a process and waits until it has gone."""
+    """Ends a process, waits until it has gone, and closes this process's ends of the pipes. If this is interrupted, the next start does it."""
     process.kill()
     process.wait()
     let_go(process)
 
 
 def let_go(process: "subprocess.Popen[bytes]") -> None:
-    """Closes this process's ends of the pipes."""
-    for pipe in (process.stdin, process.stdout):
+    kept = STARTED.get(process)
+    for pipe in (process.stdin, process.stdout, kept and kept[0]):
         if pipe:
             pipe.close()
-    kept = STARTED.pop(process, None)
-    if kept is not None:
-        os.close(kept)
+    STARTED.pop(process, None)
+
+
+def end_abandoned() -> None:
+    """Ends the processes from which nobody reads any more, whose end was interrupted."""
+    for process, (_, reader) in list(STARTED.items()):
+        running = reader()
+        if running is None or running.is_ended:
+            end(process)
 
 
 def forget_all() -> None:
@@ -84,24 +126,23 @@ def forget_all() -> None:
 os.register_at_fork(after_in_child=forget_all)
 
 
-def closed() -> NoCalculator:
-    return NoCalculator("the calculator is closed")
-
-
 class Running:
-    """A process of the program, whose answers are read as they come."""
+    """A process of the program, whose answers are read as they come, by the process that has started it."""
 
-    def __init__(self, words: List[str]) -> None:
-        self.path = words[0]
-        self.process = start(words)
+    def __init__(self, path: str, words: List[str], file: Optional[File]) -> None:
+        self.path, self.is_ended, self._is_stopped, self._owner = path, False, False, os.getpid()
+        self.process = start(path, words, file, self)
+        # (it ends with the last reference, and at the end of Python)
+        self._end = weakref.finalize(self, end, self.process)
         assert self.process.stdin and self.process.stdout
         self.into, self.out = self.process.stdin.fileno(), self.process.stdout.fileno()
         os.set_blocking(self.into, False)
         self._poll = select.poll()
         self._poll.register(self.out, select.POLLIN)
-        self._is_stopped = False
-        # (it ends with the last reference, and at the end of Python)
-        self.end = weakref.finalize(self, end, self.process)
+
+    def end(self) -> None:
+        self.is_ended = True
+        self._end()
 
     def _written(self, data: memoryview) -> memoryview:
         """Writes what the pipe takes; what is left. Of a process that has gone nothing is left: its output says so."""
@@ -115,20 +156,23 @@ class Running:
     def read(self, data: memoryview, deadline: Optional[float]) -> "Tuple[bytes, memoryview]":
         """What has come, and what is left to be written; nothing comes from a process that has ended. It waits until something comes, and
         until the deadline at most."""
+        if self._owner != os.getpid():
+            raise NoCalculator("this answer is read by the process that was forked, and not by its copy")
         data = self._written(data) if data else data
         if data:
             self._poll.register(self.into, select.POLLOUT)
         try:
             while data or deadline is not None:
-                wait = None if deadline is None else max(0.0, (deadline - time.monotonic()) * 1000)
-                ready = dict(self._poll.poll(wait))
+                left = LONGEST_WAIT if deadline is None else min(max(0.0, deadline - time.monotonic()), LONGEST_WAIT)
+                ready = dict(self._poll.poll(left * 1000))
                 if self.out in ready:
                     break
-                if not ready:
+                if ready:
+                    data = self._written(data)
+                    if not data:
+                        self._poll.unregister(self.into)
+                elif deadline is not None and time.monotonic() >= deadline:
                     raise TimeoutError
-                data = self._written(data)
-                if not data:
-                    self._poll.unregister(self.into)
         finally:
             if data:
                 self._poll.unregister(self.into)
@@ -150,11 +194,15 @@ class Running:
         return no_memory() if status == NO_MEMORY else Ended(f"{self.path} ended with status {status}")
 
 
+def deadline_in(seconds: Optional[float]) -> Optional[float]:
+    return None if seconds is None else time.monotonic() + seconds
+
+
 class Batch(Running):
     """A running `calc batch`."""
 
-    def __init__(self, path: str) -> None:
-        super().__init__([path, "batch"])
+    def __init__(self, path: str, file: Optional[File]) -> None:
+        super().__init__(path, ["batch"], file)
         try:
             self._meet()
         except BaseException:
@@ -162,9 +210,9 @@ class Batch(Running):
             raise
 
     def _meet(self) -> None:
-        """The first exchange, by which another program of this name is found out."""
-        wanted, got = ANSWER + BREAK + END, b""
-        data, deadline = memoryview(QUESTION + b"\n" + LAST + b"\n"), time.monotonic() + PATIENCE
+        """The first exchange, by which another program of this name is found out, or another version."""
+        wanted, got = BREAK.join(QUESTIONS.values()) + BREAK + END, b""
+        data, deadline = memoryview(b"\n".join((*QUESTIONS, LAST, b""))), deadline_in(PATIENCE)
         try:
             came = wanted
             while came and len(got) < len(wanted) and wanted.startswith(got):
@@ -173,12 +221,12 @@ class Batch(Running):
         except TimeoutError:
             pass
         if got != wanted:
-            raise NoCalculator(f"{self.path} does not answer as calc does; is it another program of this name?")
+            raise NoCalculator(f"{self.path} does not answer as calc does; is it another program of this name, or another version?")
 
     def exchange(self, lines: Sequence[bytes], seconds: Optional[float]) -> List[str]:
         """The blocks of lines. A line of a known answer is sent after them: where that answer is, theirs have ended."""
         data, got = memoryview(b"\n".join((*lines, LAST, b""))), bytearray()
-        deadline = None if seconds is None else time.monotonic() + seconds
+        deadline = deadline_in(seconds)
         while not (got.endswith(BREAK + END) and got.count(BREAK) > len(lines)):
             came, data = self.read(data, deadline)
             if not came:
@@ -189,33 +237,89 @@ class Batch(Running):
             raise NoCalculator(f"{self.path} does not answer as calc does")
         return texts[1:]
 
+    def listing(self, line: bytes, seconds: Optional[float]) -> Iterator[str]:
+        """The lines of the answer to a line, each as soon as it is there and within so many seconds."""
+        data, rest, breaks = memoryview(b"\n".join((line, LAST, b""))), b"", 0
+        while breaks < 2 or len(rest) < len(END):
+            came, data = self.read(data, deadline_in(seconds))
+            if not came:
+                raise self.gone()
+            *lines, rest = (rest + came).split(b"\n")
+            for at, it in enumerate(lines):
+                if it + b"\n" != BREAK:
+                    yield it.decode("ascii")
+                    continue
+                # (one break is before the answer, and one after it)
+                breaks += 1
+                if breaks == 2:
+                    rest = b"\n".join((*lines[at + 1 :], rest))
+                    break
+        if rest != END:
+            raise NoCalculator(f"{self.path} does not answer as calc does")
+
+
+def behind(first: Batch) -> Optional[File]:
+    """The program that has taken the place of a script that was started: if `calc batch` is what the process is, and not a shell or another
+    program that runs it."""
+    place = f"/proc/{first.process.pid}"
+    try:
+        with open(f"{place}/cmdline", "rb") as words:
+            if words.read().split(b"\0")[1:] != [b"batch", b""]:
+                return None
+        file = File(first.path, f"{place}/exe")
+        if not file.is_program:
+            return None
+        Batch(first.path, file).end()
+        return file
+    except (OSError, NoCalculator):
+        return None
+
 
 class Program:
-    """The program. Each call has a process to itself, which later calls go on with; one that is interrupted, or out of time, is ended."""
+    """The program. Each call has a process to itself, which later calls go on with; one that is interrupted, or out of time, is ended.
+
+    All processes are of the file that was tried first. Where that is not to be had (of a script that runs the program elsewhere), each
+    process is tried when it is started."""
 
     def __init__(self, path: str) -> None:
         self.path = os.path.abspath(path)
-        self._owner = os.getpid()
-        self._idle: List[Batch] = [Batch(self.path)]
+        self._owner, self._is_closed = os.getpid(), False
+        try:
+            file: Optional[File] = File(self.path, self.path)
+        except OSError:
+            file = None
+        is_program = file is not None and file.is_program
+        first = Batch(self.path, file if is_program else None)
+        self._file = file if is_program else behind(first)
+        self._idle: List[Batch] = [first]
         self._open: "weakref.WeakSet[Running]" = weakref.WeakSet(self._idle)
-        self._is_closed = False
+
+    @property
+    def digest(self) -> Optional[str]:
+        """What the program's file is known by."""
+        return self._file.digest if self._file else None
 
     def _own(self) -> None:
         """Leaves what a fork has copied to the parent."""
         if self._owner != os.getpid():
             self._owner, self._idle, self._open = os.getpid(), [], weakref.WeakSet()
+        if self._is_closed:
+            raise closed()
 
     def _taken(self) -> Batch:
         """A process that is not in use."""
         self._own()
-        if self._is_closed:
-            raise closed()
         try:
             return self._idle.pop()
         except IndexError:
-            batch = Batch(self.path)
+            batch = Batch(self.path, self._file)
             self._open.add(batch)
             return batch
+
+    def _given_back(self, batch: Batch) -> None:
+        self._idle.append(batch)
+        if self._is_closed:
+            self.close()
 
     def blocks(self, lines: Sequence[bytes], seconds: Optional[float]) -> List[str]:
         batch = self._taken()
@@ -224,45 +328,49 @@ class Program:
         except BaseException:
             batch.end()
             raise
-        self._idle.append(batch)
-        if self._is_closed:
-            self.close()
+        self._given_back(batch)
         return texts
 
     def answer(self, line: bytes, seconds: Optional[float]) -> str:
-        if len(line) <= LONGEST:
+        if len(line) <= LONGEST or is_of_batch(line):
             return self.blocks([line], seconds)[0]
-        deadline = None if seconds is None else time.monotonic() + seconds
-        return "".join(f"{it}\n" for it in self._lines(line, deadline, None))
+        return "".join(f"{it}\n" for it in self._of_its_own(line, deadline_in(seconds)))
 
     def listed(self, line: bytes, seconds: Optional[float]) -> Iterator[str]:
-        return self._lines(line, None, seconds)
-
-    def _lines(self, line: bytes, deadline: Optional[float], seconds: Optional[float]) -> Iterator[str]:
-        """The lines of an answer that a process of its own writes; all until a deadline, or each within so many seconds."""
-        self._own()
-        if self._is_closed:
-            raise closed()
-        one = Running([self.path, *(it for it in line.decode("utf-8", "surrogateescape").replace("\t", " ").split(" ") if it)])
-        self._open.add(one)
-        rest = b""
+        batch = self._taken()
         try:
-            while True:
-                came, _ = one.read(NOTHING, deadline if seconds is None else time.monotonic() + seconds)
-                if not came:
-                    gone = one.gone()
-                    if rest or one.process.returncode not in (0, 2, 3, 4):
-                        raise gone
-                    return
-                *lines, rest = (rest + came).split(b"\n")
-                yield from (it.decode("ascii") for it in lines)
+            yield from batch.listing(line, seconds)
+        except BaseException:
+            batch.end()
+            raise
+        self._given_back(batch)
+
+    def _of_its_own(self, line: bytes, deadline: Optional[float]) -> List[str]:
+        """The lines of the answer to a line that is too long for a batch: a process of its own writes them."""
+        self._own()
+        if not self._file:
+            raise NoCalculator(f"{self.path} is no program, but runs one: it cannot be asked a line of more than {LONGEST:,} bytes")
+        words = line.decode("utf-8", "surrogateescape").replace("\t", " ").split(" ")
+        one = Running(self.path, [it for it in words if it], self._file)
+        self._open.add(one)
+        text, came = bytearray(), b"\n"
+        try:
+            assert one.process.stdin
+            one.process.stdin.close()
+            while came:
+                came, _ = one.read(NOTHING, deadline)
+                text += came
+            gone = one.gone()
+            if text[-1:] != b"\n" or one.process.returncode not in (0, 2, 3, 4):
+                raise gone
+            return text.decode("ascii").splitlines()
         finally:
             one.end()
 
     def close(self) -> None:
-        self._own()
         self._is_closed = True
-        while self._idle:
-            self._idle.pop().end()
-        for it in list(self._open):
-            it.stop()
+        if self._owner == os.getpid():
+            while self._idle:
+                self._idle.pop().end()
+            for it in list(self._open):
+                it.stop()

@@ -1,6 +1,7 @@
 """Expansions as elements of Sage, and back. Sage is imported by what needs it alone."""
 from __future__ import annotations
 
+import sys
 from typing import TYPE_CHECKING, Any, Dict, Optional
 
 if TYPE_CHECKING:
@@ -8,6 +9,8 @@ if TYPE_CHECKING:
 
 # Sage's names of the bases.
 BASES = {"Schur": "s", "powersum": "p", "homogeneous": "h", "elementary": "e", "monomial": "m"}
+# Schubert polynomials of `calc` are in at most so many variables: all are elements of one ring.
+VARIABLES = 16
 
 
 def element(expansion: "Expansion[Any, Any]", ring: Any) -> Any:
@@ -29,8 +32,8 @@ def element(expansion: "Expansion[Any, Any]", ring: Any) -> Any:
             table[label] = table.get(label, over.zero()) + over(c) * over.gen() ** power
         return sage.SymmetricFunctions(over).s().sum_of_terms((sage.Partition(list(label)), c) for label, c in table.items())
     if expansion.kind == "monomials":
-        count = max((len(label) for label in expansion), default=1) or 1
-        x = sage.PolynomialRing(ring, "x", count).gens()
+        count = max([VARIABLES, *map(len, expansion)])
+        x = sage.PolynomialRing(ring, [f"x{i}" for i in range(count)]).gens()
         return sum((c * sage.prod(v**e for v, e in zip(x, label)) for label, c in scalars.items()), x[0].parent().zero())
     if expansion.kind == "permutations":
         schubert = sage.SchubertPolynomialRing(sage.ZZ if ring is sage.QQ else ring)
@@ -38,11 +41,41 @@ def element(expansion: "Expansion[Any, Any]", ring: Any) -> Any:
     raise TypeError("Sage has no ring for a product of double Schubert polynomials")
 
 
+def is_element(value: Any) -> bool:
+    """Whether a value is an element of one of Sage's parents; there is none where Sage is not loaded."""
+    structure = sys.modules.get("sage.structure.element")
+    return structure is not None and isinstance(value, structure.Element)
+
+
+def is_same(expansion: "Expansion[Any, Any]", value: Any) -> bool:
+    """Whether an expansion is this element, as Sage compares elements: of one function also in two bases."""
+    try:
+        ring = value.parent().base_ring() if expansion.kind == "symmetric" else None
+        return bool(element(expansion, ring) == value)
+    except (AttributeError, TypeError, ValueError):
+        return False
+
+
+def refuse_residue(scalar: Any) -> None:
+    """A number that is not exact is no scalar, and Sage is not to take it for one."""
+    base = getattr(scalar.parent(), "base_ring", None)
+    if callable(base) and getattr(base(), "characteristic", int)() != 0:
+        raise TypeError(f"{scalar!r} is not an exact number")
+
+
+def forbid_as_coefficient(other: object) -> None:
+    """Sage makes an expansion the coefficient of an element that is multiplied by it and has no ring in common with it. Before it does so it
+    compares it with Python's 1, which is not what somebody types in Sage; there is no other place to say no."""
+    if type(other) is int and other == 1 and "sage.data_structures.blas_dict" in sys.modules:
+        raise TypeError("an expansion is compared with 1, or multiplied by an element of Sage over another ring: use to_sage(ring)")
+
+
 def expansion_of(value: Any) -> "Optional[Expansion[Any, Any]]":
     """The expansion that an element of a basis of Sage's symmetric functions is, if it is one."""
+    if not is_element(value):
+        return None
     from ._expansion import Expansion
 
-    parent = getattr(value, "parent", None)
-    name = getattr(parent() if callable(parent) else None, "basis_name", None)
+    name = getattr(value.parent(), "basis_name", None)
     basis = BASES.get(name()) if callable(name) else None
     return Expansion(value.monomial_coefficients(), basis=basis) if basis else None

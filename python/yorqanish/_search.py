@@ -54,10 +54,11 @@ def library(given: Optional[str]) -> Library:
     return Library(beside if os.path.exists(beside) else LIBRARY)
 
 
-def way(library_given: Union[bool, str, None], program_given: Optional[str]) -> Way:
-    """The library if it is asked for, and else the program."""
-    if library_given and program_given:
-        raise ValueError("a Calculator has either a program or the library")
+def way(library_given: Union[bool, str, None], program_given: Optional[str], digest: Optional[str] = None) -> Way:
+    """The library if it is asked for, and else the program, which is to be that of this digest, if one is given."""
     if library_given:
-        return library(None if library_given is True else os.fspath(library_given))
-    return program(None if program_given is None else os.fspath(program_given))
+        return library(None if library_given is True else library_given)
+    found = program(program_given)
+    if digest and found.digest and found.digest != digest:
+        raise NoCalculator(f"{found.path} is not the program that the Calculator had where it was made")
+    return found

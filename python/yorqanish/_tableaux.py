@@ -1,9 +1,9 @@
 """Tableaux, and pairs of them."""
 from __future__ import annotations
 
-from typing import Any, Iterable, NamedTuple, Tuple
+from typing import Any, NamedTuple, NoReturn, Tuple
 
-from ._arguments import Numbers, spoken
+from ._arguments import Numbers, Rows, Shape, partition, tableau
 
 
 def rows_of(line: str) -> "Tuple[Numbers, ...]":
@@ -15,30 +15,63 @@ def rows_of(line: str) -> "Tuple[Numbers, ...]":
 
 class Tableau(Tuple[Numbers, ...]):
     """A tableau: the tuple of its rows from the top. For a skew tableau `inner` is the inner partition, and the rows have the entries
-    to the right of it.
+    to the right of it. It does not change.
+
+    A tableau equals another one with the same rows and the same inner partition, and one without an inner partition equals the tuple of its
+    rows.
 
     >>> t = Tableau(((1, 1), (2,)))
     >>> t == ((1, 1), (2,)), t[0], str(t)
     (True, (1, 1), '1 1 / 2')
     >>> print(t.latex())
     \\begin{ytableau} 1 & 1 \\\\ 2 \\end{ytableau}
-    >>> print(Tableau(((1,), (12,)), inner=(1,)).latex("young"))
+    >>> skew = Tableau(((1,), (12,)), inner=(1,))
+    >>> skew, skew == ((1,), (12,)), skew == Tableau(((1,), (12,)))
+    (Tableau(((1,), (12,)), inner=(1,)), False, False)
+    >>> print(skew.latex("young"))
     \\young(:1,{12})
     """
 
     inner: Numbers
 
-    def __new__(cls, rows: "Iterable[Numbers]" = (), inner: Numbers = ()) -> "Tableau":
+    def __new__(cls, rows: Rows = (), inner: Shape = ()) -> "Tableau":
+        return cls._made(tableau(rows, "rows"), partition(inner, "inner"))
+
+    @classmethod
+    def _made(cls, rows: "Tuple[Numbers, ...]", inner: Numbers) -> "Tableau":
+        """A tableau of rows and an inner partition that are tuples of numbers."""
         made = tuple.__new__(cls, rows)
-        made.inner = inner
+        made.__dict__["inner"] = inner
         return made
+
+    def __setattr__(self, name: str, value: object) -> NoReturn:
+        raise AttributeError(f"a tableau does not change: {name} cannot be set")
+
+    def __delattr__(self, name: str) -> NoReturn:
+        raise AttributeError(f"a tableau does not change: {name} cannot be deleted")
+
+    def __eq__(self, other: object) -> bool:
+        if not isinstance(other, tuple):
+            return NotImplemented
+        return tuple.__eq__(self, other) and self.inner == getattr(other, "inner", ())
+
+    def __ne__(self, other: object) -> bool:
+        if not isinstance(other, tuple):
+            return NotImplemented
+        return not self == other
+
+    def __hash__(self) -> int:
+        return hash((tuple(self), self.inner)) if self.inner else tuple.__hash__(self)
+
+    def __repr__(self) -> str:
+        return f"Tableau({tuple(self)!r}{f', inner={self.inner!r}' if self.inner else ''})"
 
     def __reduce__(self) -> "Tuple[Any, ...]":
         return Tableau, (tuple(self), self.inner)
 
     def __str__(self) -> str:
         """The tableau as `calc` prints it."""
-        return spoken(self)
+        return " / ".join(" ".join(map(str, row)) or "." for row in self) or "."
 
     def _offset(self, row: int) -> int:
         return self.inner[row] if row < len(self.inner) else 0
@@ -101,7 +134,7 @@ class Pair(NamedTuple):
 
 def tableau_of(line: str, inner: Numbers = ()) -> Tableau:
     """The tableau of a printed line."""
-    return Tableau(rows_of(line), inner)
+    return Tableau._made(rows_of(line), inner)
 
 
 def pair_of(text: str) -> Pair:

@@ -3,18 +3,41 @@ from __future__ import annotations
 
 from typing import Iterator, List, Optional, Protocol, Sequence
 
+from ._arguments import text_of
+
 # The statuses by which a command says that memory was refused: for the text, which the library alone does, or for the answer.
 NO_TEXT, NO_MEMORY = 5, 7
 
-# What each way is asked first, before anything that it says is taken for an answer of `calc`.
-QUESTION, ANSWER = b"coef 3 2 1 - 2 1 - 2 1", b"2\n"
+# What each program and library is asked before anything that it says is taken for an answer of `calc`: a line of each command, and the answer
+# of this version, with its conventions and its order of terms.
+QUESTIONS = {
+    b"mult 2 1 - 1": b"1  (3,1)\n1  (2,2)\n1  (2,1,1)\n",
+    b"mult -m 1 - 1 - 1": b"s[3]+2*s[2,1]+s[1,1,1]\n",
+    b"mult 1 2 - 1": b"! Shape 2:0\n",
+    b"skew 3 2 1 / 2 1": b"1  (3)\n2  (2,1)\n1  (1,1,1)\n",
+    b"coef 3 2 1 - 2 1 - 2 1": b"2\n",
+    b"coprod 1": b"1  (1) ()\n1  () (1)\n",
+    b"quantum 2 2 1 - 1 - 1 - 1": b"2  q^0  (2,2)\n2  q^1  ()\n",
+    b"fusion 3 2 2 1 - 2 1": b"1  (3,2,1)\n1  (2,2,2)\n",
+    b"schubert 2 1 4 3": b"1  (2)\n1  (1,1)\n1  (1,0,1)\n",
+    b"schubmult 1 3 2 - 1 3 2": b"1  (1,4,2,3)\n1  (2,3,1)\n",
+    b"dschubmult 2 1 - 2 1": b"-1  (2,1) (1)\n1  (2,1) (0,1)\n1  (3,1,2) ()\n",
+    b"stanley -r 2 3 1 2": b"1  (2)\n",
+    b"expand p s[2,1]": b"-1/3  (3)\n1/3  (1,1,1)\n",
+    b"plethysm s h[2] h[2]": b"1  (4)\n1  (2,2)\n",
+    b"tab 2 1 / 1": b"1 / 1\n1 / 2\n",
+    b"rsk 3 1 2": b"P 1 2 / 3\nQ 1 3 / 2\n",
+    b"unrsk 1 2 / 3 - 1 3 / 2": b"3 1 2\n",
+    b"rect 2 2 / 1 - 1 / 1 2": b"1 1 / 2\n",
+    b"growth 2 1": b"() () ()\n() () (1)\n() (1) (1,1)\n",
+}
 # The line that is asked after others: where its known answer begins, theirs have ended.
 LAST, END = b"rsk", b"P .\nQ .\n"
 BREAK = b"--\n"
 
 # A line of a batch has at most this many bytes.
 LONGEST = 4096
-# How long a first answer may take, in seconds.
+# How long the first answers may take, in seconds.
 PATIENCE = 20.0
 
 
@@ -42,34 +65,45 @@ class Way(Protocol):
         ...
 
     def close(self) -> None:
-        """Lets go of what is held, and ends what still runs."""
+        """Lets go of what is held, and ends what still runs. Whoever asks later is refused."""
         ...
 
 
 def sent(line: str) -> Optional[bytes]:
     """The line of a batch that is sent for a line, or nothing if a batch passes over it.
 
-    A line feed at its end is dropped. One within it is sent as another byte that is in no word of a command, and is refused at its place.
+    A line feed at its end is dropped, with or without a carriage return before it. One within it, and a zero byte, are sent as another byte
+    that is in no word of a command, and is refused at its place.
 
     >>> sent("mult 1 - 1\\n"), sent("# a comment"), sent(" "), sent("mult 1\\n- 1")
     (b'mult 1 - 1', None, None, b'mult 1\\x01- 1')
     """
     if not isinstance(line, str):
         raise TypeError(f"a line is a string, and {line!r} is not")
-    data = line.encode("utf-8", "surrogatepass")
+    data = text_of(line).encode("utf-8", "surrogatepass").replace(b"\0", b"\x01")
+    data = data[:-1] if data.endswith(b"\n") else data
+    data = data[:-1] if data.endswith(b"\r") else data
+    data = data[:-1] + b"\x01" if data.endswith(b"\r") else data
     if b"\n" in data:
-        data = data[:-1] if data.endswith(b"\n") else data
-        if b"\n" in data:
-            data = data.replace(b"\n", b"\x01")
-            return b"\x01" + data if is_passed_over(data) else data
+        data = data.replace(b"\n", b"\x01")
+        return b"\x01" + data if is_passed_over(data) else data
     return None if is_passed_over(data) else data
 
 
 def is_passed_over(data: bytes) -> bool:
     """Whether a batch gives no block for a line: it has no word, or is a comment."""
-    words = (data[:-1] if data.endswith(b"\r") else data).strip(b" \t")
+    words = data.strip(b" \t")
     return len(data) <= LONGEST and (not words or words.startswith(b"#"))
+
+
+def is_of_batch(data: bytes) -> bool:
+    """Whether a line names a command that is none in a line: `batch` and `work` read or write much that is no answer."""
+    return data.replace(b"\t", b" ").strip(b" ").split(b" ")[0] in (b"batch", b"work")
 
 
 def no_memory() -> MemoryError:
     return MemoryError("calc was refused memory")
+
+
+def closed() -> NoCalculator:
+    return NoCalculator("the calculator is closed")

@@ -176,16 +176,28 @@ def test_what_is_negative():
         USED.rect([2, 2], [1], ((1,), (-1, 2)))
 
 
-def test_numbers_that_know_their_index():
-    """A number is what `operator.index` takes."""
+def test_numbers_of_other_types():
+    """A number is what is registered as integral. Of a type that is derived from `int` only the number is sent, however it shows itself."""
 
-    class Three:
+    class Three(int):
+        def __str__(self):
+            return "1 - 1 1 1"
+
+        __repr__ = __format__ = __str__
+
+        def __index__(self):
+            return self
+
+    class Index:
         def __index__(self):
             return 3
 
-    same(dict(USED.mult([Three()], [1])), {(4,): 1, (3, 1): 1})
-    same(dict(USED.mult([1, 1], [1, 1], rows=Three())), {(2, 2): 1, (2, 1, 1): 1})
-    same(operator.index(Three()), 3)
+    same(dict(USED.mult([Three(3)], [Three(1)])), {(4,): 1, (3, 1): 1})
+    same(dict(USED.mult([1, 1], [1, 1], rows=Three(3))), {(2, 2): 1, (2, 1, 1): 1})
+    same((USED.mult([3], [1])[Three(4)], USED.text("coef", [Three(4)], "-", Three(3), "-", [1])), (1, "1\n"))
+    for wrong in (Index(), True, 3.0, Fraction(3), "3", None):
+        with raises(TypeError, "factor 1"):
+            USED.mult([wrong], [1])
 
 
 def test_zeros_at_the_end():

@@ -2,7 +2,31 @@
 from common import PROGRAM, main, need, raises, same
 
 need("sage.all")
-from sage.all import GF, QQ, ZZ, Integer, Partition, Permutation, SchubertPolynomialRing, Set, SymmetricFunctions, Zmod, latex
+from sage.all import (
+    GF,
+    QQ,
+    RR,
+    ZZ,
+    Composition,
+    Integer,
+    Partition,
+    Partitions,
+    PartitionTuple,
+    Permutation,
+    SchubertPolynomialRing,
+    Sequence,
+    Set,
+    SkewTableau,
+    Subsets,
+    SymmetricFunctions,
+    SymmetricGroup,
+    Tableau,
+    Word,
+    Zmod,
+    latex,
+    matrix,
+    vector,
+)
 
 from yorqanish import Calculator, Expansion
 
@@ -67,6 +91,59 @@ def test_a_residue_is_no_number():
 def test_a_set_is_no_list():
     with raises(TypeError, "letters"):
         CALC.rsk(Set([3, 1, 2]))
+
+
+def test_shapes_of_sage():
+    """Those that are lists of numbers; what else can be gone through is none."""
+    for shape in (Partition([2, 1]), Composition([2, 1]), vector(ZZ, [2, 1]), Word([2, 1]), Permutation([2, 1]), Sequence([2, 1])):
+        same(CALC.coef([3, 2, 1], shape, shape), 2)
+    same(CALC.rsk(Word([3, 1, 2])).insertion, ((1, 2), (3,)))
+    same(CALC.rect([2, 2], [], Tableau([[1, 1], [2, 2]])), ((1, 1), (2, 2)))
+    wrong = [Set([2, 1]), PartitionTuple([[2], [1]]), matrix(ZZ, [[2, 1]]), matrix(ZZ, 0, 3), SymmetricGroup(3)([2, 1, 3]), s[2, 1], ZZ["x"]([2, 1]),
+             Tableau([[2, 1]]), SkewTableau([[None, 1], [1, 2]]), vector(QQ, [1 / QQ(2)]), vector(GF(5), [2, 1]), Subsets(2), Partitions(2)]
+    for it in wrong:
+        with raises(TypeError, "factor 1"):
+            CALC.mult(it, [1])
+
+
+def test_a_time_of_sage():
+    same(CALC.coef([2], [1], [1], timeout=RR(0.5)), 1)
+    same(Calculator(program=PROGRAM, timeout=QQ(1) / 2).coef([2], [1], [1], timeout=ZZ(20)), 1)
+    with raises(TimeoutError):
+        CALC.mult(range(13, 0, -1), range(13, 0, -1), timeout=RR(0.2))
+
+
+def test_polynomials_are_in_one_ring():
+    """All in x0, x1, .., as Sage has them, so that sums are in it, too."""
+    X = SchubertPolynomialRing(ZZ)
+    one, other = CALC.schubert([2, 1]).to_sage(), CALC.schubert([1, 4, 3, 2]).to_sage()
+    same((str(one), one + other, one), ("x0", X([2, 1]).expand() + X([1, 4, 3, 2]).expand(), X([2, 1]).expand()))
+    same((CALC.schubert([1]).to_sage() + one, str(CALC.schubert([1]).to_sage())), (one + 1, "1"))
+
+
+def test_an_expansion_among_elements():
+    """An operation with an element has Sage's own answer, and none has an expansion as a coefficient."""
+    product, element = CALC.mult([1], [1]), s[2] + s[1, 1]
+    for got in (s[1] * product, product * s[1]):
+        same((got, got.parent()), (s[1] * element, s))
+    same((s[1] + product, product + s[1], product - s[1], p[1] * product), (s[1] + element, s[1] + element, element - s[1], p[1] * element))
+    same((product == element, element == product, product == p[1, 1], p[1, 1] == product, product == s[2]), (True, True, True, True, False))
+    same((ZZ(2) * product == 2 * product, product * ZZ(2), sum([product, product], ZZ(0)) == 2 * product), (True, 2 * product, True))
+    for ring in (ZZ, GF(5)):
+        with raises(TypeError):
+            SymmetricFunctions(ring).s()[1] * product
+    with raises(TypeError):
+        CALC.dschubmult([2, 1], [2, 1]) * s[1]
+    same((SymmetricFunctions(ZZ).s()[2] + SymmetricFunctions(ZZ).s()[1, 1] == product, product != element), (True, False))
+
+
+def test_an_element_is_an_expansion():
+    same(Expansion(p[2, 1] / 2), Expansion({(2, 1): QQ(1) / 2}, basis="p"))
+    for wrong in (SymmetricFunctions(QQ).forgotten()[2], s[1].tensor(s[1]), ZZ["x"]([2, 1]), SchubertPolynomialRing(ZZ)([2, 1])):
+        with raises(TypeError):
+            Expansion(wrong)
+    with raises(ValueError):
+        Expansion(p[2], basis="s")
 
 
 def test_latex():

@@ -159,7 +159,7 @@ def test_a_long_list_in_a_notebook():
 
 def test_tableaux_are_shown():
     skew = list(CALC.tab((2, 1), (1,)))[1]
-    same((skew, str(skew), skew.inner), (((1,), (2,)), "1 / 2", (1,)))
+    same((skew, str(skew), skew.inner), (Tableau(((1,), (2,)), inner=(1,)), "1 / 2", (1,)))
     same(skew.latex(), "\\begin{ytableau} \\none & 1 \\\\ 2 \\end{ytableau}")
     same(skew.latex("young"), "\\young(:1,2)")
     same(skew._repr_latex_(), "$\\begin{array}{cc}  & \\boxed{1} \\\\ \\boxed{2} \\end{array}$")

@@ -101,7 +101,7 @@ PATTERNS = [[LIGHT] * 3000 + [HEAVY, *[LIGHT] * between] * 128 + [LIGHT] * 3000 
 
 
 def test_no_process_is_given_many_heavy_lines_at_once():
-    """Of heavy neighbours each of four processes is given its part, however fast the machine is."""
+    """Of heavy neighbours each of four processes is given its part, or one more, however fast the machine is."""
     given, piece = [], _batch.piece
 
     def noted(way, lines, seconds):
@@ -110,7 +110,7 @@ def test_no_process_is_given_many_heavy_lines_at_once():
 
     _batch.piece = noted
     same(sum(1 for it in CALC.batch(MIXED, workers=4) if it.refusal is None), len(MIXED))
-    assert sum(given) >= 16 and max(given) <= 4, given
+    assert sum(given) >= 16 and max(given) <= 5, given
 
 
 class Simulated:
@@ -143,6 +143,9 @@ class Simulated:
     def put(self, slot):
         self.finished.append(slot)
 
+    def empty(self):
+        return not self.finished
+
     def get(self):
         while not self.finished:
             end, _, future, done = heapq.heappop(self.ends)
@@ -163,7 +166,7 @@ def test_heavy_and_light_lines_are_balanced():
         for light, heavy in ((0.00005, 0.08), (0.00005, 1.0), (0.0005, 0.08), (0.00001, 0.01)):
             four = Simulated(lambda line: heavy if line == HEAVY.encode() else light)
             _batch.time = SimpleNamespace(monotonic=four.monotonic)
-            spread = _batch.Spread(four.submit, iter(lines), 5, 4)
+            spread = _batch.Spread(four.submit, _batch.Source(lines), 5, 4)
             spread._finished = four
             same([it.text for it in spread.outcomes()], lines)
             alone = lines.count(LIGHT) * light + lines.count(HEAVY) * heavy

@@ -11,7 +11,7 @@ from itertools import islice
 
 from common import LIBRARY, PROGRAM, Skipped, comes, main, raises, same, within
 
-from yorqanish import Calculator, NoCalculator
+from yorqanish import Calculator, NoCalculator, Tableau
 
 # A product that takes more than half a minute.
 LONG = tuple(range(13, 0, -1))
@@ -20,20 +20,21 @@ CALC = Calculator(program=PROGRAM)
 
 
 def seen(pid):
-    """The name of a process, its state, its parent, and its time on a processor in hundredths of a second; nothing if it is gone."""
+    """The first word of a process, its state, its parent, and its time on a processor in hundredths of a second; nothing if it is gone."""
     try:
         with open(f"/proc/{pid}/stat", encoding="ascii", errors="replace") as file:
-            name, rest = file.read().split("(", 1)[1].rsplit(") ", 1)
+            words = file.read().rsplit(") ", 1)[1].split()
+        with open(f"/proc/{pid}/cmdline", encoding="utf-8", errors="replace") as file:
+            name = file.read().split("\0")[0]
     except OSError:
         return None
-    words = rest.split()
     return name, words[0], int(words[1]), (int(words[11]) + int(words[12])) * 100 // os.sysconf("SC_CLK_TCK")
 
 
 def running():
     """The processes of the program that this one has started, and how long each was on a processor."""
     found = {int(pid): seen(pid) for pid in os.listdir("/proc") if pid.isdecimal()}
-    mine = (os.path.basename(PROGRAM)[:15], os.getpid())
+    mine = (os.path.abspath(PROGRAM), os.getpid())
     return {pid: it[3] for pid, it in found.items() if it and (it[0], it[2]) == mine}
 
 
@@ -179,9 +180,10 @@ def test_tableaux_come_as_they_are_listed():
         with within(2):
             first = list(islice(calc.tab(*STAIRS), 5))
         same([t[28:] for t in first], [((1,), (1,)), ((1,), (2,)), ((2,), (1,)), ((2,), (2,)), ((2,), (3,))])
-        same(next(calc.tab((3, 2, 1), (2, 1), after=((1,), (1,), (2,)))), ((1,), (2,), (1,)))
+        same(next(calc.tab((3, 2, 1), (2, 1), after=((1,), (1,), (2,)))), Tableau(((1,), (2,), (1,)), inner=(2, 1)))
         same(list(calc.tab([2], [3])), [])
-    comes(lambda: len(running()) == 1)
+    # (over the library, too, a program lists them)
+    comes(lambda: len(running()) == len(ways))
 
 
 def test_a_list_of_tableaux_that_breaks_off_is_no_whole_list():
