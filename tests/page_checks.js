@@ -17,9 +17,9 @@
 
   /** The latest answer, after a number of answers more have come. */
   const more = async (count, action) => {
-    const before = all("article").length;
+    const before = numberOfAnswer;
     await action();
-    await until(() => all("article").length >= before + count);
+    await until(() => numberOfAnswer >= before + count);
     return all("article")[0];
   };
   const answer = (text) => more(1, () => run(text));
@@ -34,7 +34,7 @@
   const isWide = () => document.documentElement.scrollWidth > WIDTH;
 
   /** What can have the focus, in turn. */
-  const stops = () => all("a, button, input, summary, pre, .drawn").filter((it) => !it.disabled && it.checkVisibility());
+  const stops = () => all("a, button, input, select, summary, pre, .drawn").filter((it) => !it.disabled && it.checkVisibility());
 
   // The way of the focus: where it has to be in turn, how often it came somewhere, and what was wrong there.
   const amiss = [];
@@ -82,6 +82,15 @@
       return [found, at("state").textContent];
     },
 
+    async readings(lines) {
+      const found = [];
+      for (const line of lines) {
+        const it = await answer(line), isRefused = it.className === "refused";
+        found.push([line, isRefused ? null : textsOf("h3", it)[0], isRefused ? "" : textsOf(".computed", it).join(""), all("[data-line]", it).map((of) => of.dataset.line)]);
+      }
+      return found;
+    },
+
     async several(first, pasted) {
       const paste = new Event("paste", { cancelable: true });
       paste.clipboardData = { getData: () => pasted };
@@ -109,7 +118,7 @@
       press(all("#waiting li")[0], "Remove");
       ok("one is removed", all("#waiting li").length === 2);
       ok("the time passes", await until(() => !at("progress").hidden && parseFloat(at("elapsed").textContent) > 0.3));
-      ok("the state says it", at("state").textContent.endsWith("is running."));
+      ok("the state says it", at("state").textContent.endsWith("are running."));
       return names;
     },
 
@@ -228,8 +237,8 @@
     /** What speaks by itself, what has no name or no place in the order of the keys, and what moves. */
     access() {
       const live = all("[aria-live], [role=status], [role=alert], [role=log]").map((it) => it.id);
-      const parts = all("button, a, input, summary, pre, .drawn");
-      const unnamed = parts.filter((it) => !it.textContent.trim() && !it.getAttribute("aria-label"));
+      const parts = all("button, a, input, select, summary, pre, .drawn");
+      const unnamed = parts.filter((it) => !it.textContent.trim() && !it.getAttribute("aria-label") && !(it.labels && it.labels.length > 0));
       const unreached = parts.filter((it) => it.tabIndex < 0);
       const moves = getComputedStyle(document.querySelector(".bar"), "::before").animationName;
       return [live, unnamed.length, unreached.length, moves, matchMedia("(prefers-reduced-motion: reduce)").matches];

@@ -97,21 +97,21 @@ COMMANDS = [
         "s", "a partition", ("Partitions",), FACTORS,
     ),
     Command(
-        "schubert", "Schubert polynomials", "𝔖_{w} = Σ c x^{α}", ["schubert 2 1 4 3"],
+        "schubert", "Schubert polynomials", "S_{w} = Σ c x^{α}", ["schubert 2 1 4 3"],
         "x", "the exponents of a monomial", ("monomials",), LETTERS,
     ),
     Command(
-        "schubmult", "Products of Schubert polynomials", "𝔖_{u} · 𝔖_{v} = Σ c 𝔖_{w}", ["schubmult 1 3 2 - 1 3 2"],
+        "schubmult", "Products of Schubert polynomials", "S_{u} · S_{v} = Σ c S_{w}", ["schubmult 1 3 2 - 1 3 2"],
         "S", "a permutation", ("permutations",), LETTERS,
     ),
     Command(
-        "dschubmult", "Products of double Schubert polynomials", "𝔖_{u}(x; y) · 𝔖_{v}(x; y) = Σ c y^{β} 𝔖_{w}(x; y)",
+        "dschubmult", "Products of double Schubert polynomials", "S_{u}(x; y) · S_{v}(x; y) = Σ c y^{β} S_{w}(x; y)",
         ["dschubmult 2 1 - 2 1"],
         "SS", "a permutation and the exponents of a monomial", ("permutations", "a permutation with a monomial"),
         ("letters of a permutation of dschubmult",),
     ),
     Command(
-        "stanley", "Stanley symmetric functions", "F_{w}(x_{1}, .., x_{K}) = 𝔖_{1^{K} × w}(x_{1}, .., x_{K}) = Σ c s_{ν}", ["stanley -r 2 2 1 4 3"],
+        "stanley", "Stanley symmetric functions", "F_{w}(x_{1}, .., x_{K}) = S_{1^{K} × w}(x_{1}, .., x_{K}) = Σ c s_{ν}", ["stanley -r 2 2 1 4 3"],
         "s", "a partition", ("Partitions",), (*LETTERS, *ROWS),
     ),
     Command(

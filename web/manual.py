@@ -170,8 +170,13 @@ def slots(name):
     {"optional": [slot, ..]}                 slots that can be left out together,
     {"more": [slot, ..]}                     slots that can be repeated, up to the limit of the factors.
 
-    The roles are the values of ROLES. Of these `partition`, `permutation`, `letters`, `tableau`, `recording` and `filling` are lists, of no,
+    The roles are the values of ROLES; of two expressions, as those of a plethysm, the first is `outer` and the second `inner`. Of the roles `partition`, `permutation`, `letters`, `tableau`, `recording` and `filling` are lists, of no,
     one or many words each; the others are one word each.
     """
     lines = [shlex.split(line[1:]) for line in synopsis(name).splitlines()]
-    return [slot for words in lines for slot in slots_of(name, words)]
+    found = [slot for words in lines for slot in slots_of(name, words)]
+    expressions = [slot for slot in found if slot.get("role") == "expression"]
+    if len(expressions) == 2:
+        expressions[0].update(role="outer", name="F")
+        expressions[1].update(role="inner", name="G")
+    return found
