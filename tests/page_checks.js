@@ -234,6 +234,53 @@
       return [[...faint, ...weak].map(name).slice(0, 5), matchMedia("(prefers-color-scheme: dark)").matches];
     },
 
+    /** What a script that came into the page could do: nothing runs that is not its own. */
+    async policy() {
+      const { content } = document.querySelector("meta[http-equiv]"), found = [];
+      globalThis.intruded = 0;
+      document.body.append(element("script", {}, "globalThis.intruded = 1"));
+      const box = element("div", {});
+      box.innerHTML = `<img src="x" onerror="globalThis.intruded = 2"><p style="color: red">x</p><base href="http://127.0.0.1:1/">`;
+      document.body.append(box);
+      const made = element("script", {}, `try { eval("globalThis.intruded = 3") } catch {}`);
+      document.body.append(made);
+      await pause(100);
+      found.push(globalThis.intruded, box.querySelector("p").style.color === "red" && getComputedStyle(box.querySelector("p")).color === "rgb(255, 0, 0)");
+      found.push(document.baseURI.startsWith("file:"), /unsafe-(inline|eval)/.test(content.replace("'wasm-unsafe-eval'", "")), /base-uri 'none'/.test(content) && /form-action 'none'/.test(content));
+      box.remove();
+      return found;
+    },
+
+    /** The order of headings, what the articles are named by, and how often the sentence of a refusal is seen. */
+    async order() {
+      const { names, ok } = failing();
+      const it = await answer("mult 1 2 - 1"), sentence = textsOf(".said", it)[0];
+      const levels = all("h1, h2, h3, h4").filter((of) => of.checkVisibility()).map((of) => Number(of.localName[1]));
+      ok(`headings ${levels}`, levels[0] === 1 && levels.every((level, i) => i === 0 || level <= levels[i - 1] + 1));
+      ok("articles named", all("article").every((of) => document.getElementById(of.getAttribute("aria-labelledby")).textContent.length > 0));
+      await until(() => at("state").textContent.includes("refused"));
+      const seen = at("state").cloneNode(true);
+      all(".unseen", seen).forEach((of) => of.remove());
+      ok("the sentence is seen once", sentence.length > 0 && !seen.textContent.includes(sentence) && at("state").textContent.includes(sentence));
+      ok("the field says what Enter does", at("line").enterKeyHint === "go");
+      return names;
+    },
+
+    /** The fields and buttons that are too small for a thumb, on a telephone. */
+    async thumbs() {
+      await answer("rsk 3 1 2");
+      await answer("mult 2(2,1) - 1");
+      all("#commands details").forEach((it) => (it.open = true));
+      all(".entry button").forEach((it) => it.getAttribute("aria-expanded") === "false" && it.click());
+      const targets = all("button, select, input:not([type=checkbox]):not([type=range]), summary, nav a, #asking input").filter((it) => it.checkVisibility());
+      const small = targets.filter((it) => it.getBoundingClientRect().height < 43.9 || it.getBoundingClientRect().width < 43.9);
+      const fields = all("input, select").filter((it) => it.checkVisibility() && parseFloat(getComputedStyle(it).fontSize) < 16);
+      const found = WIDTH > 600 ? [] : [...small, ...fields].map((it) => `${it.localName} ${it.textContent.slice(0, 20)} ${it.getBoundingClientRect().height}`);
+      all(".entry button").forEach((it) => it.getAttribute("aria-expanded") === "true" && it.click());
+      all("#commands details").forEach((it) => (it.open = false));
+      return [found.slice(0, 5), isWide()];
+    },
+
     /** What speaks by itself, what has no name or no place in the order of the keys, and what moves. */
     access() {
       const live = all("[aria-live], [role=status], [role=alert], [role=log]").map((it) => it.id);
@@ -286,11 +333,11 @@
 
     async links() {
       const go = (hash) => more(1, () => void (location.hash = hash));
-      const first = (await go("#coef%202%20-%201%20-%201")).querySelector("h3").textContent;
-      const count = all("article").length;
+      const first = (await go("#coef%202%201%20-%201%20-%202")).querySelector("h3").textContent;
+      const count = numberOfAnswer;
       location.hash = "#about";
       await pause(200);
-      const none = all("article").length - count;
+      const none = numberOfAnswer - count;
       return [first, none, (await go("#%E0%A4")).className];
     },
 

@@ -112,7 +112,8 @@ function put(text) {
 function step(by) {
   const next = Math.min(Math.max(placeInAsked + by, 0), asked.length);
   if (next === placeInAsked) return;
-  if (at("line").value !== (asked[placeInAsked] || "")) drafts.set(placeInAsked, at("line").value);
+  const isRun = placeInAsked === asked.length && at("line").value === asked[asked.length - 1];
+  if (!isRun && at("line").value !== (asked[placeInAsked] || "")) drafts.set(placeInAsked, at("line").value);
   placeInAsked = next;
   put(drafts.get(next) ?? asked[next] ?? "");
 }
