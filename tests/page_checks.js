@@ -17,9 +17,9 @@
 
   /** The latest answer, after a number of answers more have come. */
   const more = async (count, action) => {
-    const before = all("article").length;
+    const before = numberOfAnswer;
     await action();
-    await until(() => all("article").length >= before + count);
+    await until(() => numberOfAnswer >= before + count);
     return all("article")[0];
   };
   const answer = (text) => more(1, () => run(text));
@@ -34,7 +34,7 @@
   const isWide = () => document.documentElement.scrollWidth > WIDTH;
 
   /** What can have the focus, in turn. */
-  const stops = () => all("a, button, input, summary, pre, .drawn").filter((it) => !it.disabled && it.checkVisibility());
+  const stops = () => all("a, button, input, select, summary, pre, .drawn").filter((it) => !it.disabled && it.checkVisibility());
 
   // The way of the focus: where it has to be in turn, how often it came somewhere, and what was wrong there.
   const amiss = [];
@@ -82,6 +82,15 @@
       return [found, at("state").textContent];
     },
 
+    async readings(lines) {
+      const found = [];
+      for (const line of lines) {
+        const it = await answer(line), isRefused = it.className === "refused";
+        found.push([line, isRefused ? null : textsOf("h3", it)[0], isRefused ? "" : textsOf(".computed", it).join(""), all("[data-line]", it).map((of) => of.dataset.line)]);
+      }
+      return found;
+    },
+
     async several(first, pasted) {
       const paste = new Event("paste", { cancelable: true });
       paste.clipboardData = { getData: () => pasted };
@@ -109,7 +118,7 @@
       press(all("#waiting li")[0], "Remove");
       ok("one is removed", all("#waiting li").length === 2);
       ok("the time passes", await until(() => !at("progress").hidden && parseFloat(at("elapsed").textContent) > 0.3));
-      ok("the state says it", at("state").textContent.endsWith("is running."));
+      ok("the state says it", at("state").textContent.endsWith("are running."));
       return names;
     },
 
@@ -225,11 +234,58 @@
       return [[...faint, ...weak].map(name).slice(0, 5), matchMedia("(prefers-color-scheme: dark)").matches];
     },
 
+    /** What a script that came into the page could do: nothing runs that is not its own. */
+    async policy() {
+      const { content } = document.querySelector("meta[http-equiv]"), found = [];
+      globalThis.intruded = 0;
+      document.body.append(element("script", {}, "globalThis.intruded = 1"));
+      const box = element("div", {});
+      box.innerHTML = `<img src="x" onerror="globalThis.intruded = 2"><p style="color: red">x</p><base href="http://127.0.0.1:1/">`;
+      document.body.append(box);
+      const made = element("script", {}, `try { eval("globalThis.intruded = 3") } catch {}`);
+      document.body.append(made);
+      await pause(100);
+      found.push(globalThis.intruded, box.querySelector("p").style.color === "red" && getComputedStyle(box.querySelector("p")).color === "rgb(255, 0, 0)");
+      found.push(document.baseURI.startsWith("file:"), /unsafe-(inline|eval)/.test(content.replace("'wasm-unsafe-eval'", "")), /base-uri 'none'/.test(content) && /form-action 'none'/.test(content));
+      box.remove();
+      return found;
+    },
+
+    /** The order of headings, what the articles are named by, and how often the sentence of a refusal is seen. */
+    async order() {
+      const { names, ok } = failing();
+      const it = await answer("mult 1 2 - 1"), sentence = textsOf(".said", it)[0];
+      const levels = all("h1, h2, h3, h4").filter((of) => of.checkVisibility()).map((of) => Number(of.localName[1]));
+      ok(`headings ${levels}`, levels[0] === 1 && levels.every((level, i) => i === 0 || level <= levels[i - 1] + 1));
+      ok("articles named", all("article").every((of) => document.getElementById(of.getAttribute("aria-labelledby")).textContent.length > 0));
+      await until(() => at("state").textContent.includes("refused"));
+      const seen = at("state").cloneNode(true);
+      all(".unseen", seen).forEach((of) => of.remove());
+      ok("the sentence is seen once", sentence.length > 0 && !seen.textContent.includes(sentence) && at("state").textContent.includes(sentence));
+      ok("the field says what Enter does", at("line").enterKeyHint === "go");
+      return names;
+    },
+
+    /** The fields and buttons that are too small for a thumb, on a telephone. */
+    async thumbs() {
+      await answer("rsk 3 1 2");
+      await answer("mult 2(2,1) - 1");
+      all("#commands details").forEach((it) => (it.open = true));
+      all(".entry button").forEach((it) => it.getAttribute("aria-expanded") === "false" && it.click());
+      const targets = all("button, select, input:not([type=checkbox]):not([type=range]), summary, nav a, #asking input").filter((it) => it.checkVisibility());
+      const small = targets.filter((it) => it.getBoundingClientRect().height < 43.9 || it.getBoundingClientRect().width < 43.9);
+      const fields = all("input, select").filter((it) => it.checkVisibility() && parseFloat(getComputedStyle(it).fontSize) < 16);
+      const found = WIDTH > 600 ? [] : [...small, ...fields].map((it) => `${it.localName} ${it.textContent.slice(0, 20)} ${it.getBoundingClientRect().height}`);
+      all(".entry button").forEach((it) => it.getAttribute("aria-expanded") === "true" && it.click());
+      all("#commands details").forEach((it) => (it.open = false));
+      return [found.slice(0, 5), isWide()];
+    },
+
     /** What speaks by itself, what has no name or no place in the order of the keys, and what moves. */
     access() {
       const live = all("[aria-live], [role=status], [role=alert], [role=log]").map((it) => it.id);
-      const parts = all("button, a, input, summary, pre, .drawn");
-      const unnamed = parts.filter((it) => !it.textContent.trim() && !it.getAttribute("aria-label"));
+      const parts = all("button, a, input, select, summary, pre, .drawn");
+      const unnamed = parts.filter((it) => !it.textContent.trim() && !it.getAttribute("aria-label") && !(it.labels && it.labels.length > 0));
       const unreached = parts.filter((it) => it.tabIndex < 0);
       const moves = getComputedStyle(document.querySelector(".bar"), "::before").animationName;
       return [live, unnamed.length, unreached.length, moves, matchMedia("(prefers-reduced-motion: reduce)").matches];
@@ -277,11 +333,11 @@
 
     async links() {
       const go = (hash) => more(1, () => void (location.hash = hash));
-      const first = (await go("#coef%202%20-%201%20-%201")).querySelector("h3").textContent;
-      const count = all("article").length;
+      const first = (await go("#coef%202%201%20-%201%20-%202")).querySelector("h3").textContent;
+      const count = numberOfAnswer;
       location.hash = "#about";
       await pause(200);
-      const none = all("article").length - count;
+      const none = numberOfAnswer - count;
       return [first, none, (await go("#%E0%A4")).className];
     },
 

@@ -39,8 +39,8 @@ function rowsOf(text) {
  * SS for permutations with a monomial in y, q for powers of q.
  */
 function letterOf(words) {
-  if (words[0] === "expand" || words[0] === "plethysm") return words.slice(1).find((it) => BASIS.test(it));
-  return { schubert: "x", schubmult: "S", dschubmult: "SS", quantum: "q" }[words[0]] || "s";
+  const { letter } = GRAMMAR.get(words[0]) || { letter: "s" };
+  return letter === "b" ? words.slice(1).find((it) => BASIS.test(it)) : letter || "s";
 }
 
 /** The terms of a block: coefficients, labels, powers of q; null if the text is no such block. */
@@ -94,11 +94,21 @@ function monomial(letter, exponents) {
   return powers.map(({ e, variable }) => (e === 1 ? variable : `${variable}^{${e}}`)).join(" ");
 }
 
+/** Letters one after another, with commas where one is over 9: blanks are not seen in a formula. */
+function latexLetters(letters) {
+  return letters.map(String).join(letters.some((it) => Number(it) > 9) ? "," : "");
+}
+
+function latexPermutation(letters) {
+  return `\\mathfrak{S}_{${latexLetters(letters)}}`;
+}
+
 function latexLabel(term, letter) {
   if (letter === "x") return monomial("x", term.first);
-  if (letter === "S") return `\\mathfrak{S}_{${term.first.join(" ")}}`;
-  if (letter === "SS") return `${monomial("y", term.second)} \\mathfrak{S}_{${term.first.join(" ")}}`.trim();
-  const one = (label) => `${letter === "q" ? "\\sigma" : letter}_{${label.join(",") || "\\emptyset"}}`;
+  if (letter === "S") return latexPermutation(term.first);
+  if (letter === "SS") return `${monomial("y", term.second)} ${latexPermutation(term.first)}`.trim();
+  const index = (label) => (label.length === 1 && label[0] > 9 ? `(${label[0]})` : label.join(",") || "\\emptyset");
+  const one = (label) => `${letter === "q" ? "\\sigma" : letter}_{${index(label)}}`;
   const power = term.q && term.q !== "0" ? (term.q === "1" ? "q " : `q^{${term.q}} `) : "";
   return power + (term.second ? `${one(term.first)} \\otimes ${one(term.second)}` : one(term.first));
 }
@@ -121,7 +131,7 @@ function latexTableau(rows, inner) {
 /** The answer in LaTeX. */
 function latexOf(answer) {
   if (answer.kind === "terms") return latexTerms(answer.terms, answer.letter);
-  if (answer.kind === "word") return answer.letters.join("\\,");
+  if (answer.kind === "word") return latexLetters(answer.letters);
   if (answer.kind === "grid") {
     const cell = (label) => (label.length ? `(${label.join(",")})` : "\\emptyset");
     const cells = answer.rows.map((row) => row.map(cell).join(" & "));

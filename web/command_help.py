@@ -1,128 +1,209 @@
-"""The help beside each command of the page, from the manual page calc.1 and docs/DEFINITIONS.md."""
+"""The commands of the page: one table, with what the manual page calc.1 says of them.
+
+`COMMANDS` has a row for each command. A row names what no document says in a form that a program can read; the words of a command, its
+description and its limits are those of calc.1 (`manual.py`). So the table serves the help of the page, its readers of typed lines
+(`grammar`), and any other program: `web/command_help.py` prints it in JSON, as `{"commands": [{"name", "what", "formula", "words", "examples",
+"options"}, ..], "limits": {..}}`, with the words as `manual.slots` describes them.
+
+A further command takes its text in calc.1, a row here, and a case of `computed.js`, which says in mathematics what was computed."""
 import html
-import os
-import re
-import shlex
+import json
+import sys
 from dataclasses import dataclass
 
-TOP = os.path.abspath(os.path.join(os.path.dirname(__file__), ".."))
+sys.dont_write_bytecode = True
+import manual
 
 
 @dataclass
 class Command:
-    """A command of the page, and where its help is found."""
+    """A command of the page."""
 
     name: str
-    what: str
+    what: str  # its title
+    formula: str  # what it computes, with `_{..}` and `^{..}` for what is set low and high
     examples: list
-    label: str  # what the manual page calls the labels of its answer; none, if the answer is no list of terms
-    order: list  # how the clauses of the manual page on the order of lines begin
-    limits: list  # the names of its limits there
-    definition: str  # the definition whose example is shown
+    letter: str  # the letter of the labels of its answer: s, x, q, S, SS (double), b (the basis that is typed); none, if they are no terms
+    label: str = ""  # what the manual page calls these labels
+    order: tuple = ()  # how the clauses of the manual page on the order of lines begin
+    limits: tuple = ()  # the names of its limits there
+
+    def words(self):
+        """The words after the name, in turn (`manual.slots`)."""
+        return manual.slots(self.name)
+
+    def options(self):
+        """The options of the command, such as -r."""
+        slots = [slot for it in self.words() for slot in it.get("optional", [it])]
+        return [slot["sign"] for slot in slots if len(slot.get("sign", "")) > 1]
 
     def row(self):
-        """The row of the table, as HTML."""
+        """The row of the help, as HTML."""
         title = f"<h3><code>{self.name}</code> {html.escape(self.what)}</h3>"
-        examples = f'<p class="examples">{"".join(map(button, self.examples))}</p>'
+        formula = f'<p class="formula">{formulas(self.formula)}</p>'
+        examples = f'<p class="examples">{"".join(map(button, self.examples))}</p>' if self.examples else ""
         summary = f'<summary>Words, answer, limits<span class="unseen"> of {self.name}</span></summary>'
-        return f'<li id="help-{self.name}">{title}{examples}<details>{summary}{self.help()}</details></li>'
+        details = f"<details>{summary}{self.help()}</details>"
+        return f'<li id="help-{self.name}">{title}{formula}{examples}<div class="entry" data-command="{self.name}"></div>{details}</li>'
 
     def help(self):
-        parts = [f"<p class=\"form\"><code>{form(self.name)}</code></p>", f"<p>{description(self.name)}</p>"]
+        parts = [f'<p class="form"><code>{manual.form(self.name)}</code></p>', f"<p>{manual.description(self.name)}</p>"]
         if self.label:
-            label = labelled(self.label)
-            parts.append(f"<p>A line of the answer is a coefficient, two blanks and a label, here {label}.</p>")
+            if not manual.has_label(self.label):
+                manual.missing(f"the label {self.label!r}")
+            parts.append(f"<p>A line of the answer is a coefficient, two blanks and a label, here {self.label}.</p>")
         if self.order:
-            parts.append(f"<p>{' '.join(clause(begin) for begin in self.order)}</p>")
+            parts.append(f"<p>{' '.join(manual.clause(begin) for begin in self.order)}</p>")
         if self.limits:
-            limits = "".join(f'<tr><th scope="row">{html.escape(name)}</th><td>{limit(name)}</td></tr>' for name in self.limits)
+            row = '<tr><th scope="row">{}</th><td>{}</td></tr>'.format
+            limits = "".join(row(html.escape(name), html.escape(manual.limit(name))) for name in self.limits)
             parts.append(f'<table class="limits">{limits}</table>')
-        parts.append(f"<p>Example of the definition: {example(self.definition)}</p>")
         return "".join(parts)
 
 
-PARTS = ["numbers of a partition", "cells of a partition"]
-FACTORS = [*PARTS, "factors of a product", "rows, columns and levels"]
-WORD = ["bytes of an expression", "open parentheses", "numbers of an atom"]
-DEGREES = ["degree of an expression into m and s", "degree of an expression into p, h and e"]
-LETTERS = ["letters of a permutation"]
-ENTRY = "each letter of a word, each entry of a tableau"
+PARTS = ("numbers of a partition", "cells of a partition")
+ROWS = ("rows, columns and levels",)
+FACTORS = (*PARTS, "factors of a product", *ROWS)
+WORD = ("bytes of an expression", "open parentheses", "numbers of an atom", "any number")
+DEGREES = ("degree of an expression into m and s", "degree of an expression into p, h and e")
+LETTERS = ("letters of a permutation",)
+ENTRIES = ("letters of a word, entries of a tableau of unrsk", "each letter of a word, each entry of a tableau")
 
 COMMANDS = [
     Command(
-        "mult", "Products of Schur functions",
-        ["mult 2 1 - 2 1", "mult -r 2 2 1 - 2 1", "mult -m 1 - 1 - 1"], "a partition",
-        ["Partitions"], FACTORS, "GoodTableau",
+        "mult", "Products of Schur functions", "s_{λ} · s_{μ} = Σ c^{ν}_{λμ} s_{ν}",
+        ["mult 2 1 - 2 1", "mult -r 2 2 1 - 2 1", "mult -m 1 - 1 - 1"],
+        "s", "a partition", ("Partitions",), FACTORS,
     ),
     Command(
-        "skew", "Skew Schur functions", ["skew 3 2 1 / 2 1", "skew -m 3 2 1 / 2 1"], "a partition",
-        ["Partitions"], [*PARTS, "rows, columns and levels"], "Schur",
+        "skew", "Skew Schur functions", "s_{λ/μ} = Σ c^{λ}_{μν} s_{ν}", ["skew 3 2 1 / 2 1", "skew -m 3 2 1 / 2 1"],
+        "s", "a partition", ("Partitions",), (*PARTS, *ROWS),
     ),
     Command(
-        "coef", "A Littlewood–Richardson coefficient", ["coef 3 2 1 - 2 1 - 2 1"], "", [], PARTS,
-        "Answer",
+        "coef", "A Littlewood–Richardson coefficient", "c^{ν}_{λμ}, the coefficient of s_{ν} in s_{λ} · s_{μ}",
+        ["coef 3 2 1 - 2 1 - 2 1"], "", limits=PARTS,
     ),
     Command(
-        "coprod", "Coproducts of Schur functions", ["coprod 2 1"], "two partitions",
-        ["Partitions", "A pair"], PARTS, "Kind",
+        "coprod", "Coproducts of Schur functions", "s_{λ}(x, y) = Σ c^{λ}_{μν} s_{μ}(x) s_{ν}(y)", ["coprod 2 1"],
+        "s", "two partitions", ("Partitions", "A pair"), PARTS,
     ),
     Command(
-        "quantum", "Quantum products of Grassmannians",
-        ["quantum 2 2 1 - 2 1", "quantum 2 2 1 - 1 - 1 - 1"], "a power of q and a partition",
-        ["Partitions", "powers of q"], FACTORS, "RimHookReduction",
+        "quantum", "Quantum products of Grassmannians", "σ_{λ} * σ_{μ} = Σ c q^{d} σ_{ν} in QH*(Gr(K, K+C))",
+        ["quantum 2 2 1 - 2 1", "quantum 2 2 1 - 1 - 1 - 1"],
+        "q", "a power of q and a partition", ("Partitions", "powers of q"), FACTORS,
     ),
     Command(
-        "fusion", "Fusion products", ["fusion 3 2 2 1 - 2 1"], "a partition", ["Partitions"],
-        FACTORS, "AlcoveReduction",
+        "fusion", "Fusion products", "λ ⊗ μ = Σ c ν for su(K) at level L", ["fusion 3 2 2 1 - 2 1"],
+        "s", "a partition", ("Partitions",), FACTORS,
     ),
     Command(
-        "schubert", "Schubert polynomials", ["schubert 2 1 4 3"], "the exponents of a monomial",
-        ["monomials"], LETTERS, "Schubert",
+        "schubert", "Schubert polynomials", "S_{w} = Σ c x^{α}", ["schubert 2 1 4 3"],
+        "x", "the exponents of a monomial", ("monomials",), LETTERS,
     ),
     Command(
-        "schubmult", "Products of Schubert polynomials", ["schubmult 1 3 2 - 1 3 2"],
-        "a permutation", ["permutations"], LETTERS, "PrintedOrder",
+        "schubmult", "Products of Schubert polynomials", "S_{u} · S_{v} = Σ c S_{w}", ["schubmult 1 3 2 - 1 3 2"],
+        "S", "a permutation", ("permutations",), LETTERS,
     ),
     Command(
-        "dschubmult", "Products of double Schubert polynomials", ["dschubmult 2 1 - 2 1"],
-        "a permutation and the exponents of a monomial",
-        ["permutations", "a permutation with a monomial"],
-        ["letters of a permutation of dschubmult"], "DoubleSchubert",
+        "dschubmult", "Products of double Schubert polynomials", "S_{u}(x; y) · S_{v}(x; y) = Σ c y^{β} S_{w}(x; y)",
+        ["dschubmult 2 1 - 2 1"],
+        "SS", "a permutation and the exponents of a monomial", ("permutations", "a permutation with a monomial"),
+        ("letters of a permutation of dschubmult",),
     ),
     Command(
-        "stanley", "Stanley polynomials", ["stanley -r 2 2 1 4 3"], "a partition", ["Partitions"],
-        [*LETTERS, "rows, columns and levels"], "Stanley",
+        "stanley", "Stanley symmetric functions", "F_{w}(x_{1}, .., x_{K}) = S_{1^{K} × w}(x_{1}, .., x_{K}) = Σ c s_{ν}", ["stanley -r 2 2 1 4 3"],
+        "s", "a partition", ("Partitions",), (*LETTERS, *ROWS),
     ),
     Command(
-        "expand", "An expression in a basis",
+        "expand", "An expression in a basis", "E = Σ c b_{λ}, with b = m, e, h, p or s",
         ["expand p s[2,1]", "expand s h[2]*p[1]", "expand -m s 1/2*p[1,1]-1/2*p[2]"],
-        "a partition", ["Partitions"], [*WORD, *DEGREES], "Bases",
+        "b", "a partition", ("Partitions",), (*WORD, *DEGREES),
     ),
     Command(
-        "plethysm", "Plethysms", ["plethysm s h[2] h[2]"], "a partition", ["Partitions"],
-        [*WORD, "degrees of the expressions of plethysm, and their product"], "Plethysm",
+        "plethysm", "Plethysms", "F[G] = Σ c b_{λ}, with b = m, e, h, p or s", ["plethysm s h[2] h[2]"],
+        "b", "a partition", ("Partitions",), (*WORD, "degrees of the expressions of plethysm, and their product"),
     ),
     Command(
-        "tab", "Lattice tableaux of a skew shape",
-        ["tab 3 2 1 / 2 1", "tab 3 2 1 / 2 1 -from 1 / 1 / 2"], "", ["Tableaux"], PARTS,
-        "TableauList",
+        "tab", "Littlewood–Richardson tableaux of a skew shape", "semistandard T of shape λ/μ with a lattice word",
+        ["tab 3 2 1 / 2 1", "tab 3 2 1 / 2 1 -from 1 / 1 / 2"], "", order=("Tableaux",), limits=PARTS,
+    ),
+    Command("rsk", "Row insertion", "a b .. ↦ (P, Q)", ["rsk 3 1 2"], "", limits=ENTRIES),
+    Command("unrsk", "Row insertion undone", "(P, Q) ↦ a b ..", ["unrsk 1 2 / 3 - 1 3 / 2"], "", limits=ENTRIES),
+    Command(
+        "rect", "Slides to a straight tableau", "T of shape λ/μ ↦ its rectification", ["rect 2 2 / 1 - 1 / 1 2"], "",
+        limits=(*PARTS, ENTRIES[1]),
     ),
     Command(
-        "rsk", "Row insertion", ["rsk 3 1 2"], "", [],
-        ["letters of a word, entries of a tableau of unrsk", ENTRY], "Insertion",
+        "growth", "Growth diagrams", "(i, j) ↦ the shape of P for those of w_{1}, .., w_{i} that are at most j",
+        ["growth 3 1 2"], "", limits=LETTERS,
     ),
     Command(
-        "unrsk", "Row insertion undone", ["unrsk 1 2 / 3 - 1 3 / 2"], "", [],
-        ["letters of a word, entries of a tableau of unrsk", ENTRY], "Removal",
+        "batch", "A list of commands", "each line of the input ↦ its answer", [], "", limits=("bytes of a line of a batch",),
     ),
     Command(
-        "rect", "Slides to a straight tableau", ["rect 2 2 / 1 - 1 / 1 2"], "", [],
-        [*PARTS, ENTRY], "Slide",
+        "work", "A benchmark", "N, seed ↦ the totals of N generated commands", ["work 20 1"], "", limits=("lines of work", "seed of work"),
     ),
-    Command("growth", "Growth grids", ["growth 3 1 2"], "", [], LETTERS, "Growth"),
 ]
 
+# The limits by which the page explains a refusal: the name of each in calc.1, and what the scripts of the page call it.
+LIMITS = {
+    "numbers of a partition": "parts",
+    "cells of a partition": "cells",
+    "factors of a product": "factors",
+    "rows, columns and levels": "rows",
+    "letters of a permutation": "letters",
+    "letters of a permutation of dschubmult": "letters of dschubmult",
+    "letters of a word, entries of a tableau of unrsk": "values",
+    "each letter of a word, each entry of a tableau": "value",
+    "bytes of an expression": "bytes",
+    "open parentheses": "open",
+    "numbers of an atom": "atom",
+    "degree of an expression into m and s": "degree",
+    "degree of an expression into p, h and e": "lower degree",
+    "degrees of the expressions of plethysm, and their product": "plethysm",
+    "lines of work": "lines",
+    "seed of work": "seed",
+}
 
+
+def limits():
+    """The greatest number that each limit allows."""
+    return {short: manual.numbers_of(name)[-1] for name, short in LIMITS.items()}
+
+
+def grammar():
+    """What the scripts of the page know of the commands: their words, the letter of their labels, their titles."""
+    return {it.name: {"words": it.words(), "letter": it.letter, "what": it.what, "examples": it.examples} for it in COMMANDS}
+
+
+def table():
+    """All of the table, for other programs."""
+    def row(it):
+        return {"name": it.name, "what": it.what, "formula": it.formula, "words": it.words(), "examples": it.examples, "options": it.options()}
+
+    return {"commands": list(map(row, COMMANDS)), "limits": limits()}
+
+
+# ---- as HTML
+
+
+def formulas(text):
+    """A text as HTML, with its indices and exponents set low and high: `_{..}`, `^{..}`, nested, or one sign after `_` or `^`."""
+    out, at, open_ = [], 0, []
+    while at < len(text):
+        sign = text[at]
+        if sign in "_^" and at + 1 < len(text):
+            tag = "sub" if sign == "_" else "sup"
+            if text[at + 1] == "{":
+                open_.append(tag)
+                out.append(f"<{tag}>")
+            else:
+                out.append(f"<{tag}>{html.escape(text[at + 1])}</{tag}>")
+            at += 2
+            continue
+        out.append(f"</{open_.pop()}>" if sign == "}" and open_ else html.escape(sign))
+        at += 1
+    return "".join(out)
 
 
 def button(line):
@@ -130,109 +211,10 @@ def button(line):
     return f'<button type="button" data-line="{html.escape(line)}">{html.escape(line)}</button>'
 
 
-def text_of(name):
-    with open(os.path.join(TOP, name), encoding="utf-8") as document:
-        return document.read()
-
-
-def missing(what):
-    raise SystemExit(f"web/build: {what} is not found")
-
-
-# ---- the manual page
-
-GREEK = {"lambda": "λ", "mu": "μ", "nu": "ν"}
-MACROS = ["Cm", "Fl", "Ar", "Ql", "Sq", "Pq", "Op", "No", "Ns", "Em", "Nm"]
-STYLES = {
-    "Cm": "<code>{}</code>",
-    "Fl": "<code>-{}</code>",
-    "Ar": "<var>{}</var>",
-    "Ql": "<code>{}</code>",
-    "Em": "<em>{}</em>",
-    "Sq": "‘{}’",
-}
-
-
-def section(title):
-    found = re.search(rf"^\.Sh {title}\n(.*?)(?=^\.Sh |\Z)", text_of("calc.1"), re.DOTALL | re.MULTILINE)
-    return found[1] if found else missing(f"the section {title} of calc.1")
-
-
-def plain(word):
-    """A word of the manual page without its escapes."""
-    word = word.replace(r"\(:u", "ü").replace(r"\(en", "–").replace(r"\&", "").replace(r"\-", "-")
-    return html.escape(word, quote=False)
-
-
-def macro(words):
-    """A line of macros as HTML: each word by the macro before it. `Op` and `Pq` have the rest of the line in brackets."""
-    if words[0] in ("Op", "Pq"):
-        return ("[{}]" if words[0] == "Op" else "({})").format(macro(words[1:]))
-    out, style, is_glued = [], "No", True
-    for word in words:
-        if word == "Ns":
-            is_glued = True
-        elif word in MACROS and word != "Nm":
-            style = word
-        else:
-            is_sign = word in (".", ",", ";", ":", ")")
-            form_of = "{}" if is_sign else "<code>calc</code>" if word == "Nm" else STYLES.get(style, "{}")
-            out.append(("" if is_glued or is_sign else " ") + form_of.format(plain(GREEK.get(word, word))))
-            is_glued = False
-    return "".join(out)
-
-
-def paragraph(source):
-    """A text of the manual page as HTML."""
-    lines = [line for line in source.splitlines() if line and line != ".Pp"]
-    texts = [macro(shlex.split(line[1:])) if line.startswith(".") else plain(line) for line in lines]
-    return re.sub(r" ([.,;:])(?= |$)", r"\1", " ".join(texts))
-
-
-def form(name):
-    """The words of a command, from the synopsis."""
-    found = re.search(rf"^\.Nm\n\.Cm {name}\n(.*?)(?=^\.Nm|\Z)", section("SYNOPSIS"), re.DOTALL | re.MULTILINE)
-    return f"{name} {paragraph(found[1])}" if found else missing(f"the words of {name} in calc.1")
-
-
-def description(name):
-    found = re.search(rf"^\.It Cm {name}\n(.*?)(?=^\.It|^\.El)", section("DESCRIPTION"), re.DOTALL | re.MULTILINE)
-    return paragraph(found[1]) if found else missing(f"{name} in calc.1")
-
-
-def labelled(label):
-    return label if label in re.sub(r"\s+", " ", section("FORMS OF ANSWERS")) else missing(f"the label {label!r} in calc.1")
-
-
-def clause(begin):
-    """The part of the text on the order of lines that begins so, up to the next semicolon or the end of the sentence."""
-    text = paragraph(section("FORMS OF ANSWERS"))
-    found = re.search(rf"(?:^|[.;] ){begin}\b[^;.]*", text)
-    if not found:
-        missing(f"the order of {begin!r} in calc.1")
-    said = found[0].lstrip(".; ").strip()
-    return f"{said[0].upper()}{said[1:]}."
-
-
-def limit(name):
-    found = re.search(rf"^\.It {re.escape(name)}\n(.*)$", section("LIMITS"), re.MULTILINE)
-    return html.escape(found[1]) if found else missing(f"the limit {name!r} in calc.1")
-
-
-# ---- the definitions
-
-
-def example(definition):
-    """The example of the section of docs/DEFINITIONS.md that has this definition in its head."""
-    for part in text_of("docs/DEFINITIONS.md").split("\n## ")[1:]:
-        head, _, body = part.partition("\n")
-        found = re.search(r"^Example: (.*?)(?=\n\n|\Z)", body, re.DOTALL | re.MULTILINE)
-        if f"`{definition}`" in head and found:
-            text = html.escape(re.sub(r"\s+", " ", found[1]).strip(), quote=False)
-            return re.sub(r"`([^`]*)`", r"<code>\1</code>", text)
-    return missing(f"the example of {definition} in docs/DEFINITIONS.md")
-
-
 def rows():
     """The rows of all commands, as HTML."""
     return "\n".join(command.row() for command in COMMANDS)
+
+
+if __name__ == "__main__":
+    print(json.dumps(table(), ensure_ascii=False, indent=2))

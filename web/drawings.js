@@ -18,15 +18,17 @@ function element(name, attributes = {}, ...children) {
   return it;
 }
 
-/** A picture with its name: rows of cells, each of which begins at a column. A diagram has cells without entries. */
-function picture(rows, isLabelled, name) {
+/** A picture with its name: rows of cells, each of which begins at a column. A diagram has cells without entries. Some cells can be marked. */
+function picture(rows, isLabelled, name, marks = []) {
   const cells = rows.flatMap((row, i) => row.cells.map((entry, j) => ({ i, j: row.begins + j, entry })));
   const columns = Math.max(1, ...rows.map((row) => row.begins + row.cells.length));
   const digits = Math.max(1, ...cells.map(({ entry }) => entry.length));
   const height = isLabelled ? ROW : CELL, width = isLabelled ? Math.max(ROW, 7 * digits + 8) : CELL;
   const size = { width: columns * width + 2, height: Math.max(1, rows.length) * height + 2 };
-  const boxes = cells.map(({ i, j }) => `M${j * width + 1} ${i * height + 1}h${width}v${height}h${-width}z`);
-  const svg = element("svg", { ...size, role: "img", "aria-label": name }, element("path", { d: boxes.join("") }));
+  const box = ({ i, j }) => `M${j * width + 1} ${i * height + 1}h${width}v${height}h${-width}z`;
+  const svg = element("svg", { ...size, role: "img", "aria-label": name });
+  if (marks.length > 0) svg.append(element("path", { class: "marked", d: marks.map(([i, j]) => box({ i, j })).join("") }));
+  svg.append(element("path", { d: cells.map(box).join("") }));
   for (const { i, j, entry } of isLabelled ? cells : []) {
     svg.append(element("text", { x: (j + 0.5) * width + 1, y: (i + 0.5) * height + 1 }, entry));
   }
@@ -46,10 +48,10 @@ function diagram(parts) {
 }
 
 /** A tableau; each row begins where the inner partition ends. */
-function tableauPicture(rows, inner, title) {
+function tableauPicture(rows, inner, title, marks) {
   if (rows.every((row) => row.length === 0)) return empty(`${title} without cells`);
   const name = `${title} with the rows ${rows.map((row) => row.join(" ") || "no cells").join(", ")}`;
-  return picture(rows.map((cells, i) => ({ begins: inner[i] || 0, cells })), true, name);
+  return picture(rows.map((cells, i) => ({ begins: inner[i] || 0, cells })), true, name, marks);
 }
 
 function figure(drawing, caption) {

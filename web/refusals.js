@@ -12,7 +12,8 @@ function named(text) {
 
 /** A sentence with its places filled. */
 function sentence(name, values = {}) {
-  return SENTENCES[name].replace(/\{(\w+)\}/g, (_, key) => values[key]);
+  const value = (key) => values[key] ?? LIMITS[key.replace(/^most /, "")].toLocaleString("en");
+  return SENTENCES[name].replace(/\{([\w ]+)\}/g, (_, key) => value(key));
 }
 
 function oneOf(texts, joint = "or") {
@@ -37,13 +38,17 @@ function distance(left, right) {
   return row[right.length];
 }
 
-/** The command that is most like a word, if one is. */
+/** What some say for a command. */
+const OTHER_NAMES = new Map(Object.entries({ lrcoef: "coef", lrtab: "tab", product: "mult", times: "mult", coproduct: "coprod", plethsm: "plethysm" }));
+
+/** The command that a word is nearly, if it is: its begin, its begin with more letters, or with one letter of five wrong. */
 function commandLike(text) {
-  const small = text.toLowerCase().slice(0, 20);
-  const isFront = (name) => small.startsWith(name) || (small.length > 2 && name.startsWith(small));
-  const far = (name) => (isFront(name) ? 0 : distance(small, name));
-  const nearest = Object.keys(FORMS).reduce((best, name) => (far(name) < far(best) ? name : best));
-  return far(nearest) <= 2 && far(nearest) < small.length ? nearest : null;
+  const small = text.toLowerCase().slice(0, 20), names = [...GRAMMAR.keys()];
+  if (OTHER_NAMES.has(small)) return OTHER_NAMES.get(small);
+  if (names.includes(small)) return small;
+  const isFront = (name) => name.length > 2 && small.length > 2 && (small.startsWith(name) || name.startsWith(small));
+  const found = names.filter(isFront).sort((a, b) => b.length - a.length)[0];
+  return found || names.find((name) => distance(small, name) <= Math.floor(name.length / 4)) || null;
 }
 
 /**
@@ -132,7 +137,7 @@ function offenceSentence(words, kind, k, byte) {
   if (kind === "Literal") return sentence("literal", { word });
   if (place.text === "-from") return sentence("not lattice", { shape: words.slice(1, k).join(" ") });
   if (place.role === "sign" && kind === "Range") return sentence("too many factors");
-  const by = { part: partSentence, within: partSentence, letter: letterSentence, value: valueSentence };
+  const by = { part: partSentence, letter: letterSentence, value: valueSentence };
   if (by[place.role]) return by[place.role](words, kind, k, listBefore(words, places, k));
   if (!["sign", "entry", "recording", "filling"].includes(place.role)) return sentence(place.role, { word });
   return kind === "Range" ? entrySentence(words, k) : shapeSentence(words, places, k);
@@ -140,7 +145,7 @@ function offenceSentence(words, kind, k, byte) {
 
 function partSentence(words, kind, k, list) {
   const word = named(words[k]), number = list.length + 1;
-  if (kind === "Range") return sentence(number > 64 ? "too many parts" : "too many cells", { word });
+  if (kind === "Range") return sentence(number > LIMITS.parts ? "too many parts" : "too many cells", { word });
   const before = list[list.length - 1];
   if (before !== undefined && value(words[k]) > value(before)) {
     return sentence("part rises", { number, earlier: number - 1, word, before: named(before) });
@@ -150,7 +155,7 @@ function partSentence(words, kind, k, list) {
 }
 
 function letterSentence(words, kind, k, list) {
-  const most = words[0] === "dschubmult" ? 8 : 16, word = named(words[k]), number = list.length + 1;
+  const most = lettersAllowed(words[0]), word = named(words[k]), number = list.length + 1;
   if (kind === "Range") {
     if (value(words[k]) <= most) return sentence("too many letters", { word, number, most });
     const digits = [...words[k]], isPermutation = digits.every((_, i) => digits.includes(String(i + 1)));
@@ -163,7 +168,7 @@ function letterSentence(words, kind, k, list) {
 
 /** Whether a number is not from 1 to 65,535. */
 function isOutside(text) {
-  return value(text) === 0n || value(text) > 65535n;
+  return value(text) === 0n || value(text) > BigInt(LIMITS.value);
 }
 
 function valueSentence(words, kind, k) {
@@ -240,7 +245,10 @@ function entryAbove(words, rows) {
 
 // ---- expressions
 
-const DEGREES = { m: 20, s: 20, p: 15, h: 15, e: 15 };
+/** The greatest degree of an expression into a basis. */
+function degreeAllowed(basis) {
+  return LIMITS["ms".includes(basis) ? "degree" : "lower degree"];
+}
 
 function inExpression(words, role, kind, k, byte) {
   const text = words[k], mark = readExpression(text).marks.find((it) => it.at === byte);
@@ -249,9 +257,9 @@ function inExpression(words, role, kind, k, byte) {
   if (kind === "Range") {
     if (mark && mark.kind === "opening") return sentence("deep");
     if (mark && mark.kind === "entry") return sentence("too many in atom", { word });
-    if (byte === 4096 && text.length > 4096) return sentence("long expression");
-    if (role === "expression") return sentence("degree", { most: DEGREES[words[k - 1]], basis: words[k - 1] });
-    return sentence(role === "inner" && degreeOf(text) <= 10 ? "degrees" : "degree in plethysm");
+    if (byte === LIMITS.bytes && text.length > LIMITS.bytes) return sentence("long expression");
+    if (role === "expression") return sentence("degree", { most: degreeAllowed(words[k - 1]), basis: words[k - 1] });
+    return sentence(role === "inner" && degreeOf(text) <= LIMITS.plethysm ? "degrees" : "degree in plethysm");
   }
   if (text[byte] === "-") return sentence("minus");
   if (!mark) return sentence("offence");

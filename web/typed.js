@@ -1,47 +1,326 @@
-// What people type, turned into words of the program. A line that the program can read is never changed.
+// What is typed, turned into words of the program: where that has one reading. A line that the program can read is never changed.
 
 /** What the page does to a line, in words. */
 const CHANGES = {
   minus: "wrote minus signs as -",
   times: "wrote times signs as *",
   blanks: "wrote unusual blanks as plain ones",
+  unseen: "left out characters that are not seen",
   prompt: "left out the prompt",
   name: "left out the name of the program",
+  comment: "left out the comment",
   quotes: "left out the quotes",
-  apart: "put - between lists",
+  command: "put the command in front",
+  apart: "wrote the separators between the lists",
   lists: "wrote lists as their numbers with blanks between",
+  options: "put the options in front",
+  joined: "took the blanks out of the expression",
+  atoms: "wrote the atoms of the expression with brackets",
+  lrcalc: "wrote the command of lrcalc as the one here",
 };
 
-const LIST = /s?[([{]\s*(?:\d+(?:[\s,]+\d+)*)?[\s,]*[)\]}]|\d+(?:\s*,\s*\d+)+|∅/g;
+/** Why a line has no single reading, in words. */
+const UNCLEAR = {
+  unseen: "A character that is not seen is inside a number.",
+  lists: "It is not clear which lists and numbers belong together.",
+  scalar: "A number or a sign is right before a list, and a list here has no coefficient.",
+  prime: "A prime is after a list. The conjugate of a partition is typed by its parts.",
+  cycles: "A permutation in parentheses can be its letters in turn, or a cycle.",
+  index: "An index of several digits can be one number, or one number for each digit.",
+  factors: "In the expression two factors have no sign between them.",
+  coprod: "Without -a, lrcalc prints only one of the pairs μ, ν and ν, μ. Here all are printed.",
+};
 
-const QUOTED = /'[^']*'|"[^"]*"|‘[^’]*’|“[^”]*”/g;
+/** Unseen characters inside a word. */
+const HIDDEN_INSIDE = new RegExp(`[\\p{L}\\p{N}]${UNSEEN.source}+[\\p{L}\\p{N}]`, "u");
 
-/** The line to run for a line that was typed, and what was changed, as texts. */
-function readTyped(typed) {
-  const changes = [];
-  let line = typed;
-  const change = (name, from, to) => {
-    const changed = line.replace(from, to);
-    if (changed !== line) changes.push(CHANGES[name]);
-    line = changed;
-  };
-  change("minus", /[\u2010-\u2015\u2212\ufe63\uff0d]/g, "-");
-  change("times", /[\u00b7\u00d7\u2217\u22c5]/g, "*");
-  change("blanks", /[\u00a0\u1680\u2000-\u200b\u202f\u205f\u3000\ufeff]/g, " ");
-  line = line.trim();
-  change("prompt", /^\$[ \t]*/, "");
-  change("name", /^(?:\S*\/)?calc(?:-static)?(?=[ \t]|$)[ \t]*/, "");
-  change("quotes", QUOTED, (text) => text.slice(1, -1));
-  const name = /^[a-z]*/.exec(line)[0];
-  if (FORMS[name] && !["expand", "plethysm"].includes(name)) {
-    change("apart", /([)\]}])[\s,]*(?=s?[([{])/g, "$1 - ");
-    change("lists", LIST, (list) => ` ${(list.match(/\d+/g) || []).join(" ")} `);
-    if (changes.includes(CHANGES.lists)) line = line.replace(/[ \t]+/g, " ").trim();
-  }
-  return { line, changes };
+/** The programs whose commands are typed after their names. */
+const PROGRAM = /^(?:\S*\/)?calc(?:-static|-glibc)?(?=[ \t]|$)[ \t]*/;
+
+/** Where a line has two readings: the reason, by its name in UNCLEAR. */
+class Unclear extends Error {}
+
+function unclear(reason) {
+  throw new Unclear(reason);
 }
 
-/** The lines of a text: commands with `;` or line ends between them. */
+// ---- lists
+
+/** The options of a line, taken from its begin and its end. */
+function optionsIn(tokens, name) {
+  const known = GRAMMAR.get(name).words.flatMap((slot) => slot.optional || [slot]).map((slot) => slot.sign);
+  const options = {};
+  let rest = tokens, last = tokens.length;
+  const isFlag = (it, text) => it && it.kind === "flag" && it.text === text && known.includes(text);
+  const set = (key, value) => (key in options ? unclear("lists") : (options[key] = value));
+  for (let isFound = true; isFound; ) {
+    last = rest.length;
+    if (isFlag(rest[0], "-m")) set("m", []), (rest = rest.slice(1));
+    else if (isFlag(rest[last - 1], "-m")) set("m", []), (rest = rest.slice(0, -1));
+    else if (isFlag(rest[0], "-r")) set("r", single(rest[1], rest[2])), (rest = rest.slice(2));
+    else if (isFlag(rest[last - 2], "-r")) set("r", single(rest[last - 1])), (rest = rest.slice(0, -2));
+    else isFound = false;
+  }
+  return { options, rest };
+}
+
+/** The number that a token is. */
+function single(token, next) {
+  if (!token || token.kind !== "number") return unclear("missing");
+  return next && !next.gap && next.kind !== "flag" ? unclear("scalar") : token.text;
+}
+
+/** The tokens cut at their signs: operands, each one list or one run of numbers, and the signs between them. */
+function operandsOf(tokens) {
+  const operands = [], signs = [];
+  let isOpen = false;
+  for (const token of tokens) {
+    const isThing = token.kind === "list" || token.kind === "number" || token.kind === "tableau";
+    if (token.kind === "prime") unclear("prime");
+    if (!isThing && token.kind !== "sign") unclear("");
+    if (!isThing) {
+      if (!isOpen) unclear(token.text === "-" ? "scalar" : "lists");
+      signs.push(token.text);
+      isOpen = false;
+    } else if (!isOpen) {
+      operands.push([token]);
+      isOpen = true;
+    } else {
+      const operand = operands[operands.length - 1], isNumbers = operand[0].kind === "number";
+      if (!token.gap && (isNumbers || token.kind === "number")) unclear("scalar");
+      if (isNumbers && token.kind === "number") operand.push(token);
+      else if (isNumbers || token.kind === "number") unclear("lists");
+      else operands.push([token]), signs.push("");
+    }
+  }
+  return operands.length > 0 && !isOpen ? unclear("lists") : { operands, signs };
+}
+
+/** The words of a list of this role that an operand is. */
+function listWords([token, ...more], role) {
+  if (token.kind === "number") return [token, ...more].map((it) => it.text);
+  if (token.kind === "tableau" || token.isMixed) return unclear("lists");
+  if (token.isIndex) return unclear("index");
+  const isCycle = token.bracket === "(" && (role === "permutation" || (role === "letters" && token.isBlank && token.numbers.length > 1));
+  return isCycle ? unclear("cycles") : token.numbers;
+}
+
+/** The words of a tableau: rows in brackets, a single row, or as the program has them. */
+function tableauOf(tokens) {
+  if (tokens.length === 1 && tokens[0].kind === "tableau") {
+    const rows = tokens[0].rows.map((row) => (row.length > 0 ? row.join(" ") : "."));
+    return rows.join(" / ").split(" ");
+  }
+  const isPlain = (it) => it.kind === "number" || ["/", "."].includes(it.text);
+  if (tokens.length === 1 && tokens[0].kind === "list") return tokens[0].numbers;
+  return tokens.length > 0 && tokens.every(isPlain) ? tokens.map((it) => it.text) : unclear("lists");
+}
+
+/** The signs between the lists of a command, of which there are so many. */
+function signsOf(name, count) {
+  const slots = GRAMMAR.get(name).words, signs = [];
+  for (const slot of slots) {
+    if (slot.sign && !slot.sign.startsWith("-r")) signs.push(slot.sign);
+    if (slot.more) while (signs.length < count) signs.push(slot.more[0].sign);
+  }
+  return signs;
+}
+
+/** Whether all lists are side by side, all between the command's own signs, or all factors between times signs. */
+function areSigns(given, wanted, name) {
+  if (given.length !== wanted.length) return false;
+  const isProduct = GRAMMAR.get(name).words.some((slot) => slot.more) || name.endsWith("schubmult") || name === "schubmult";
+  const isBare = given.every((it) => it === "" || it === ",");
+  return given.every((it, i) => it === wanted[i]) || isBare || (isProduct && given.every((it) => it === "*"));
+}
+
+/** The words that the tokens after a name are, if they have one reading. */
+function assembled(name, tokens) {
+  const { options, rest } = optionsIn(tokens, name);
+  const words = [name, ...("r" in options ? ["-r", options.r] : []), ...("m" in options ? ["-m"] : [])];
+  const slots = GRAMMAR.get(name).words;
+  if (slots[0] && slots[0].sign === "-r" && !("r" in options)) unclear("missing");
+  let at = 0;
+  for (const slot of slots) {
+    if (["rows", "columns", "level", "lines", "seed"].includes(slot.role)) words.push(single(rest[at], rest[at + 1])), (at += 1);
+  }
+  const lists = slots.flatMap((slot) => slot.more || [slot]).filter(isList);
+  return [...words, ...listsOf(name, rest.slice(at), lists)];
+}
+
+/** The words of the lists of a command: its partitions or permutations, and its tableaux after them. */
+function listsOf(name, tokens, slots) {
+  const plain = slots.filter((it) => ["partition", "permutation", "letters"].includes(it.role));
+  if (plain.length === 0 && slots.length === 0) return tokens.length === 0 ? [] : unclear("lists");
+  if (plain.length === 0) {
+    const cut = tokens.findIndex((it) => it.text === "-");
+    return cut < 0 ? unclear("lists") : [...tableauOf(tokens.slice(0, cut)), "-", ...tableauOf(tokens.slice(cut + 1))];
+  }
+  const from = tokens.findIndex((it) => it.kind === "flag"), dash = tokens.findIndex((it) => it.text === "-");
+  const cut = name === "rect" ? dash : name === "tab" && from >= 0 && tokens[from].text === "-from" ? from : tokens.length;
+  if (cut < 0) unclear("lists");
+  const tail = cut < tokens.length ? [tokens[cut].text, ...tableauOf(tokens.slice(cut + 1))] : [];
+  const { operands, signs } = operandsOf(tokens.slice(0, cut));
+  const wanted = signsOf(name, Math.max(signs.length, 1)).slice(0, name === "rect" || name === "tab" ? 1 : undefined);
+  if (!areSigns(signs, wanted, name)) unclear(signs.length > 0 ? "lists" : "");
+  const words = operands.flatMap((operand, i) => [...(i > 0 ? [wanted[i - 1]] : []), ...listWords(operand, plain[0].role)]);
+  return [...words, ...tail];
+}
+
+// ---- expressions
+
+/** An expression with its atoms as the program has them. */
+function withAtoms(text) {
+  if (/[mehps]_\{?\d{2,}/.test(text.replace(/[mehps]_\{\d+,[^}]*\}/g, ""))) unclear("index");
+  return text
+    .replace(/\\frac\{(\d+)\}\{(\d+)\}/g, "$1/$2")
+    .replace(/([mehps])_?(?:\{\(([\d,\s]*)\)\}|\{([\d,\s]*)\}|\(([\d,\s]*)\))/g, (_, b, x, y, z) => `${b}[${(x ?? y ?? z).trim().replace(/[\s,]+/g, ",")}]`)
+    .replace(/([mehps])_(\d)(?!\d)/g, "$1[$2]");
+}
+
+/** The expressions of a text, without the blanks around their signs; a minus sign right before a word begins a second one, if there can be two. */
+function expressionsIn(text, isOne) {
+  const pieces = [];
+  for (const piece of text.trim().split(/[ \t]+/)) {
+    const before = pieces[pieces.length - 1];
+    const isOpen = before !== undefined && (/[-+*/,([]$/.test(before) || /^[+*/,)\]]/.test(piece) || piece === "-" || (isOne && piece[0] === "-"));
+    if (isOpen) pieces[pieces.length - 1] += piece;
+    else pieces.push(piece);
+  }
+  return pieces;
+}
+
+/** The words of a command with expressions. */
+function withExpressions(name, text) {
+  const found = /^((?:-m[ \t]+)?)([mehps])(?=[ \t])(.*?)([ \t]+-m)?$/.exec(text.trim());
+  if (!found) return unclear("lists");
+  const [, front, basis, rest, back] = found, isOneLine = Boolean(front || back);
+  if ((isOneLine && name !== "expand") || (front && back)) return unclear("lists");
+  let pieces = expressionsIn(withAtoms(rest), name === "expand");
+  if (name === "plethysm" && pieces.length === 1) {
+    const nested = /^([mehps]\[[\d,]*\])\[(.*)\]$/.exec(pieces[0]) || /^\(((?:[^()]|\([^()]*\))*)\)\[(.*)\]$/.exec(pieces[0]);
+    if (nested) pieces = nested.slice(1);
+  }
+  const isGlued = pieces.some((it, i) => i > 0 && /^-/.test(it));
+  if (pieces.length !== (name === "expand" ? 1 : 2)) return unclear(isGlued ? "lists" : "factors");
+  return [name, ...(isOneLine ? ["-m"] : []), basis, ...pieces];
+}
+
+// ---- lines
+
+/** The command of lrcalc as it is typed here. */
+function fromLrcalc(line) {
+  const [, name, rest] = /^(\S+)[ \t]*(.*)$/.exec(line) || [];
+  const own = { lrcoef: "coef", lrtab: "tab" }[name] || name;
+  if (!["mult", "skew", "coef", "coprod", "tab", "schubmult"].includes(own)) return line;
+  const ring = /^-([qf])[ \t]*(\d+),(\d+)[ \t]+(.*)$/.exec(rest);
+  if (own === "mult" && ring) return `${ring[1] === "q" ? "quantum" : "fusion"} ${ring[2]} ${ring[3]} ${ring[4]}`;
+  const all = /^-a[ \t]+(.*)$/.exec(rest);
+  if (own === "coprod") return all ? `coprod ${all[1]}` : unclear("coprod");
+  return `${own} ${rest.replace(/^-r[ \t]*(\d+)/, "-r $1")}`;
+}
+
+/** A line of signs of the program, without prompt, name and comment; what was changed is noted by `change`. */
+function plainLine(typed, change) {
+  let line = typed;
+  const replace = (name, from, to) => change(name, line, (line = line.replace(from, to)));
+  for (const [name, from, to] of SAME) replace(name, from, to);
+  if (HIDDEN_INSIDE.test(line)) unclear("unseen");
+  replace("unseen", ALL_UNSEEN, "");
+  line = line.trim();
+  replace("prompt", /^\$[ \t]*/, "");
+  replace("comment", /(?:^|[ \t]+)#.*$/, "");
+  const outer = Object.hasOwn(QUOTES, line[0]) && endOfQuoted(line, 0) === line.length - 1 ? line.slice(1, -1) : line;
+  change("quotes", line, (line = outer));
+  replace("name", PROGRAM, "");
+  if (/^lrcalc[ \t]/.test(line)) change("lrcalc", line, (line = fromLrcalc(line.replace(/^lrcalc[ \t]+/, ""))));
+  return line.trim();
+}
+
+/** The words that a line without a name is: a product of lists in parentheses or braces, or of Schur functions. */
+function nameless(line) {
+  if (readExpression(line).isWhole) return null;
+  const isList = (it) => it.kind === "list" && !it.isIndex && !it.isMixed && /^(?:s_?)?[({]|^s_\d$|^s\[/.test(it.text);
+  const tokens = tokensOf(line), isFactor = (it, i) => (i % 2 === 0 ? isList(it) : it.text === "*");
+  if (tokens.length < 3 || tokens.length % 2 === 0 || !tokens.every(isFactor)) return null;
+  return ["mult", ...tokens.flatMap((it) => (it.kind === "list" ? it.numbers : ["-"]))];
+}
+
+/** The words of a line that is no line of the program, with what was changed noted. */
+function understood(line, change) {
+  const name = /^[a-z]*/.exec(line)[0];
+  if (!GRAMMAR.has(name)) {
+    const words = nameless(line);
+    if (words) change("command", line, null), change("lists", line, null);
+    return words;
+  }
+  const rest = line.slice(name.length), bare = withoutQuotes(rest);
+  change("quotes", rest, bare);
+  const native = textsOfWords(name + bare);
+  if (isCommand(native)) return native;
+  if (["expand", "plethysm"].includes(name)) {
+    const words = withExpressions(name, bare);
+    if (/[_{]|\\frac/.test(bare)) change("atoms", bare, null);
+    if (wordsOf(bare).length > words.length - 1) change("joined", bare, null);
+    if (/[ \t]-m$/.test(bare)) change("options", bare, null);
+    return words;
+  }
+  const tokens = tokensOf(bare), words = assembled(name, tokens);
+  const lists = tokens.filter((it) => it.kind === "list" || it.kind === "tableau");
+  const isCut = lists.length > 0 || tokens.some((it) => it.kind === "flag" || ["*", ","].includes(it.text));
+  if (!isCut) return null;
+  const signs = (given) => given.filter((it) => ["-", "/"].includes(it)).length;
+  if (signs(words) > signs(tokens.filter((it) => it.kind === "sign").map((it) => it.text))) change("apart", bare, null);
+  if (lists.length > 0) change("lists", bare, null);
+  if (["-r", "-m"].some((it) => words[1] === it && !(tokens[0].text === it))) change("options", bare, null);
+  return words;
+}
+
+/** The command whose help a line asks for, nothing for all of them; undefined, if it asks for none. */
+function helpAsked(line) {
+  const first = /^(?:help|\?|man|--help|-h)(?:[ \t]+(\S+))?$/i.exec(line), last = /^(\S+)[ \t]+(?:help|\?|--help|-h)$/i.exec(line);
+  if (!first && !last) return undefined;
+  const name = (first ? first[1] : last[1]) || "";
+  return GRAMMAR.has(name) ? name : "";
+}
+
+/**
+ * The line to run for a line that was typed: `{line, changes}`, what was changed in words. Where it has no single
+ * reading its lists stay as they were typed, so that the program refuses it; `reason` says why, by its name in UNCLEAR.
+ * A line that asks for help has that command as `help`.
+ */
+function readTyped(typed) {
+  const asTyped = typed.trim();
+  if (isCommand(textsOfWords(asTyped))) return { line: asTyped, changes: [] };
+  let cleaned = { line: asTyped, changes: [] };
+  try {
+    const line = plainLine(asTyped, noteIn(cleaned.changes));
+    cleaned.line = line;
+    if (line === "" || isCommand(textsOfWords(line))) return cleaned;
+    const help = helpAsked(line);
+    if (help !== undefined) return { line, changes: [], help };
+    const changes = [...cleaned.changes], words = understood(line, noteIn(changes));
+    return words && isCommand(words) ? { line: words.join(" "), changes } : cleaned;
+  } catch (error) {
+    if (!(error instanceof Unclear)) throw error;
+    if (cleaned.line === asTyped) cleaned.changes = [];
+    return { ...cleaned, reason: error.message };
+  }
+}
+
+/** Notes a change of a text by its name in CHANGES, once, where the text is another one. */
+function noteIn(changes) {
+  return (name, before, after) => before !== after && !changes.includes(CHANGES[name]) && changes.push(CHANGES[name]);
+}
+
+/**
+ * The lines of a text: commands with `;` or line ends between them. In a transcript the lines with a prompt and those
+ * that begin with the name of a command are commands.
+ */
 function linesOf(text) {
-  return text.split(/[;\n\r]+/).map((it) => it.trim()).filter(Boolean);
+  const lines = text.split(/[\n\r]+/), isPrompted = (it) => /^\s*\$ /.test(it);
+  const isAsked = (it) => isPrompted(it) || GRAMMAR.has(/^\s*([a-z]*)/.exec(it)[1]);
+  const asked = lines.some(isPrompted) ? lines.filter(isAsked) : lines;
+  const cut = (line) => line.replace(/(^|[ \t])#.*$/, "$1").split(";");
+  return asked.flatMap(cut).map((it) => it.trim()).filter(Boolean);
 }

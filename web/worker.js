@@ -5,9 +5,13 @@ const encoder = new TextEncoder();
 const decoder = new TextDecoder();
 /** That the module had no room left for a line or its text, as the program says with its status 7. */
 const refused = new Error("no memory");
+/** The statuses by which the program says that it had no memory for its answer, or for all of it. */
+const WITHOUT_MEMORY = [5, 7];
 /** The room for the text of a line. A line with a longer text is run once more. */
 const ROOM = 1 << 22;
-let module, exports, needed;
+/** By how many bytes the memory of an instance may have grown if it is to run a further line: blocks that it gave back are never joined. */
+const GROWTH = 1 << 24;
+let module, exports, needed, begun, isFresh;
 
 /** The module of bytes that gzip has packed. */
 function unpacked(bytes) {
@@ -18,6 +22,8 @@ function unpacked(bytes) {
 function start() {
   exports = new WebAssembly.Instance(module, {}).exports;
   needed = exports.room(8n);
+  begun = exports.memory.buffer.byteLength;
+  isFresh = true;
 }
 
 /** The bytes in the memory of the module, and where. */
@@ -49,15 +55,30 @@ function run(line, input) {
   }
 }
 
-/** Runs a line, or says what went wrong. */
-function answered(line, input) {
+/** The answer of this instance to a line, or what went wrong. */
+function tried(line, input) {
   try {
     return run(line, input);
   } catch (error) {
-    // A trap, as where no stack is left, leaves the instance in no known state: it is thrown away whole.
-    start();
     return error === refused ? { status: 7, text: "" } : { status: -1, text: "", error: error.message };
   }
+}
+
+/**
+ * Runs a line, or says what went wrong. The answer is that of a fresh instance: what ran before can only leave less memory, so a line that
+ * is refused for that runs once more. An instance that has grown is thrown away, and so is one that trapped, as where no stack is left.
+ */
+function answered(line, input) {
+  const isLacking = ({ status }) => status < 0 || WITHOUT_MEMORY.includes(status);
+  let answer = tried(line, input);
+  if (isLacking(answer) && !isFresh) {
+    start();
+    answer = tried(line, input);
+  }
+  isFresh = false;
+  const grown = exports.memory.buffer.byteLength;
+  if (isLacking(answer) || grown - begun > GROWTH) start();
+  return { ...answer, grown };
 }
 
 onmessage = async ({ data }) => {

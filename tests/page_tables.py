@@ -1,0 +1,117 @@
+"""What tests/page tries: the lines, and what the page has to make of them."""
+
+# Each command, and the longest sum of a word.
+LINES = """mult 2 1 - 2 1
+mult -m 2 1 - 2 1
+skew 3 2 1 / 2 1
+coef 3 2 1 - 2 1 - 2 1
+coprod 2 1
+tab 3 2 1 / 2 1
+quantum 2 2 1 - 2 1
+fusion 3 2 2 1 - 2 1
+schubert 2 1 4 3
+schubmult 1 3 2 - 1 3 2
+dschubmult 2 1 - 2 1
+stanley -r 2 2 1 4 3
+expand p s[2,1]
+plethysm s h[2] h[2]
+rsk 3 1 2
+unrsk 1 2 / 3 - 1 3 / 2
+rect 2 2 / 1 - 1 / 1 2
+growth 3 1 2
+work 2 0
+mult 1 2 - 1""".splitlines() + ["expand m " + "+".join(["1"] * 2048)]
+
+# What is refused: the line, the sentence, and what is marked.
+REFUSALS = [
+    ("mult 1 2 - 1", "Part 2 is greater than part 1: 2 after 1. The parts of a partition cannot increase.", "2"),
+    ("multiply 2 1 - 1", "There is no command multiply. Is mult meant?", "multiply"),
+    ("frobnicate", "There is no command frobnicate. All commands are below, under Commands.", "frobnicate"),
+    ("s[2,1]*s[2,1]", "An expression comes after expand and a basis, as in expand s s[2,1]*s[2,1].", "s[2,1]*s[2,1]"),
+    ("mult 2 1", "The command ends too early. Next comes a part (a number) or -.", ""),
+    ("mult 2 1 -1", "-1 cannot come here: - and / are words of their own, with a blank on each side.", "-1"),
+    ("plethysm s h[2] *h[3] h[2]+ h[1] h[1]", "An expression is one word: take the blanks out.", "*h[3]"),
+    ("expand s h[2]**p[1]", "h[2]**p[1] is not an expression. At the marked place comes a number, an atom such as h[2,1], or (.", "*"),
+    ("expand s h[2,1", "The expression h[2,1 ends too early. Next comes a digit, a comma or ].", ""),
+    ("expand s h[1,2]", "2 is greater than 1, the number before it. The parts of a partition cannot increase.", "2"),
+    ("expand p s[16]", "The degree of the expression is greater than 15, the greatest one for p.", ""),
+    ("plethysm s h[2] h[2]-h[1]", "The second expression of a plethysm has no minus sign.", "-"),
+    ("schubert 2143", "2143 is greater than 16, the most letters of a permutation here. If it is a permutation, type its letters apart: 2 1 4 3.", "2143"),
+    ("schubert 1 3", "3 is not a letter of this permutation: with 2 letters, they are the numbers from 1 to 2.", "3"),
+    ("schubert 1 1", "1 comes twice. A permutation has each letter once.", "1"),
+    ("quantum 65 2 1 - 1", "65 is not a number of rows: it is from 1 to 64.", "65"),
+    ("rect 2 2 / 1 - 1 / 3 2", "2 is smaller than its left neighbour 3. Rows increase weakly.", "2"),
+    ("rect 2 2 / 1 - 1 / 1", "The tableau ends too early. Its shape has rows of 1 and 2.", ""),
+    ("tab 3 2 1 / 2 1 -from 2 / 1 / 1", "What follows -from is not a lattice tableau of the shape 3 2 1 / 2 1.", "-from"),
+    (f"expand m {2**127}", f"{2**127} is greater than 2^127 - 1, the greatest number that can be typed.", str(2**127)),
+    (f"expand m {2**127 - 1}+1", "The answer is not computed: the bound for the numbers on the way is greater than 2^127 - 1.", None),
+]
+
+# What is typed, what is run, and what the page says that it did.
+TYPED = [
+    ("$ calc mult 2 1 - 2 1", "mult 2 1 - 2 1", "left out the prompt and left out the name of the program"),
+    ("./calc coef 3 2 1 - 2 1 - 2 1", "coef 3 2 1 - 2 1 - 2 1", "left out the name of the program"),
+    ("expand p 's[2,1]'", "expand p s[2,1]", "left out the quotes"),
+    ("expand p “s[2,1]”", "expand p s[2,1]", "left out the quotes"),
+    ("mult (2,1) - (2, 1)", "mult 2 1 - 2 1", "wrote lists as their numbers with blanks between"),
+    ("skew 3,2,1/2,1", "skew 3 2 1 / 2 1", "wrote lists as their numbers with blanks between"),
+    ("mult () - (1)", "mult - 1", "wrote lists as their numbers with blanks between"),
+    ("mult(2,1)-s[2,1]", "mult 2 1 - 2 1", "wrote lists as their numbers with blanks between"),
+    ("coef (3,2,1) (2,1), (2,1)", "coef 3 2 1 - 2 1 - 2 1", "wrote the separators between the lists and wrote lists as their numbers with blanks between"),
+    ("expand s h[2]·p[1]", "expand s h[2]*p[1]", "wrote times signs as *"),
+    ("mult ∅ - [2 1]", "mult - 2 1", "wrote lists as their numbers with blanks between"),
+    ("mult 2 1 − 2 1", "mult 2 1 - 2 1", "wrote minus signs as -"),
+    ("mult 2 1 – 2 1", "mult 2 1 - 2 1", "wrote minus signs as -"),
+    ("expand p h[1]−e[1]", "expand p h[1]-e[1]", "wrote minus signs as -"),
+    ("mult 1\u00a0- 1", "mult 1 - 1", "wrote unusual blanks as plain ones"),
+]
+
+# What the help of a command says.
+HELP = {
+    "mult": ["mult [-r K] [-m] λ - μ", "two blanks", "512", "Partitions are ordered by decreasing size"],
+    "quantum": ["K", "C", "columns", "Powers of q"],
+    "fusion": ["level L", "alcove"],
+    "tab": ["column readings"],
+    "expand": ["4,096", "20"],
+}
+
+# The limits of calc.1 that the help of no command has.
+NO_LIMIT = []
+
+# What is said of how much an answer is.
+COUNTS = {
+    "mult 2 1 - 2 1": "7 terms",
+    "mult 1 -": "1 term",
+    "mult -m 2 1 - 2 1": "7 terms",
+    "tab 3 2 1 / 2 1": "4 tableaux",
+    "mult -r 1 1 1 - 1": "0 terms",
+}
+
+# What is copied: the line, the button, the text.
+S = "s = SymmetricFunctions(QQ).s()\n"
+COPIES = [
+    ("mult 1 - 1", "Copy text", "1  (2)\n1  (1,1)\n"),
+    ("mult 1 - 1", "Copy LaTeX", "s_{2}+s_{1,1}"),
+    ("mult 1 - 1", "Copy for Sage", S + "1*s([2])+1*s([1,1])"),
+    ("mult -m 1 - 1", "Copy LaTeX", "s_{2}+s_{1,1}"),
+    ("expand -m p s[2,1]", "Copy LaTeX", "-\\frac{1}{3}p_{3}+\\frac{1}{3}p_{1,1,1}"),
+    ("expand -m p s[2,1]", "Copy for Sage", "p = SymmetricFunctions(QQ).p()\n-1/3*p([3])+1/3*p([1,1,1])"),
+    ("coprod 1", "Copy LaTeX", "s_{1} \\otimes s_{\\emptyset}+s_{\\emptyset} \\otimes s_{1}"),
+    ("coprod 1", "Copy for Sage", S + "1*tensor([s([1]), s([])])+1*tensor([s([]), s([1])])"),
+    ("quantum 2 2 1 - 2 1", "Copy LaTeX", "\\sigma_{2,2}+q \\sigma_{\\emptyset}"),
+    ("quantum 2 2 1 - 2 1", "Copy for Sage", "q = QQ['q'].gen(); s = SymmetricFunctions(q.parent()).s()\n1*q^0*s([2,2])+1*q^1*s([])"),
+    ("schubert 1 3 2", "Copy LaTeX", "x_{1}+x_{2}"),
+    ("schubert 1 3 2", "Copy for Sage", "(x0,x1,) = PolynomialRing(ZZ, ['x0','x1']).gens()\n1*x0^1+1*x0^0*x1^1"),
+    ("schubmult 1 3 2 - 1 3 2", "Copy for Sage", "X = SchubertPolynomialRing(ZZ)\n1*X([1,4,2,3])+1*X([2,3,1])"),
+    ("dschubmult 2 1 - 2 1", "Copy LaTeX", "-y_{1} \\mathfrak{S}_{21}+y_{2} \\mathfrak{S}_{21}+\\mathfrak{S}_{312}"),
+    ("schubmult 10 1 2 3 4 5 6 7 8 9 - 1", "Copy LaTeX", "\\mathfrak{S}_{10,1,2,3,4,5,6,7,8,9}"),
+    ("unrsk 1 12 - 1 2", "Copy LaTeX", "1,12"),
+    ("mult 12 -", "Copy LaTeX", "s_{(12)}"),
+    ("rsk 3 1 2", "Copy LaTeX", "% \\usepackage{ytableau}\nP = \\begin{ytableau} 1 & 2 \\\\ 3 \\end{ytableau}\nQ = \\begin{ytableau} 1 & 3 \\\\ 2 \\end{ytableau}"),
+    ("rsk 3 1 2", "Copy for Sage", "P = Tableau([[1,2],[3]])\nQ = Tableau([[1,3],[2]])"),
+    ("tab 2 1 / 1", "Copy LaTeX", "% \\usepackage{ytableau}\n\\begin{ytableau} \\none & 1 \\\\ 1 \\end{ytableau}\n\\begin{ytableau} \\none & 1 \\\\ 2 \\end{ytableau}"),
+    ("tab 2 1 / 1", "Copy for Sage", "[SkewTableau([[None,1],[1]]),SkewTableau([[None,1],[2]])]"),
+    ("growth 1", "Copy LaTeX", "\\begin{array}{cc} \\emptyset & \\emptyset \\\\ \\emptyset & (1) \\end{array}"),
+]
+
+LONG = "mult 9 8 7 6 5 4 3 2 1 - 9 8 7 6 5 4 3 2 1 - 9 8 7 6 5 4 3 2 1"

@@ -1,0 +1,279 @@
+"""What tests/page tries on pages of their own: addresses, reloads, lists of commands, and what no address may do. Each visit gives what is wrong,
+if something is. A visit gets the browser, the page's path, and its size."""
+import json
+import time
+import urllib.parse
+
+from browse import Page
+
+HEAVY = "mult 9 8 7 6 5 4 3 2 1 - 9 8 7 6 5 4 3 2 1 - 9 8 7 6 5 4 3 2 1"
+LARGE = "mult 12 10 8 6 5 4 3 2 1 - 8 7 6 5 4 3 2 1"
+TRANSCRIPT = """    $ ./calc mult 2 1 - 2 1
+    1  (4,2)
+    1  (4,1,1)
+
+    # a coefficient
+    $ ./calc coef 3 2 1 - 2 1 - 2 1   # it is 2
+    2
+    $ calc rsk 3 1 2
+    P 1 2 / 3
+    Q 1 3 / 2
+"""
+
+HELPERS = """
+globalThis.pause = (ms = 20) => new Promise((next) => setTimeout(next, ms));
+globalThis.until = async (test) => { for (let n = 0; n < 6000 && !test(); n += 1) await pause(); return test(); };
+globalThis.answers = () => [...document.querySelectorAll("article")].map((it) => [it.querySelector("h3").textContent, (it.querySelector("pre") || { textContent: "" }).textContent]);
+globalThis.quiet = () => until(() => !document.getElementById("run").disabled && !running && waiting.length === 0);
+"""
+
+
+class Visit:
+    """A page that is opened with a fragment, and whose queue has come to rest."""
+
+    def __init__(self, browser, path, size, fragment=""):
+        self.page = Page(browser, path, fragment=fragment, **size)
+
+    def __enter__(self):
+        self.page.__enter__()
+        self.helped()
+        return self
+
+    def __exit__(self, *_):
+        self.page.__exit__()
+
+    def helped(self):
+        """Waits until the page is there and at rest."""
+        for _ in range(300):
+            if self.page.run("document.readyState === 'complete' && !!document.getElementById('run') && typeof quiet !== 'undefined' || typeof waiting !== 'undefined'"):
+                break
+            time.sleep(0.02)
+        self.page.run(HELPERS)
+        self.ask("await quiet()")
+
+    def ask(self, script):
+        """What a script gives that may wait, read from JSON."""
+        value = self.page.run(f"(async () => {{ {script if 'return' in script else script + '; return null'} }})().then((it) => JSON.stringify(it ?? null))")
+        return json.loads(value)
+
+    def run(self, text):
+        self.ask(f"document.getElementById('line').value = {json.dumps(text)}; document.getElementById('run').click(); await quiet()")
+
+    def answers(self):
+        return self.ask("return answers()")
+
+
+def fragment(text):
+    return "#" + urllib.parse.quote(text)
+
+
+def wrong(*pairs):
+    """The first of these pairs that is not of two equal things."""
+    return next((f"{got!r}, not {wanted!r}" for got, wanted in pairs if got != wanted), "")
+
+
+def back(*where):
+    """Going to a section and back runs nothing again."""
+    with Visit(*where, fragment("coef 2 - 1 - 1")) as visit:
+        visit.ask("document.querySelector('nav a').click(); await pause(300); history.back(); await pause(500); await quiet()")
+        first = visit.answers()
+        visit.ask("location.hash = '#about'; await pause(200); location.hash = '#coef%202%20-%201%20-%201'; await pause(300); await quiet()")
+        return wrong((first, [["coef 2 - 1 - 1", "1\n"]]), (visit.answers(), first))
+
+
+def reload(*where):
+    """A page that is loaded again has its answers again, each once, and the arrow keys bring its lines back."""
+    with Visit(*where) as visit:
+        for line in ("coef 1 - 1 -", "mult (1) - (1)", "coef 2 - 1 - 1; mult 1 2 - 1"):
+            visit.run(line)
+        before = visit.answers()
+        if visit.page.browser == "chromium":
+            visit.page.channel.ask("Page.reload")
+        else:
+            visit.page.channel.ask("browsingContext.reload", context=visit.page.context, wait="complete")
+        time.sleep(0.3)
+        visit.helped()
+        after = visit.answers()
+        kept = visit.ask("return [document.getElementById('history').hidden, asked.slice(-2)]")
+        return wrong((after, before), (len(before), 4), (kept, [False, ["coef 2 - 1 - 1", "mult 1 2 - 1"]]))
+
+
+def heavy_link(*where):
+    """A link with a command that can take long shows it and waits for Enter."""
+    with Visit(*where, fragment(HEAVY)) as visit:
+        shown = visit.ask("await pause(300); return [document.getElementById('line').value, answers().length, document.getElementById('state').textContent]")
+        wanted = [HEAVY, 0, "This link has a command that can take long. Press Enter to run it."]
+        is_run = visit.ask("document.getElementById('run').click(); await pause(100); const is = running !== null; stop(); return is")
+        return wrong((shown, wanted), (is_run, True))
+
+
+def unseen_link(*where):
+    """Characters of a link that turn the direction of a text, or are not seen, are put in sight."""
+    with Visit(*where, fragment("mult 2 1 - \u202e1 2")) as visit:
+        texts = visit.ask("await pause(200); await quiet(); return [document.getElementById('line').value, document.querySelector('article').textContent.includes('\\u202e')]")
+        return wrong((texts, ["mult 2 1 - ⟨U+202E⟩1 2", False]))
+
+
+def several_readings_link(*where):
+    """A link whose line has several readings computes none of them."""
+    with Visit(*where, fragment("mult 2(2,1) - 1")) as visit:
+        got = visit.ask("await pause(200); await quiet(); return [answers().length, document.getElementById('line').value]")
+        return wrong((got, [0, "mult 2(2,1) - 1"]))
+
+
+def draft(*where):
+    """The arrow keys leave what is typed and did not run."""
+    with Visit(*where) as visit:
+        visit.run("coef 1 - 1 -")
+        visit.run("coef 2 - 1 - 1")
+        page = visit.page
+        page.press("Tab") if page.run("document.activeElement.id") != "line" else None
+        page.run("document.getElementById('line').focus(), document.getElementById('line').select()")
+        page.press(*"mult 3", "ArrowUp", "ArrowUp")
+        up = page.run("document.getElementById('line').value")
+        page.press("ArrowDown", "ArrowDown")
+        return wrong((up, "coef 1 - 1 -"), (page.run("document.getElementById('line').value"), "mult 3"))
+
+
+def fresh_field(*where):
+    """The field is empty at first, and what is typed after a command takes its place."""
+    with Visit(*where) as visit:
+        empty = visit.page.run("document.getElementById('line').value")
+        visit.page.run("document.getElementById('line').focus()")
+        visit.page.press(*"coef 1 - 1 -", "Enter")
+        visit.ask("await until(() => answers().length === 1)")
+        visit.page.press(*"rsk 1")
+        return wrong((empty, ""), (visit.page.run("document.getElementById('line').value"), "rsk 1"))
+
+
+def transcript(*where):
+    """Of a transcript that is pasted the commands run; comments are none."""
+    with Visit(*where) as visit:
+        paste = "const it = new Event('paste', { cancelable: true }); it.clipboardData = { getData: () => %s }; document.getElementById('line').dispatchEvent(it)"
+        visit.ask(paste % json.dumps(TRANSCRIPT))
+        visit.ask("document.getElementById('run').click(); await quiet()")
+        lines = [line for line, _ in visit.answers()]
+        visit.run("# nothing; mult 1 - 1")
+        said = visit.ask("return [answers().length, document.getElementById('state').textContent]")
+        wanted = [3, "Nothing to run: type a command, such as mult 2 1 - 2 1."]
+        return wrong((lines[::-1], ["mult 2 1 - 2 1", "coef 3 2 1 - 2 1 - 2 1", "rsk 3 1 2"]), (said, wanted))
+
+
+def show_more(*where):
+    """However often more is shown, it is a part that a browser can lay out; all of it can be downloaded."""
+    with Visit(*where) as visit:
+        visit.run(LARGE)
+        script = """const article = document.querySelector("article"), more = () => [...article.querySelectorAll(".part button")].find((it) => it.textContent === "Show more");
+        let count = 0; while (more() && count < 100) more().click(), count += 1;
+        const pre = article.querySelector("pre"), save = [...article.querySelectorAll(".part button")].map((it) => it.textContent);
+        return [count > 1, pre.textContent.split("\\n").length <= 20001, pre.textContent === kept[kept.length - 1].text.slice(0, pre.textContent.length), save]"""
+        return wrong((visit.ask(script), [True, True, True, ["Download"]]))
+
+
+def thousands(*where):
+    """A list of two thousand commands is answered; the state speaks at its begin and its end; the last hundred answers are shown, and all are kept."""
+    with Visit(*where) as visit:
+        lines = [f"coef {n} 1 - {n} - 1" for n in range(1, 501)] * 4
+        visit.ask("globalThis.said = []; new MutationObserver(() => said.push(document.getElementById('state').textContent)).observe(document.getElementById('state'), { childList: true })")
+        visit.run("; ".join(lines))
+        got = visit.ask("await pause(50); return [answers().length, kept.length, transcript().slice(0, 2), [...new Set(said)]]")
+        said = ["2,000 commands are running.", "2,000 commands: 2,000 answered."]
+        return wrong((got, [100, 2000, ["$ calc coef 1 1 - 1 - 1\n1\n", "$ calc coef 2 1 - 2 - 1\n1\n"], said]))
+
+
+def cleared(*where):
+    """The answers can be cleared."""
+    with Visit(*where) as visit:
+        visit.run("coef 1 - 1 -; coef 2 - 1 - 1")
+        gone = visit.ask("document.getElementById('clean').click(); return [answers().length, document.getElementById('given').hidden, kept.length]")
+        visit.run("coef 1 - 1 -")
+        return wrong((gone, [0, True, 0]), (visit.answers(), [["coef 1 - 1 -", "1\n"]]))
+
+
+def help_asked(*where):
+    """`help` and its like show the help, and run nothing."""
+    with Visit(*where) as visit:
+        found = []
+        for line in ("help", "?", "help rsk", "mult --help", "quantum ?", "calc --help"):
+            visit.run(line)
+            found.append(visit.ask("const it = [...document.querySelectorAll('#commands details[open]')].map((it) => it.closest('li').id); document.querySelectorAll('#commands details').forEach((it) => (it.open = false)); return [it, document.getElementById('state').textContent]"))
+        every = [[], "All commands are shown, each with its help."]
+        one = [[[f"help-{name}"], f"The help of {name} is shown."] for name in ("rsk", "mult", "quantum")]
+        return wrong((found, [every, every, *one, every]), (visit.answers(), []))
+
+
+def forms(*where):
+    """The form of a command makes its line, and runs it."""
+    with Visit(*where) as visit:
+        script = """const row = document.getElementById("help-quantum"); row.querySelector(".entry button").click();
+        const form = row.querySelector("form"), [k, c, left, right] = form.querySelectorAll("input"); k.value = "2"; c.value = "2"; left.value = "(2,1)"; right.value = "2 1";
+        form.dispatchEvent(new Event("input")); const said = form.querySelector(".note").textContent; form.requestSubmit(); await quiet();
+        const all = [...document.querySelectorAll(".entry")].filter((it) => it.querySelector("button")); for (const it of all) if (!it.querySelector("form")) it.querySelector("button").click();
+        return [said, answers()[0], all.length, document.querySelectorAll(".fields").length, document.documentElement.scrollWidth <= WIDTH]"""
+        got = visit.ask(script.replace("WIDTH", str(visit.page.width)))
+        return wrong((got, ["quantum 2 2 2 1 - 2 1 σ(2,1) * σ(2,1) in QH*(Gr(2,4))", ["quantum 2 2 2 1 - 2 1", "1  q^0  (2,2)\n1  q^1  ()\n"], 18, 18, True]))
+
+
+# The characters of S_3, by cycle types (3), (2,1), (1,1,1); and products in Gr(1,3), the projective plane.
+CHARACTERS = [["1", "1", "1"], ["-1", "0", "2"], ["1", "-1", "1"]]
+PLANE = [["()", "(1)", "(2)"], ["(1)", "(2)", "0"], ["(2)", "0", "0"]]
+
+
+def tables(*where):
+    """A table has the right entries, on the page, in CSV and in JSON."""
+    with Visit(*where) as visit:
+        make = """const choose = async (kind, ...sizes) => { const select = document.getElementById("kind"); select.value = kind; select.dispatchEvent(new Event("change"));
+          document.querySelectorAll("#sizes input").forEach((it, i) => (it.value = String(sizes[i]))); document.getElementById("made").replaceChildren();
+          document.getElementById("making").requestSubmit(); await quiet(); await pause(50); };
+        let file = ""; Object.defineProperty(navigator, "clipboard", { configurable: true, value: { writeText: async (text) => (file = text) } });
+        const copied = async (name) => { [...document.querySelectorAll("#made button")].find((it) => it.textContent === name).click(); await pause(50); return file; };
+        const cells = () => [...document.querySelectorAll(".made tr")].slice(1).map((row) => [...row.querySelectorAll("td")].map((it) => it.textContent.replace("−", "-")));
+        const found = [];
+        for (const given of [["characters", 3], ["classical", 1, 3]]) { await choose(...given); found.push(cells(), await copied("Copy CSV"), JSON.parse(await copied("Copy JSON"))); }
+        await choose("classical", 4, 2);
+        return [...found, document.getElementById("said-of-table").textContent, document.documentElement.scrollWidth]"""
+        first, csv, data, second, csv2, data2, said, width = visit.ask(make)
+        labels = [[3], [2, 1], [1, 1, 1]]
+        wanted_csv = ",(3),\"(2,1)\",\"(1,1,1)\"\r\n" + "".join(
+            f"{label},{','.join(row)}\r\n" for label, row in zip(['(3)', '"(2,1)"', '"(1,1,1)"'], CHARACTERS)
+        )
+        wanted2 = [[f"σ{it}".replace("()", "∅") if it != "0" else "0" for it in row] for row in PLANE]
+        products = [[[{"coefficient": 1, "label": [int(it[1])] if len(it) > 2 else []}] if it != "0" else [] for it in row] for row in PLANE]
+        return wrong(
+            (first, CHARACTERS), (csv, wanted_csv), (data["labels"], labels), (data["entries"], [[int(it) for it in row] for row in CHARACTERS]),
+            (second, wanted2), (csv2.splitlines()[1:], [f"{label},{','.join(row)}" for label, row in zip(["()", "(1)", "(2)"], PLANE)]),
+            (data2["entries"], products), (said, "n has to be greater than k."), (width <= visit.page.width, True),
+        )
+
+
+# What the last step of a picture says or shows: the line, the number of steps, a name of a drawing at the last one.
+PICTURES = [
+    ("rsk 3 1 2", 4, "tableau P with the rows 1 2, 3"),
+    ("rect 2 2 / 1 - 1 / 1 2", 2, "tableau with the rows 1 1, 2"),
+    ("tab 3 2 1 / 2 1", 3, "partition 3"),
+    ("schubert 1 4 3 2", 5, "pipe dream with crosses in row 1 column 2, row 1 column 1, row 2 column 1"),
+    ("schubert 3 1 2", 1, None),
+    ("schubert 2 3 1", 1, None),
+    ("schubert 2 1 4 3", 3, None),
+]
+
+
+def pictures(*where):
+    """The pictures go step by step from the begin to the answer."""
+    with Visit(*where) as visit:
+        script = """await (async () => { document.getElementById("line").value = %s; document.getElementById("run").click(); await quiet(); })();
+        const it = document.querySelector("article .steps"); if (!it) return null;
+        const press = (name) => [...it.querySelectorAll("button")].find((of) => of.textContent === name).click(), range = it.querySelector("input");
+        const said = [it.querySelector(".step-caption").textContent]; for (let n = 1; n < Number(range.max); n += 1) press("Next"), said.push(it.querySelector(".step-caption").textContent);
+        press("Next"); const names = [...it.querySelectorAll("[role=img]")].map((of) => of.getAttribute("aria-label")); press("Before");
+        return [new Set(said).size, names, range.value]"""
+        for line, count, name in PICTURES:
+            got = visit.ask(script % json.dumps(line))
+            if count == 1 and got is None:
+                continue
+            if got is None or got[0] != count or (name and name not in got[1]) or got[2] != str(max(count - 1, 1)):
+                return f"{line}: {got}"
+        return ""
+
+
+VISITS = [back, reload, heavy_link, unseen_link, several_readings_link, draft, fresh_field, transcript, show_more, thousands, cleared, help_asked, forms, tables, pictures]

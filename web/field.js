@@ -1,0 +1,176 @@
+// The field: what is typed, earlier lines, what is pasted, and lines in the page's address.
+
+/** The most lines that are kept over reloads, the most that one reload runs again, and for how long a command may have run for that. */
+const MOST_HISTORY = 500;
+const MOST_AGAIN = 30;
+const SHORT = 2000;
+/** How much a link runs by itself: commands, the sum of their numbers, and milliseconds. */
+const LIGHT = { commands: 6, sum: 60, time: 3000 };
+
+/** A list of texts that the browser keeps, for this tab or for later visits; an empty one, where it keeps nothing. */
+function keptList(store, name) {
+  try {
+    const found = JSON.parse(window[store].getItem(name) || "[]");
+    return Array.isArray(found) ? found.filter((it) => typeof it === "string") : [];
+  } catch {
+    return [];
+  }
+}
+
+function keep(store, name, list) {
+  try {
+    window[store].setItem(name, JSON.stringify(list));
+  } catch {
+    // (a browser that keeps nothing)
+  }
+}
+
+/** What was typed, the latest last; where the arrow keys are in it; what was typed there and did not run, by its place. */
+const asked = keptList("localStorage", "calc: lines");
+let placeInAsked = asked.length, drafts = new Map();
+/** What this tab has run, to run it again after a reload. */
+let session = [];
+
+function remember(texts) {
+  for (const text of texts) if (asked[asked.length - 1] !== text) asked.push(text);
+  asked.splice(0, asked.length - MOST_HISTORY);
+  placeInAsked = asked.length;
+  drafts = new Map();
+  keep("localStorage", "calc: lines", asked);
+  showEarlier();
+}
+
+/** The earlier lines, the latest first, each a button. */
+function showEarlier() {
+  at("history").hidden = asked.length === 0;
+  const latest = [...new Set([...asked].reverse())].slice(0, 40);
+  const item = (it) => element("button", { type: "button", "data-typed": it }, named(inSight(it)));
+  at("earlier").replaceChildren(...latest.map(item));
+}
+
+function forget() {
+  asked.length = 0;
+  remember([]);
+  say("The earlier commands were forgotten.");
+}
+
+/** Notes what a job came to, for a reload, and shows it. */
+function done(job, answer) {
+  if (answer.stopped || answer.time > SHORT) session = session.filter((it) => it !== job.typed);
+  keep("sessionStorage", "calc: session", session.slice(-MOST_AGAIN));
+  return show(job, answer);
+}
+
+/** Runs the commands of a text as they were typed, after those that wait. */
+function ask(text, most) {
+  const lines = linesOf(text), jobs = lines.map((typed) => ({ typed, most, done, ...readTyped(typed) })).filter((job) => job.line);
+  const helps = jobs.filter((job) => job.help !== undefined), commands = jobs.filter((job) => job.help === undefined);
+  if (helps.length > 0) openHelp(helps[helps.length - 1].help);
+  else if (commands.length === 0) return say("Nothing to run: type a command, such as mult 2 1 - 2 1.");
+  if (commands.length === 0) return remember(lines);
+  remember(lines);
+  session.push(...commands.map((job) => job.typed));
+  putInAddress(commands.map((job) => job.line).join("; "));
+  return enqueue(commands);
+}
+
+function putInAddress(lines) {
+  try {
+    if (lines.length < 8000) history.replaceState(null, "", `#${encodeURIComponent(lines)}`);
+  } catch {
+    // (a browser that lets no page change its address so often)
+  }
+}
+
+/** Opens the help of a command, or shows all commands. */
+function openHelp(name) {
+  const row = name && document.getElementById(`help-${name}`), target = row || at("commands");
+  if (row) row.querySelector("details").open = true;
+  target.scrollIntoView();
+  if (row) row.querySelector("summary").focus({ preventScroll: true });
+  say(row ? `The help of ${name} is shown.` : "All commands are shown, each with its help.");
+}
+
+/** Gives the field the focus, if that brings no keyboard onto the screen. */
+function toField() {
+  if (!matchMedia("(pointer: coarse)").matches) at("line").focus({ preventScroll: true });
+}
+
+/** What the line in the field would compute, in mathematics, if it has one reading. */
+function preview() {
+  const lines = linesOf(at("line").value).slice(0, 5);
+  const parts = lines.map((it) => computedBy(readTyped(it).line || "")).filter(Boolean);
+  at("preview").replaceChildren(...parts.flatMap((it, i) => [...(i > 0 ? ["; "] : []), ...formula(it)]));
+}
+
+function put(text) {
+  at("line").value = text;
+  preview();
+}
+
+/** Brings an earlier or later line into the field; what was typed there stays a draft. */
+function step(by) {
+  const next = Math.min(Math.max(placeInAsked + by, 0), asked.length);
+  if (next === placeInAsked) return;
+  const isRun = placeInAsked === asked.length && at("line").value === asked[asked.length - 1];
+  if (!isRun && at("line").value !== (asked[placeInAsked] || "")) drafts.set(placeInAsked, at("line").value);
+  placeInAsked = next;
+  put(drafts.get(next) ?? asked[next] ?? "");
+}
+
+/** Puts what is pasted into the field, if it has several lines: the commands of it, with `;` between them. */
+function paste(event) {
+  const pasted = event.clipboardData.getData("text");
+  if (!/[\n\r]/.test(pasted.trim())) return;
+  event.preventDefault();
+  const field = at("line"), lines = linesOf(pasted), left = pasted.split(/[\n\r]+/).filter((it) => it.trim()).length - lines.length;
+  field.setRangeText(lines.join("; "), field.selectionStart, field.selectionEnd, "end");
+  preview();
+  const others = left > 0 ? ` ${countOfThings(left, "line that is", "lines that are")} no command ${left === 1 ? "was" : "were"} left out.` : "";
+  say(`${countOfThings(lines.length, "command was", "commands were")} pasted.${others} Press Enter to run.`);
+}
+
+// ---- addresses
+
+/** Whether the lines of a link are so small that they run by themselves. */
+function isLight(lines) {
+  const numbers = lines.join(" ").match(/\d+/g) || [];
+  return lines.length <= LIGHT.commands && lines.every((it) => it.length <= 200) && sumOf(numbers) <= LIGHT.sum;
+}
+
+/** The text of the page's address after its #; nothing, if that is a place of the page. */
+function textOfAddress() {
+  const given = location.hash.slice(1);
+  if (!given || at(given)) return "";
+  try {
+    return decodeURIComponent(given);
+  } catch {
+    return given;
+  }
+}
+
+/** The article that answers the first command of a text, if it is there. */
+function answeredAlready(text) {
+  const lines = linesOf(text).map((it) => readTyped(it).line);
+  return [...at("answers").children].find((it) => it.dataset.of === lines[0]);
+}
+
+/** Shows the answers to the commands of the page's address: runs them if they are not there, and waits for Enter if they can be heavy. */
+function follow() {
+  const text = textOfAddress(), lines = linesOf(text);
+  if (lines.length === 0) return;
+  const article = answeredAlready(text);
+  if (article) return article.scrollIntoView(), article.focus({ preventScroll: true });
+  put(inSight(text));
+  if (lines.every((it) => readTyped(it).reason === undefined) && isLight(lines)) return ask(text, LIGHT.time);
+  say(`This link has ${lines.length === 1 ? "a command" : `${lines.length} commands`} that can take long. Press Enter to run ${lines.length === 1 ? "it" : "them"}.`);
+  return toField();
+}
+
+/** What a page that is opened runs: after a reload what it ran before; else the commands of its address. */
+function begin() {
+  const [how] = performance.getEntriesByType("navigation"), before = keptList("sessionStorage", "calc: session");
+  if (how && ["reload", "back_forward"].includes(how.type) && before.length > 0) return ask(before.join("\n"), SHORT * 2);
+  keep("sessionStorage", "calc: session", []);
+  return follow();
+}

@@ -1,0 +1,161 @@
+// The worker of the page and its queue: what was asked, what waits, what runs.
+
+const WORKER = `/*WORKER*/`;
+
+const at = (id) => document.getElementById(id);
+
+/** Says something in the line of the state; what is seen elsewhere is only spoken. */
+function say(text, spoken = "") {
+  at("state").replaceChildren(text, ...(spoken ? [element("span", { class: "unseen" }, ` ${spoken}`)] : []));
+}
+
+/** A memory after which the worker is ended, which gives it back at once; the next line has a fresh one. */
+const LARGE_MEMORY = 1 << 28;
+/** The most waiting commands that are listed. */
+const MOST_LISTED = 100;
+
+const waiting = [];
+let worker, isReady = false, running = null, clock;
+/** What the queue came to since it was empty: how many commands were answered, refused and stopped, and what a single one is said to have come to. */
+let round = { asked: 0, answered: 0, refused: 0, stopped: 0, last: [] };
+
+/** Starts the module anew. */
+function boot() {
+  isReady = false;
+  if (!running && waiting.length === 0 && round.asked === 0) say("The module is being compiled.");
+  try {
+    worker = new Worker(URL.createObjectURL(new Blob([WORKER], { type: "text/javascript" })));
+    worker.onerror = (error) => fail(error.message || "its worker does not start");
+    worker.onmessage = ({ data }) => received(data);
+    const bytes = Uint8Array.from(atob(at("module").textContent), (byte) => byte.charCodeAt(0)).buffer;
+    worker.postMessage({ packed: bytes }, [bytes]);
+  } catch (error) {
+    fail(error.message);
+  }
+}
+
+/** Ends the worker. (An answer on its way from it is no answer to a later command.) */
+function end() {
+  worker.onmessage = null;
+  worker.terminate();
+}
+
+/** Says that nothing can be computed. */
+function fail(message) {
+  isReady = false;
+  running = null;
+  waiting.length = 0;
+  document.body.classList.add("failed");
+  at("run").disabled = true;
+  update();
+  say(`The module could not be started in this browser, so nothing can be computed here: ${message}`);
+}
+
+function received(data) {
+  if (data.failed !== undefined) return fail(data.failed);
+  if (data.ready) {
+    isReady = true;
+    at("run").disabled = false;
+    if (waiting.length === 0 && round.asked === 0) say("Ready.");
+    return next();
+  }
+  const job = running;
+  running = null;
+  if (data.grown > LARGE_MEMORY) end(), boot();
+  finish(job, data);
+  return next();
+}
+
+/** Hands on what a job came to. */
+function finish(job, answer) {
+  const how = answer.stopped ? "stopped" : answer.status === 0 ? "answered" : "refused";
+  round[how] += 1;
+  round.last = job.done(job, answer);
+}
+
+function next() {
+  if (isReady && !running && waiting.length > 0) {
+    running = waiting.shift();
+    running.began = performance.now();
+    if (round.asked === 1) say(`${named(inSight(running.line))} is running.`);
+    worker.postMessage({ line: running.line, input: running.input || "" });
+    if (running.most) running.timer = setTimeout(stop, running.most, `it was stopped after ${running.most / 1000} s, since it came with a link`);
+  }
+  if (!running && waiting.length === 0 && round.asked > 0) sumUp();
+  update();
+}
+
+/** Says once what the queue came to. */
+function sumUp() {
+  const { asked: count, answered, refused, stopped, last } = round;
+  const parts = [[answered, "answered"], [refused, "refused"], [stopped, "stopped"]].filter(([number]) => number > 0);
+  if (count === 1) say(...last);
+  else say(`${count.toLocaleString("en")} commands: ${allOf(parts.map(([number, how]) => `${number.toLocaleString("en")} ${how}`))}.`);
+  round = { asked: 0, answered: 0, refused: 0, stopped: 0, last: [] };
+}
+
+function stop(why = "") {
+  if (!running) return;
+  end();
+  const job = running;
+  clearTimeout(job.timer);
+  running = null;
+  finish(job, { stopped: true, why, time: performance.now() - job.began });
+  boot();
+  if (waiting.length === 0 && round.asked > 0) sumUp();
+  update();
+}
+
+/** Has jobs run after those that wait, none if the module did not start. A job is a line, perhaps with input, and what is `done` with its answer. */
+function enqueue(jobs) {
+  if (document.body.classList.contains("failed")) return;
+  round.asked += jobs.length;
+  for (const job of jobs) waiting.push(job);
+  if (round.asked > 1) say(`${round.asked.toLocaleString("en")} commands are running.`);
+  next();
+}
+
+/** Takes what waits away. */
+function clearQueue() {
+  round.asked -= waiting.length;
+  waiting.length = 0;
+  update();
+  say("The queue was cleared.");
+}
+
+/** Shows what runs and what waits. If the button with the focus is gone then, the field has it. */
+function update() {
+  const focused = document.activeElement;
+  at("stop").disabled = !running;
+  at("queue").hidden = waiting.length === 0;
+  at("count").textContent = `${countOfThings(waiting.length, "command waits", "commands wait")}.`;
+  showWaiting();
+  if (focused.disabled || !focused.isConnected || focused.closest("[hidden]")) toField();
+  clearInterval(clock);
+  tick();
+  if (running) clock = setInterval(tick, 100);
+}
+
+/** The items of what waits. Those that are there stay as they are, so that none of their buttons loses the focus. */
+function showWaiting() {
+  const items = new Set(waiting.slice(0, MOST_LISTED).map((job) => (job.item = job.item || waitingItem(job))));
+  for (const old of [...at("waiting").children]) if (!items.has(old)) old.remove();
+  at("waiting").append(...[...items].filter((it) => !it.isConnected));
+}
+
+function waitingItem(job) {
+  const remove = button("Remove", () => {
+    waiting.splice(waiting.indexOf(job), 1);
+    round.asked -= 1;
+    update();
+  });
+  remove.setAttribute("aria-label", `Remove ${named(inSight(job.line))}`);
+  return element("li", {}, element("code", {}, named(inSight(job.line))), " ", remove);
+}
+
+/** The sign that a command runs, which comes after a moment, and the time that has passed. */
+function tick() {
+  const passed = running ? performance.now() - running.began : 0;
+  at("progress").hidden = passed < 250;
+  if (running) at("elapsed").textContent = `${(passed / 1000).toFixed(1)} s`;
+}

@@ -1,0 +1,195 @@
+// What a line could mean: lines that the program takes, each shown in mathematics. They are offered, and run only when one is pressed.
+
+/** The most lines that are offered for one. */
+const MOST_OFFERED = 4;
+
+/** A list of numbers as text for a line. */
+const asWords = (numbers) => numbers.join(" ");
+
+/** The conjugate of a partition. */
+function conjugate(numbers) {
+  const parts = numbers.map(Number), count = Math.min(parts[0] || 0, 600);
+  return Array.from({ length: count }, (_, j) => String(parts.filter((part) => part > j).length));
+}
+
+/** The letters of a product of cycles; null if a letter comes twice, or is none. */
+function fromCycles(cycles) {
+  const all = cycles.flat().map(Number), most = Math.max(0, ...all);
+  if (most > LIMITS.letters || most === 0 || all.includes(0) || new Set(all).size < all.length) return null;
+  let letters = Array.from({ length: most }, (_, i) => i + 1);
+  for (const cycle of cycles.map((it) => it.map(Number))) {
+    letters = letters.map((it) => (cycle.includes(it) ? cycle[(cycle.indexOf(it) + 1) % cycle.length] : it));
+  }
+  return letters.map(String);
+}
+
+/** The digits of a number as numbers of their own. */
+const digitsOf = (number) => (/^[1-9]{2,}$/.test(number) ? [...number] : [number]);
+
+/** Whether a token has numbers, and which. */
+function numbersIn(token) {
+  return token.kind === "number" ? [token.text] : token.kind === "list" ? token.numbers : null;
+}
+
+/** The lists of a line as they stand: each list, and each run of numbers; with a coefficient before it or a prime after it. */
+function groupsOf(tokens) {
+  const groups = [];
+  let run = null;
+  for (const [i, token] of tokens.entries()) {
+    const numbers = numbersIn(token), next = tokens[i + 1];
+    const isFactor = token.kind === "number" && next && next.kind === "list" && !next.gap;
+    if (token.kind === "number" && !isFactor && run) run.numbers.push(token.text);
+    else if (isFactor) run = null;
+    else if (numbers) {
+      const before = tokens[i - 1], scalar = before && !token.gap && before.kind === "number" ? before.text : "";
+      groups.push({ numbers: [...numbers], token, scalar, isPrimed: false, isMinus: before !== undefined && before.text === "-" && !token.gap });
+      run = token.kind === "number" ? groups[groups.length - 1] : null;
+    } else {
+      run = null;
+      if (token.kind === "prime" && groups.length > 0) groups[groups.length - 1].isPrimed = true;
+    }
+  }
+  return groups;
+}
+
+/** The line of a command with these lists, and these numbers before them. */
+function lineOf(name, singles, lists, options = "") {
+  const signs = signsOf(name, Math.max(lists.length - 1, 1));
+  const text = lists.map((it, i) => [...(i > 0 ? [signs[i - 1] || "-"] : []), ...it].join(" ")).join(" ");
+  return [name, options, ...singles, text].filter(Boolean).join(" ").replace(/ +/g, " ").trim();
+}
+
+/** The numbers that a command takes before its lists: how many; and the least ones with which its lists fit. */
+function singlesOf(name, lists) {
+  const slots = GRAMMAR.get(name).words.filter((it) => ["rows", "columns", "level"].includes(it.role));
+  const rows = Math.max(1, ...lists.map((it) => it.length)), columns = Math.max(1, ...lists.map((it) => Number(it[0] || 0)));
+  return slots.map((it) => String(it.role === "rows" ? rows : columns));
+}
+
+/** All ways to read the lists of a line, each as the words of a line; some of them are no lines. */
+function* waysOf(name, tokens, typed) {
+  const signs = tokens.filter((it) => it.kind === "sign" || numbersIn(it));
+  const options = tokens.some((it) => it.text === "-m") && GRAMMAR.get(name).words.some((it) => it.optional && it.optional[0].sign === "-m") ? "-m" : "";
+  const groups = groupsOf(tokens), split = (it) => (it.token.isIndex ? digitsOf(it.numbers[0]) : it.numbers);
+  const scalars = groups.some((it) => it.scalar) || (groups[0] && groups[0].isMinus);
+  if (scalars && ["mult", "expand"].includes(name)) {
+    const factor = (it) => `${it.scalar ? `${it.scalar}*` : ""}s[${it.numbers.join(",")}]`;
+    yield `expand s ${groups[0].isMinus ? "-" : ""}${groups.map(factor).join("*")}`;
+  }
+  if (groups.some((it) => it.isPrimed)) yield* plainWays(name, groups.map((it) => (it.isPrimed ? conjugate(it.numbers) : it.numbers)), options);
+  yield* cycleWays(name, tokens);
+  yield* plainWays(name, groups.map(split), options);
+  yield* plainWays(name, groups.map((it) => it.numbers), options);
+  yield* plainWays(name, typed.split(/[-/,;*]\s+|\s+[-/*]\s*/).map((it) => it.match(/\d+/g) || []).filter((it) => it.length > 0), options);
+  if (!scalars) yield [name, ...signs.flatMap((it) => numbersIn(it) || [it.text === "*" ? "-" : it.text === "," ? "" : it.text])].join(" ").replace(/ +/g, " ");
+}
+
+/** The lists side by side or with what is missing put in. */
+function* plainWays(name, lists, options) {
+  const missing = singlesOf(name, lists), slots = GRAMMAR.get(name).words;
+  if (missing.length > 0) {
+    const [first, ...rest] = lists;
+    if (first && first.length >= missing.length) {
+      const own = first.slice(missing.length);
+      yield lineOf(name, first.slice(0, missing.length), own.length > 0 ? [own, ...rest] : rest, options);
+    }
+    if (first && first.length === 1) yield lineOf(name, [first[0], ...singlesOf(name, rest).slice(1)], rest, options);
+    yield lineOf(name, missing, lists, options);
+    return;
+  }
+  if (slots[0] && slots[0].sign === "-r") yield lineOf(name, ["-r", String(Math.max(1, ...lists.map((it) => it.length)))], lists);
+  yield lineOf(name, [], lists, options);
+}
+
+/** The readings of lists in parentheses as permutations: in one line, and as cycles. */
+function* cycleWays(name, tokens) {
+  const kinds = GRAMMAR.get(name).words.filter(isList).map((it) => it.role);
+  if (!["permutation", "letters"].includes(kinds[0])) return;
+  const factors = [[]];
+  for (const token of tokens) {
+    if (token.kind === "list") factors[factors.length - 1].push(token);
+    else if (token.kind === "sign" && factors[factors.length - 1].length > 0) factors.push([]);
+  }
+  const isCut = kinds.length > 1 && factors.length === 1;
+  const cut = isCut ? factors[0].map((it) => [it]) : factors;
+  const front = GRAMMAR.get(name).words[0].sign === "-r" ? ["-r", (tokens.find((it) => it.kind === "number") || { text: String(Math.max(1, tokens.length)) }).text] : [];
+  const cycles = cut.map((factor) => fromCycles(factor.map((it) => it.numbers)));
+  if (cut.every((factor) => factor.length === 1)) yield lineOf(name, front, cut.map(([it]) => it.numbers));
+  if (cycles.every(Boolean)) yield lineOf(name, front, cycles);
+}
+
+/** The readings of a line with an expression: blanks as nothing or as times signs, and atoms for lists. */
+function* expressionWays(name, text) {
+  const [, basis, rest] = /^\s*(?:-m\s+)?([mehps])\s+(.*)$/.exec(text) || [null, "s", text.trim()];
+  const tight = rest.replace(/\s*([-+*/,()[\]])\s*/g, "$1");
+  const listed = tight.replace(/(^|[-+*(\s])[([{](\d+(?:[\s,]+\d+)*)[)\]}]/g, (_, before, list) => `${before}s[${list.replace(/[\s,]+/g, ",")}]`);
+  const times = (it) => it.replace(/([\])\d])\s*(?=[mehps([])/g, "$1*").replace(/\[(\d+(?: +\d+)+)\]/g, (list) => list.replace(/ +/g, ","));
+  for (const way of [tight.replace(/\s+/g, ""), times(tight), times(listed)]) yield `${name} ${basis} ${way.replace(/\s+/g, "*")}`;
+  const atom = /([mehps])_\{?(\d{2,})\}?/.exec(rest);
+  if (atom) {
+    const whole = (list) => rest.replace(/([mehps])_\{?(\d+)\}?/g, (_, b, digits) => `${b}[${list(digits)}]`).replace(/\s+/g, "");
+    yield `${name} ${basis} ${whole((it) => digitsOf(it).join(","))}`;
+    yield `${name} ${basis} ${whole((it) => it)}`;
+  }
+}
+
+/** The readings of a line that has a name of no command, or none. */
+function* namelessWays(line) {
+  const [first] = textsOfWords(line), other = first === undefined ? null : commandLike(first);
+  if (other) yield line.replace(first, other);
+  const tight = line.replace(/\s+/g, "");
+  if (/[mehps]\[/.test(tight)) for (const basis of ["s", "m", "p"]) yield `expand ${basis} ${tight}`;
+  const lists = tokensOf(line).filter((it) => it.kind === "list").map((it) => it.numbers);
+  if (/^[\s\d()[\]{},*]+$/.test(line) && lists.length > 1 && /[([{]/.test(line)) yield lineOf("mult", [], lists);
+}
+
+/** The lines that a line which the program refuses could mean. */
+function offersFor(typed) {
+  const isHidden = HIDDEN_INSIDE.test(typed), seen = typed.replace(ALL_UNSEEN, "");
+  const ways = isHidden ? [seen, typed.replace(ALL_UNSEEN, " ")] : [];
+  let line = seen.replace(/^\s*\$?\s*/, "").replace(PROGRAM, "").replace(/^lrcalc\s+/, "").trim();
+  for (const [, from, to] of SAME) line = line.replace(from, to);
+  const name = /^[a-z]*/.exec(line)[0], rest = line.slice(name.length);
+  if (!GRAMMAR.has(name)) ways.push(...namelessWays(line));
+  else if (["expand", "plethysm"].includes(name)) ways.push(...expressionWays(name, rest));
+  else ways.push(...waysOf(name, tokensOf(withoutQuotes(rest)), rest), ...lettersApart(line));
+  const lines = ways.map((it) => readTyped(it)).filter((it) => !it.reason).map((it) => it.line);
+  return [...new Set(lines)].filter((it) => it !== typed.trim() && isSound(textsOfWords(it))).slice(0, MOST_OFFERED);
+}
+
+/** The line with the digits of each list that is a single number of several digits as numbers of their own, if it has one. */
+function lettersApart(line) {
+  const words = textsOfWords(line), parts = partsOf(words);
+  if (!parts) return [];
+  const roles = ["partition", "permutation", "letters"];
+  const isRun = ({ role, words: [first, ...more] }) => roles.includes(role) && more.length === 0 && first !== undefined && digitsOf(first).length > 1;
+  if (!parts.some(isRun)) return [];
+  const other = [words[0], ...parts.flatMap((it) => (it.sign ? [it.sign] : isRun(it) ? digitsOf(it.words[0]) : it.words))];
+  return isSound(other) ? [asWords(other)] : [];
+}
+
+/** The line with the digits of the atoms that have a single number of several digits apart, and with Schur functions for numbers in parentheses. */
+function atomsApart(words) {
+  const others = [], at = words.findIndex((it, i) => i > 0 && /[[(]/.test(it));
+  const put = (why, from, to) => {
+    const other = words.map((it, i) => (i < at ? it : it.replace(from, to)));
+    if (other.join() !== words.join() && isCommand(other)) others.push({ line: asWords(other), why });
+  };
+  if (at < 0) return others;
+  put("Its digits apart are", /\[([1-9]{2,})\]/g, (all, digits) => (isDecreasing([...digits]) ? `[${[...digits].join(",")}]` : all));
+  put("A number in parentheses is a number. With Schur functions it is", /(^|[-+*(])\((\d+)\)/g, "$1s[$2]");
+  return others;
+}
+
+/** What a line that was answered could have been meant as: digits of one number as a list, or Gr(K, C) for Gr(K, K+C). */
+function meantInstead(line) {
+  const words = textsOfWords(line), found = lettersApart(line).map((it) => ({ line: it, why: "Its digits apart are" }));
+  if (["expand", "plethysm"].includes(words[0])) return atomsApart(words);
+  if (words[0] === "quantum") {
+    const [rows, columns] = words.slice(1, 3).map(Number), width = columns - rows;
+    const other = [words[0], words[1], String(width), ...words.slice(3)], lists = (partsOf(words) || []).filter((it) => it.role === "partition");
+    const isFitting = lists.every(({ words: it }) => partition(it).length <= rows && Number(it[0] || 0) <= width);
+    if (width > 0 && isFitting && isSound(other)) found.push({ line: asWords(other), why: `C = ${columns} is the number of columns. In Gr(${rows},${columns}) it is` });
+  }
+  return found;
+}

@@ -1,0 +1,219 @@
+// The answers on the page: what was computed, the text as the module printed it, what it means, and what can be copied.
+
+const LINES_SHOWN = 200;
+const LINES_MORE = 1000;
+const MOST_LINES = 20000;
+const CHARACTERS_OF_LINE = 500;
+/** The most characters of an answer that are shown. */
+const MOST_CHARACTERS = 1 << 20;
+/** The most answers that are shown, and the most characters of all answers that are kept to be downloaded. */
+const MOST_ANSWERS = 100;
+const MOST_KEPT = 1 << 26;
+
+/** The answers that are kept, the latest last: `{line, text}`. */
+const kept = [];
+let numberOfAnswer = 0;
+
+function button(name, action) {
+  const it = element("button", { type: "button" }, name);
+  it.onclick = action;
+  return it;
+}
+
+async function copy(text, what) {
+  try {
+    await navigator.clipboard.writeText(text);
+    say(`${what} copied.`);
+  } catch {
+    const field = element("textarea");
+    field.value = text;
+    document.body.append(field);
+    field.select();
+    const isDone = document.execCommand("copy");
+    field.remove();
+    say(isDone ? `${what} copied.` : "The browser does not let this page copy. Mark the text and copy it.");
+  }
+}
+
+function download(name, texts) {
+  const link = element("a", { href: URL.createObjectURL(new Blob(texts, { type: "text/plain" })), download: name });
+  link.click();
+  setTimeout(() => URL.revokeObjectURL(link.href), 60000);
+  say("The download begins.");
+}
+
+/** A name for a file with the answer to a line. */
+function nameOfFile(line, end) {
+  return `calc ${line}`.replace(/[^\w.,-]+/g, "_").slice(0, 80) + end;
+}
+
+/** Where this number of lines of a text ends; fewer lines, or a part of a single one, if they are very long. */
+function endOf(text, lines, begin = 0) {
+  const most = begin + CHARACTERS_OF_LINE * lines;
+  let end = begin;
+  for (let i = 0; i < lines && end < text.length; i += 1) end = text.indexOf("\n", end) + 1 || text.length;
+  if (end <= most) return end;
+  const last = text.lastIndexOf("\n", most - 1) + 1;
+  return last > begin ? last : most;
+}
+
+/** How many lines a text has. */
+function linesIn(text) {
+  let count = 0;
+  for (let end = text.indexOf("\n"); end >= 0; end = text.indexOf("\n", end + 1)) count += 1;
+  return count;
+}
+
+/** The text of an answer, in part where it is long, and below it what is shown and how to have the rest. */
+function textOf(line, text) {
+  const body = element("pre", { tabindex: "0", "aria-label": "The text of the answer" });
+  const part = element("p", { class: "part" }), all = linesIn(text);
+  let end = 0, lines = 0;
+  const show = (count) => {
+    for (const goal = Math.min(lines + count, MOST_LINES); end < text.length && lines < goal && end < MOST_CHARACTERS; ) {
+      const next = endOf(text, LINES_SHOWN, end), piece = text.slice(end, next);
+      body.append(element("span", {}, piece));
+      lines += linesIn(piece) || LINES_SHOWN;
+      end = next;
+    }
+    const shown = linesIn(text.slice(0, end)), isCut = end < text.length;
+    const [some, whole, what] = shown < all && shown > 0 ? [shown, all, "lines"] : [end, text.length, "characters"];
+    const said = `The first ${some.toLocaleString("en")} of ${whole.toLocaleString("en")} ${what} are shown.`;
+    const isMore = isCut && lines < MOST_LINES && end < MOST_CHARACTERS;
+    const more = isMore ? [button("Show more", () => show(LINES_MORE)), " "] : [];
+    part.replaceChildren(said, " ", ...more, button("Download", () => download(nameOfFile(line, ".txt"), [text])));
+    part.hidden = !isCut;
+  };
+  show(LINES_SHOWN);
+  return [body, part];
+}
+
+/** As much of a text as is looked at before a button asks for more: the lines shown first; a single line whole, if it is not too long. */
+function frontOf(line, text) {
+  return line.includes("-m") && text.length < MOST_CHARACTERS ? text : text.slice(0, endOf(text, LINES_SHOWN));
+}
+
+/** The words of a line, with the place of an offence marked, and unseen characters in sight. */
+function marked(line, told) {
+  if (!told || told.at === undefined) return [inSight(line)];
+  const end = told.at + told.length, mark = element("mark", {}, inSight(line.slice(told.at, end)));
+  if (told.length === 0) mark.className = "end";
+  return [inSight(line.slice(0, told.at)), mark, inSight(line.slice(end))];
+}
+
+/** How an answer ended and how long it took, in words. */
+function aboutOf(status, count, time, isStopped) {
+  const refused = status < 0 ? "no answer" : `refused, status ${status}`;
+  const how = isStopped ? "stopped" : status === 0 ? count : refused;
+  const took = time < 1000 ? `${time.toFixed(0)} ms` : `${(time / 1000).toFixed(1)} s`;
+  return [how, time < 1 ? "under 1 ms" : took].filter(Boolean).join(", ");
+}
+
+const note = (name, ...parts) => element("p", { class: name }, ...parts);
+
+/** What the page did to what was typed, in words, if it did something. */
+function changesOf({ typed, changes }) {
+  return changes.length > 0 ? [note("note", `Typed as “${inSight(typed)}”. The page ${allOf(changes)}.`)] : [];
+}
+
+/** A button that runs a line, and what it computes, in mathematics. */
+function offer(line) {
+  return [element("button", { type: "button", "data-line": line }, line), " ", element("span", { class: "math" }, ...formula(computedBy(line)))];
+}
+
+/** What a line could mean that was refused, or that was answered and can be meant otherwise. */
+function offersOf({ typed, line, reason }, isDone) {
+  if (isDone) return meantInstead(line).map((it) => note("offer", `${it.why}: `, ...offer(it.line)));
+  const lines = offersFor(typed);
+  const items = lines.map((it) => element("li", {}, ...offer(it)));
+  const said = [UNCLEAR[reason], lines.length > 0 ? "It could mean:" : ""].filter(Boolean).join(" ");
+  return [...(said ? [note("unclear", said)] : []), ...(items.length > 0 ? [element("ul", { class: "offers" }, ...items)] : [])];
+}
+
+/** What the page adds to the text of an answer, in words: what was refused, what it means. */
+function notesOf(job, isDone, told, error) {
+  const { line } = job, notes = told ? [note("said", told.sentence + (error ? ` (${error})` : ""))] : [];
+  if (isDone && line === "batch") notes.push(note("note", "Here batch has no input. Type commands with ; between them."));
+  return isDone ? [...notes, ...meaningsOf(line).map((it) => note("meaning", ...it))] : notes;
+}
+
+/** What was computed, in mathematics, from the words that ran; and beside the text of a short list of terms the sum that it is. */
+function mathematicsOf(line, text, answer) {
+  const computed = computedBy(line);
+  const isSum = answer && answer.kind === "terms" && answer.terms.length <= MOST_DRAWN && sizeOf(answer, text) === answer.terms.length;
+  const sum = isSum ? [element("p", { class: "sum math" }, "= ", ...formula(shownSum(answer.terms, answer.letter)))] : [];
+  return [computed ? [element("p", { class: "computed math" }, ...formula(computed))] : [], line.startsWith("coef") ? [] : sum];
+}
+
+/** Shows an answer above the others, and says what it came to. */
+function show(job, { status, text = "", time, stopped, why, error }) {
+  const { line } = job, isDone = status === 0;
+  const told = stopped || isDone ? null : explained(line, status, text);
+  const answer = isDone ? answerOf(line, frontOf(line, text)) : null, count = countOf(answer, text);
+  const [computed, sum] = isDone || stopped || /^! (Large|Range|Literal|Shape)/.test(text) ? mathematicsOf(line, text, answer) : [[], []];
+  const id = `answer-${(numberOfAnswer += 1)}`, title = element("h3", { id }, element("code", { dir: "ltr" }, ...marked(line, told)));
+  const header = element("header", {}, title, element("span", {}, aboutOf(status, count, time, stopped)));
+  const article = element("article", { "aria-labelledby": id, tabindex: "-1", ...(isDone ? {} : { class: "refused" }) }, header, ...computed, ...changesOf(job));
+  article.dataset.of = line;
+  if (text) article.append(...textOf(line, text), ...sum);
+  if (stopped && why) article.append(note("note", `Press Run for the answer: ${why}.`));
+  article.append(...notesOf(job, isDone, told, error), ...(stopped ? [] : offersOf(job, isDone)), toolsOf(line, text, answer));
+  article.append(...picturesOf(line, answer, text));
+  place(article, line, text);
+  performance.mark("answer");
+  const outcome = stopped ? "stopped" : told ? "refused" : count || "done";
+  return [`${named(inSight(line))}: ${outcome}.`, told ? told.sentence : ""];
+}
+
+/** The drawings of an answer and its pictures step by step; a button for them, where many commands wait. */
+function picturesOf(line, answer, text) {
+  const made = () => [drawn(answer, text), steps(line, answer)].filter(Boolean);
+  if (waiting.length < 20) return made();
+  return answer && drawn(answer, text) ? [button("Draw", (event) => event.target.replaceWith(...made()))] : [];
+}
+
+/** Puts an article above the others, keeps its text, and takes the oldest ones away. */
+function place(article, line, text) {
+  at("given").hidden = false;
+  at("answers").prepend(article);
+  kept.push({ line, text });
+  for (let size = kept.reduce((sum, it) => sum + it.text.length, 0); size > MOST_KEPT && kept.length > 1; ) size -= kept.shift().text.length;
+  const articles = at("answers").children;
+  while (articles.length > MOST_ANSWERS) articles[articles.length - 1].remove();
+  at("older").hidden = kept.length <= articles.length;
+  at("older").textContent = `The last ${articles.length} of ${kept.length.toLocaleString("en")} answers are shown. All can be downloaded.`;
+}
+
+/** Takes all answers away. */
+function clearAnswers() {
+  at("answers").replaceChildren();
+  kept.length = 0;
+  at("given").hidden = true;
+  at("older").hidden = true;
+  say("The answers were cleared.");
+  toField();
+}
+
+/** The answers as a transcript. */
+function transcript() {
+  return kept.map(({ line, text }) => `$ calc ${line}\n${text}`);
+}
+
+/** The buttons of an answer. What they copy is made when they are pressed. */
+function toolsOf(line, text, answer) {
+  const tools = element("div", { class: "tools" });
+  const add = (name, made, what) => tools.append(button(name, () => copy(made(), what)));
+  const whole = () => answerOf(line, text);
+  if (text) add("Copy text", () => text, "Text");
+  if (answer) add("Copy LaTeX", () => latexOf(whole()), "LaTeX");
+  if (answer && sageOf(answer) !== null) add("Copy for Sage", () => sageOf(whole()), "Text for Sage");
+  add("Copy link", () => `${location.href.split("#")[0]}#${encodeURIComponent(line)}`, "Link");
+  return tools;
+}
+
+/** What the questions to begin with say of the answer to a line, each as its parts. */
+function meaningsOf(line) {
+  const buttons = [...document.querySelectorAll("#questions [data-line]")];
+  const asking = buttons.filter((it) => it.dataset.line === line);
+  return asking.map((it) => it.closest("li").querySelector(".meant").cloneNode(true).childNodes);
+}

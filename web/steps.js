@@ -1,0 +1,192 @@
+// Pictures step by step: how a word is inserted, how a tableau slides, how a Littlewood–Richardson tableau is read, and the pipe dreams of a
+// permutation. Each is made here anew, and shown only if it ends where the printed answer is.
+
+/** The most steps of a picture, and the most letters of a permutation whose pipe dreams are drawn. */
+const MOST_STEPS = 400;
+const MOST_PIPES = 6;
+
+/** The pictures of an answer, if it has some: a title, and for each step what is drawn and what is said. */
+function framesOf(line, answer) {
+  if (!answer) return null;
+  const parts = partsOf(textsOfWords(line)) || [], list = (role) => (parts.find((it) => it.role === role) || { words: [] }).words;
+  if (line.startsWith("rsk")) return insertion(list("letters").map(plainNumber), answer);
+  if (line.startsWith("rect")) return rectification(list("partition"), parts.filter((it) => it.role === "partition")[1].words, list("filling"), answer);
+  if (line.startsWith("tab")) return readings(answer);
+  return line.startsWith("schubert") ? pipeDreams(list("permutation").map(Number), answer) : null;
+}
+
+/** The pictures of an answer, one at a time, with buttons for the one before and the next. */
+function steps(line, answer) {
+  const found = framesOf(line, answer);
+  if (!found || found.frames.length < 2 || found.frames.length > MOST_STEPS) return null;
+  const { title, frames } = found;
+  let number = 0;
+  const drawing = element("div", { class: "step-drawing" }), caption = element("p", { class: "step-caption" });
+  const place = element("input", { type: "range", min: "1", max: String(frames.length), value: "1", "aria-label": title });
+  const show = (next) => {
+    number = Math.min(Math.max(next, 0), frames.length - 1);
+    const frame = frames[number]();
+    drawing.replaceChildren(...frame.drawings);
+    caption.replaceChildren(`${number + 1} of ${frames.length}. `, ...formula(frame.said));
+    place.value = String(number + 1);
+    place.setAttribute("aria-valuetext", plainFormula(frame.said));
+  };
+  place.oninput = () => show(Number(place.value) - 1);
+  const buttons = [button("Before", () => show(number - 1)), place, button("Next", () => show(number + 1))];
+  show(0);
+  return element("div", { class: "steps", role: "group", "aria-label": title }, note("step-title", title), element("div", { class: "tools" }, ...buttons), drawing, caption);
+}
+
+const textOfRows = (rows) => rows.map((row) => row.join(" ")).join(" / ");
+
+// ---- row insertion
+
+/** Inserts a letter into the rows of a tableau: the cells where it and what it moves come to be. */
+function insertLetter(rows, letter) {
+  const path = [];
+  let moving = letter;
+  for (let i = 0; ; i += 1) {
+    if (i === rows.length) rows.push([]);
+    const j = rows[i].findIndex((it) => Number(it) > Number(moving));
+    path.push([i, j < 0 ? rows[i].length : j]);
+    if (j < 0) return rows[i].push(moving), path;
+    [rows[i][j], moving] = [moving, rows[i][j]];
+  }
+}
+
+function insertion(letters, answer) {
+  const rows = [], recording = [], frames = [];
+  const keep = (path, said) => {
+    const [p, q] = [rows, recording].map((it) => it.map((row) => [...row]));
+    const last = path.length > 0 ? [path[path.length - 1]] : [];
+    frames.push(() => ({ drawings: [figure(tableauPicture(p, [], "tableau P", path), "P"), figure(tableauPicture(q, [], "tableau Q", last), "Q")], said }));
+  };
+  keep([], "P and Q are empty.");
+  for (const [n, letter] of letters.entries()) {
+    const path = insertLetter(rows, letter), [i] = path[path.length - 1];
+    (recording[i] = recording[i] || []).push(String(n + 1));
+    const moved = path.length - 1;
+    keep(path, `${letter} is inserted${moved > 0 ? `; ${countOfThings(moved, "letter moves", "letters move")} down` : ""}. Q has ${n + 1} in the new cell.`);
+  }
+  const isPrinted = [rows, recording].every((it, i) => textOfRows(it) === textOfRows(answer.tableaux[i]));
+  return isPrinted ? { title: "Row insertion, letter by letter", frames } : null;
+}
+
+// ---- slides
+
+/** The rows of a skew tableau as typed: `.` is a row without cells. */
+function rowsTyped(words) {
+  return words.join(" ").split(" / ").map((row) => (row === "." || row === "" ? [] : row.split(" ").map(plainNumber)));
+}
+
+function rectification(outer, inner, filling, answer) {
+  const begins = partition(inner).map(Number), cells = rowsTyped(filling).map((row, i) => [...Array(begins[i] || 0).fill(null), ...row]);
+  const frames = [];
+  const keep = (marks, said) => {
+    const rows = cells.map((row) => row.filter((it) => it !== null)), empty_ = cells.map((row) => row.findIndex((it) => it !== null)), at_ = cells.map((row, i) => (empty_[i] < 0 ? row.length : empty_[i]));
+    frames.push(() => ({ drawings: [figure(tableauPicture(rows, at_, "tableau", marks))], said }));
+  };
+  keep([], `The tableau of shape ${[outer, inner].map(shown).join("/")}.`);
+  for (let i = begins.length - 1; i >= 0; i -= 1) {
+    for (let j = begins[i] - 1; j >= 0; j -= 1) {
+      const path = slide(cells, i, j);
+      keep(path, `A slide into row ${i + 1}, column ${j + 1}: ${path.length === 1 ? "no entry moves" : `${countOfThings(path.length - 1, "entry moves", "entries move")} to the left or up`}.`);
+    }
+  }
+  const rows = cells.filter((row) => row.length > 0);
+  return textOfRows(rows) === textOfRows(answer.tableaux[0]) ? { title: "Slides, one after another", frames } : null;
+}
+
+/** Moves an empty cell to the right and down until it leaves the tableau: the cells on its way. If both neighbours are equal, the lower one moves. */
+function slide(cells, i, j) {
+  const path = [[i, j]];
+  for (;;) {
+    const right = cells[i][j + 1], below = cells[i + 1] && cells[i + 1][j];
+    if (right === undefined && below === undefined) break;
+    const isBelow = right === undefined || (below !== undefined && Number(below) <= Number(right));
+    cells[i][j] = isBelow ? below : right;
+    if (isBelow) i += 1;
+    else j += 1;
+    path.push([i, j]);
+  }
+  cells[i].pop();
+  return path;
+}
+
+// ---- readings of Littlewood–Richardson tableaux
+
+/** The first tableau read along its columns, from right to left, each from top to bottom: the letters so far make a partition. */
+function readings({ tableaux, inner }) {
+  if (tableaux.length === 0 || tableaux[0].every((row) => row.length === 0)) return null;
+  const begin = (i) => inner[i] || 0, [rows] = tableaux, frames = [];
+  const columns = Math.max(...rows.map((row, i) => begin(i) + row.length)), content = [], read = [], marks = [];
+  for (let j = columns - 1; j >= 0; j -= 1) {
+    for (const [i, row] of rows.entries()) {
+      const entry = row[j - begin(i)];
+      if (j < begin(i) || entry === undefined) continue;
+      read.push(entry);
+      marks.push([i, j]);
+      content[Number(entry) - 1] = (content[Number(entry) - 1] || 0) + 1;
+      const [word, seen, shape] = [[...read], [...marks], [...content].map((it) => it || 0)];
+      if (!isDecreasing(shape)) return null;
+      frames.push(() => ({ drawings: [figure(tableauPicture(rows, inner, "tableau", seen)), figure(diagram(shape), "content")], said: `Read so far: ${word.join(" ")}. The content ${shown(shape.map(String))} is a partition.` }));
+    }
+  }
+  return { title: "The first tableau, read column by column from the right", frames };
+}
+
+// ---- pipe dreams
+
+/** The crosses of the reduced pipe dreams of a permutation, each a list of cells, read by rows from the top, each from the right. */
+function crossesOf(w) {
+  const n = w.length, length = w.reduce((sum, a, i) => sum + w.slice(i).filter((b) => b < a).length, 0), cells = [], found = [];
+  for (let i = 0; i < n; i += 1) for (let j = n - 2 - i; j >= 0; j -= 1) cells.push([i, j]);
+  const walk_ = (k, left, crosses) => {
+    if (crosses.length === length) return left.every((it, i) => it === i + 1) && found.push(crosses);
+    if (k === cells.length || cells.length - k < length - crosses.length) return undefined;
+    const [i, j] = cells[k], place = left.indexOf(i + j + 1), other = left.indexOf(i + j + 2);
+    if (place > other) {
+      const next = [...left];
+      [next[place], next[other]] = [next[other], next[place]];
+      walk_(k + 1, next, [...crosses, cells[k]]);
+    }
+    return walk_(k + 1, left, crosses);
+  };
+  walk_(0, [...w], []);
+  return found;
+}
+
+/** The picture of a pipe dream: pipes that cross, or turn, in each cell of a staircase. */
+function pipePicture(n, crosses, name) {
+  const side = 26, lines = [];
+  for (let i = 0; i < n; i += 1) {
+    for (let j = 0; i + j < n; j += 1) {
+      const x = j * side + 18, y = i * side + 18, half = side / 2, isLast = i + j === n - 1;
+      if (crosses.some(([a, b]) => a === i && b === j)) lines.push(`M${x} ${y + half}h${side}M${x + half} ${y}v${side}`);
+      else lines.push(`M${x} ${y + half}q${half} 0 ${half} ${-half}${isLast ? "" : `M${x + half} ${y + side}q0 ${-half} ${half} ${-half}`}`);
+    }
+  }
+  const size = n * side + 22, svg = element("svg", { width: size, height: size, role: "img", "aria-label": name }, element("path", { class: "pipes", d: lines.join("") }));
+  for (let i = 0; i < n; i += 1) svg.append(element("text", { x: i * side + 18 + side / 2, y: 9 }, String(i + 1)), element("text", { x: 9, y: i * side + 18 + side / 2 }, String(i + 1)));
+  return svg;
+}
+
+function pipeDreams(w, answer) {
+  while (w.length > 1 && w[w.length - 1] === w.length) w.pop();
+  if (w.length > MOST_PIPES || w.length < 2 || answer.kind !== "terms") return null;
+  const weightOf = (crosses) => {
+    const rows = Array(w.length).fill(0);
+    for (const [i] of crosses) rows[i] += 1;
+    while (rows[rows.length - 1] === 0) rows.pop();
+    return rows;
+  };
+  const all = crossesOf(w).map((crosses) => ({ crosses, weight: weightOf(crosses) })), counts = new Map();
+  for (const { weight } of all) counts.set(weight.join(), (counts.get(weight.join()) || 0) + 1);
+  const isPrinted = answer.terms.length === counts.size && answer.terms.every((it) => String(counts.get(it.first.join())) === it.c);
+  if (!isPrinted) return null;
+  const frames = all.map(({ crosses, weight }) => () => {
+    const name = `pipe dream with crosses in ${crosses.map(([i, j]) => `row ${i + 1} column ${j + 1}`).join(", ") || "no cell"}`;
+    return { drawings: [figure(pipePicture(w.length, crosses, name))], said: `Its weight is ${shownTerm({ first: weight }, "x") || "1"}: a cross in row i counts x_{i}.` };
+  });
+  return { title: `The pipe dreams of ${w.join(" ")}: their weights add up to the polynomial`, frames };
+}

@@ -1,0 +1,155 @@
+// Tables, made of the answers to many commands: characters, Kostka numbers, products. Each is a batch of lines that the module runs.
+
+/** The partitions of n, in decreasing lexicographic order. */
+function partitionsOf(n, most = n) {
+  if (n === 0) return [[]];
+  const found = [];
+  for (let first = Math.min(n, most); first > 0; first -= 1) for (const rest of partitionsOf(n - first, first)) found.push([first, ...rest]);
+  return found;
+}
+
+/** The partitions with at most so many rows and columns, by size. */
+function partitionsInside(rows, columns) {
+  const all = [];
+  for (let n = 0; n <= rows * columns; n += 1) all.push(...partitionsOf(n).filter((it) => it.length <= rows && (it[0] || 0) <= columns));
+  return all;
+}
+
+/** The permutations of n letters, by inversions. */
+function permutationsOf(n) {
+  const grow = (front, rest) => (rest.length === 0 ? [front] : rest.flatMap((it) => grow([...front, it], rest.filter((other) => other !== it))));
+  const inversions = (w) => w.reduce((sum, a, i) => sum + w.slice(i).filter((b) => b < a).length, 0);
+  return grow([], Array.from({ length: n }, (_, i) => i + 1)).sort((a, b) => inversions(a) - inversions(b));
+}
+
+const key = (label) => `(${label.join(",")})`;
+const atom = (basis, label) => `${basis}[${label.join(",")}]`;
+
+/** The coefficient of a label in terms. */
+function coefficientOf(terms, label) {
+  const found = terms.find((it) => key(it.first) === key(label));
+  return found ? found.c : "0";
+}
+
+/**
+ * The tables: their sizes, each with its least, greatest and first value; the labels of rows and columns; the line for each entry or, of a table of
+ * numbers, for each row or column; which terms count.
+ */
+const TABLES = {
+  characters: {
+    title: "Characters of the symmetric group S_n", sizes: [["n", 1, 9, 4]], labels: (n) => partitionsOf(n), by: "column",
+    line: (label) => `expand s ${atom("p", label)}`, said: (n) => `χ^{λ}(μ) for S_{${n}}: a row for each λ, a column for each cycle type μ`,
+  },
+  kostka: {
+    title: "Kostka numbers of size n", sizes: [["n", 1, 9, 4]], labels: (n) => partitionsOf(n), by: "row",
+    line: (label) => `expand m ${atom("s", label)}`, said: (n) => `K_{λμ} for partitions of ${n}: a row for each λ, a column for each μ`,
+  },
+  inverse: {
+    title: "Inverse Kostka numbers of size n", sizes: [["n", 1, 9, 4]], labels: (n) => partitionsOf(n), by: "row",
+    line: (label) => `expand s ${atom("m", label)}`, said: (n) => `the coefficient of s_{μ} in m_{λ} for partitions of ${n}: a row for each λ, a column for each μ`,
+  },
+  classical: {
+    title: "Products in the cohomology of Gr(k,n)", sizes: [["k", 1, 6, 2], ["n", 2, 7, 4]], labels: (k, n) => partitionsInside(k, n - k), by: "entry",
+    line: (left, right, k) => `mult -r ${k} ${left.join(" ")} - ${right.join(" ")}`, letter: "σ",
+    counts: (term, k, n) => (term.first[0] || 0) <= n - k, said: (k, n) => `σ_{λ} · σ_{μ} in H*(Gr(${k},${n}))`,
+  },
+  quantum: {
+    title: "Quantum products of Gr(k,n)", sizes: [["k", 1, 6, 2], ["n", 2, 7, 4]], labels: (k, n) => partitionsInside(k, n - k), by: "entry",
+    line: (left, right, k, n) => `quantum ${k} ${n - k} ${left.join(" ")} - ${right.join(" ")}`, letter: "σ",
+    counts: () => true, said: (k, n) => `σ_{λ} * σ_{μ} in QH*(Gr(${k},${n}))`,
+  },
+  schubert: {
+    title: "Products of Schubert polynomials of n letters", sizes: [["n", 1, 4, 3]], labels: (n) => permutationsOf(n), by: "entry",
+    line: (left, right) => `schubmult ${left.join(" ")} - ${right.join(" ")}`, letter: "S", counts: () => true, said: (n) => `S_{u} · S_{v} for permutations of ${n} letters`,
+  },
+};
+
+/** The most entries of a table. */
+const MOST_ENTRIES = 1300;
+
+/** The texts of the answers in a batch. */
+function blocksOf(text) {
+  const blocks = [[]];
+  for (const line of text.split("\n").slice(0, -1)) line === "--" ? blocks.push([]) : blocks[blocks.length - 1].push(`${line}\n`);
+  return blocks.map((lines) => lines.join(""));
+}
+
+/** The entries of a table by the terms of its lines' answers, row by row: numbers as texts, or lists of terms. */
+function entriesOf(kind, labels, answers, sizes) {
+  if (kind.by === "entry") return labels.map((_, i) => labels.map((__, j) => answers[i * labels.length + j].filter((it) => kind.counts(it, ...sizes))));
+  return labels.map((row, i) => labels.map((column, j) => (kind.by === "row" ? coefficientOf(answers[i], column) : coefficientOf(answers[j], row))));
+}
+
+function linesOfTable(kind, labels, sizes) {
+  const line = (...given) => kind.line(...given).replace(/ +/g, " ").trim();
+  return kind.by === "entry" ? labels.flatMap((left) => labels.map((right) => line(left, right, ...sizes))) : labels.map((it) => line(it, ...sizes));
+}
+
+/** An entry as text: a number, or a sum such as `(2,2)+q*()`. */
+function plainEntry(entry) {
+  if (typeof entry === "string") return entry;
+  const term = ({ c, q, first }) => [c === "1" ? "" : c, q === undefined || q === "0" ? "" : q === "1" ? "q" : `q^${q}`, key(first)].filter(Boolean).join("*");
+  return entry.map(term).join("+").replace(/\+-/g, "-") || "0";
+}
+
+/** A table in CSV: labels of columns first, each row with its label. */
+function csvOf({ labels, entries }) {
+  const cell = (text) => (/[",\n]/.test(text) ? `"${text.replace(/"/g, '""')}"` : text);
+  const rows = [["", ...labels.map(key)], ...entries.map((row, i) => [key(labels[i]), ...row.map(plainEntry)])];
+  return `${rows.map((row) => row.map(cell).join(",")).join("\r\n")}\r\n`;
+}
+
+/** A table in JSON: its title, labels, lines, and entries: numbers, or lists of terms. */
+function jsonOf({ title, labels, lines, entries }) {
+  const number = (text) => (Number.isSafeInteger(Number(text)) ? Number(text) : text);
+  const term = ({ c, q, first }) => ({ coefficient: number(c), ...(q === undefined ? {} : { q: number(q) }), label: first });
+  const entry = (it) => (typeof it === "string" ? number(it) : it.map(term));
+  const rows = entries.map((row) => row.map(entry));
+  return `${JSON.stringify({ title, program: at("citation").textContent, labels, lines, entries: rows })}\n`;
+}
+
+/** The table on the page, and how to have it. */
+function showTable(table, kind, said) {
+  const head = (label) => element("th", { scope: "col" }, kind.letter === "S" ? label.join("") : key(label));
+  const cell = (entry) => element("td", {}, ...(typeof entry === "string" ? [entry.replace("-", "−")] : formula(shownSum(entry, kind.letter))));
+  const row = (entries, i) => element("tr", {}, element("th", { scope: "row" }, kind.letter === "S" ? table.labels[i].join("") : key(table.labels[i])), ...entries.map(cell));
+  const body = element("table", { class: "made" }, element("caption", {}, ...formula(said)), element("tr", {}, element("td", {}), ...table.labels.map(head)), ...table.entries.map(row));
+  const name = table.title.replace(/\W+/g, "_"), tools = element("div", { class: "tools" });
+  tools.append(button("Copy CSV", () => copy(csvOf(table), "CSV")), button("Copy JSON", () => copy(jsonOf(table), "JSON")));
+  tools.append(button("Download CSV", () => download(`${name}.csv`, [csvOf(table)])), button("Download JSON", () => download(`${name}.json`, [jsonOf(table)])));
+  const lines = element("details", {}, element("summary", {}, countOfThings(table.lines.length, "command", "commands")), element("pre", { tabindex: "0", "aria-label": "The commands of the table" }, table.lines.join("\n")));
+  at("made").replaceChildren(tools, element("div", { class: "wide", tabindex: "0", role: "group", "aria-label": table.title }, body), lines);
+}
+
+/** Makes a table: its lines are one batch. */
+function makeTable(name, sizes) {
+  const kind = TABLES[name], [k, n] = sizes, labels = kind.sizes.length === 2 && n <= k ? [] : kind.labels(...sizes), lines = linesOfTable(kind, labels, sizes);
+  const tell = (text) => at("said-of-table").replaceChildren(text);
+  if (labels.length === 0) return tell("n has to be greater than k.");
+  if (labels.length ** 2 > MOST_ENTRIES) return tell(`This table would have ${(labels.length ** 2).toLocaleString("en")} entries. At most ${MOST_ENTRIES.toLocaleString("en")} are made.`);
+  const title = `${kind.title.replace("S_n", `S_${n ?? k}`)}, ${kind.sizes.map(([letter], i) => `${letter} = ${sizes[i]}`).join(", ")}`;
+  const made = (_, { status, text, stopped }) => {
+    const answers = status === 0 ? blocksOf(text).map(termsOf) : [];
+    const isWhole = answers.length === lines.length && answers.every(Boolean);
+    if (isWhole) showTable({ title, labels, lines, entries: entriesOf(kind, labels, answers, sizes) }, kind, kind.said(...sizes));
+    tell(isWhole ? "" : stopped ? "The table was stopped." : "Some line of the table has no answer, so it is not made.");
+    return [isWhole ? `${title}: made.` : `${title}: not made.`];
+  };
+  return enqueue([{ line: "batch", input: `${lines.join("\n")}\n`, done: made }]);
+}
+
+/** Sets up the form for tables. */
+function addTables() {
+  const select = at("kind");
+  select.append(...Object.entries(TABLES).map(([name, { title }]) => element("option", { value: name }, title)));
+  const sizes = () => {
+    const field = ([letter, least, most, value]) => element("label", {}, `${letter} `, element("input", { type: "number", min: String(least), max: String(most), value: String(value), inputmode: "numeric", required: "" }), " ");
+    at("sizes").replaceChildren(...TABLES[select.value].sizes.map(field));
+  };
+  select.onchange = sizes;
+  sizes();
+  at("making").onsubmit = (event) => {
+    event.preventDefault();
+    makeTable(select.value, [...at("sizes").querySelectorAll("input")].map((it) => Number(it.value)));
+  };
+}
