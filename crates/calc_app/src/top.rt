@@ -70,9 +70,9 @@ pub fn run<S: Source, K: Sink>(
         (S.seen source.new) (sink.new ≡ sink.old)
         (RunsLines (map string_bytes words.now)) (IsOutcome (map string_bytes words.now)) result }
 
-    // Words that spell a command without an offence are answered, and refused only where a
+    // Words that spell a command without an error are answered, and refused only where a
     // coefficient that is defined for them is past 2^127 - 1, or their weight is 2^127 or more.
-    // Words with a first offence, and words that are no command, are refused by their own line.
+    // Words with a first error, and words that are no command, are refused by their own line.
     ensures answers { AnswersWords (map string_bytes words.now)
         (Appends (K.seen sink.old) (K.seen sink.new)) result }
 

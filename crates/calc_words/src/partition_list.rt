@@ -44,7 +44,7 @@ fn partition_of(alloc: Global, numbers: &[u16]) -> Result<Partition, WordsFault>
 }
 
 /// The partition of the numbers that are these words, the first of which is the word `at`,
-/// or their first offence.
+/// or their first error.
 pub fn read_partition(alloc: Global, at: u64, words: &[String]) -> Result<Partition, WordsFault>
     requires { at + length words.now < 2 ^ 64 }
     ensures { IsJudged (λ p. p ≡ partition (map string_bytes words.now))
