@@ -174,8 +174,8 @@ Says batch text = ⊥
 Says (work lines seed) text = ⊥
 Says command text = ReadsBack command text
 
--- the same of every command: of `batch` the text is the blocks of the lines of all that the source
--- had left, where it tells that, and of `work` the sums over the blocks of its lines
+-- the same of every command: for `batch` the text is the blocks of the lines of the input that the
+-- source had left, if the source tells that; for `work` it is the sums over the blocks of its lines
 abbrev pub SaysOver : Option (List ℕ) → Command → List ℕ → Type 0
 SaysOver left batch text =
     (input : List ℕ) × IsInput left input × RunsInput batch_entries input text done
