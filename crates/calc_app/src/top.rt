@@ -31,10 +31,11 @@ use std::alloc::Global;
 /// been written.
 ///
 /// `batch` runs each line of the source as a command, and writes its block (or its refusal) as soon
-/// as the line is read, with the line `--` between two blocks; before the source is asked for more
-/// input than was taken, `finish` is called. It ends with `SomeRefused` if a line was refused. If a
-/// read fails, it ends with `SourceFault` after the lines read completely. Other commands do not
-/// touch the source. `work` runs generated lines in this way, and writes sums over their blocks.
+/// as the line is read, with the line `--` between two blocks; if no complete line is left of the
+/// input read so far, `finish` is called before the source is read again. It ends with
+/// `SomeRefused` if a line was refused. If a read fails, it ends with `SourceFault` after the lines
+/// read completely. Other commands do not touch the source. `work` runs generated lines in this
+/// way, and writes sums over their blocks.
 pub fn run<S: Source, K: Sink>(
     alloc: Global,
     words: &[String],

@@ -18,10 +18,10 @@ abbrev pub counting_down : ℕ → ℕ → List ℕ
 counting_down high zero = []
 counting_down high (suc n) = high ∷ counting_down (high - 1) n
 
--- the shapes that a strip of `left` cells makes of the rows of a partition, with no first row
--- longer than `most`: the first row runs down from the longest to the shortest that leaves no more
--- cells than the rows below it can take, each of which grows at most as long as the row above it
--- was
+-- the partitions made by adding a horizontal strip of `left` cells to the rows of a partition, with
+-- a first row of at most `most`, by decreasing first row: from the longest to the shortest that
+-- leaves no more cells than the rows below it can take, each of which grows at most to the length
+-- that the row above it had
 abbrev pub strips_on : ℕ → ℕ → List ℕ → List (List ℕ)
 strips_on most left [] = cond (left == 0) ([] ∷ []) ((left ∷ []) ∷ [])
 strips_on most left (a ∷ inner) =

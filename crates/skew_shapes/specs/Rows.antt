@@ -31,7 +31,7 @@ filling_in shape starts numbers =
       rows = rows_by (number_in starts numbers) shape.0 shape.1;
     }
 
--- no two cells of a partition have one place
+-- different cells of the partition have different places
 pub record HasPlaces (starts outer : List ℕ) (places : ℕ) : Type 0 where
   pub rows : length outer ≤ length starts
   pub apart : (i k : ℕ) → i < k → k < length outer

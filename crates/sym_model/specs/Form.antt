@@ -132,7 +132,7 @@ fits reads number text = is_number_word text
 fits reads (target bases) text = is_letter_of bases text
 fits reads formula text = reads text
 
--- whether no word is of the form
+-- whether the empty list of words is of the form
 abbrev pub is_skippable : Form → Bool
 is_skippable empty = true
 is_skippable (word c) = false
