@@ -29,7 +29,8 @@ abbrev pub end_sign : ℕ → ℕ → List ℕ → ℤ
 end_sign k n shape =
     minus_one_to (power_of k n shape * (k + 1) + rising_pairs (lowest n (beta k shape)))
 
--- the end with its sign and power, or nothing where it has more than n - k columns
+-- the end of a shape of at most k rows with its sign and power; nothing if it has more than n - k
+-- columns
 abbrev pub reduction_by_remainders : ℕ → ℕ → List ℕ → Option (List ℕ × ℤ × ℕ)
 reduction_by_remainders k n shape =
     cond (nat_le (k + columns (end_of k n shape)) n)

@@ -279,7 +279,7 @@ accepted command (Refused reason) accepts = absurd accepts
 accepted command Large accepts = inr (inl (refl, accepts))
 accepted command (Told lines) accepts = inl refl
 
--- the line and the status of a refusal that names the offence
+-- the line and the status of a refusal that names the error
 names : (offence : Offence) (reason : WordsFault) → IsFaultOf offence reason
     → (refusal_status reason ≡ status_of (ending_of offence.2)) × (refusal_text reason ≡ offence_line offence)
 names offence (fault.Syntax at) is = absurd is

@@ -174,8 +174,8 @@ Says batch text = ⊥
 Says (work lines seed) text = ⊥
 Says command text = ReadsBack command text
 
--- the same of every command: of `batch` the text is the blocks of the lines of all that the source
--- had left, where it tells that, and of `work` the sums over the blocks of its lines
+-- the same of every command: for `batch` the text is the blocks of the lines of the input that the
+-- source had left, if the source tells that; for `work` it is the sums over the blocks of its lines
 abbrev pub SaysOver : Option (List ℕ) → Command → List ℕ → Type 0
 SaysOver left batch text =
     (input : List ℕ) × IsInput left input × RunsInput batch_entries input text done
@@ -183,7 +183,7 @@ SaysOver left (work lines seed) text = RunsWorkload batch_entries lines seed tex
 SaysOver left command text = Says command text
 
 -- The headline. A text was appended to the bytes that stood before. The words spell a command
--- without an offence; the text, read back, is a canonical list of terms; and that list is what the
+-- without an error; the text, read back, is a canonical list of terms; and that list is what the
 -- command names; of `tab` it is the listed lines. For `expand m` and an expression: in every number
 -- of variables the list, read in the monomial basis, is the expression.
 pub record PrintsAnswerTo (words : List (List ℕ)) (before : List ℕ)
@@ -194,7 +194,7 @@ pub record PrintsAnswerTo (words : List (List ℕ)) (before : List ℕ)
   pub spelled : SpellsWithoutOffence command_entries words command
   pub says : SaysOver left command text
 
--- the words of a line spell a command of a line without an offence,
+-- the words of a line spell a command of a line without an error,
 -- and its block says what the command names
 pub record SaysLine (words : List (List ℕ)) (text : List ℕ) : Type 0 where
   pub command : Command
@@ -264,7 +264,7 @@ WasCutOff status = (status ≡ NoMemory) ⊎ (status ≡ SinkFault)
 abbrev pub IsThrough : Status → Type 0
 IsThrough status = (status ≡ Done) ⊎ (status ≡ SomeRefused)
 
--- a command without an offence is answered, but for out of memory and faults of the sink; it is
+-- a command without an error is answered, but for out of memory and faults of the sink; it is
 -- refused only where a coefficient that is defined for it is past 2^127 - 1, or its weight is 2^127
 -- or more; in a batch lines can be refused, and its source can fail
 abbrev pub IsAccepted : Command → Status → Type 0
@@ -279,8 +279,8 @@ pub record IsRefused (ending : Ending) (IsPut : Type 0) (status : Status) : Type
   pub puts : status ≡ status_of ending → IsPut
 
 -- How words are answered, where `IsPut` says that a line was put. Words that spell a command
--- without an offence are answered.
--- Words with a first offence, and words that are no command, are refused by their own line.
+-- without an error are answered.
+-- Words with a first error, and words that are no command, are refused by their own line.
 pub record AnswersWords (words : List (List ℕ)) (IsPut : List ℕ → Type 0)
     (status : Status) : Type 0 where
   pub accepted : (command : Command) → SpellsWithoutOffence command_entries words command

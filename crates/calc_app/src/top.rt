@@ -14,35 +14,35 @@ use calc_base::{NoMemory, Sink, Source, Status};
 use calc_replies::{Outcome, Task, put_text, status_if_put, task_of};
 use std::alloc::Global;
 
-/// Runs the command that the words name, without the program's name, and puts its text to the sink.
+/// Runs the command that the words name (without the name of the program) and writes its text to
+/// the sink.
 ///
 /// The commands are those of `calc_language::read_words`. The text is a line for each term of the
-/// answer, or of `tab` for each tableau, and `0` where there is none; two tableaux, a word or a
-/// tableau for `rsk`, `unrsk` and `rect`; a line of shapes for each line of a growth grid.
+/// answer, or of `tab` for each tableau, or `0` if there is none; for `rsk`, `unrsk` and `rect` it
+/// is two tableaux, a word or a tableau; for `growth` a line of shapes for each line of the grid.
 ///
-/// In this order: the words are read, and refused by one line where they are no command (`Syntax`)
-/// or offend (`Range`, or
-/// `Past` for a number that is too large). The whole answer is computed, and refused by the line
-/// `! Large` (`Past`) only where a coefficient that is defined for it is past 2^127 - 1, or its
-/// weight is 2^127 or more; tableaux are put as they are listed. Its text is put, then `finish` is
-/// called, after a refusal too.
-/// `SinkFault` comes exactly where a call of the sink failed, and the sink is not called after it.
-/// Where memory is refused the answer is `NoMemory`, and nothing was put;
-/// of a batch the blocks of the lines before stand.
+/// In this order: the words are read, and refused by one line if they are no command (`Syntax`),
+/// exceed a limit or have a wrong shape (`Range`), or have a number that is too large (`Past`). The
+/// whole answer is computed, and refused by the line `! Large` (`Past`) only if a coefficient of
+/// its definition exceeds 2^127 - 1 or its weight is 2^127 or more; tableaux are written as they
+/// are listed. Its text is written, and then `finish` is called, after a refusal too. It returns
+/// `SinkFault` if and only if a call of the sink failed, and the sink is not called after that. If
+/// memory runs out it returns `NoMemory` and writes nothing; in a batch the earlier answers have
+/// been written.
 ///
-/// `batch` runs each line of the source as a command, and puts its block, a refusal too, as soon as
-/// the line is read, with the line `--` between two blocks; where no further line was taken whole,
-/// `finish` is called before the source is. It ends with
-/// `SomeRefused` where a line was refused, and with `SourceFault` after the lines that were wholly
-/// read where a call of the source failed. Other commands do not touch the source. `work` runs
-/// generated lines in this way, and puts sums over their blocks.
+/// `batch` runs each line of the source as a command, and writes its block (or its refusal) as soon
+/// as the line is read, with the line `--` between two blocks; if no complete line is left of the
+/// input read so far, `finish` is called before the source is read again. It ends with
+/// `SomeRefused` if a line was refused. If a read fails, it ends with `SourceFault` after the lines
+/// read completely. Other commands do not touch the source. `work` runs generated lines in this
+/// way, and writes sums over their blocks.
 pub fn run<S: Source, K: Sink>(
     alloc: Global,
     words: &[String],
     source: &mut S,
     sink: &mut K,
 ) -> Status
-    // Where the answer is `Done`, the text read back is a canonical list of terms, and that list is
+    // If the status is `Done`, the text read back is a canonical list of terms, and that list is
     // what the command that the words spell names, by the defining polynomials; of `quantum` and
     // `fusion` it is also what reducing after each factor gives.
     // Of commands on tableaux the text is what is defined for them.
@@ -51,14 +51,14 @@ pub fn run<S: Source, K: Sink>(
         → PrintsAnswerTo (map string_bytes words.now) before (S.seen source.old).left
         (K.seen sink.new).written }
 
-    // Where a batch was read to its end, the blocks of all its lines were put, and that of each
+    // If a batch was read to its end, the blocks of all its lines were written, and the block of each
     // line that was not refused says what the line's command names.
     ensures lines { RunsLines (map string_bytes words.now) → IsThrough result → (before : List ℕ)
         → (K.seen sink.old).written ≡ Some before
         → PrintsLines before (S.seen source.old).left (K.seen sink.new).written }
 
-    // Where the sink failed in a batch, no line was read after the one whose block was cut off: the
-    // blocks of the lines before it were put whole.
+    // If the sink failed in a batch, no line was read after the one whose block was cut off: the
+    // blocks of the lines before it were written completely.
     ensures cut { RunsLines (map string_bytes words.now) → result ≡ Status.SinkFault
         → CutsLines (K.seen sink.old) (K.seen sink.new) (S.seen source.old) (S.seen source.new) }
 
@@ -70,9 +70,9 @@ pub fn run<S: Source, K: Sink>(
         (S.seen source.new) (sink.new ≡ sink.old)
         (RunsLines (map string_bytes words.now)) (IsOutcome (map string_bytes words.now)) result }
 
-    // Words that spell a command without an offence are answered, and refused only where a
-    // coefficient that is defined for them is past 2^127 - 1, or their weight is 2^127 or more.
-    // Words with a first offence, and words that are no command, are refused by their own line.
+    // Words that spell a command without an error are answered, and refused only where a
+    // coefficient of their definition exceeds 2^127 - 1, or their weight is 2^127 or more.
+    // Words with a first error, and words that are no command, are refused by their own line.
     ensures answers { AnswersWords (map string_bytes words.now)
         (Appends (K.seen sink.old) (K.seen sink.new)) result }
 
@@ -93,8 +93,8 @@ pub fn run<S: Source, K: Sink>(
     }
 }
 
-/// Puts the outcome of the words of a command and finishes the sink, and answers the status,
-/// or that the sink failed.
+/// Writes the outcome of the words of a command, finishes the sink, and returns the status, or
+/// `SinkFault`.
 fn put_outcome<K: Sink>(outcome: Outcome, sink: &mut K) -> Status
     requires { HasText outcome }
     ensures { PutsOutcome (K.seen sink.old) (K.seen sink.new) outcome result }

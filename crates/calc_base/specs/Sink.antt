@@ -38,7 +38,7 @@ pub record Appends (old new : SinkSeen) (text : List ℕ) : Type 0 where
   pub bytes : Grows old.written new.written text
   pub number : IsLonger old.length new.length text
 
--- a text begins with another
+-- `front` is a prefix of `text`
 pub record IsPrefix (front text : List ℕ) : Type 0 where
   pub rest : List ℕ
   pub joined : front ++ rest ≡ text

@@ -43,7 +43,7 @@ impl Sink for CountSink {
     ghost seen = { tally_seen };
 
     fn put(&mut self, bytes: &[u8]) -> Result<(), SinkFault>
-        // What each sink owes.
+        // Clauses of the trait.
         ensures ok { OnOk result (Appends (tally_seen self.old) (tally_seen self.new) bytes.now) }
         ensures err { OnErr result (AppendsPrefix (tally_seen self.old)
             (tally_seen self.new) bytes.now) }
@@ -60,7 +60,7 @@ impl Sink for CountSink {
     }
 
     fn finish(&mut self) -> Result<(), SinkFault>
-        // What each sink owes.
+        // Clauses of the trait.
         ensures same { Appends (tally_seen self.old) (tally_seen self.new) [] }
         ensures counts { CountsFaults 0 0 result }
         ensures settled { self.new.finished ≡ is_ok result }

@@ -67,7 +67,7 @@ impl<'a> Sink for FixedSink<'a> {
     ghost seen = { fixed_seen };
 
     fn put(&mut self, bytes: &[u8]) -> Result<(), SinkFault>
-        // What each sink owes.
+        // Clauses of the trait.
         ensures ok { OnOk result (Appends (fixed_seen self.old) (fixed_seen self.new) bytes.now) }
         ensures err { OnErr result (AppendsPrefix (fixed_seen self.old)
             (fixed_seen self.new) bytes.now) }
@@ -89,7 +89,7 @@ impl<'a> Sink for FixedSink<'a> {
     }
 
     fn finish(&mut self) -> Result<(), SinkFault>
-        // What each sink owes.
+        // Clauses of the trait.
         ensures same { Appends (fixed_seen self.old) (fixed_seen self.new) [] }
         ensures counts { CountsFaults self.old.failed self.new.failed result }
         ensures settled { self.new.finished ≡ is_ok result }

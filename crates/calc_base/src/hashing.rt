@@ -1,4 +1,4 @@
-//! One number made of many, to be hashed in their place.
+//! Combines a list of numbers into one for hashing.
 ghost use Rattle.std.specs.Prelude.{◌≡◌};
 ghost use Rattle.calc_base.specs.Mixing.{mixed as mixed_of};
 

@@ -75,7 +75,7 @@ impl Sink for MemSink {
     ghost seen = { store_seen };
 
     fn put(&mut self, bytes: &[u8]) -> Result<(), SinkFault>
-        // What each sink owes.
+        // Clauses of the trait.
         ensures ok { OnOk result (Appends (store_seen self.old) (store_seen self.new) bytes.now) }
         ensures err { OnErr result (AppendsPrefix (store_seen self.old)
             (store_seen self.new) bytes.now) }
@@ -103,7 +103,7 @@ impl Sink for MemSink {
     }
 
     fn finish(&mut self) -> Result<(), SinkFault>
-        // What each sink owes.
+        // Clauses of the trait.
         ensures same { Appends (store_seen self.old) (store_seen self.new) [] }
         ensures counts { CountsFaults self.old.failed self.new.failed result }
         ensures settled { self.new.finished ≡ is_ok result }

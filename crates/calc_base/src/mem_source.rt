@@ -74,7 +74,7 @@ impl Source for MemSource {
     fn take(&mut self, buf: &mut [u8]) -> Result<usize, SourceFault>
         requires { 0 < length buf.old }
 
-        // What each source owes.
+        // Clauses of the trait.
         ensures ok { IfOk result (Takes (Some self.old.rest) (Some self.new.rest) buf.new) }
         ensures err { OnErr result (Keeps (Some self.old.rest) (Some self.new.rest)) }
         ensures spends { Spends (length self.old.rest) (length self.new.rest) result }

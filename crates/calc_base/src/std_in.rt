@@ -46,7 +46,7 @@ impl<R: Read> Source for StdIn<R> {
     fn take(&mut self, buf: &mut [u8]) -> Result<usize, SourceFault>
         requires { 0 < length buf.old }
 
-        // What each source owes.
+        // Clauses of the trait.
         ensures ok { IfOk result (Takes (R.remaining self.old.reader)
             (R.remaining self.new.reader) buf.new) }
         ensures err { OnErr result (Keeps (R.remaining self.old.reader)

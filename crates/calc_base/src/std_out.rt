@@ -56,7 +56,7 @@ impl<W: Write + Drop> Sink for StdOut<W> {
     /// Writes until all is written. A write that fails, or takes nothing of what is left,
     /// is the fault.
     fn put(&mut self, bytes: &[u8]) -> Result<(), SinkFault>
-        // What each sink owes.
+        // Clauses of the trait.
         ensures ok { OnOk result (Appends (outlet_seen W.contents self.old)
             (outlet_seen W.contents self.new) bytes.now) }
         ensures err { OnErr result (AppendsPrefix (outlet_seen W.contents self.old)
@@ -74,7 +74,7 @@ impl<W: Write + Drop> Sink for StdOut<W> {
 
     /// Flushes, so that nothing waits in the buffer. A flush that fails is the fault.
     fn finish(&mut self) -> Result<(), SinkFault>
-        // What each sink owes.
+        // Clauses of the trait.
         ensures same { Appends (outlet_seen W.contents self.old)
             (outlet_seen W.contents self.new) [] }
         ensures counts { CountsFaults self.old.failed self.new.failed result }

@@ -142,7 +142,7 @@ pub no_words : (words : Words) (r : Result Command WordsFault) (entries : List E
 no_words words r entries t is h =
     wrong_first entries words r (subst (λ ws. IsSyntaxPlace entries ws 0 0) (sym is) (unnamed entries t.led t.can t.some [] (λ e m b. let k = b.1 in cc))) h
 
--- words without an offence keep the limits
+-- words without an error keep the limits
 pub kept_by_all : (words : Words) (c : PlainCommand) → SpellsWithoutOffence command_entries words c → KeepsLimits c
 kept_by_all words c h =
     some_keeps (entries_of all_bases) (all_keep all_bases) words c h

@@ -28,7 +28,7 @@ use Rattle.calc_words.proofs.Commands.{first_refused, read_standing}
 use Rattle.calc_words.proofs.CutCommands.{has_of}
 use Rattle.calc_language.specs.Reading.{placed}
 
--- the offences of an expression, with the word at which it stands, come in the same order
+-- the errors of an expression, with the word at which it stands, come in the same order
 abbrev pub at_word : ℕ → WordOffence → Offence
 at_word k o = (k, o.0, o.1)
 
@@ -51,13 +51,13 @@ pub first-placed : (k : ℕ) (os : List WordOffence) → first_offence (map (at_
 first-placed k [] = refl
 first-placed k (o ∷ os) = ap (earlier_of (at_word k o)) (first-placed k os) ∙ earlier-placed k o (first_of os)
 
--- the first offence of the expression that is read is that of the one that is spelled
+-- the first error of the expression that is read is that of the one that is spelled
 placed_as : (k : ℕ) (offends : Phrase → List WordOffence) (w : List ℕ) (f g : Phrase) (first : Option WordOffence) → SpellsPhrase w f → SpellsPhrase w g
     → first_of (offends g) ≡ first → first_offence (offences_in_word k (offends f)) ≡ option_map (at_word k) first
 placed_as k offends w f g first s r h =
     first-placed k (offends f) ∙ ap (option_map (at_word k)) (ap (λ p. first_of (offends p)) (one_phrase w f g s r) ∙ h)
 
--- a fault of an expression that is spelled is its first offence
+-- a fault of an expression that is spelled is its first error
 pub placed_first : (k : ℕ) (offends : Phrase → List WordOffence) (w : List ℕ) (f : Phrase) (e : ExpressionFault) → SpellsPhrase w f → IsReadBy offends w (Err e)
     → IsFirst (first_offence (offences_in_word k (offends f))) (placed k e)
 placed_first k offends w f (Wrong byte) s h = h.0 f s
@@ -66,7 +66,7 @@ placed_first k offends w f (Past byte) s h = placed_as k offends w f h.0 _ s h.1
 placed_first k offends w f (Misshapen byte) s h = placed_as k offends w f h.0 _ s h.1 h.2
 placed_first k offends w f Full s h = tt
 
--- an expression without offence
+-- an expression without error
 pub none_placed : (k : ℕ) (offends : Phrase → List WordOffence) (w : List ℕ) (f : Phrase) (x : Formula) → SpellsPhrase w f → IsReadBy offends w (Ok x)
     → first_offence (offences_in_word k (offends f)) ≡ None
 none_placed k offends w f x s h = placed_as k offends w f h.0 None s h.1 h.2

@@ -34,7 +34,7 @@ use Rattle.calc_commands.specs.declared.command.Command.{Command}
 use Rattle.calc_language.specs.Reading.{placed}
 use Rattle.calc_language.proofs.ExpressionJudging.{at_word, first-placed, same_order, placed_first, none_placed, tree_read}
 
--- the offences of the first expression, of the second one, and of the two together
+-- the errors of the first expression, of the second one, and of the two together
 abbrev outer_found : Phrase → List Offence
 outer_found f = offences_in_word 2 (offences_within plethysm_degree_limit f)
 
@@ -50,7 +50,7 @@ too_high past g = cond past (end_of g ∷ []) []
 abbrev is_past : Phrase → Phrase → Bool
 is_past f g = nat_lt plethysm_degree_limit (degree (tree f) * degree (tree g))
 
--- the offences of a word stand at it
+-- the errors of a word stand at it
 in_word : (k : ℕ) (os : List WordOffence) (p : Offence) → Among p (offences_in_word k os) → p.0 ≡ k
 in_word k [] p m = absurd m
 in_word k (o ∷ os) p (inl h) = ap (λ (x : Offence). x.0) h
@@ -81,13 +81,13 @@ outer_faulty w f g e s h =
     (judged_err (outer_found f) (inner_found g ++ last) (placed 2 e) (behind_outer f g)
     (placed_first 2 (offences_within plethysm_degree_limit) w f e s h))
 
--- the first expression has no offence
+-- the first expression has no error
 rest_only : (f g : Phrase) → first_offence (outer_found f) ≡ None
     → first_offence (plethysm_offences 2 f g) ≡ first_offence (inner_found g ++ too_high (is_past f g) g)
 rest_only f g n =
     ap (λ (os : List Offence). first_offence ((os ++ inner_found g) ++ judged_against os (too_high (is_past f g) g))) (first_none (outer_found f) n)
 
--- an offence of the second expression is no later than that of the two together
+-- an error of the second expression is no later than that of the two together
 stays : (past : Bool) (g : Phrase) (o : Offence) → is_no_later o (end_of g) ≡ true → earlier_of o (first_offence (too_high past g)) ≡ Some o
 stays true g o h = ap (λ b. cond b (Some o) (Some (end_of g))) h
 stays false g o h = refl
@@ -112,7 +112,7 @@ inner_faulty v w f g x e r k s h =
     (judged_on (first_offence (inner_found g)) (first_offence (inner_found g ++ too_high (is_past f g) g)) (placed 3 e)
     (inner_first (is_past f g) g s.allowed) (placed_first 3 inner_offences w g e s h))
 
--- neither has an offence
+-- neither has an error
 both_judged : (v w : List ℕ) (f g : Phrase) (x y : Formula) → SpellsPhrase v f → IsReadBy (offences_within plethysm_degree_limit) v (Ok x)
     → SpellsPhrase w g → IsReadBy inner_offences w (Ok y) → first_offence (plethysm_offences 2 f g) ≡ first_offence (too_high (is_past f g) g)
 both_judged v w f g x y r k s h =

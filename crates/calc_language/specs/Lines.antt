@@ -11,7 +11,7 @@ use Rattle.calc_commands.specs.Commands.{IsSound}
 use Rattle.calc_commands.specs.declared.command.Command.{Command}
 use Rattle.calc_language.specs.Reading.{command_of, IsWithinItsLimits}
 
--- a line that is too long is refused by its offence, one that is skipped is no command, and the
+-- a line that is too long is refused by its error, one that is skipped is no command, and the
 -- words of another are read among the commands of a line; running out of memory says nothing
 abbrev pub IsLineRead : BatchLine → Result (Option Command) WordsFault → Type 0
 IsLineRead too_long (Ok answer) = ⊥

@@ -33,7 +33,7 @@ IsReadAs (Some e) words result = IsReadBy (e ∷ []) words result
 abbrev pub IsWithinItsLimits : Command → Type 0
 IsWithinItsLimits command = KeepsLimits (command_of command)
 
--- the words are this command without offence, and it is sound, or they first fail or first offend
+-- the words are this command without error, and it is sound, or they first fail or first offend
 -- at this place; running out of memory says nothing of them
 abbrev pub IsRead : List (List ℕ) → Result Command WordsFault → Type 0
 IsRead words result = IsReadBy command_entries words result

@@ -4,7 +4,7 @@
 //! What is proved:
 //!
 //! `read_words` answers a command, which is sound, exactly where the grammar takes the words to it
-//! without an offence, and otherwise the first offence with its word and byte; what it answers is
+//! without an error, and otherwise the first error with its word and byte; what it answers is
 //! within the limits of words. `read_line` does the same for a line of a batch.
 #![tactic(auto)]
 

@@ -15,7 +15,7 @@ use calc_words::{Part, cut, piece_at, target_of, text_of};
 use expression_reading::{ExpressionFault, PLETHYSM_DEGREE, read_inner, read_outer};
 use std::alloc::Global;
 
-/// The two expressions, or their first offence.
+/// The two expressions, or their first error.
 fn judged(alloc: Global, target: Basis, outer: &[u8], inner: &[u8]) -> Result<Command, WordsFault>
     ensures { (f g : Phrase) → SpellsPhrase outer.now f → SpellsPhrase inner.now g
         → IsJudged (StandsFor (plethysm (basis_of target) (tree f) (tree g)))

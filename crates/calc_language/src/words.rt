@@ -19,7 +19,7 @@ use std::alloc::Global;
 ///
 /// Words that are no command are refused as `Syntax`, at the word where they first fail, and in the
 /// word of an expression at the byte after its longest prefix that begins one. Otherwise the first
-/// offence is refused, as the readers of the commands say,
+/// error is refused, as the readers of the commands say,
 /// `calc_words::read_mult` and its like, and
 /// `expression_reading::{read_expression, read_outer, read_inner}`; two expressions of a
 /// `plethysm` whose degrees have a product past 10 are refused as `Range` at the end of the second.
@@ -39,7 +39,7 @@ pub fn read_words(alloc: Global, words: &[String]) -> Result<Command, WordsFault
     read(alloc, words)
 }
 
-/// The words as they are read: what follows for each command and offence, the public call says.
+/// The words as they are read: what follows for each command and error, the public call says.
 fn read(alloc: Global, words: &[String]) -> Result<Command, WordsFault>
     ensures { IsRead (map string_bytes words.now) result }
 {

@@ -1,4 +1,4 @@
--- Words that have been read: which command they are, and the first offence of two lists.
+-- Words that have been read: which command they are, and the first error of two lists.
 use Rattle.std.proofs.Common.{◌≡◌, ℕ, ◌+◌, ◌-◌, map, arith, Option, List, [], ◌∷◌, ◌++◌, length, sym, ap, ◌∙◌, subst, Some, None, Result, Ok, Err, inl}
 use Rattle.std.proofs.lemmas.List.{length-map}
 use Rattle.sym_model.specs.PrintedBlock.{decimal_value}
@@ -18,7 +18,7 @@ use Rattle.calc_commands.specs.declared.command.Command.{Command as Read}
 use Rattle.calc_words.proofs.FirstOffences.{within, AllBefore, first-append, none-append}
 use Rattle.calc_words.specs.Reading.{IsRead, IsRefusal, IsJudged, IsFirst}
 
--- words of the form are refused by their first offence
+-- words of the form are refused by their first error
 pub first_refused : (e : Entry) (words : Words) (has : Has e.form words) (fault : WordsFault) → IsFirst (first_offence (e.offends has.written)) fault
     → IsRefusal (e ∷ []) words fault
 first_refused e words has (Syntax at) h = absurd h
@@ -27,7 +27,7 @@ first_refused e words has (Range at) h = inl (record { has = has; first_is = sym
 first_refused e words has (Shape at) h = inl (record { has = has; first_is = sym h })
 first_refused e words has NoMemory h = tt
 
--- words of the form whose offences have been judged: by what the command stands for, by the command itself, and of a part of it
+-- words of the form whose errors have been judged: by what the command stands for, by the command itself, and of a part of it
 pub read_standing : (e : Entry) (words : Words) (has : Has e.form words) (said : Command) → said ≡ e.says has.written → (r : Result Read WordsFault)
     → IsJudged (StandsFor said) (first_offence (e.offends has.written)) r → IsRead (e ∷ []) words r
 read_standing e words has said is (Ok command) h = (inl (record { has = has; says_it = h.0.0 ∙ is; no_offence = h.1 }), h.0.1)
@@ -75,7 +75,7 @@ pub first_faulty : (k : ℕ) (left right : Words) (fault : WordsFault)
 first_faulty k left right fault h =
     judged_err (part_offences k (numbers left)) (part_offences (k + length left + 1) (numbers right)) fault (parts_before k left right) h
 
--- two partitions of which the first has no offence
+-- two partitions of which the first has no error
 pub second_faulty : (k m : ℕ) (left right : Words) (fault : WordsFault) → m ≡ k + length left + 1 → first_offence (part_offences k (numbers left)) ≡ None
     → IsFirst (first_offence (part_offences m (numbers right))) fault → IsFirst (first_offence (two_partitions k left right)) fault
 second_faulty k m left right fault e n h =

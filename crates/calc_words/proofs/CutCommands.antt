@@ -62,7 +62,7 @@ has_of name ps places words k = record {
       ∙ said_spelled name ps (written_of ps 0 1 places words k.parts);
 }
 
--- a part has the first offence
+-- a part has the first error
 pub faulty : (name : List ℕ) (ps : List Part) (places : List ℕ) (words : Words) (k : AreCut name ps places words)
     (says : Written (command_form name ps) → Command) (offends : Written (command_form name ps) → List Offence) (fault : WordsFault)
     → offends (said_of name ps (written_of ps 0 1 places words k.parts)) ≡ parts_offend ps 1 (written_of ps 0 1 places words k.parts)
@@ -82,7 +82,7 @@ fine name ps places words k says offends c d o h e s i =
     read_judged (record { name = name; form = command_form name ps; says = says; offends = offends }) words (has_of name ps places words k) d s i (Ok c)
     (e, ap first_offence o ∙ parts_fine ps 1 (written_of ps 0 1 places words k.parts) h)
 
--- ---- offences of commands, part by part
+-- ---- errors of commands, part by part
 
 counts : (a b : ℕ) → 1 + (a + b) ≡ 1 + a + b
 counts a b = omega arith

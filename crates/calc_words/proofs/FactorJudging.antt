@@ -1,4 +1,4 @@
--- The first offence of factors that are read one after another.
+-- The first error of factors that are read one after another.
 use Rattle.std.proofs.Common.{◌≡◌, ℕ, ◌+◌, ◌-◌, ◌<◌, ◌≤◌, ◌==◌, Bool, true, false, cond, List, [], ◌∷◌, ◌++◌, append_assoc, map, length, length-append, sym, ap, ◌∙◌, subst, arith, ◌⊎◌, inl, inr, Result, Some, None}
 use Rattle.std.proofs.lemmas.List.{length-map}
 use Rattle.sym_model.specs.Sum.{Among}
@@ -15,7 +15,7 @@ use Rattle.calc_words.proofs.FirstOffences.{within, AllBefore, first-head, no_la
 use Rattle.calc_words.proofs.Commands.{judged_err, judged_next}
 use Rattle.calc_words.specs.ReadProducts.{ninth_offences}
 
--- the offence in front of the ninth factor
+-- the error in front of the ninth factor
 the_ninth : (ninth : Bool) (o p : Offence) → Among p (cond ninth (o ∷ []) []) → p ≡ o
 the_ninth true o p (inl e) = e
 the_ninth true o p (inr m) = absurd m
@@ -24,7 +24,7 @@ the_ninth false o p m = absurd m
 ninth_word : (count word : ℕ) (p : Offence) → Among p (ninth_offences count word) → p.0 ≡ word
 ninth_word count word p m = ap (λ (q : Offence). q.0) (the_ninth (count == most_factors) (word, 0, range) p m)
 
--- the offences of factors stand after the word in front of the first
+-- the errors of factors stand after the word in front of the first
 factor_within : (count k : ℕ) (ns : List (List ℕ)) (p : Offence) → Among p (factor_offences count k ns) → k ≤ p.0 + 1
 factor_within count k [] p m = absurd m
 factor_within count k (n ∷ ns) p m =
@@ -86,7 +86,7 @@ next_faulty count at list more fault h =
     subst (λ os. IsFirst (first_offence os) fault) (sym (next_is count at list more))
     (judged_err (next_offences count at list) (rest_offences count at list more) fault (next_before count at list more) h)
 
--- the next factor has no offence
+-- the next factor has no error
 pub next_fine : (factors next : List (List ℕ)) (at after : ℕ) (list : Words) (more : List Words) (r : Result (List (List ℕ)) WordsFault)
     → next ≡ factors ++ partition list ∷ [] → after ≡ at + 1 + length list → first_offence (next_offences (length factors) at list) ≡ None
     → IsJudged (λ f. f ≡ next ++ map partition more) (first_offence (factor_offences (length next) (after + 1) (map numbers more))) r

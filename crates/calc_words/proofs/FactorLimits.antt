@@ -32,7 +32,7 @@ pub fits_more : (ps : List (List ℕ)) (p : List ℕ) → EachOf IsWritten ps �
 fits_more ps p e w n h =
     let l = length-append ps (p ∷ []) in fits (ps ++ p ∷ []) (each_more ps p e w) (omega (arith, n, l)) h
 
--- these factors and the next one, where it has no offence
+-- these factors and the next one, where it has no error
 pub next_written : (factors : List (List ℕ)) (count at : ℕ) (list : List (List ℕ)) → EachOf IsWritten factors
     → first_offence (ninth_offences count at ++ part_offences (at + 1) (numbers list)) ≡ None → EachOf IsWritten (factors ++ partition list ∷ [])
 next_written factors count at list e h =

@@ -1,4 +1,4 @@
--- The first offence of a list of numbers, and of two lists, the second of which stands after the first.
+-- The first error of a list of numbers, and of two lists, the second of which stands after the first.
 use Rattle.std.proofs.Common.{◌≡◌, ℕ, ◌+◌, ◌<◌, ◌≤◌, ◌==◌, nat_le, nat_lt, Bool, true, false, ◌&&◌, ◌||◌, cond, List, [], ◌∷◌, ◌++◌, append_assoc, map, length, refl, sym, ap, ◌∙◌, subst, arith, Option, Some, None, ◌⊎◌, inl, inr, eq-eqb}
 use Rattle.std.proofs.lemmas.Bool.{lt-ltb}
 use Rattle.sym_model.specs.Sum.{Among}
@@ -8,7 +8,7 @@ use Rattle.sym_model.specs.CommandOffence.{Offence, is_no_later, earlier_of, fir
 use Rattle.word_laws.proofs.FirstOffences.{first-among, first_none}
 use Rattle.word_laws.proofs.JudgedRows.{of_kind}
 
--- an offence before which none of the others comes
+-- an error before which none of the others comes
 pub first-head : (o : Offence) (os : List Offence) → ((p : Offence) → Among p os → is_no_later o p ≡ true) → first_offence (o ∷ os) ≡ Some o
 first-head o os h = by (first_offence os) refl
   where
@@ -29,7 +29,7 @@ no_later_kind k a b h =
     ∙ ap (λ x. nat_lt k k || x) h
     ∙ or_true (nat_lt k k)
 
--- each offence stands after the word
+-- each error stands after the word
 abbrev pub Behind : ℕ → List Offence → Type 0
 Behind k os = (p : Offence) → Among p os → k < p.0
 
@@ -73,7 +73,7 @@ three_kinds_left k x y z rest l =
     ap (λ kinds. first_offence (map (of_kind k) kinds ++ rest)) (append_assoc (when x literal) (when y range) (when z shape))
     ∙ three_kinds k x y z rest l
 
--- the offences of a list stand at its words
+-- the errors of a list stand at its words
 pub within : (rule : Rule) (before : List ℕ) (k : ℕ) (ns : List ℕ) (p : Offence) → Among p (offences_after rule before k ns)
     → (k ≤ p.0) × (p.0 < k + length ns)
 within rule before k [] p m = absurd m
@@ -90,7 +90,7 @@ within rule before k (a ∷ ns) p m =
         (omega (arith, e), omega (arith, e))
     by (inr x) r = let w = r x in (omega arith, omega arith)
 
--- each offence of the one list stands before each of the other
+-- each error of the one list stands before each of the other
 abbrev pub AllBefore : List Offence → List Offence → Type 0
 AllBefore xs ys = (p q : Offence) → Among p xs → Among q ys → p.0 < q.0
 

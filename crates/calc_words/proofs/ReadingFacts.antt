@@ -1,4 +1,4 @@
--- Words are read in one way: one command, one first offence, one place where they first fail.
+-- Words are read in one way: one command, one first error, one place where they first fail.
 use Rattle.std.proofs.Common.{◌≡◌, ℕ, ◌<◌, ◌==◌, true, false, List, [], ◌∷◌, map, length, arith, refl, sym, ap, ◌∙◌, Option, Some, None, Result, Ok, Err, inl, inr}
 use Rattle.std.proofs.lemmas.Bool.{eqb-true, eqb-false}
 use Rattle.sym_model.specs.Command.{Command}
@@ -21,7 +21,7 @@ use Rattle.word_laws.proofs.EntryLists.{one_command, one_offence, one_place}
 abbrev pub Clear : List Entry → Type 0
 Clear entries = are_unambiguous (forms_of entries) ≡ true
 
--- what is without offence is a command, and what offends is one too
+-- what is without error is a command, and what offends is one too
 freely_spells : (entries : List Entry) (words : Words) (c : Command) → SpellsWithoutOffence entries words c → SpellsCommand entries words c
 freely_spells [] words c h = h
 freely_spells (e ∷ entries) words c (inl x) = inl (record { has = x.has; says_it = x.says_it })

@@ -97,7 +97,7 @@ word_goes_on at ns i a v letters j h e w o =
       room = length-set letters i v ∙ j.room;
     }
 
--- ---- the limits of letters without an offence
+-- ---- the limits of letters without an error
 
 record Fit (before ns : List ℕ) : Type 0 where
   letters : (b : ℕ) → Among b ns → (1 ≤ b) × (b ≤ greatest_letter)

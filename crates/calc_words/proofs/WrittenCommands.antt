@@ -1,4 +1,4 @@
--- Words without an offence keep the limits of their command.
+-- Words without an error keep the limits of their command.
 use Rattle.std.proofs.Common.{◌≡◌, ℕ, ◌+◌, ◌-◌, ◌*◌, ◌≤◌, ◌==◌, nat_lt, Bool, true, false, cond, List, [], ◌∷◌, ◌++◌, map, length, refl, sym, ap, subst, ◌∙◌, arith, inl, inr, None}
 use Rattle.std.proofs.lemmas.Bool.{and_parts, eqb-false}
 use Rattle.std.proofs.lemmas.List.{length-map}
@@ -27,7 +27,7 @@ use Rattle.calc_words.proofs.WrittenExpressions.{no_signs}
 use Rattle.calc_words.proofs.WrittenLists.{written, two_written, row_number, lines_number, seed_number}
 use Rattle.word_laws.proofs.NoOffences.{none_append, none_first, none_judged, not_past, none_in_word, within_limit, within_degree}
 
--- what the words of the entry say where they have no offence
+-- what the words of the entry say where they have no error
 abbrev pub Keeps : Entry → Type 0
 Keeps e = (x : Written e.form) → first_offence (e.offends x) ≡ None → KeepsLimits (e.says x)
 
@@ -38,7 +38,7 @@ limit_kept : (k : ℕ) (x : Written (optional rows_words)) → first_offence (ro
 limit_kept k (inl x) h = tt
 limit_kept k (inr x) h = row_number (k + 1) (decimal_value x.1) h
 
--- the offence in front of the ninth factor
+-- the error in front of the ninth factor
 pub not_ninth : (ninth : Bool) (o : Offence) → cond ninth (o ∷ []) [] ≡ [] → ninth ≡ false
 not_ninth true o h = cc
 not_ninth false o h = refl

@@ -1,4 +1,4 @@
--- Inner expressions of a plethysm without an offence have no signs.
+-- Inner expressions of a plethysm without an error have no signs.
 use Rattle.std.proofs.Common.{◌≡◌, ℕ, ◌+◌, [], ◌∷◌, ◌++◌, length}
 use Rattle.sym_model.specs.Phrase.{plus, minus, times, Phrase, numeral, ratio, label, brackets, minus_first, operation, tree, spelling}
 use Rattle.sym_model.specs.ExpressionOffence.{WordOffence, shape, sign_offences}

@@ -1,4 +1,4 @@
--- What letters without an offence are: those of a permutation of at most that number of letters.
+-- What letters without an error are: those of a permutation of at most that number of letters.
 use Rattle.std.proofs.Common.{◌≡◌, ℕ, ◌+◌, ◌<◌, ◌≤◌, ◌==◌, nat_lt, false, ◌||◌, List, [], ◌∷◌, ◌++◌, length, refl, ap, ◌∙◌, arith, None, inl, inr, eq-eqb}
 use Rattle.std.proofs.lemmas.Bool.{eqb-false}
 use Rattle.sym_model.specs.Sum.{Among, Once}
@@ -53,7 +53,7 @@ letters_fine most count before k (a ∷ ns) f h =
     itself : stands_in a (a ∷ before) ≡ false → ⊥
     itself e = let x = (or_both (a == a) (stands_in a before) e).0 in let y = eq-eqb a a refl in cc
 
--- letters of a permutation without an offence, of which at most that number of may be written
+-- letters of a permutation without an error, of which at most that number of may be written
 pub short_within : (most k : ℕ) (ns : List ℕ) → most ≤ 16 → 0 < length ns → first_offence (permutation_offences_within most k ns) ≡ None
     → IsShortPermutation ns × (length ns ≤ most)
 short_within most k ns m s h =

@@ -1,4 +1,4 @@
--- What lists of numbers without an offence are: partitions and numbers within their limits.
+-- What lists of numbers without an error are: partitions and numbers within their limits.
 use Rattle.std.proofs.Common.{◌≡◌, ℕ, ◌+◌, ◌≤◌, ◌==◌, nat_le, nat_lt, false, ◌&&◌, ◌||◌, List, [], ◌∷◌, ◌++◌, length, sym, ap, ◌∙◌, arith, None}
 use Rattle.std.proofs.lemmas.Bool.{le-leb, ltb-false, eqb-false}
 use Rattle.sym_model.specs.Partition.{size, without_last_zeros, FallsFrom}
@@ -45,7 +45,7 @@ fits before k (a ∷ ns) f s h =
       small = let x = r.small in omega (arith, x);
     }
 
--- numbers of a partition without an offence
+-- numbers of a partition without an error
 pub written : (k : ℕ) (ns : List ℕ) → first_offence (part_offences k ns) ≡ None → IsWritten (without_last_zeros ns)
 written k ns h =
     let f = fits [] k ns (omega arith) (omega arith) (first_none (part_offences k ns) h) in

@@ -65,7 +65,7 @@ is_clear [] = true
 is_clear (p ∷ ps) = are_apart (continuing (form_of_part p)) (firsts (form_of ps)) && is_clear ps
 
 -- what a part offends by that begins at the word; tableaux and expressions are judged together with
--- other parts, and have no offence here
+-- other parts, and have no error here
 abbrev pub part_offends : (p : Part) → ℕ → Written (form_of_part p) → List Offence
 part_offends Rows k x = offences_by rows_rule (k + 1) (decimal_value x.1 ∷ [])
 part_offends MaybeRows k x = row_limit_offences k x
@@ -117,7 +117,7 @@ pub record AreCut (name : List ℕ) (ps : List Part) (places : List ℕ)
   pub named : words ≡ name ∷ drop 1 words
   pub parts : IsCut ps 0 1 places words
 
--- whether the offences of a part are known to stand at its own words,
+-- whether the errors of a part are known to stand at its own words,
 -- and those of all but the last part
 abbrev pub is_bounded : Part → Bool
 is_bounded Factors = false
@@ -128,7 +128,7 @@ are_bounded [] = true
 are_bounded (p ∷ []) = true
 are_bounded (p ∷ q ∷ ps) = is_bounded p && are_bounded (q ∷ ps)
 
--- the parts before one of them have no offence, and the fault is the first one of that
+-- the parts before one of them have no error, and the fault is the first one of that
 abbrev pub IsFirstOf : (ps : List Part) → ℕ → Written (form_of ps) → WordsFault → Type 0
 IsFirstOf [] k x fault = ⊥
 IsFirstOf (p ∷ []) k x fault = IsFirst (first_offence (part_offends p k x)) fault
@@ -137,7 +137,7 @@ IsFirstOf (p ∷ q ∷ ps) k x fault =
     ⊎ ((first_offence (part_offends p k x.0) ≡ None)
     × IsFirstOf (q ∷ ps) (k + length (words_of (form_of_part p) x.0)) x.1 fault)
 
--- no part has an offence
+-- no part has an error
 abbrev pub AreFine : (ps : List Part) → ℕ → Written (form_of ps) → Type 0
 AreFine [] k x = Unit {0}
 AreFine (p ∷ []) k x = first_offence (part_offends p k x) ≡ None

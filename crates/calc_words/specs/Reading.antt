@@ -20,14 +20,14 @@ IsRefusal entries words (Range at) = HasFirstOffence entries words (Some (at.wor
 IsRefusal entries words (Shape at) = HasFirstOffence entries words (Some (at.word, at.byte, shape))
 IsRefusal entries words NoMemory = Unit {0}
 
--- the words say this command without offence, and it is sound,
+-- the words say this command without error, and it is sound,
 -- or they are refused for what is wrong with them
 abbrev pub IsRead : List Entry → List (List ℕ) → Result Command WordsFault → Type 0
 IsRead entries words (Ok command) =
     SpellsWithoutOffence entries words (command_of command) × IsSound command
 IsRead entries words (Err fault) = IsRefusal entries words fault
 
--- the refusal is that of the first offence; running out of memory says nothing
+-- the refusal is that of the first error; running out of memory says nothing
 abbrev pub IsFirst : Option Offence → WordsFault → Type 0
 IsFirst first (Syntax at) = ⊥
 IsFirst first (Literal at) = first ≡ Some (at.word, at.byte, literal)
@@ -35,12 +35,12 @@ IsFirst first (Range at) = first ≡ Some (at.word, at.byte, range)
 IsFirst first (Shape at) = first ≡ Some (at.word, at.byte, shape)
 IsFirst first NoMemory = Unit {0}
 
--- the answer has the property and there is no offence, or the refusal is that of the first one
+-- the answer has the property and there is no error, or the refusal is that of the first one
 abbrev pub IsJudged : {A : Type 0} → (A → Type 0) → Option Offence → Result A WordsFault → Type 0
 IsJudged P first (Ok answer) = P answer × (first ≡ None)
 IsJudged P first (Err fault) = IsFirst first fault
 
--- the refusal names the offence
+-- the refusal names the error
 abbrev pub IsFaultOf : Offence → WordsFault → Type 0
 IsFaultOf o (Literal at) = o ≡ (at.word, at.byte, literal)
 IsFaultOf o (Range at) = o ≡ (at.word, at.byte, range)
@@ -52,7 +52,7 @@ abbrev pub Accepts : PlainCommand → Result Command WordsFault → Type 0
 Accepts c (Ok command) = command_of command ≡ c
 Accepts c (Err fault) = fault ≡ NoMemory
 
--- the offence is refused, unless memory runs out
+-- the error is refused, unless memory runs out
 abbrev pub Refuses : {A : Type 0} → Offence → Result A WordsFault → Type 0
 Refuses o (Ok answer) = ⊥
 Refuses o (Err fault) = IsFaultOf o fault ⊎ (fault ≡ NoMemory)

@@ -1,4 +1,4 @@
--- The limits that the words of a command keep where they have no offence.
+-- The limits that the words of a command keep where they have no error.
 use Rattle.std.specs.Prelude.{◌≡◌, ◌≤◌, ℕ, ◌*◌, true, List, length, Option, Some, None}
 use Rattle.sym_model.specs.Partition.{IsPartition, size, rows}
 use Rattle.sym_model.specs.GoodTableau.{is_among, lattice_readings}

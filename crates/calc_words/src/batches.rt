@@ -21,7 +21,7 @@ pub fn read_batch(words: &[String]) -> Result<Command, WordsFault>
 /// Reads the words of `work`: that word, a number of lines and a seed.
 ///
 /// Words that are no such command are refused as `Syntax`, at the word where they first fail.
-/// Otherwise the first offence is refused: a number past 2^127 - 1 as `Literal`; a number of lines
+/// Otherwise the first error is refused: a number past 2^127 - 1 as `Literal`; a number of lines
 /// that is not from 1 to 10,000, and a seed past 65,536, as
 /// `Range`.
 pub fn read_work(words: &[String]) -> Result<Command, WordsFault>

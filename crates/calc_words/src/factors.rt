@@ -36,7 +36,7 @@ fn pushed(factors: Factors, next: Partition) -> Result<Factors, WordsFault>
     }
 }
 
-/// These factors and, after the word `at`, the next one, or its first offence:
+/// These factors and, after the word `at`, the next one, or its first error:
 /// the ninth one offends at that word.
 fn next_factor(
     alloc: Global,
@@ -60,7 +60,7 @@ fn next_factor(
 }
 
 /// These factors and those after them, each after a `-`, the first of which is the word `at`,
-/// or the first offence.
+/// or the first error.
 fn read_later(
     alloc: Global,
     at: u64,
@@ -98,7 +98,7 @@ fn paired(alloc: Global, left: Partition, right: Partition) -> Result<Factors, W
 }
 
 /// The factors of which the first begins at the word `at` and the others stand after a `-`,
-/// or the first offence.
+/// or the first error.
 pub(crate) fn read_factors(
     alloc: Global,
     at: u64,

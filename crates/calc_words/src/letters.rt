@@ -31,7 +31,7 @@ fn word_of(alloc: Global, letters: &[u16]) -> Result<Word, WordsFault>
     Ok(Word::from_slice(alloc, letters)?)
 }
 
-/// The letters that are these words, the first of which is the word `at`, or their first offence.
+/// The letters that are these words, the first of which is the word `at`, or their first error.
 pub(crate) fn read_letters(alloc: Global, at: u64, words: &[String]) -> Result<Word, WordsFault>
     requires { at + length words.now < 2 ^ 64 }
     ensures { IsJudged (λ w. w ≡ numbers_of (map string_bytes words.now))

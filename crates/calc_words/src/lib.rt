@@ -5,9 +5,9 @@
 //!
 //! The words of each command that names partitions, factors, permutations, letters or lines: each
 //! reader answers a `Command` exactly where the entry of the grammar takes the words to it without
-//! an offence, and otherwise refuses the place where they first fail or the first offence.
+//! an error, and otherwise refuses the place where they first fail or the first error.
 //! `joined_commands_law`: so it is among all commands. `written_limits_law`: what words without an
-//! offence name is within the limits.
+//! error name is within the limits.
 #![tactic(auto)]
 
 mod batches;

@@ -7,15 +7,15 @@ use calc_base::{Place, WordsFault};
 /// What a number offends by.
 #[derive(Clone, Copy, Debug)]
 pub enum Kind {
-    /// It is past 2^127 - 1.
+    /// It exceeds 2^127 - 1.
     Literal,
-    /// It is past a limit.
+    /// It exceeds a limit.
     Range,
-    /// It can stand in no such list.
+    /// It is not allowed in such a list.
     Shape,
 }
 
-/// Words that are no command, at this byte of this word.
+/// The error of words that are no command, at this byte of this word.
 pub fn syntax(word: u64, byte: u64) -> WordsFault
     ensures { result ≡ WordsFault.Syntax (record { word = word; byte = byte }) }
 {

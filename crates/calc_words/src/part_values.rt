@@ -1,4 +1,4 @@
-//! What the parts of a command name, or their first offence.
+//! What the parts of a command name, or their first error.
 ghost use Rattle.std.specs.Prelude.{◌≡◌, ◌≤◌, ◌<◌, ◌+◌, ◌^◌, [], ◌∷◌, ℕ, List, map, length};
 ghost use Rattle.std.specs.Prelude.{string_bytes, codes};
 ghost use Rattle.sym_model.specs.CommandOffence.{first_offence, most_permuted};

@@ -19,8 +19,8 @@ const MOST_PARTS: usize = 64;
 
 const MOST_CELLS: u128 = 512;
 
-/// What a number offends by that stands after that number of rows and cells,
-/// the last of them this one.
+/// The error of a number in the list of a partition, given the number of numbers before it, their
+/// sum, and the last of them.
 fn part_offence(count: usize, cells: u16, last: Option<u16>, value: u128) -> Option<Kind>
     requires { value < 2 ^ 127 }
     ensures { result ≡ part_kind count cells last value }
@@ -43,8 +43,7 @@ fn partition_of(alloc: Global, numbers: &[u16]) -> Result<Partition, WordsFault>
     Ok(Partition::from_valid_numbers(alloc, numbers)?)
 }
 
-/// The partition of the numbers that are these words, the first of which is the word `at`,
-/// or their first offence.
+/// Parses the words, from word `at` on, as a partition; otherwise returns their first error.
 pub fn read_partition(alloc: Global, at: u64, words: &[String]) -> Result<Partition, WordsFault>
     requires { at + length words.now < 2 ^ 64 }
     ensures { IsJudged (λ p. p ≡ partition (map string_bytes words.now))

@@ -53,7 +53,7 @@ fn permutation_of(alloc: Global, letters: &[u16]) -> Result<Perm, WordsFault>
 }
 
 /// The permutation of the letters that are these words, the first of which is the word `at`, or
-/// their first offence; at most that number of letters may be written.
+/// their first error; at most that number of letters may be written.
 pub(crate) fn read_permutation(
     alloc: Global,
     most: usize,

@@ -15,7 +15,7 @@ use std::alloc::Global;
 /// Reads the words of `schubert`: that word and the letters of a permutation.
 ///
 /// Words that are no such command are refused as `Syntax`, at the word where they first fail.
-/// Otherwise the first offence of the letters is refused: one past 2^127 - 1 as `Literal`; one past
+/// Otherwise the first error of the letters is refused: one past 2^127 - 1 as `Literal`; one past
 /// 16, or the 17th, as `Range`; one that is 0, past the number of letters, or stands earlier,
 /// as `Shape`.
 pub fn read_schubert(alloc: Global, words: &[String]) -> Result<Command, WordsFault>
@@ -85,7 +85,7 @@ pub fn read_stanley(alloc: Global, words: &[String]) -> Result<Command, WordsFau
 /// Reads the words of `rsk`: that word and the letters of a word.
 ///
 /// Words that are no such command are refused as `Syntax`, at the word where they first fail.
-/// Otherwise the first offence is refused: a letter past 2^127 - 1 as `Literal`; one that is 0 or
+/// Otherwise the first error is refused: a letter past 2^127 - 1 as `Literal`; one that is 0 or
 /// past 65,535, and the 257th, as `Range`.
 pub fn read_rsk(alloc: Global, words: &[String]) -> Result<Command, WordsFault>
     ensures { IsRead (rsk_entry ∷ []) (map string_bytes words.now) result }

@@ -14,7 +14,7 @@ use std::alloc::Global;
 /// where the answer is wanted on one line, and two to eight partitions with `-` between them.
 ///
 /// Words that are no such command are refused as `Syntax`, at the word where they first fail.
-/// Otherwise the first offence is refused: a number past 2^127 - 1 as `Literal`; a number of rows
+/// Otherwise the first error is refused: a number past 2^127 - 1 as `Literal`; a number of rows
 /// that is not from 1 to 64, the 65th number of a partition, the one at which its sum passes 512,
 /// and the `-` in front of a ninth partition, as `Range`; a number of a partition greater than the
 /// one before it as `Shape`.
@@ -40,7 +40,7 @@ pub fn read_mult(alloc: Global, words: &[String]) -> Result<Command, WordsFault>
 /// where the answer is wanted on one line, and two partitions with `/` between them.
 ///
 /// Words that are no such command are refused as `Syntax`, at the word where they first fail.
-/// Otherwise the first offence is refused: a number past 2^127 - 1 as `Literal`; a number of rows
+/// Otherwise the first error is refused: a number past 2^127 - 1 as `Literal`; a number of rows
 /// that is not from 1 to 64, the 65th number of a partition, and the one at which its sum passes
 /// 512, as `Range`; a number of a partition greater than the one before it as `Shape`.
 pub fn read_skew(alloc: Global, words: &[String]) -> Result<Command, WordsFault>

@@ -11,7 +11,7 @@ use partitions::Partition;
 use std::alloc::Global;
 
 /// The partitions of two lists with a word between them, the first of which begins at the word
-/// `at`, or the first offence.
+/// `at`, or the first error.
 pub fn read_two(
     alloc: Global,
     at: u64,

@@ -1,4 +1,4 @@
--- The minus signs and fractions of an expression, read from the left: the first one found is its first offence by a sign.
+-- The minus signs and fractions of an expression, read from the left: the first one found is its first error by a sign.
 use Rattle.std.proofs.Common.{◌≡◌, ℕ, suc, ◌+◌, ◌<◌, ◌≤◌, ◌==◌, nat_le, Bool, true, false, ◌&&◌, ◌||◌, cond, List, [], ◌∷◌, ◌++◌, length, length-append, append_assoc, append-nil, refl, sym, ap, ◌∙◌, arith, Option, Some, None}
 use Rattle.std.specs.Prelude.{codes}
 use Rattle.std.proofs.lemmas.Bool.{le-leb, lt-ltb}
@@ -23,7 +23,7 @@ or_else-none : (a : Option WordOffence) → or_else a None ≡ a
 or_else-none None = refl
 or_else-none (Some o) = refl
 
--- offences from one byte on and before another
+-- errors from one byte on and before another
 abbrev AreBetween : ℕ → ℕ → List WordOffence → Type 0
 AreBetween low high [] = Unit {0}
 AreBetween low high (o ∷ os) = ((low ≤ o.0) × (o.0 < high)) × AreBetween low high os
@@ -64,7 +64,7 @@ one_more m h o (Some p) b l k = by (comes_first o p)
     by true = refl
     by false = refl
 
--- the first of offences of which some stand before the others
+-- the first of errors of which some stand before the others
 first-apart : (low m high : ℕ) (os ps : List WordOffence) → AreBetween low m os → AreBetween m high ps → first_of (os ++ ps) ≡ or_else (first_of os) (first_of ps)
 first-apart low m high [] ps a b = refl
 first-apart low m high (o ∷ os) ps a b =

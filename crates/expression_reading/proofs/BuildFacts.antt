@@ -1,4 +1,4 @@
--- What the reader builds, tied to the phrase that is read.
+-- The state of the builder, and its relation to the phrase that is read.
 use Rattle.std.proofs.Common.{◌≡◌, ℕ, zero, suc, ◌*◌, ◌<◌, ◌≤◌, List, [], ◌∷◌, ◌++◌, length, refl, sym, ap, ◌∙◌, arith, None}
 use Rattle.sym_model.specs.Partition.{Falls, size, rows, without_last_zeros, in_front}
 use Rattle.sym_model.proofs.Parts.{length-without_last_zeros, size-in_front}
@@ -7,7 +7,7 @@ use Rattle.expression_reading.specs.declared.builder.Frame.{Frame}
 use Rattle.expression_reading.specs.Building.{Built, builds, terms_in, factors_in, opened_from, opened_in, AreEntries}
 use Rattle.sym_model.specs.Bounded.{AreAtMost}
 
--- one parenthesis more
+-- the open parentheses with one more
 pub opened-snoc : (o : Opened Built) (fs : List Frame) (f : Frame) → opened_from o (fs ++ f ∷ []) ≡ inside (opened_from o fs) (terms_in f.terms) (factors_in f.factors)
 opened-snoc o [] f = refl
 opened-snoc o (g ∷ fs) f = opened-snoc (inside o (terms_in g.terms) (factors_in g.factors)) fs f
@@ -50,7 +50,7 @@ Falls-cut (n ∷ m ∷ ns) f =
 pub falls_cut : (ns : List ℕ) → AreEntries ns → Falls (without_last_zeros ns)
 falls_cut ns h = Falls-cut ns h.falls
 
--- what a parenthesis makes of the ones that are open
+-- the open parentheses after an opening one
 pub closes-step : (x e : Built) (t : BeforeTerm Built) (f : BeforeFactor Built) (items fs : List Frame) (g : Frame)
     → items ≡ fs ++ g ∷ [] → e ≡ join builds t f x
     → ◌≡◌ {A = State Built ℕ} (at (closed e) (terms_in g.terms) (factors_in g.factors) (opened_in fs)) (after_factor builds x t f (opened_in items) closes)

@@ -1,4 +1,4 @@
--- What is built of a word is the tree of the phrase that is read.
+-- The expression built from a word is the tree of the phrase that is read.
 use Rattle.std.proofs.Common.{◌≡◌, ℕ, ◌+◌, ◌^◌, ◌<◌, ◌≤◌, ◌==◌, nat_lt, Bool, true, false, cond, List, [], ◌∷◌, ◌++◌, length, map, take, drop, get_or, refl, sym, ap, ◌∙◌, subst, append_assoc, arith, Option, Some, None}
 use Rattle.std.specs.Prelude.{option_to_list}
 use Rattle.std.proofs.lemmas.List.{map-append, take-append-drop}
@@ -158,7 +158,7 @@ entries-mild b k before (w ∷ ws) h =
       low = (not_high (decimal_value w) h.0.1, rest.low);
     }
 
--- what is built after a byte, where the marks are mild
+-- the state of the builder after a byte, if the marks are mild
 abbrev Mild : Reading → Symbol → Type 0
 Mild x s = AreMild (state_marks x ++ option_to_list (new_mark x s))
 
@@ -244,7 +244,7 @@ list-state closes_list basis [] t f o b = refl
 list-state closes_list basis (w ∷ ws) t f o b = refl
 list-state _ basis ws t f o b = refl
 
--- what is built follows what is read
+-- each step of the builder agrees with a step of the reading
 build-step : (s : Symbol) (p : Piece Phrase (List ℕ)) (t : BeforeTerm Phrase) (f : BeforeFactor Phrase) (o : Opened Phrase) → IsByte s → Mild (at p t f o) s
     → step builds (tree_state (at p t f o)) s ≡ tree_state (step phrases (at p t f o) s)
 build-step s awaited t f o b h = before_factor-state s t f o b

@@ -1,4 +1,4 @@
--- The first of the offences at marks in a row, and numbers that are kept only up to 2^127.
+-- The first of the errors at marks in a row, and numbers that are kept only up to 2^127.
 use Rattle.std.proofs.Common.{◌≡◌, ℕ, ◌+◌, ◌*◌, ◌^◌, ◌<◌, ◌≤◌, ◌==◌, nat_le, nat_lt, Bool, true, false, ◌&&◌, ◌||◌, cond, List, [], ◌∷◌, ◌++◌, refl, sym, ap, ◌∙◌, append_assoc, arith, Option, Some, None, option_map, flat_map}
 use Rattle.std.proofs.Math.Bool.{or_assoc}
 use Rattle.std.proofs.lemmas.Bool.Decides.{nat_tests}
@@ -7,7 +7,7 @@ use Rattle.sym_model.proofs.Numbers.{nat_le-trans, not_le-trans}
 use Rattle.expression_reading.specs.Offences.{first_kind}
 use Rattle.expression_reading.specs.ScanSteps.{capped, is_high, any_high, first_at}
 
--- a number for each offence, by which they are in order
+-- a number for each error, by which they are in order
 abbrev key : WordOffence → ℕ
 key o = 3 * o.0 + rank o.1
 
@@ -145,6 +145,6 @@ any_high-append [] ns = refl
 any_high-append (m ∷ ms) ns =
     ap (λ x. is_high m.1 || x) (any_high-append ms ns) ∙ sym (or_assoc (is_high m.1) (any_high ms) (any_high ns))
 
--- a digit more, where numbers are kept up to 2^127
+-- the value with one digit more, if values are capped at 2^127
 pub capped-next : (n d : ℕ) → capped (10 * capped n + d) ≡ capped (10 * n + d)
 capped-next n d = omega arith

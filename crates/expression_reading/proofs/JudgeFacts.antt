@@ -1,4 +1,4 @@
--- What the offences of an expression's word come to.
+-- The errors of the word of an expression.
 use Rattle.std.proofs.Common.{◌≡◌, ℕ, ◌+◌, ◌<◌, ◌≤◌, nat_lt, max, Bool, true, false, ◌||◌, cond, List, [], ◌∷◌, ◌++◌, length, length-append, map, refl, sym, ap, ◌∙◌, subst, arith, Option, Some, None, option_map, ◌⊎◌, inl, inr, ⊎_elim, flat_map}
 use Rattle.std.proofs.lemmas.Bool.Decides.{nat_tests}
 use Rattle.std.proofs.lemmas.Bool.{cases_lt, or_cases, lt-ltb}
@@ -29,7 +29,7 @@ use Rattle.expression_reading.specs.Building.{Built, built_of, AreMild}
 use Rattle.expression_reading.proofs.ScanFacts.{letter-length}
 use Rattle.expression_reading.proofs.FirstOffences.{earlier-assoc, first_of-append, first-append, first-one, any_high-append}
 
--- no offence and no high number: the marks are mild
+-- no error and no high number: the marks are mild
 none_left : (a b : Option WordOffence) → earlier a b ≡ None → a ≡ None
 none_left None b h = refl
 none_left (Some o) None h = cc
@@ -104,7 +104,7 @@ nesting-joined plus e f = refl
 nesting-joined minus e f = refl
 nesting-joined times e f = refl
 
--- a phrase is no longer than it is nested
+-- the nesting of a phrase is at most its length
 pub nesting-within : (level : Level) (e : Phrase) → Is level e → nesting (tree e) ≤ length (spelling e)
 nesting-within level (numeral ds) h = omega (arith, h.nonempty)
 nesting-within level (ratio n k) h = simp length-append (omega arith)
@@ -179,7 +179,7 @@ marks-below level d b (operation operator l r) h =
     operation-below operator d b l r (marks-below (level_of operator) d b l h.1)
     (marks-below (level_after operator) d (b + length (spelling l) + 1) r h.2)
 
--- the first offence is one of the two
+-- the first error is one of the two
 pub first_is : (a b : Option WordOffence) (o : WordOffence) → earlier a b ≡ Some o → (a ≡ Some o) ⊎ (b ≡ Some o)
 first_is None b o h = inr h
 first_is (Some p) None o h = inl h
@@ -201,7 +201,7 @@ first-below n (m ∷ ms) o h k =
     (λ later. first-below n ms o h.1 later)
     (first_is (first_of (flat_map offences_at (m ∷ []))) (first_of (flat_map offences_at ms)) o (sym (first-append (m ∷ []) ms) ∙ k))
 
--- the offence of too many bytes
+-- the error of too many bytes
 abbrev pub long_offence : ℕ → Option WordOffence
 long_offence n = cond (nat_lt 4096 n) (Some (4096, range)) None
 
@@ -214,7 +214,7 @@ first_of_whole false false x y = refl
 abbrev pub first_before_degree : Phrase → Option WordOffence
 first_before_degree e = earlier (first_of (flat_map offences_at (marks 0 0 e))) (long_offence (length (spelling e)))
 
--- the offence of too high a degree
+-- the error of too high a degree
 abbrev high_offence : ℕ → Phrase → Option WordOffence
 high_offence limit e = cond (nat_lt limit (degree (tree e))) (Some (length (spelling e), range)) None
 
@@ -239,7 +239,7 @@ first_stays : (o : WordOffence) (n : ℕ) (h : Bool) → o.0 < n → earlier (So
 first_stays o n true l = ap (λ c. cond c (Some o) (Some (n, range))) (before-end n o.0 o.1 l)
 first_stays o n false l = refl
 
--- an offence that is no degree past the limit stands at a byte of the word
+-- an error other than a degree over the limit is at a byte of the word
 below-end : (e : Phrase) (o : WordOffence) → Is expression e → first_before_degree e ≡ Some o → o.0 < length (spelling e)
 below-end e o a h =
     let n = length (spelling e) in
@@ -263,7 +263,7 @@ judge-none limit e h k =
     all_offences limit e ∙ ap (λ f. earlier f (high_offence limit e)) h
     ∙ ap (λ b. cond b (Some (length (spelling e), range)) None) (nat_lt-false limit (degree (tree e)) k)
 
--- no degree past the limit where there is no offence
+-- without an error the degree is within the limit
 pub none-low : (limit : ℕ) (e : Phrase) → first_of (offences_within limit e) ≡ None → degree (tree e) ≤ limit
 none-low limit e h = by (nat_lt limit (degree (tree e))) refl (none_right (first_before_degree e) _ (sym (all_offences limit e) ∙ h))
   where
@@ -282,7 +282,7 @@ long_none n false h k = grind (arith, nat_tests)
 pub short : (e : Phrase) → first_before_degree e ≡ None → length (spelling e) ≤ 4096
 short e h = long_none (length (spelling e)) (nat_lt 4096 (length (spelling e))) refl (none_right (first_of (flat_map offences_at (marks 0 0 e))) _ h)
 
--- the first offence that the reader keeps, before the degree
+-- the first error that the reader keeps, before the degree
 long_kept : (b : Bool) → option_map offence_in (then_some b (record { byte = 4096; kind = Range })) ≡ cond b (Some (4096, range)) None
 long_kept true = refl
 long_kept false = refl
@@ -343,7 +343,7 @@ formula-judged limit w e x f h k b s d =
     let t : tree_of f.tree ≡ tree e = ap tree_of s ∙ ap (λ (z : Built). z.0) b in
     (e, h, judge-none limit e k (omega (arith, ap degree t, d)), t)
 
--- an expression without offence has a degree within the limit
+-- an expression without error has a degree within the limit
 read-low : (limit : ℕ) (w : List ℕ) (f : Formula) → IsReadBy (offences_within limit) w (Ok f) → degree (tree_of f.tree) ≤ limit
 read-low limit w f h = omega (arith, ap degree h.3, none-low limit h.0 h.2)
 
@@ -351,7 +351,7 @@ pub result-low : (limit : ℕ) (w : List ℕ) (r : Result Formula ExpressionFaul
 result-low limit w (Ok f) h = read-low limit w f h
 result-low limit w (Err e) h = tt
 
--- the first offence is no later than the end of the word
+-- the first error is no later than the end of the word
 end-itself : (n : ℕ) → comes_first (n, range) (n, range) ≡ true
 end-itself n = grind (arith, nat_tests)
 

@@ -1,4 +1,4 @@
--- What the reader keeps of a word is what the phrase that has been read in part says.
+-- The state of the reader agrees with the part of the phrase that has been read.
 use Rattle.std.proofs.Common.{◌≡◌, ℕ, ◌+◌, ◌-◌, ◌*◌, ◌<◌, ◌==◌, true, ◌||◌, cond, List, [], ◌∷◌, ◌++◌, length, length-append, refl, sym, ap, ◌∙◌, subst, add-one, arith, Option, Some, None, option_map, flat_map}
 use Rattle.std.specs.Prelude.{option_to_list}
 use Rattle.std.proofs.lemmas.List.{append-nil}
@@ -21,7 +21,7 @@ use Rattle.expression_reading.specs.Offences.{offence_in, mark_in}
 use Rattle.expression_reading.specs.ScanSteps.{capped, mode_after, mode_after_factor, mode_before_factor, depth_after, number_mark, mark_before, is_high, any_high, first_at, Sees}
 use Rattle.expression_reading.proofs.FirstOffences.{first-append, first-one, capped_mark, kind-capped, high-capped, any_high-append, capped-next}
 
--- what is kept of the numbers of an atom's list
+-- the numbers of an atom's list that the state keeps
 abbrev pub before_of : List (List ℕ) → Before
 before_of ws = record { count = length ws; last = option_map capped (last_value None ws) }
 
@@ -51,7 +51,7 @@ value_from-snoc n (d ∷ ds) c = value_from-snoc (10 * n + (d - 48)) ds c
 pub value-next : (ds : List ℕ) (c : ℕ) → capped (10 * capped (decimal_value ds) + (c - 48)) ≡ capped (decimal_value (ds ++ c ∷ []))
 value-next ds c = capped-next (decimal_value ds) (c - 48) ∙ ap capped (sym (value_from-snoc 0 ds c))
 
--- a digit where a number may begin
+-- a symbol is a byte
 abbrev pub IsByte : Symbol → Type 0
 IsByte (digit c) = c < 256
 IsByte _ = Unit {0}
@@ -232,7 +232,7 @@ same-mark (digit c) p t f o h = refl
 same-mark opens p t f o h = ap (λ n. Some (n, opening (depth_of o + 1))) (opening-mark p t f o h)
 same-mark _ p t f o h = piece-mark p t f o
 
--- what is found at marks
+-- the state of a scan agrees with the marks of what was read
 abbrev pub Finds : Scan → List (ℕ × PlainMark) → Type 0
 Finds s ms = (option_map offence_in s.first ≡ first_of (flat_map offences_at ms)) × (s.is_high ≡ any_high ms)
 

@@ -20,7 +20,7 @@ use Rattle.expression_reading.proofs.ScanFacts.{mode_of, Agrees, agrees, IsByte,
 none-spelled : (w : List ℕ) (phrase : Phrase) → read_on w start ≡ dead → SpellsPhrase w phrase → ⊥
 none-spelled w phrase d h = let e = ap (found phrases) (sym d) ∙ found-spelled w phrase h in cc
 
--- what is kept is what has been read
+-- the state of a scan agrees with what has been read
 abbrev pub Keeps : Scan → Reading → Type 0
 Keeps s dead = ⊥
 Keeps s (at p t f o) = (s.mode ≡ mode_of p t f o) × (s.depth ≡ depth_of o) × Finds s (state_marks (at p t f o))
@@ -122,7 +122,7 @@ fault w i b s (at p t f o) h small c keep steps =
     steps)
     (agrees y p t f o (byte-symbol b y small (symbol-codes b)))
 
--- what is kept fits: no more parentheses and numbers than bytes
+-- the state has at most as many parentheses and numbers as bytes were read
 depth-within : (o : Opened Phrase) → depth_of o ≤ length (written_opened o)
 depth-within outermost = omega arith
 depth-within (inside o t f) = simp length-append (omega (arith, depth-within o))
@@ -161,7 +161,7 @@ kept-room w i s (at p t f o) h small c keep =
 pub room : (w : List ℕ) (i : ℕ) (s : Scan) → i < length w → length w < 2 ^ 64 → Keeps s (read_on (take i w) start) → HasRoom s.mode × (s.depth + 1 < 2 ^ 64)
 room w i s h small keep = kept-room w i s (read_on (take i w) start) h small (written-so_far (take i w)) keep
 
--- what is kept begins an expression
+-- if the state agrees with what was read, that begins an expression
 live-kept : (s : Scan) (x : Reading) → Keeps s x → is_live x ≡ true
 live-kept s dead keep = absurd keep
 live-kept s (at p t f o) keep = refl
@@ -197,7 +197,7 @@ fault-scanned w i b s h e small keep steps =
       },
     )
 
--- an expression is there exactly where what is kept says so
+-- an expression is complete if and only if the state says so
 no_depth : (n : ℕ) → (n + 1 == 0) ≡ false
 no_depth n = ap (λ k. k == 0) (add-one n) ∙ eqb-suc-zero n
 

@@ -14,11 +14,11 @@ use Rattle.expression_reading.specs.Reading.{IsReadBy}
 use Rattle.expression_reading.specs.Signs.{refused_by_sign}
 use Rattle.expression_reading.proofs.FirstOffences.{first_of-append}
 
--- the outer expression's offences, and those of the inner one
+-- the outer expression's errors, and those of the inner one
 abbrev outer_offences : Phrase → List WordOffence
 outer_offences phrase = offences_within plethysm_degree_limit phrase
 
--- where the first sign of a word is, if it has one
+-- the byte of the first sign of a word, if it has one
 abbrev pub HasSign : List ℕ → Option ℕ → Type 0
 HasSign word sign = (phrase : Phrase) → SpellsPhrase word phrase → option_map (λ byte. (byte, shape)) sign ≡ first_of (sign_offences 0 phrase)
 
@@ -47,7 +47,7 @@ earlier-none : (a : Option WordOffence) → earlier a None ≡ a
 earlier-none None = refl
 earlier-none (Some o) = refl
 
--- no sign
+-- a word without a sign
 without : (word : List ℕ) (phrase : Phrase) → HasSign word None → SpellsPhrase word phrase → first_of (inner_offences phrase) ≡ first_of (outer_offences phrase)
 without word phrase s h = with_signs word None phrase s h ∙ earlier-none (first_of (outer_offences phrase))
 
@@ -59,12 +59,12 @@ no_sign-read word (Err (Range byte)) s h = (h.0, h.1, without word h.0 s h.1 ∙
 no_sign-read word (Err (Shape byte)) s h = (h.0, h.1, without word h.0 s h.1 ∙ h.2)
 no_sign-read word (Err NoMemory) s h = tt
 
--- a sign where there is no other offence
+-- a sign in a word without any other error
 pub sign-alone : (word : List ℕ) (f : Formula) (sign : ℕ) → HasSign word (Some sign) → IsReadBy outer_offences word (Ok f) → IsReadBy inner_offences word (Err (Shape sign))
 sign-alone word f sign s h =
     (h.0, h.1, with_signs word (Some sign) h.0 s h.1 ∙ ap (λ o. earlier o (Some (sign, shape))) h.2)
 
--- a sign and another offence, which comes first unless the sign's byte is lower
+-- a sign and another error, which comes first unless the sign's byte is lower
 kind-small : (k : OffenceKind) → nat_le (rank k) 2 ≡ true
 kind-small literal = refl
 kind-small range = refl
@@ -109,7 +109,7 @@ sign-refused word (Shape byte) sign s h = by (nat_lt sign byte) refl
     by true e = (h.0, h.1, first_with word sign byte shape h.0 true e s h.1 h.2)
     by false e = (h.0, h.1, first_with word sign byte shape h.0 false e s h.1 h.2)
 
--- the first offence of an inner expression is no later than the end of its word
+-- the first error of an inner expression is no later than the end of its word
 pub inner-ends_last : (e : Phrase) (o : WordOffence) → Is expression e → first_of (inner_offences e) ≡ Some o → comes_first o (length (spelling e), range) ≡ true
 inner-ends_last e o a h =
     ⊎_elim

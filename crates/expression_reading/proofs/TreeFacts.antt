@@ -1,4 +1,4 @@
--- What every expression has: a nesting of at least 1.
+-- Every expression has a nesting of at least 1.
 use Rattle.std.proofs.Common.{◌≤◌, arith}
 use Rattle.sym_model.specs.Expression.{Tree, number, fraction, atom, negation, sum, difference, product, nesting}
 

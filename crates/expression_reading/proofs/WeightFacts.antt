@@ -77,7 +77,7 @@ positive (Product' p left q right) h =
     let s = one_of (has_no_signs left) (has_no_signs right) h in
     product-positive (tree_of left) (tree_of right) (positive left s.0) (positive right s.1)
 
--- where a part is too wide, so is the whole
+-- if a part is too wide, so is the whole
 pub wide-product_left : (e f : Tree) → Positive f → Wide e → Wide (product e f)
 wide-product_left e f h (inl w) = inl (omega (arith, w, times-more (numerator e) (numerator f) h.0))
 wide-product_left e f h (inr w) = inr (omega (arith, w, times-more (denominator e) (denominator f) h.1))

@@ -1,4 +1,4 @@
--- What the reader builds of an expression: its tree, and whether no number in it has a sign.
+-- The result of reading an expression: its tree, and whether no number in it has a sign.
 use Rattle.std.specs.Prelude.{◌≡◌, ℕ, ◌+◌, ◌-◌, ◌*◌, ◌^◌, ◌<◌, ◌≤◌, nat_lt, Bool, true, false, ◌&&◌}
 use Rattle.std.specs.Prelude.{List, [], ◌∷◌, ◌++◌, length, Option, Some, None}
 use Rattle.sym_model.specs.Partition.{Falls, without_last_zeros}
@@ -33,11 +33,11 @@ use Rattle.sym_model.specs.Bounded.{AreAtMost}
 abbrev pub Built : Type 0
 Built = Tree × Bool
 
--- what an expression of the calculator is to the reader
+-- the result for an expression of the calculator
 abbrev pub built_of : Expr → Built
 built_of e = (tree_of e, has_no_signs e)
 
--- what the reader makes of the parts of an expression; numbers are kept up to 2^127
+-- the results of the parts of an expression; numbers are capped at 2^127
 abbrev pub builds : Makes Built ℕ
 builds = record {
   begin = λ byte. byte - 48;
@@ -50,25 +50,25 @@ builds = record {
   operation_of = λ operator x y. (join_trees operator x.0 y.0, x.1 && y.1);
 }
 
--- what stands before a term
+-- the text before a term
 abbrev pub terms_in : LeadingTerms → BeforeTerm Built
 terms_in NoTerm = no_term
 terms_in Negating = negating
 terms_in (Adding e) = adding (built_of e.value)
 terms_in (Subtracting e) = subtracting (built_of e.value)
 
--- what stands before a factor
+-- the text before a factor
 abbrev pub factors_in : LeadingFactors → BeforeFactor Built
 factors_in NoFactor = no_factor
 factors_in (Multiplying e) = multiplying (built_of e.value)
 
--- the numbers of an atom's list that has no offence, within the greatest degree
+-- the numbers of an atom's list that has no error, within the greatest degree
 pub record AreEntries (numbers : List ℕ) : Type 0 where
   pub falls : Falls numbers
   pub few : length numbers ≤ 64
   pub low : AreAtMost 20 numbers
 
--- what is there of a factor
+-- the part of a factor that has been read
 abbrev pub part_in : Part → Piece Built ℕ
 part_in Awaited = awaited
 part_in (Number n) = in_number n
@@ -87,7 +87,7 @@ opened_from o (f ∷ fs) = opened_from (inside o (terms_in f.terms) (factors_in 
 abbrev pub opened_in : List Frame → Opened Built
 opened_in fs = opened_from outermost fs
 
--- what has been built
+-- the state of a builder
 abbrev pub state_of : Builder → State Built ℕ
 state_of b =
     at (part_in b.part) (terms_in b.frame.terms) (factors_in b.frame.factors)
@@ -97,7 +97,7 @@ abbrev pub state_in : Option Builder → State Built ℕ
 state_in None = dead
 state_in (Some b) = state_of b
 
--- a number that ends before the symbol is no offence
+-- a number that ends before the symbol is no error
 abbrev pub IsFine : Piece Built ℕ → Symbol → Type 0
 IsFine p (digit byte) = 48 ≤ byte
 IsFine (in_number n) s = n < 2 ^ 127
@@ -105,7 +105,7 @@ IsFine (in_denominator n k) s = (n < 2 ^ 127) × (k < 2 ^ 127)
 IsFine (in_entry basis numbers n) s = AreEntries (numbers ++ n ∷ [])
 IsFine p s = Unit {0}
 
--- a mark that is no offence, where a number of an atom is within the greatest degree
+-- a mark that is no error, and, if it is a number of an atom, is within the greatest degree
 abbrev pub IsMild : ℕ × Mark → Type 0
 IsMild m = (first_kind m.1 ≡ None) × (is_high m.1 ≡ false)
 
@@ -113,7 +113,7 @@ abbrev pub AreMild : List (ℕ × Mark) → Type 0
 AreMild [] = Unit {0}
 AreMild (m ∷ ms) = IsMild m × AreMild ms
 
--- the word is an expression whose marks are no offences,
--- and whose atoms have no number past the greatest degree
+-- the word is an expression whose marks are no errors, and whose atoms have no number over the
+-- greatest degree
 abbrev pub IsBuildable : List ℕ → Type 0
 IsBuildable word = (phrase : Phrase) × SpellsPhrase word phrase × AreMild (marks 0 0 phrase)

@@ -1,4 +1,4 @@
--- The plain offences and marks that those of the reader stand for.
+-- The plain errors and marks of those of the reader.
 use Rattle.std.specs.Prelude.{cond, Option, Some, None}
 use Rattle.sym_model.specs.ExpressionOffence.{OffenceKind as PlainKind, literal, range, shape}
 use Rattle.sym_model.specs.ExpressionOffence.{Mark as PlainMark, value, denominator, entry, opening}
@@ -16,7 +16,7 @@ kind_in Literal = literal
 kind_in Range = range
 kind_in Shape = shape
 
--- the plain offence
+-- the plain error
 abbrev pub offence_in : Offence → PlainOffence
 offence_in o = (o.byte, kind_in o.kind)
 
@@ -27,7 +27,7 @@ mark_in (Denominator n) = denominator n
 mark_in (Entry before n) = entry before.count before.last n
 mark_in (Opening depth) = opening depth
 
--- the first kind of offence at a mark, if there is one
+-- the first kind of error at a mark, if there is one
 abbrev pub first_kind : PlainMark → Option PlainKind
 first_kind m =
     cond (is_offence m literal) (Some literal)

@@ -1,4 +1,4 @@
--- What a word is read as, in the place of an expression.
+-- The result of reading a word as an expression.
 use Rattle.std.specs.Prelude.{◌≡◌, ℕ, List, Some, None, Result, Ok, Err}
 use Rattle.sym_model.specs.Expansion.{Basis}
 use Rattle.sym_model.specs.Phrase.{Phrase, SpellsPhrase, tree, BeginsExpression}
@@ -12,13 +12,13 @@ use Rattle.expression_reading.specs.declared.reading.ExpressionFault.TheVariants
 use Rattle.expression_reading.specs.declared.reading.ExpressionFault.TheVariants.{NoMemory}
 use Rattle.expression_reading.specs.Trees.{tree_of}
 
--- the word spells the expression of the formula, which has none of these offences
+-- the word spells the expression of the formula, which has none of these errors
 abbrev pub IsExpressionWithout : (Phrase → List WordOffence) → List ℕ → Formula → Type 0
 IsExpressionWithout offends word formula =
     (phrase : Phrase) × SpellsPhrase word phrase × (first_of (offends phrase) ≡ None)
     × (tree_of formula.tree ≡ tree phrase)
 
--- the word spells an expression, and this is the first of these offences
+-- the word spells an expression, and this is the first of these errors
 abbrev pub OffendsFirst : (Phrase → List WordOffence) → List ℕ → WordOffence → Type 0
 OffendsFirst offends word first =
     (phrase : Phrase) × SpellsPhrase word phrase × (first_of (offends phrase) ≡ Some first)
@@ -28,8 +28,8 @@ abbrev pub IsWrongByte : List ℕ → ℕ → Type 0
 IsWrongByte word byte =
     ((phrase : Phrase) → SpellsPhrase word phrase → ⊥) × IsLongestPrefix BeginsExpression word byte
 
--- the word is this expression without one of these offences, or first fails or first offends at
--- this byte; out of memory says nothing of it
+-- the word is this expression and has none of these errors; or it is refused at the byte of its
+-- first error; out of memory says nothing about the word
 abbrev pub IsReadBy : (Phrase → List WordOffence) → List ℕ → Result Formula ExpressionFault → Type 0
 IsReadBy offends word (Ok formula) = IsExpressionWithout offends word formula
 IsReadBy offends word (Err (Syntax byte)) = IsWrongByte word byte
@@ -41,7 +41,7 @@ IsReadBy offends word (Err NoMemory) = Unit {0}
 abbrev pub IsRead : Basis → List ℕ → Result Formula ExpressionFault → Type 0
 IsRead target word result = IsReadBy (offences target) word result
 
--- the refusal of an offence
+-- the refusal of an error
 abbrev pub IsFaultOf : WordOffence → ExpressionFault → Type 0
 IsFaultOf o (Literal byte) = o ≡ (byte, literal)
 IsFaultOf o (Range byte) = o ≡ (byte, range)

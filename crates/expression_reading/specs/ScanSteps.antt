@@ -1,4 +1,4 @@
--- What one byte changes of what the reader keeps of a word.
+-- The change of the state of a reader by one byte.
 use Rattle.std.specs.Prelude.{◌≡◌, ℕ, zero, suc, ◌+◌, ◌-◌, ◌*◌, ◌^◌, ◌==◌, ◌≤◌, ◌<◌, nat_lt, min}
 use Rattle.std.specs.Prelude.{Bool, true, false, ◌||◌, ◌&&◌, cond, Option, Some, None, option_map}
 use Rattle.std.specs.Prelude.{List, [], ◌∷◌, ◌⊎◌, Result, Ok, Err, flat_map}
@@ -20,7 +20,7 @@ use Rattle.expression_reading.specs.declared.scan.Mode.TheVariants.{Start, Opera
 use Rattle.expression_reading.specs.declared.scan.Mode.TheVariants.{Denominator, Letter}
 use Rattle.expression_reading.specs.declared.scan.Mode.TheVariants.{List as Listing, Entry, Whole}
 
--- the value of a number, or 2^127 where it is past that
+-- the value of a number, or 2^127 if it is greater
 abbrev pub capped : ℕ → ℕ
 capped n = min n (2 ^ 127)
 
@@ -42,14 +42,14 @@ mode_after_factor star = Some Operand
 mode_after_factor closes = Some Whole
 mode_after_factor _ = None
 
--- the mode where a factor is awaited
+-- the mode after a symbol, if a factor is expected
 abbrev pub mode_before_factor : ℕ → Symbol → Option Mode
 mode_before_factor at (digit byte) = Some (Number at (byte - 48))
 mode_before_factor at (letter_of basis) = Some Letter
 mode_before_factor at opens = Some Start
 mode_before_factor at _ = None
 
--- the mode after a symbol at a byte, or none where the symbol is at fault
+-- the mode after a symbol at a byte; None if the symbol is invalid
 abbrev pub mode_after : Mode → ℕ → Symbol → Option Mode
 mode_after Start at minus_sign = Some Operand
 mode_after Start at s = mode_before_factor at s
@@ -76,14 +76,14 @@ mode_after (Entry before start value) at closes_list = Some Whole
 mode_after (Entry before start value) at s = None
 mode_after Whole at s = mode_after_factor s
 
--- how many parentheses are open after a symbol, or none where one is closed that is not open
+-- the number of open parentheses after a symbol; None if the symbol closes one that is not open
 abbrev pub depth_after : ℕ → Symbol → Option ℕ
 depth_after depth opens = Some (depth + 1)
 depth_after zero closes = None
 depth_after (suc depth) closes = Some depth
 depth_after depth _ = Some depth
 
--- where a number that the mode holds begins, and what it is
+-- the number that the mode holds, with the byte at which it begins
 abbrev pub number_mark : Mode → Option (ℕ × Mark)
 number_mark (Number start n) = Some (start, Value n)
 number_mark (Denominator start n) = Some (start, Zeroable n)
@@ -96,7 +96,7 @@ mark_before mode depth at (digit byte) = None
 mark_before mode depth at opens = Some (at, Opening (depth + 1))
 mark_before mode depth at _ = number_mark mode
 
--- whether a mark is a number of an atom that is past every degree
+-- whether a mark is a number of an atom that exceeds every degree
 abbrev pub is_high : PlainMark → Bool
 is_high (entry count before n) = nat_lt 20 n
 is_high _ = false
@@ -105,11 +105,11 @@ is_high _ = false
 abbrev pub scan_start : Scan
 scan_start = record { mode = Start; depth = 0; first = None; is_high = false }
 
--- the first offence at a mark, if there is one
+-- the first error at a mark, if there is one
 abbrev pub first_at : ℕ × PlainMark → Option PlainOffence
 first_at m = option_map (λ kind. (m.0, kind)) (first_kind m.1)
 
--- what a mark, if there is one, adds to what was found before
+-- the first error and the high numbers after a mark, if there is one
 abbrev pub Sees : Scan → Option (ℕ × Mark) → Scan → Type 0
 Sees before None after = (after.first ≡ before.first) × (after.is_high ≡ before.is_high)
 Sees before (Some m) after =
@@ -117,7 +117,7 @@ Sees before (Some m) after =
     ≡ earlier (option_map offence_in before.first) (first_at (m.0, mark_in m.1)))
     × (after.is_high ≡ (before.is_high || is_high (mark_in m.1)))
 
--- what a symbol at a byte makes of what was kept, or nothing where it is at fault
+-- the state after a symbol at a byte; None if the symbol is invalid
 abbrev pub StepsTo : Scan → ℕ → Symbol → Option Scan → Type 0
 StepsTo before at s None =
     (mode_after before.mode at s ≡ None) ⊎ (depth_after before.depth s ≡ None)
@@ -137,13 +137,13 @@ has_factor _ = false
 abbrev pub is_whole : Scan → Bool
 is_whole s = has_factor s.mode && (s.depth == 0)
 
--- whether some mark is a number of an atom that is past every degree
+-- whether some mark is a number of an atom that exceeds every degree
 abbrev pub any_high : List (ℕ × PlainMark) → Bool
 any_high [] = false
 any_high (m ∷ ms) = is_high m.1 || any_high ms
 
--- the offences of an expression and whether an atom has a number past every degree,
--- or where a word first fails
+-- the errors of an expression and whether an atom has a number that exceeds every degree; or the
+-- byte of the first error of syntax
 abbrev pub IsScanned : List ℕ → Result Scan ℕ → Type 0
 IsScanned word (Ok scan) =
     (phrase : Phrase) × SpellsPhrase word phrase

@@ -1,11 +1,12 @@
--- What an expression that has a minus or a fraction is refused as.
+-- The refusal of an expression with a minus or a fraction.
 use Rattle.std.specs.Prelude.{ℕ, nat_lt, cond}
 use Rattle.expression_reading.specs.declared.reading.ExpressionFault.{ExpressionFault}
 use Rattle.expression_reading.specs.declared.reading.ExpressionFault.TheVariants.{Syntax, Literal}
 use Rattle.expression_reading.specs.declared.reading.ExpressionFault.TheVariants.{Range, Shape}
 use Rattle.expression_reading.specs.declared.reading.ExpressionFault.TheVariants.{NoMemory}
 
--- the refusal where it is no later than a minus or a fraction at the byte, and else that
+-- the given refusal if it is not after the minus or the fraction at the byte; otherwise the refusal
+-- of that sign
 abbrev pub refused_by_sign : ℕ → ExpressionFault → ExpressionFault
 refused_by_sign sign (Syntax byte) = Syntax byte
 refused_by_sign sign (Literal byte) = cond (nat_lt sign byte) (Shape sign) (Literal byte)

@@ -1,4 +1,4 @@
--- The expression that an `Expr` stands for, and what a `Formula` holds.
+-- The expression of an `Expr`, and the bounds of a `Formula`.
 use Rattle.std.specs.Prelude.{pos, ◌≤◌, nat_abs, Bool, true, ◌&&◌, IsTrue}
 use lib.Signed.{le_z, lt_z}
 use Rattle.calc_base.specs.declared.words.Basis.{Basis as Letter}
@@ -9,7 +9,7 @@ use Rattle.sym_model.specs.Expression.{product, degree, nesting}
 use Rattle.expression_reading.specs.declared.expr.Expr.{Expr, Number, Fraction, Atom, Negation'}
 use Rattle.expression_reading.specs.declared.expr.Expr.{Sum', Difference', Product'}
 
--- the plain basis that a basis of the calculator's words stands for
+-- the plain basis of a basis of the calculator's words
 abbrev pub basis_of : Letter → Basis
 basis_of M = monomials
 basis_of E = elementaries
@@ -17,7 +17,7 @@ basis_of H = completes
 basis_of P = power_sums
 basis_of S = schurs
 
--- the expression that a tree of the calculator stands for; signs of numbers are left out
+-- the expression of a tree of the calculator, without the signs of its numbers
 abbrev pub tree_of : Expr → Tree
 tree_of (Number num) = number (nat_abs num)
 tree_of (Fraction num den) = fraction (nat_abs num) (nat_abs den)
@@ -37,7 +37,7 @@ has_no_signs (Sum' p left q right) = has_no_signs left && has_no_signs right
 has_no_signs (Difference' p left q right) = has_no_signs left && has_no_signs right
 has_no_signs (Product' p left q right) = has_no_signs left && has_no_signs right
 
--- what a formula holds: numbers without a sign,
+-- the invariant of a formula: numbers without a sign,
 -- a nesting of at most 4096 and a degree of at most 20
 pub record IsFormula (e : Expr) : Type 0 where
   pub numbers : IsTrue (has_no_signs e)

@@ -22,7 +22,7 @@ use calc_base::{Basis, NoMemory};
 use partitions::Partition;
 use std::alloc::Global;
 
-/// What stands before a term: nothing, a minus at the front, or an expression and its operator.
+/// The text before a term: nothing, a minus at the front, or an expression and its operator.
 #[derive(Drop)]
 pub(crate) enum LeadingTerms {
     NoTerm,
@@ -31,7 +31,7 @@ pub(crate) enum LeadingTerms {
     Subtracting(Box<Expr>),
 }
 
-/// What stands before a factor: nothing, or a term and a star.
+/// The text before a factor: nothing, or a term and a star.
 #[derive(Drop)]
 pub(crate) enum LeadingFactors {
     NoFactor,
@@ -85,7 +85,7 @@ fn joined(
     expression_of(alloc, terms, term_of(alloc, factors, factor)?)
 }
 
-/// What is there of a factor, and of an atom's list the numbers before a comma.
+/// The part of a factor that has been read; of an atom's list, the numbers before a comma.
 #[derive(Drop)]
 pub(crate) enum Part {
     Awaited,
@@ -98,15 +98,15 @@ pub(crate) enum Part {
     Closed(Expr),
 }
 
-/// What stands before a factor, back to the last open parenthesis.
+/// The text before a factor, back to the last open parenthesis.
 #[derive(Drop)]
 pub(crate) struct Frame {
     pub(crate) terms: LeadingTerms,
     pub(crate) factors: LeadingFactors,
 }
 
-/// What has been built: the part of a factor, what stands before it, and the same for each
-/// parenthesis that is open.
+/// The expression built so far: the part of a factor, the text before it, and the same for each
+/// open parenthesis.
 #[derive(Drop)]
 pub(crate) struct Builder {
     pub(crate) part: Part,
@@ -114,8 +114,8 @@ pub(crate) struct Builder {
     pub(crate) opened: Vec<Frame>,
 }
 
-/// Lets go of what has been built where a symbol is at fault. By a call, so that the proof of a
-/// function that refuses a symbol does not go through all that has been built.
+/// Drops what has been built when a symbol is invalid. It is a call of its own, so that the proof
+/// of a function that refuses a symbol does not go through all that has been built.
 fn refused(frame: Frame, opened: Vec<Frame>) -> Option<Builder>
     ensures { result ≡ None }
 {
@@ -124,7 +124,7 @@ fn refused(frame: Frame, opened: Vec<Frame>) -> Option<Builder>
     None
 }
 
-/// Lets go of what has been built where memory was refused.
+/// Drops what has been built when memory runs out.
 fn let_go(frame: Frame, opened: Vec<Frame>) -> NoMemory {
     drop(frame);
     drop(opened);
@@ -161,7 +161,7 @@ fn atom(alloc: Global, basis: Basis, numbers: &[u16]) -> Result<Expr, NoMemory>
 }
 
 impl Builder {
-    /// Where a factor is awaited.
+    /// The state in which a factor is expected.
     fn awaiting(frame: Frame, opened: Vec<Frame>) -> Builder
         ensures { state_of result
             ≡ at awaited (terms_in frame.terms) (factors_in frame.factors)
@@ -222,7 +222,7 @@ fn multiplying(
     }
 }
 
-/// After a parenthesis that closes after a factor; none where no parenthesis is open.
+/// The state after a parenthesis that closes after a factor; None if no parenthesis is open.
 fn closing(
     alloc: Global,
     factor: Expr,
@@ -252,7 +252,7 @@ fn closing(
     }
 }
 
-/// After a byte that follows a whole factor; none where it is at fault.
+/// The state after a byte that follows a whole factor; None if the byte is invalid.
 fn after_factor(
     alloc: Global,
     factor: Expr,
@@ -314,7 +314,7 @@ fn opening(frame: Frame, mut opened: Vec<Frame>) -> Result<Option<Builder>, NoMe
     Ok(Some(Builder::awaiting(frame, opened)))
 }
 
-/// After a minus where a factor is awaited; none where something stands before it.
+/// The state after a minus, if a factor is expected; None if there is text before the minus.
 fn negating(frame: Frame, opened: Vec<Frame>) -> Option<Builder>
     ensures { state_in result
         ≡ before_factor builds (terms_in frame.terms) (factors_in frame.factors)
@@ -336,7 +336,7 @@ fn negating(frame: Frame, opened: Vec<Frame>) -> Option<Builder>
     }
 }
 
-/// After a byte where a factor is awaited; none where it is at fault.
+/// The state after a byte, if a factor is expected; None if the byte is invalid.
 fn before_factor(
     frame: Frame,
     opened: Vec<Frame>,
@@ -364,7 +364,8 @@ fn before_factor(
     }
 }
 
-/// After a byte in an atom's list where a number may begin; none where it is at fault.
+/// The state after a byte in the list of an atom, if a number may begin there; None if the byte is
+/// invalid.
 fn in_list(
     alloc: Global,
     basis: Basis,
@@ -419,7 +420,8 @@ fn ended_atom(alloc: Global, basis: Basis, numbers: Vec<u16>, value: u16) -> Res
     atom(alloc, basis, &numbers)
 }
 
-/// After a byte that follows a number of an atom's list; none where it is at fault.
+/// The state after a byte that follows a number in the list of an atom; None if the byte is
+/// invalid.
 fn in_entry(
     alloc: Global,
     basis: Basis,
@@ -472,8 +474,8 @@ impl Builder {
         Builder::awaiting(frame, Vec::new(alloc))
     }
 
-    /// After a symbol, where a number that ends before it is no offence;
-    /// none where the symbol is at fault.
+    /// The state after a symbol, provided that a number that ends before it has no error; None if
+    /// the symbol is invalid.
     fn after(self, alloc: Global, symbol: Symbol) -> Result<Option<Builder>, NoMemory>
         requires digit { IsSoundDigit (symbol_in symbol) }
         requires fine { IsFine (part_in self.part) (symbol_in symbol) }
@@ -519,8 +521,8 @@ impl Builder {
         }
     }
 
-    /// The expression that has been built, if one is there whole,
-    /// where a number at its end is no offence.
+    /// The expression that has been built, if it is complete, provided that a number at its end has
+    /// no error.
     fn finish(self, alloc: Global) -> Result<Option<Expr>, NoMemory>
         requires { IsFine (part_in self.part) other }
         ensures { IfOk result (λ e. option_map built_of e ≡ found builds (state_of self)) }
@@ -557,7 +559,7 @@ impl Builder {
     }
 }
 
-/// After a byte that follows a number; none where it is at fault.
+/// The state after a byte that follows a number; None if the byte is invalid.
 fn after_number(
     alloc: Global,
     value: u128,
@@ -585,7 +587,7 @@ fn after_number(
     }
 }
 
-/// The tree of a word that is an expression whose numbers are no offence and within the greatest
+/// The tree of a word that is an expression whose numbers are no error and within the greatest
 /// degree.
 pub(crate) fn build(alloc: Global, word: &[u8]) -> Result<Expr, NoMemory>
     requires { IsBuildable word.now }

@@ -39,7 +39,7 @@ impl Drop for Expr {
     }
 }
 
-/// A degree above each that a formula may have: degrees are told apart below it.
+/// A degree above all that a formula may have: only degrees below it are distinguished.
 const HIGH: u16 = 21;
 
 impl Expr {
@@ -86,7 +86,7 @@ impl Expr {
         }
     }
 
-    /// The degree, or `HIGH` where it is greater.
+    /// The degree, or `HIGH` if it is greater.
     pub(crate) fn capped_degree(&self) -> u16
         ensures { result ≡ min 21 (degree (tree_of self.now)) }
     {

@@ -35,8 +35,8 @@ pub struct Formula {
 }
 
 impl Formula {
-    /// The formula of this tree. The tree comes back exactly where it is not within the bounds. No
-    /// memory is taken.
+    /// The formula of this tree. Returns the tree as an error if and only if it is not within the
+    /// bounds. It takes no memory.
     pub fn from_tree(tree: Expr) -> Result<Formula, Expr>
         ensures { MatchResult result (λ f. (f.tree ≡ tree) × IsFormula tree)
             (λ e. (e ≡ tree) × ¬ IsFormula tree) }
@@ -64,8 +64,8 @@ impl Formula {
         self.tree.capped_degree()
     }
 
-    /// The two numbers of the weight; none exactly where one of them is 2^127 or more. No memory is
-    /// taken.
+    /// The two numbers of the weight; None if and only if one of them is 2^127 or more. It takes no
+    /// memory.
     pub fn weight(&self) -> Option<Weight>
         ensures { IsWeighed result (numerator (tree_of self.now.tree))
             (denominator (tree_of self.now.tree)) }

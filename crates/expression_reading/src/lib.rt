@@ -1,12 +1,12 @@
-//! Expressions: how a word is read as one, and their degrees and weights.
+//! Expressions: reading a word as an expression, and the degrees and weights of expressions.
 //!
 //! What is proved:
 //!
-//! `read_expression` answers the formula of a word for a target exactly where the word spells an
-//! expression without an offence, and otherwise where it first fails, or its first offence.
-//! `read_outer` and `read_inner` do the same for the two words of a plethysm, with the limit 10,
-//! the second with the offences of minus signs and fractions besides. `Formula` keeps an expression
-//! within its bounds; `degree`, `weight` and `weight_below` are those of the definitions.
+//! `read_expression` returns the formula of a word for a target if the word spells an expression
+//! without an error, and otherwise the first error. `read_outer` and `read_inner` do the same for
+//! the two words of a plethysm, with the limit 10; for the second word, minus signs and fractions
+//! are errors too. `Formula` keeps an expression within its bounds; `degree`, `weight` and
+//! `weight_below` are those of the definitions.
 #![tactic(auto)]
 
 mod builder;

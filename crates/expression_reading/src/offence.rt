@@ -1,9 +1,9 @@
-//! What a word can offend by, and which offence comes first.
+//! The errors of a word, and which of them comes first.
 ghost use Rattle.std.specs.Prelude.{◌≡◌, option_map};
 ghost use Rattle.expression_reading.specs.Offences.{kind_in, offence_in, mark_in, first_kind};
 ghost use Rattle.sym_model.specs.ExpressionOffence.{earlier, comes_first};
 
-/// The kinds of offence, in their order at one place.
+/// The kinds of error, in their order at one place.
 #[derive(Clone, Copy)]
 pub(crate) enum Kind {
     Literal,
@@ -17,14 +17,14 @@ pub(crate) struct Offence {
     pub(crate) kind: Kind,
 }
 
-/// The numbers of an atom's list that stand before a place in it: how many, and the last of them.
+/// The numbers before a place in the list of an atom: their count, and the last of them.
 #[derive(Clone, Copy)]
 pub(crate) struct Before {
     pub(crate) count: u64,
     pub(crate) last: Option<u128>,
 }
 
-/// What a byte begins, where it can offend.
+/// The part of an expression that begins at a byte, if it can be an error.
 #[derive(Clone, Copy)]
 pub(crate) enum Mark {
     Value { value: u128 },
@@ -36,7 +36,7 @@ pub(crate) enum Mark {
 /// Numbers are below this.
 pub(crate) const WIDE: u128 = 1 << 127;
 
-/// The first kind of offence at a mark, if there is one.
+/// The first kind of error at a mark, if there is one.
 pub(crate) fn kind_at(mark: Mark) -> Option<Kind>
     ensures { option_map kind_in result ≡ first_kind (mark_in mark) }
 {
@@ -74,7 +74,7 @@ impl Offence {
     }
 }
 
-/// The first of two offences, if there is one.
+/// The first of two errors, if there is one.
 pub(crate) fn earlier(first: Option<Offence>, second: Option<Offence>) -> Option<Offence>
     ensures { option_map offence_in result
         ≡ earlier (option_map offence_in first) (option_map offence_in second) }

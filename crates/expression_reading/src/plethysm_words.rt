@@ -1,4 +1,4 @@
-//! How words are read as the two expressions of a plethysm.
+//! Reading words as the two expressions of a plethysm.
 ghost use Rattle.std.specs.Prelude.{◌≡◌, ◌≤◌, IfOk, List, option_map};
 ghost use Rattle.sym_model.specs.Expression.{degree};
 ghost use Rattle.sym_model.specs.ExpressionOffence.{first_of, offences_within, inner_offences};
@@ -15,8 +15,8 @@ use std::alloc::Global;
 /// The greatest degree of each expression of a plethysm, and of the two together.
 pub const PLETHYSM_DEGREE: u16 = 10;
 
-/// The byte of the first minus, or the first byte of the first fraction where that comes before, in
-/// a word that is an expression.
+/// The byte of the first minus, or the first byte of the first fraction if that comes earlier, in a
+/// word that is an expression.
 fn first_sign(word: &[u8]) -> Option<u64>
     ensures { (phrase : Phrase) → SpellsPhrase word.now phrase
         → option_map (λ byte. (byte, shape)) result ≡ first_of (sign_offences 0 phrase) }
@@ -34,8 +34,8 @@ fn first_sign(word: &[u8]) -> Option<u64>
     None
 }
 
-/// The refusal of a word with a minus or a fraction at the byte, where it is refused as this by
-/// what else it offends by.
+/// The refusal of a word with a minus or a fraction at the byte `sign`, given the refusal for its
+/// other errors.
 fn first_refusal(fault: ExpressionFault, sign: u64) -> ExpressionFault
     ensures { result ≡ refused_by_sign sign fault }
 {

@@ -1,4 +1,4 @@
-//! How a word is read as an expression.
+//! Reading a word as an expression.
 ghost use Rattle.std.specs.Prelude.{◌≡◌, ◌≤◌, IfOk, MatchOption};
 ghost use Rattle.sym_model.specs.Phrase.{Phrase, SpellsPhrase};
 ghost use Rattle.sym_model.specs.Expression.{degree};
@@ -18,20 +18,20 @@ use calc_base::{Basis, NoMemory};
 use std::alloc::Global;
 use thiserror::Error;
 
-/// Why a word is no expression that can be expanded into a target: the byte at which it first fails
-/// or first offends, or memory was refused.
+/// The reason why a word is not an expression that can be expanded into a target, with the byte of
+/// its first error; or out of memory.
 #[derive(Clone, Copy, Debug, PartialEq, Eq, Hash, Error)]
 pub enum ExpressionFault {
     /// The word is no expression from this byte on.
     #[error("no expression, at byte {byte}")]
     Syntax { byte: u64 },
-    /// A number past 2^127 - 1 begins at this byte.
+    /// A number over 2^127 - 1 begins at this byte.
     #[error("a number too large, at byte {byte}")]
     Literal { byte: u64 },
     /// A limit is exceeded at this byte.
     #[error("past a limit, at byte {byte}")]
     Range { byte: u64 },
-    /// A list of parts that rises, or a denominator 0, stands at this byte.
+    /// A number of an atom greater than the one before it, or a denominator 0, is at this byte.
     #[error("a list out of shape, at byte {byte}")]
     Shape { byte: u64 },
     /// Memory was refused.
@@ -50,7 +50,7 @@ impl From<NoMemory> for ExpressionFault {
 /// The most bytes of an expression.
 const MAX_BYTES: u64 = 4096;
 
-/// The refusal of an offence.
+/// The refusal of an error.
 fn fault_of(offence: Offence) -> ExpressionFault
     ensures { IsFaultOf (offence_in offence) result }
 {
@@ -63,7 +63,7 @@ fn fault_of(offence: Offence) -> ExpressionFault
 }
 
 /// The expression of a word that has been scanned, whose degree is to be at most the limit,
-/// or its first offence.
+/// or its first error.
 fn judged(alloc: Global, limit: u16, word: &[u8], scan: Scan) -> Result<Formula, ExpressionFault>
     requires scanned { IsScanned word.now (Ok scan) }
     requires low { limit ≤ 20 }
@@ -94,9 +94,9 @@ fn judged(alloc: Global, limit: u16, word: &[u8], scan: Scan) -> Result<Formula,
     Ok(formula)
 }
 
-/// The byte at which a word first fails that is no expression, which is the length of its longest
-/// prefix that begins one; none where the word is an expression,
-/// with offences or without. No memory is taken.
+/// The byte of the first error of syntax in a word that is not an expression: the length of its
+/// longest prefix that begins one; None if the word is an expression, with or without other errors.
+/// It takes no memory.
 pub fn wrong_byte(word: &[u8]) -> Option<u64>
     ensures { MatchOption result ((phrase : Phrase) × SpellsPhrase word.now phrase)
         (IsWrongByte word.now) }
@@ -123,14 +123,14 @@ pub(crate) fn read_within(
     }
 }
 
-/// Reads a word as an expression of atoms in m, e, h,
-/// p and s that is to be expanded into the target.
+/// Reads a word as an expression of atoms in m, e, h, p and s that is to be expanded into the
+/// target.
 ///
-/// A word that is no expression is refused as `Syntax`, at the length of its longest prefix that
-/// begins one. Otherwise the first offence is refused: a number past 2^127 - 1 as `Literal`; as
+/// A word that is not an expression is refused as `Syntax`, at the length of its longest prefix
+/// that begins one. Otherwise its first error is refused: a number over 2^127 - 1 as `Literal`; as
 /// `Range` a parenthesis that opens depth 65, the 65th number of an atom, byte 4,096 of a longer
-/// word, and at the word's end a degree past the limit of the target; as `Shape` a number of an
-/// atom that is greater than the one before it, and a denominator 0.
+/// word, and, at the end of the word, a degree over the limit of the target; as `Shape` a number of
+/// an atom that is greater than the one before it, and a denominator 0.
 pub fn read_expression(
     alloc: Global,
     target: Basis,

@@ -1,5 +1,5 @@
-//! One reading of a word from left to right, with no memory and no recursion: whether it is an
-//! expression, how far it begins one, and what it offends by first.
+//! One reading of a word from left to right, without memory and recursion: whether it is an
+//! expression, the length of its longest prefix that begins one, and its first error.
 ghost use Rattle.std.specs.Prelude.{◌≡◌, ℕ, ◌+◌, ◌-◌, ◌*◌, ◌^◌, ◌<◌, ◌≤◌, option_map};
 ghost use Rattle.expression_reading.specs.Symbols.{symbol_in};
 ghost use Rattle.expression_reading.specs.ScanSteps.{capped, IsSoundDigit, HasRoom};
@@ -13,8 +13,8 @@ use crate::formula::MAX_DEGREE;
 use crate::offence::{Before, Mark, Offence, WIDE, earlier, kind_at};
 use crate::symbol::{Symbol, symbol_of};
 
-/// What the last byte leaves to come. A number is kept with the byte at which it begins, and with
-/// `WIDE` where it is wide.
+/// The state after the last byte. A number is kept with the byte at which it begins, and is
+/// replaced by `WIDE` if it is wide.
 #[derive(Clone, Copy)]
 pub(crate) enum Mode {
     Start,
@@ -40,8 +40,8 @@ pub(crate) enum Mode {
     Whole,
 }
 
-/// What is kept of the bytes so far: the mode, how many parentheses are open, the first offence,
-/// and whether some number of an atom is past every degree.
+/// The state of the scan: the mode, the number of open parentheses, the first error, and whether
+/// some number of an atom exceeds every degree.
 #[derive(Clone, Copy)]
 pub(crate) struct Scan {
     pub(crate) mode: Mode,
@@ -72,7 +72,7 @@ fn after_factor(symbol: Symbol) -> Option<Mode>
     }
 }
 
-/// The mode after a byte where a factor is awaited.
+/// The mode after a byte, if a factor is expected.
 fn before_factor(at: u64, symbol: Symbol) -> Option<Mode>
     requires { IsSoundDigit (symbol_in symbol) }
     ensures { result ≡ mode_before_factor at (symbol_in symbol) }
@@ -88,7 +88,7 @@ fn before_factor(at: u64, symbol: Symbol) -> Option<Mode>
     }
 }
 
-/// The mode after a byte in an atom's list where a number may begin.
+/// The mode after a byte in the list of an atom, if a number may begin there.
 fn in_list(before: Before, at: u64, symbol: Symbol) -> Option<Mode>
     requires { IsSoundDigit (symbol_in symbol) }
     ensures { result ≡ mode_after (Mode.List before) at (symbol_in symbol) }
@@ -128,7 +128,7 @@ fn in_entry(before: Before, start: u64, value: u128, symbol: Symbol) -> Option<M
 }
 
 impl Mode {
-    /// The mode after a symbol at the byte `at`, or none where the symbol is at fault.
+    /// The mode after a symbol at the byte `at`; None if the symbol is invalid.
     fn after(self, at: u64, symbol: Symbol) -> Option<Mode>
         requires digit { IsSoundDigit (symbol_in symbol) }
         requires room { HasRoom self }
@@ -182,7 +182,7 @@ impl Mode {
     }
 }
 
-/// How many parentheses are open after a symbol, or none where one is closed that is not open.
+/// The number of open parentheses after a symbol; None if the symbol closes one that is not open.
 fn depth_after(depth: u64, symbol: Symbol) -> Option<u64>
     requires { depth + 1 < 2 ^ 64 }
     ensures { result ≡ depth_after depth (symbol_in symbol) }
@@ -194,7 +194,7 @@ fn depth_after(depth: u64, symbol: Symbol) -> Option<u64>
     }
 }
 
-/// Where a number that the mode holds begins, and what it is.
+/// The number that the mode holds, with the byte at which it begins.
 fn number_mark(mode: Mode) -> Option<(u64, Mark)>
     ensures { result ≡ number_mark mode }
 {
@@ -223,7 +223,7 @@ fn mark_before(mode: Mode, depth: u64, at: u64, symbol: Symbol) -> Option<(u64, 
     }
 }
 
-/// The first offence at a mark, if there is one.
+/// The first error at a mark, if there is one.
 fn offence_at(mark: (u64, Mark)) -> Option<Offence>
     ensures { option_map offence_in result
         ≡ option_map (λ kind. (mark.0, kind)) (first_kind (mark_in mark.1)) }
@@ -231,7 +231,7 @@ fn offence_at(mark: (u64, Mark)) -> Option<Offence>
     kind_at(mark.1).map(|kind| Offence { byte: mark.0, kind })
 }
 
-/// Whether a mark is a number of an atom that is past every degree.
+/// Whether a mark is a number of an atom that exceeds every degree.
 fn is_high(mark: Mark) -> bool
     ensures { result ≡ is_high (mark_in mark) }
 {
@@ -271,7 +271,7 @@ impl Scan {
         }
     }
 
-    /// After a symbol at the byte `at`; none where the symbol is at fault.
+    /// The state after a symbol at the byte `at`; None if the symbol is invalid.
     fn after(self, at: u64, symbol: Symbol) -> Option<Scan>
         requires digit { IsSoundDigit (symbol_in symbol) }
         requires room { HasRoom self.mode }
@@ -302,9 +302,9 @@ impl Scan {
     }
 }
 
-/// The first offence of a word that is an expression, its degree apart, and whether an atom has a
-/// number past every degree; of another word the length of its longest prefix that begins an
-/// expression.
+/// For a word that is an expression, its first error other than its degree, and whether an atom has
+/// a number that exceeds every degree; for another word the length of its longest prefix that
+/// begins an expression.
 pub(crate) fn scan_word(word: &[u8]) -> Result<Scan, u64>
     ensures { IsScanned word.now result }
 {

@@ -1,11 +1,11 @@
-//! What a byte is to the grammar of expressions.
+//! The symbols of the grammar of expressions, by byte.
 ghost use Rattle.std.specs.Prelude.{◌≡◌};
 ghost use Rattle.expression_laws.specs.LeftToRight.{symbol};
 ghost use Rattle.expression_reading.specs.Symbols.{symbol_in};
 
 use calc_base::Basis;
 
-/// What a byte is to the grammar of expressions.
+/// The meaning of a byte in the grammar of expressions.
 #[derive(Clone, Copy)]
 pub(crate) enum Symbol {
     Digit(u8),

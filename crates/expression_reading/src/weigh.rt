@@ -48,7 +48,7 @@ fn product_weight(a: Weight, b: Weight) -> Option<Weight>
     weight_of(a.num.checked_mul(b.num)?, a.den.checked_mul(b.den)?)
 }
 
-/// Puts two numbers in the place of those of a weight, if they are below the limit.
+/// Replaces the two numbers of a weight, if the new ones are below the limit.
 fn put(weight: &mut Weight, num: u128, den: u128) -> Option<()>
     ensures { IsWeighed (option_map (λ _. weight.new) result) num den }
 {
@@ -80,7 +80,7 @@ fn multiply_by(weight: &mut Weight, first: &Weight) -> Option<()>
 }
 
 impl Expr {
-    /// The two numbers of the weight; none exactly where one of them is 2^127 or more.
+    /// The two numbers of the weight; None if and only if one of them is 2^127 or more.
     pub(crate) fn weigh(&self) -> Option<Weight>
         requires { IsTrue (has_no_signs self.now) }
         ensures { IsWeighed result (numerator (tree_of self.now)) (denominator (tree_of self.now)) }
@@ -90,8 +90,8 @@ impl Expr {
         Some(weight)
     }
 
-    /// Puts the two numbers of the weight in the place of those that are there. A tree may be deep:
-    /// little is kept for each level.
+    /// Writes the two numbers of the weight to `weight`. A tree may be deep, so little is kept for
+    /// each level.
     fn weigh_into(&self, weight: &mut Weight) -> Option<()>
         requires { IsTrue (has_no_signs self.now) }
         ensures { IsWeighed (option_map (λ _. weight.new) result) (numerator (tree_of self.now))
@@ -118,8 +118,8 @@ impl Expr {
     }
 }
 
-/// How much a conversion into the target can raise the coefficients at a degree;
-/// none where that is 2^128 or more.
+/// The factor by which a conversion into the target can raise the coefficients at a degree; None if
+/// that is 2^128 or more.
 fn growth(target: Basis, d: u16) -> Option<u128>
     requires { d ≤ 20 }
     ensures { SomeIff result (growth (basis_of target) d < 2 ^ 128) (growth (basis_of target) d) }
@@ -134,7 +134,7 @@ fn growth(target: Basis, d: u16) -> Option<u128>
     }
 }
 
-/// The weight for the target; none only where it is 2^127 or more.
+/// The weight for the target; None only if it is 2^127 or more.
 pub(crate) fn checked_weight(tree: &Expr, degree: u16, target: Basis) -> Option<u128>
     requires plain { IsTrue (has_no_signs tree.now) }
     requires low { degree ≤ 20 }

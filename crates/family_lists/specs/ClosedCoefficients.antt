@@ -21,7 +21,8 @@ absolute PowerSum family μ = cycle_type_count μ
 absolute target PowerSum μ = sized_orders μ
 absolute target family μ = factorial (size μ) * orders_of_parts μ
 
--- the coefficient of a partition
+-- the coefficient of the target's label μ in k!·e_k, k!·h_k or p_k, by the family, where k is the
+-- size of μ and the target is not the family
 abbrev pub closed_coefficient : Family → Family → List ℕ → ℤ
 closed_coefficient target family μ =
     minus_one_to (sign_exponent target family μ) *ℤ pos (absolute target family μ)

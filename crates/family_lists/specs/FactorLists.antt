@@ -20,7 +20,7 @@ abbrev pub ArePowers : (ℕ → ℕ → Poly) → ℕ → List WholeTerms → Ty
 ArePowers P d lists =
     (k : ℕ) → 0 < k → k < d → Stands P 1 (2 ^ k - 1) k (λ n. power_sum_of k n) (list_at lists k)
 
--- what the list of the polynomial of a number is over: p_k is whole in each target
+-- the factor by which the list of e_k, h_k or p_k is multiplied: k! for e_k and h_k, 1 for p_k
 abbrev pub over_number : Family → ℕ → ℕ
 over_number Elementary k = factorial k
 over_number Complete k = factorial k

@@ -22,7 +22,7 @@ pub record IsCommonDenominator {L : Type 0} (q : ℕ) (terms : Terms L) : Type 0
 abbrev pub numerators_over : {L : Type 0} → ℕ → Terms L → WholeTermsOf L
 numerators_over {L} q terms = map (λ (t : L × Fraction). (t.0, numerator_over q t.1)) terms
 
--- q is a multiple of the denominator of the coefficient of each label
+-- q is a multiple of the denominators of all coefficients of a table
 abbrev pub AreCleared : {L : Type 0} → (L → L → Bool) → ℕ → Terms L → Type 0
 AreCleared {L} eq q terms = (label : L) → (coefficient eq (pos 0, 1) terms label).1 ∣ q
 

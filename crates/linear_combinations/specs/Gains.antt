@@ -6,7 +6,7 @@ use Rattle.sym_model.specs.Sum.{total, sum_by, Among}
 -- `mass`: the sum of the absolute values of all coefficients
 pub use Rattle.sym_model.specs.WholeTerms.{WholeTermsOf, absolute_total as mass}
 
--- the sum over the terms of coefficient times the value of a test function at the label
+-- the pairing Σ c·φ(label) of the terms with a test function φ on labels
 abbrev pub over : {L : Type 0} → (L → ℤ) → WholeTermsOf L → ℤ
 over {L} φ terms = total (λ (t : L × ℤ). t.1 *ℤ φ t.0) terms
 
@@ -49,12 +49,11 @@ replaced image (t ∷ terms) = scaled t.1 (image t.0) ++ replaced image terms
 abbrev pub HaveLabels : {L : Type 0} → (L → Type 0) → WholeTermsOf L → Type 0
 HaveLabels {L} P terms = (t : L × ℤ) → Among t terms → P t.0
 
--- VALUE: the new list has the sums of the old one and of what is gained
+-- VALUE: new = old + gained, as formal sums
 pub record Gains {L : Type 0} (old gained new : WholeTermsOf L) : Type 0 where
   pub sums : (φ : L → ℤ) → over φ new ≡ over φ old +ℤ over φ gained
 
--- OVERFLOW: at some label the old coefficient and what is gained there, all taken as positive,
--- come to 2^127 or more
+-- OVERFLOW: at some label, |old coefficient| + Σ|gained| ≥ 2^127
 abbrev pub Overflows : {L : Type 0} → (L → L → Bool) → WholeTermsOf L → WholeTermsOf L → Type 0
 Overflows {L} eq old gained =
     (x : L) × (2 ^ 127 ≤ nat_abs (over (only eq x) old) + mass_at eq x gained)

@@ -39,8 +39,8 @@ pub(crate) fn count_above(inners: &[Partition], cells: u16) -> usize
     inners.partition_point(|inner| cells < inner.size())
 }
 
-/// Adds the partitions that begin with these numbers, go on with one that is at most `most`,
-/// and stay inside these rows.
+/// Adds the partitions that begin with `numbers`, continue with a number of at most `most`, and are
+/// contained in these rows.
 fn add_shapes(
     alloc: Global,
     shapes: &mut Vec<Partition>,
@@ -66,7 +66,7 @@ fn add_shapes(
     Ok(())
 }
 
-/// The numbers with one more at their end.
+/// `numbers` with `part` appended.
 fn with_part(alloc: Global, numbers: &[u16], part: u16) -> Result<Vec<u16>, NoMemory>
     ensures { IfOk result (λ next. next.items ≡ numbers.now ++ part ∷ []) }
 {

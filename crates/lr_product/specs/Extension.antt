@@ -12,7 +12,7 @@ abbrev pub numbers_from : ℕ → ℕ → List ℕ
 numbers_from low zero = []
 numbers_from low (suc k) = low ∷ numbers_from (low + 1) k
 
--- the first number of a list, n where there is none and n at most
+-- min(n, first number of the list), or n if the list is empty
 abbrev pub greatest_letter : ℕ → List ℕ → ℕ
 greatest_letter n [] = n
 greatest_letter n (r ∷ right) = min n r

@@ -19,8 +19,8 @@ IsPermutationTable terms = IsCombination (pointwise nat_eq) is_permutation_label
 abbrev pub AreShort : ℕ → WholeTerms → Type 0
 AreShort most terms = (t : List ℕ × ℤ) → Among t terms → length t.0 ≤ most
 
--- the product of a Schubert polynomial and x_r: the covers with the other place greater,
--- less those with it smaller
+-- Σ_{j>r} w·t_rj − Σ_{i<r} w·t_ir over the covers of w: the product of its Schubert polynomial and
+-- x_r
 abbrev pub monk_terms : ℕ → List ℕ → WholeTerms
 monk_terms r w = each_with (pos 1) (covers_up r w) ++ each_with (negsuc 0) (covers_down r w)
 

@@ -102,9 +102,9 @@ pub(crate) fn makes_one_inversion(letters: &[u8], first: usize, second: usize) -
     low < high && !has_between(&letters[first + 1..second], low, high)
 }
 
-/// The number of inversions once the letters at two places, counted from 0, are in each other's
-/// place, of letters with `count` inversions: where the first is the smaller, one more and two for
-/// each letter between them in place and in size, otherwise as many fewer.
+/// The number of inversions after exchanging the letters at two places, counted from 0, if `count`
+/// is the number before: if the first letter is smaller, `count` + 1 + 2·(letters between them both
+/// in place and in value); otherwise `count` minus the same.
 pub(crate) fn inversions_exchanged(letters: &[u8], first: usize, second: usize, count: u16) -> u16
     requires permutation { IsShortPermutation letters.now }
     requires order { first < second }
@@ -166,8 +166,7 @@ pub(crate) fn add_fixed(alloc: Global, letters: &[u8], last: usize) -> Result<Le
     Ok(list)
 }
 
-/// The letters that a code chooses: for each entry a,
-/// of those that are left the one with a smaller ones.
+/// The letters with a code: for each entry a, the remaining letter with exactly a smaller ones.
 pub(crate) fn choose(alloc: Global, code: &[u16]) -> Result<Letters, AllocError>
     requires few { length code.now ≤ 255 }
     requires code { IsCode code.now }

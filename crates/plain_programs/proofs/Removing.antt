@@ -179,7 +179,7 @@ removal_found n shape numbers first last rest h v =
 
 -- ---- no removal
 
--- what a removal with these rows leaves in the last row
+-- the last row after a removal with these rows
 record Bounds (n : ℕ) (shape : List ℕ) (first last rest : ℕ) : Type 0 where
   cells : rest + n ≡ get_or shape first 0 + (last - first)
   end : rest < get_or shape last 0

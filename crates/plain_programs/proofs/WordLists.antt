@@ -7,7 +7,7 @@ use Rattle.sym_model.proofs.Lists.{each-append}
 pub each-one : {A B : Type 0} (f : A → List B) (x : A) → flat_map f (x ∷ []) ≡ f x
 each-one f x = append-nil (f x)
 
--- one number more
+-- mapping over one more number
 pub after-more : (a k : ℕ) → after a (k + 1) ≡ after a k ++ ((a + k + 1) ∷ [])
 after-more a zero = rw (add-one 0) (ap (λ n. n ∷ []) (omega arith))
 after-more a (suc k) =
@@ -28,7 +28,7 @@ each_take-more f g xs i x h e =
     ∙ each-append f (map g (take i xs)) (g x ∷ [])
     ∙ ap (λ l. flat_map f (map g (take i xs)) ++ l) (each-one f (g x))
 
--- falling numbers: the greatest first
+-- mapping over decreasing numbers takes the greatest first
 pub each_reverse-after : {B : Type 0} (f : ℕ → List B) (j k : ℕ) → k ≢ 0 → flat_map f (reverse (after j k)) ≡ f (j + k) ++ flat_map f (reverse (after j (k - 1)))
 each_reverse-after f j k h =
     let e : k ≡ k - 1 + 1 = omega arith in

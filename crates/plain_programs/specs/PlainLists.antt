@@ -1,4 +1,4 @@
--- What the plain programs' lists of exponents stand for.
+-- The polynomials of the plain programs' lists of exponents.
 use Rattle.std.specs.Prelude.{ℕ, ◌+◌, ◌^◌, ◌<◌, Bool, true, pos, List, map}
 use Rattle.std.specs.Global.{Vec}
 use Rattle.sym_model.specs.Sum.{Among}

@@ -1,4 +1,4 @@
--- What a term of the plain program stands for.
+-- The plain value of a term.
 use Rattle.std.specs.Prelude.{ℕ, List}
 use Rattle.sym_model.specs.Expansion.{Fraction}
 use Rattle.plain_programs.specs.declared.blocks.PlainTerm.{PlainTerm}

@@ -1,4 +1,4 @@
--- What the answers of the removals of rim hooks stand for.
+-- The meaning of the results of removing rim hooks.
 use Rattle.std.specs.Prelude.{◌≡◌, ℕ, ◌+◌, ◌-◌, ◌==◌, nat_lt, cond, List, Option, Some, None}
 use Rattle.std.specs.Prelude.{slice_index}
 use Rattle.sym_model.specs.Partition.{IsPartition, size}
@@ -7,8 +7,7 @@ use Rattle.strip_laws.specs.HookRows.{IsHookRows}
 use Rattle.sym_model.specs.RimHookReduction.{IsRemoval, HasNoRemoval}
 use Rattle.plain_programs.specs.declared.removals.Removal.{Removal}
 
--- what is left where a rim hook of n cells is removed, with its height;
--- nothing where none can be removed
+-- the result of removing a rim hook of n cells, with its height; nothing if none can be removed
 abbrev pub IsFound : ℕ → List ℕ → Option Removal → Type 0
 IsFound n shape None = HasNoRemoval n shape
 IsFound n shape (Some removal) =
@@ -20,13 +19,12 @@ HasNoneInRows n shape first last =
     (left : List ℕ) → IsPartition left → IsHookRows shape left first last
     → size shape ≡ size left + n → ⊥
 
--- what is left where a rim hook with the rows first + 1, .., last + 1 is removed;
--- nothing where there is none
+-- the result of removing a rim hook with the rows first + 1, .., last + 1; nothing if there is none
 abbrev pub IsFoundInRows : ℕ → List ℕ → ℕ → ℕ → Option Removal → Type 0
 IsFoundInRows n shape first last None = HasNoneInRows n shape (first + 1) (last + 1)
 IsFoundInRows n shape first last (Some removal) = IsFound n shape (Some removal)
 
--- the same where only the first row, first + 1, is given
+-- the same with any last row, if the first row is first + 1
 abbrev pub IsFoundFrom : ℕ → List ℕ → ℕ → Option Removal → Type 0
 IsFoundFrom n shape first None = (last : ℕ) → HasNoneInRows n shape (first + 1) last
 IsFoundFrom n shape first (Some removal) = IsFound n shape (Some removal)

@@ -13,9 +13,9 @@ use crate::numbers::number_at;
 use crate::printed_order::plain_size;
 use std::alloc::{AllocError, Global};
 
-/// The distinct arrangements of the parts and of zeros in n places, in falling lexicographic
-/// order; none where there are more parts than places. The sum of the parts is below 2^64. Want of
-/// memory is its only error.
+/// The distinct arrangements of the parts and of zeros in n places, in decreasing lexicographic
+/// order; none if there are more parts than places. The sum of the parts is below 2^64. Fails only
+/// if memory runs out.
 pub fn plain_arrangements(
     alloc: Global,
     parts: &[u64],
@@ -33,7 +33,7 @@ pub fn plain_arrangements(
     Ok(kept)
 }
 
-/// The conjugate of a partition. Want of memory is its only error.
+/// The conjugate of a partition. Fails only if memory runs out.
 pub fn plain_conjugate(alloc: Global, parts: &[u64]) -> Result<Vec<u64>, AllocError>
     ensures { IfOk result (λ columns. columns.items ≡ conjugate parts.now) }
 {
@@ -44,7 +44,7 @@ pub fn plain_conjugate(alloc: Global, parts: &[u64]) -> Result<Vec<u64>, AllocEr
     Ok(columns)
 }
 
-/// How many of the numbers are at least j.
+/// The number of entries that are at least j.
 fn count_at_least(j: u64, numbers: &[u64]) -> u64
     ensures count { result ≡ count_from j numbers.now }
     ensures bound { result ≤ length numbers.now }

@@ -1,7 +1,7 @@
-//! Plain programs for the bases m, e, h and p in few variables, which go by their definitions.
+//! Plain programs for the bases m, e, h and p in few variables, by their definitions.
 //!
-//! Each gives the polynomial as the exponent lists of its monomials, one for each term of the
-//! formal sum, with coefficient 1. A monomial that the sum has twice stands twice.
+//! Each returns the polynomial as the exponent lists of its monomials, one for each term of the
+//! formal sum, with coefficient 1. A monomial that the sum has twice is listed twice.
 
 ghost use Rattle.std.specs.Prelude.{◌≡◌, ◌+◌, ◌^◌, ◌<◌, ◌++◌, ℕ, List, map, IfOk, OnOk, flat_map};
 ghost use Rattle.plain_programs.specs.PlainLists.{lists, sum_of, CanMultiply, keeps};
@@ -26,8 +26,8 @@ pub enum PlainBasis {
     PowerSum,
 }
 
-/// The monomial symmetric polynomial m of the parts in `n` variables. The sum of the parts is
-/// below 2^64. Want of memory is its only error.
+/// The monomial symmetric polynomial m of the parts in `n` variables. The sum of the parts is below
+/// 2^64. Fails only if memory runs out.
 pub fn plain_monomial(alloc: Global, parts: &[u64], n: usize) -> Result<Vec<Vec<u64>>, AllocError>
     requires { size parts.now < 2 ^ 64 }
     ensures { IfOk result (λ all. sum_of (lists all) ≡ monomial parts.now n) }
@@ -48,8 +48,8 @@ pub(crate) fn sorts_to(alloc: Global, exponents: &[u64], parts: &[u64]) -> Resul
     Ok(sorted.as_slice() == parts)
 }
 
-/// The elementary, complete or power sum polynomial of the parts in `n` variables: the product
-/// over the parts. The sum of the parts is below 2^64. Want of memory is its only error.
+/// The elementary, complete or power sum polynomial of the parts in `n` variables: the product over
+/// the parts. The sum of the parts is below 2^64. Fails only if memory runs out.
 pub fn plain_product(
     alloc: Global,
     basis: PlainBasis,
@@ -67,8 +67,8 @@ pub fn plain_product(
     times(alloc, &front, &back)
 }
 
-/// The elementary, complete or power sum polynomial of one part in `n` variables. Want of memory is
-/// its only error.
+/// The elementary, complete or power sum polynomial of one part in `n` variables. Fails only if
+/// memory runs out.
 pub fn plain_part_polynomial(
     alloc: Global,
     basis: PlainBasis,
@@ -126,8 +126,8 @@ fn one(alloc: Global, n: usize) -> Result<Vec<Vec<u64>>, AllocError>
     Ok(all)
 }
 
-/// The products of each first and each second monomial. Their exponents fit 64 bits. Want of memory
-/// is its only error.
+/// The products of each first and each second monomial. Their exponents fit 64 bits. Fails only if
+/// memory runs out.
 fn times(
     alloc: Global,
     first: &[Vec<u64>],

@@ -11,7 +11,7 @@ use std::alloc::{AllocError, Global};
 /// A term of a list: its label and its coefficient, a fraction.
 #[derive(Drop)]
 pub struct PlainTerm {
-    /// What the coefficient belongs to.
+    /// The label, a partition.
     pub label: Vec<u64>,
     /// The numerator of the coefficient.
     pub numerator: i128,
@@ -19,8 +19,8 @@ pub struct PlainTerm {
     pub denominator: u128,
 }
 
-/// The printed block of a list of terms: a line for each term, and the line `0` where there is
-/// none. Want of memory is its only error.
+/// The printed block of a list of terms: a line for each term, or the line `0` if there is no term.
+/// Fails only if memory runs out.
 pub fn plain_block(alloc: Global, terms: &[PlainTerm]) -> Result<String, AllocError>
     ensures { IfOk result (λ text. string_bytes text ≡ block (map term_of terms.now)) }
 {

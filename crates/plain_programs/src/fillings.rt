@@ -9,7 +9,7 @@ use crate::words::plain_words;
 use std::alloc::{AllocError, Global};
 
 /// The semistandard tableaux of the shape outer/inner with entries from 1 to n, each by its rows;
-/// none where inner does not lie inside outer. Want of memory is its only error.
+/// none if inner is not contained in outer. Fails only if memory runs out.
 pub fn plain_tableaux(
     alloc: Global,
     n: u64,
@@ -27,8 +27,7 @@ pub fn plain_tableaux(
     semistandard_among(alloc, inner, &fillings)
 }
 
-/// All fillings with letters from 1 to n of rows with these lengths. Want of memory is its only
-/// error.
+/// All fillings with letters from 1 to n of rows with these lengths. Fails only if memory runs out.
 pub fn plain_fillings(
     alloc: Global,
     n: u64,
@@ -110,7 +109,7 @@ fn with_first_row(
     Ok(longer)
 }
 
-/// A copy of each row, put at the end.
+/// Appends a copy of each row.
 pub(crate) fn push_rows(
     alloc: Global,
     list: &mut Vec<Vec<u64>>,

@@ -15,9 +15,9 @@ use crate::readings::{plain_column_reading, plain_reading_right_of};
 use crate::words::plain_words;
 use std::alloc::{AllocError, Global};
 
-/// The column readings, in rising lexicographic order, of the good tableaux of the shape
-/// outer/inner with this start and entries from 1 to k; none where start has more than k parts. The
-/// number of cells is below 2^64. Want of memory is its only error.
+/// The column readings, in increasing lexicographic order, of the good tableaux of the shape
+/// outer/inner with this start and entries from 1 to k; none if start has more than k parts. The
+/// number of cells is below 2^64. Fails only if memory runs out.
 pub fn plain_good_readings(
     alloc: Global,
     k: u64,
@@ -36,7 +36,7 @@ pub fn plain_good_readings(
 }
 
 /// The good tableaux of the shape outer/inner with this start and entries from 1 to k, each by its
-/// rows. Want of memory is its only error.
+/// rows. Fails only if memory runs out.
 pub fn plain_good_tableaux(
     alloc: Global,
     k: u64,
@@ -73,7 +73,7 @@ fn good_among(
     Ok(list)
 }
 
-/// A copy of the tableau put at the end, if it is to be kept.
+/// Appends a copy of the tableau, if it is to be kept.
 fn push_if(
     alloc: Global,
     list: &mut Vec<Vec<Vec<u64>>>,
@@ -91,8 +91,8 @@ fn push_if(
     Ok(())
 }
 
-/// Whether start plus the content of the columns right of column j, in letters from 1 to k, falls
-/// weakly for each j from 0 to the last column. Want of memory is its only error.
+/// Whether start plus the content of the columns right of column j, in letters from 1 to k, is
+/// weakly decreasing for each j from 0 to the last column. Fails only if memory runs out.
 pub fn plain_is_good(
     alloc: Global,
     k: u64,
@@ -129,7 +129,7 @@ fn falls_with(alloc: Global, k: u64, start: &[u64], word: &[u64]) -> Result<bool
     Ok(falls(&sums))
 }
 
-/// How often each letter from 1 to k stands in the word.
+/// The number of times that each letter from 1 to k occurs in the word.
 pub(crate) fn counts_of(alloc: Global, k: u64, word: &[u64]) -> Result<Vec<u64>, AllocError>
     ensures { IfOk result (λ counts. counts.items ≡ content k word.now) }
 {
@@ -140,7 +140,7 @@ pub(crate) fn counts_of(alloc: Global, k: u64, word: &[u64]) -> Result<Vec<u64>,
     Ok(counts)
 }
 
-/// How often the letter stands in the word.
+/// The number of times that the letter occurs in the word.
 fn count_of(letter: u64, word: &[u64]) -> u64
     ensures count { result ≡ times_in letter word.now }
     ensures bound { result ≤ length word.now }

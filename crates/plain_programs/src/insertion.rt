@@ -18,7 +18,7 @@ pub struct TableauPair {
     pub recording: Vec<Vec<u64>>,
 }
 
-/// The pair of tableaux of a word, by row insertion. Want of memory is its only error.
+/// The pair of tableaux of a word, by row insertion. Fails only if memory runs out.
 pub fn plain_insertion_pair(alloc: Global, word: &[u64]) -> Result<TableauPair, AllocError>
     ensures { IfOk result (λ pair. tableaux_of pair ≡ insertion_pair word.now) }
 {
@@ -53,7 +53,7 @@ fn inserted_from(
     inserted_from(alloc, step + 1, others, next)
 }
 
-/// The rows of a tableau with a letter inserted. Want of memory is its only error.
+/// The rows of a tableau with a letter inserted. Fails only if memory runs out.
 pub fn plain_inserted(
     alloc: Global,
     rows: &[Vec<u64>],
@@ -90,7 +90,7 @@ fn push_inserted(
     }
 }
 
-/// The row with the letter put in, at the end of a list.
+/// Appends the row with the letter inserted to the list.
 fn push_row_with(list: &mut Vec<u64>, row: &[u64], letter: u64) -> Result<(), AllocError>
     ensures { OnOk result (list.new.items ≡ list.old.items ++ row_with letter row.now) }
 {
@@ -167,7 +167,7 @@ fn push_with_step(
     }
 }
 
-/// The reading word of a tableau: its rows from the bottom up. Want of memory is its only error.
+/// The reading word of a tableau: its rows from the bottom up. Fails only if memory runs out.
 pub fn plain_reading_word(alloc: Global, rows: &[Vec<u64>]) -> Result<Vec<u64>, AllocError>
     ensures { IfOk result (λ word. word.items ≡ reading_word (words_of rows.now)) }
 {

@@ -2,7 +2,7 @@
 
 ghost use Rattle.std.specs.Prelude.{◌≡◌, ◌+◌, ◌^◌, ◌<◌, slice_index, drop};
 
-/// The number at a place, 0 past the end.
+/// The number at a place, or 0 after the end.
 pub(crate) fn number_at(numbers: &[u64], i: usize) -> u64
     ensures { result ≡ slice_index numbers.now i }
 {

@@ -10,7 +10,7 @@ use crate::numbers::{number_at, without_first};
 use std::alloc::{AllocError, Global};
 
 /// The column reading of a filling of the shape outer/inner, given by its rows: the columns from
-/// the rightmost to the leftmost, each from top to bottom. Want of memory is its only error.
+/// the rightmost to the leftmost, each from top to bottom. Fails only if memory runs out.
 pub fn plain_column_reading(
     alloc: Global,
     outer: &[u64],
@@ -23,8 +23,7 @@ pub fn plain_column_reading(
     plain_reading_right_of(alloc, 0, outer, inner, filling)
 }
 
-/// The part of the column reading in the columns right of column j. Want of memory is its only
-/// error.
+/// The part of the column reading in the columns right of column j. Fails only if memory runs out.
 pub fn plain_reading_right_of(
     alloc: Global,
     j: u64,

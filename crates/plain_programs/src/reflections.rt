@@ -23,7 +23,7 @@ pub struct Signed {
 }
 
 /// The reduction of a partition with at most k rows into the alcove of level n - k: a partition
-/// with a sign, or None where it is 0. Want of memory is its only error.
+/// with a sign, or None if it is 0. Fails only if memory runs out.
 pub fn plain_alcove(
     alloc: Global,
     k: u64,
@@ -46,8 +46,8 @@ pub fn plain_alcove(
     }))
 }
 
-/// Where the reflections of a list end, with a sign; None where that is 0. Want of memory is its
-/// only error.
+/// The result of reflecting a list until it is in the alcove, with a sign; None if it is 0. Fails
+/// only if memory runs out.
 pub fn plain_reflect(alloc: Global, n: u64, list: &[u64]) -> Result<Option<Signed>, AllocError>
     requires { 1 ≤ n }
     ensures { IfOk result (λ answer. signed_of answer ≡ reflected_into_alcove n list.now) }
@@ -80,7 +80,7 @@ pub fn plain_reflect(alloc: Global, n: u64, list: &[u64]) -> Result<Option<Signe
     }))
 }
 
-/// How far the first entry is above the last.
+/// The difference of the first entry and the last.
 fn spread_of(list: &[u64]) -> u64
     ensures { result ≡ spread list.now }
 {

@@ -10,28 +10,28 @@ use crate::beta_lists::{count_up_to_last_positive, is_one_odd};
 use crate::numbers::number_at;
 use std::alloc::{AllocError, Global};
 
-/// What is left where a rim hook is removed from a partition, and the height of that rim hook.
+/// The partition that remains after the removal of a rim hook, and the height of that rim hook.
 #[derive(Drop)]
 pub struct Removal {
     /// The partition that is left.
     pub left: Vec<u64>,
-    /// In how many rows the rim hook stood.
+    /// The number of rows of the rim hook.
     pub height: u64,
 }
 
 /// An end of the removals, with a sign and the number of removals.
 #[derive(Drop)]
 pub struct Core {
-    /// What is left at the end.
+    /// The partition that is left at the end.
     pub shape: Vec<u64>,
     /// Whether the sign is a minus.
     pub is_negative: bool,
-    /// How many rim hooks were removed.
+    /// The number of removed rim hooks.
     pub power: u64,
 }
 
-/// Removes rim hooks of n cells from a partition with at most k rows until there is none, each
-/// multiplying the sign by (-1)^(k - height). Want of memory is its only error.
+/// Removes rim hooks of n cells from a partition with at most k rows until there is none; each
+/// multiplies the sign by (-1)^(k - height). Fails only if memory runs out.
 pub fn plain_core(alloc: Global, k: u64, n: u64, shape: &[u64]) -> Result<Core, AllocError>
     requires positive { 1 ≤ n }
     requires partition { IsPartition shape.now }
@@ -59,8 +59,8 @@ pub fn plain_core(alloc: Global, k: u64, n: u64, shape: &[u64]) -> Result<Core, 
     })
 }
 
-/// A removal of a rim hook of n cells from a partition; None where there is none. Want of memory is
-/// its only error.
+/// A removal of a rim hook of n cells from a partition; None if there is none. Fails only if memory
+/// runs out.
 pub fn plain_removal(alloc: Global, n: u64, shape: &[u64]) -> Result<Option<Removal>, AllocError>
     requires { IsPartition shape.now }
     ensures { IfOk result (IsFound n shape.now) }

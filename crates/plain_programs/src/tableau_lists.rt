@@ -12,9 +12,9 @@ use crate::good::{are_same, count_cells, counts_of, readings_of, those_among};
 use crate::words::plain_words;
 use std::alloc::{AllocError, Global};
 
-/// The column readings, in rising lexicographic order, of the semistandard tableaux of the shape
-/// outer/inner with entries from 1 to n. The number of cells is below 2^64. Want of memory is its
-/// only error.
+/// The column readings, in increasing lexicographic order, of the semistandard tableaux of the
+/// shape outer/inner with entries from 1 to n. The number of cells is below 2^64. Fails only if
+/// memory runs out.
 pub fn plain_tableau_readings(
     alloc: Global,
     n: u64,
@@ -30,8 +30,8 @@ pub fn plain_tableau_readings(
     those_among(alloc, &words, &readings)
 }
 
-/// Those among them of the tableaux with this content, in as many letters as it has numbers. The
-/// number of cells is below 2^64. Want of memory is its only error.
+/// The column readings of the semistandard tableaux with this content, with entries up to the
+/// length of the content. The number of cells is below 2^64. Fails only if memory runs out.
 pub fn plain_readings_with_content(
     alloc: Global,
     counts: &[u64],
@@ -64,8 +64,7 @@ fn those_with_content(
     Ok(list)
 }
 
-/// The lists that come after a word in a list of lists; none where it is not among them. It takes
-/// no memory.
+/// The lists after a word in a list of lists; none if it is not among them. It takes no memory.
 pub fn plain_later_than<'a>(word: &[u64], list: &'a [Vec<u64>]) -> &'a [Vec<u64>]
     ensures { words_of result.now ≡ later_than word.now (words_of list.now) }
 {

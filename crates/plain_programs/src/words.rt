@@ -7,8 +7,8 @@ ghost use Rattle.plain_programs.specs.Words.{words_of};
 
 use std::alloc::{AllocError, Global};
 
-/// All words of a length with letters from 1 to n, in lexicographic order. Want of memory is its
-/// only error.
+/// All words of a length with letters from 1 to n, in lexicographic order. Fails only if memory
+/// runs out.
 pub fn plain_words(alloc: Global, n: u64, length: u64) -> Result<Vec<Vec<u64>>, AllocError>
     ensures { IfOk result (λ list. words_of list.items ≡ words n length) }
 {

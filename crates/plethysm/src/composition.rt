@@ -22,14 +22,13 @@ use std::alloc::Global;
 use whole_lists::{Whole, divided};
 use whole_numbers::{denominator_product, factorial};
 
-/// The plethysm F[G]: the variables of F replaced by the monomials of G, each as often as its
-/// coefficient says (Macdonald, I.8).
-/// Both lists are read in m; the answer is an expansion in the target,
-/// in every number of variables.
+/// The plethysm F[G]: the variables of F replaced by the monomials of G, each repeated as often as
+/// its coefficient says (Macdonald, I.8). Both lists are in m; the result is an expansion in the
+/// target, in every number of variables.
 ///
-/// The lists are bounded by their bounds, of which the numbers are at least 1. The coefficients of
-/// the inner list are whole and not negative, and its bound has the denominator 1. The greatest
-/// sizes a and b of the labels of the two lists are at most 10, and so is their product.
+/// Each list satisfies its bound, whose two numbers are at least 1. The coefficients of the inner
+/// list are whole and not negative, and its bound has the denominator 1. The greatest sizes a and b
+/// of the labels of the two lists are at most 10, and so is their product.
 ///
 /// Where a is 0 the answer is F, whatever G is. The plethysm is refused as `Large` only where the
 /// plethysm weight of the bounds, a and b is 2^127 or more.

@@ -12,8 +12,8 @@ HavePlaces n γs = (γ : List ℕ) → Among γ γs → length γ ≡ n
 abbrev pub monomial_sum : List (List ℕ) → Poly
 monomial_sum γs = map (λ (γ : List ℕ). (γ, pos 1)) γs
 
--- g is a sum of monomials in n variables of degree at most d, one of them as often as you like:
--- no coefficient is negative
+-- g is a sum of monomials in n variables of degree at most d, with multiplicities: no coefficient
+-- is negative
 pub record IsMonomialSum (d n : ℕ) (g : Poly) : Type 0 where
   pub places : In n g
   pub low : (α : List ℕ) → length α ≡ n → d < size α → coefficient g α ≡ pos 0

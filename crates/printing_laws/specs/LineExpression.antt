@@ -7,8 +7,8 @@ use Rattle.sym_model.specs.ExpressionOffence.{literal, WordOffence, offences}
 use Rattle.sym_model.specs.Phrase.{Phrase, SpellsPhrase, tree}
 use Rattle.sym_model.specs.OneLine.{one_line}
 
--- the numerator of no coefficient is -2^127,
--- the one number of 128 bits whose absolute value is none
+-- no coefficient has the numerator -2^127, the only 128-bit number whose absolute value does not
+-- fit
 abbrev pub LacksLowest : Terms (List ℕ) → Type 0
 LacksLowest terms = (t : List ℕ × Fraction) → Among t terms → t.1.0 ≡ neg_ℤ (pos (2 ^ 127)) → ⊥
 

@@ -36,6 +36,6 @@ IsHeavyFrom shape step start k [] = ⊥
 IsHeavyFrom shape step start k (first ∷ factors) =
     HasHeavyStep shape step k ((start first, pos 1) ∷ []) factors
 
--- what is added overflows, and its absolute values come to at most so much
+-- the added list overflows, and the sum of its absolute values is at most `most`
 abbrev pub OverflowsWithin : {L : Type 0} → (L → L → Bool) → WholeTermsOf L → ℕ → Type 0
 OverflowsWithin {L} eq old most = (g : WholeTermsOf L) × (mass g ≤ most) × Overflows eq old g

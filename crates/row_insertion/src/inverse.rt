@@ -11,7 +11,7 @@ use skew_shapes::{Standard, Tableau};
 use std::alloc::Global;
 
 /// The one word that `insert_word` takes to this pair of tableaux of one straight shape with at
-/// most 512 cells. Want of memory is its only error.
+/// most 512 cells. Fails only if memory runs out.
 pub fn word_of_pair(alloc: Global, p: &Tableau, q: &Standard) -> Result<Word, NoMemory>
     requires one_shape { HaveOneShape p.now q.now }
     requires few { length (letters_of p.now.rows) ≤ 512 }

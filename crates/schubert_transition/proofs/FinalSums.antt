@@ -180,7 +180,7 @@ module _ (w : List ℕ) (short : IsShort (length w) w) (terms : WholeTerms) (is 
       represents_sums (λ e. x_to_in e n) terms (schubert_in w n)
       (λ φ. total_ext (λ (t : List ℕ × ℤ). t.1 *ℤ pair (x_to_in t.0 n) φ) (λ (t : List ℕ × ℤ). t.1 *ℤ restricted_test n φ t.0) (λ t. ap (λ z. t.1 *ℤ z) (pair_x_to_in n t.0 φ)) terms ∙ sums n φ)
 
-  -- as its coefficients are held, none of the polynomial is past them
+  -- the table holds all coefficients, so none exceeds the limit
   fits : HasPast (IsCoefficientOfSchubert w) → ⊥
   fits (c, (α, e), large) =
       let a = sums (length w) (at_only α) in

@@ -10,8 +10,8 @@ abbrev pub below : ℕ → List ℕ
 below zero = []
 below (suc n) = below n ++ (n ∷ [])
 
--- what is left of a partition when a horizontal strip of k cells is taken off, each once: from the
--- first row i of the cells below which there is none, and from the other rows the rest of the k
+-- the partitions ρ such that λ/ρ is a horizontal strip of k cells, each once: i cells are removed
+-- from the first row, at most those with no cell below, and k - i from the other rows
 abbrev pub strips_off : ℕ → List ℕ → List (List ℕ)
 strips_off k [] = cond (k == 0) ([] ∷ []) []
 strips_off k (a ∷ parts) =

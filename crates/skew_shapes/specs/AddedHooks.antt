@@ -1,20 +1,20 @@
--- How the rim hooks that can be put on a partition are listed:
--- by their last rows. Rows are counted from 1.
+-- The order in which the rim hooks that can be added to a partition are listed: by their last rows.
+-- Rows are counted from 1.
 use Rattle.std.specs.Prelude.{◌≡◌, ℕ, ◌+◌, ◌-◌, ◌<◌, ◌≤◌, ◌==◌, nat_lt, nat_le, max, Bool, true}
 use Rattle.std.specs.Prelude.{IsTrue, ◌&&◌, ◌||◌, cond, List, [], ◌∷◌, map, take, length, Some}
 use Rattle.std.specs.Prelude.{None, flat_map}
 use Rattle.sym_model.specs.Partition.{Falls, after, part, rows, size, without_last_zeros}
 use Rattle.skew_shapes.specs.HookLists.{HooksListed}
 
--- whether a rim hook of k cells can be put on inner in the rows first, .., last: each of them but
--- the first grows to the length of the row above plus 1, and what is left of the cells makes the
--- first longer, and no longer than the row above it
+-- whether a rim hook of k cells can be added to inner in the rows first, .., last: each of them but
+-- the first grows to the length of the row above plus 1, and the remaining cells make the first row
+-- longer, but not longer than the row above it
 abbrev pub can_add : ℕ → List ℕ → ℕ → ℕ → Bool
 can_add k inner first last =
     nat_lt (part inner first + (last - first)) (part inner last + k)
     && (first == 1 || nat_le (part inner last + k) (part inner (first - 1) + (last - first)))
 
--- the length of a row where that rim hook is put on
+-- the length of a row after that rim hook is added
 abbrev pub added_row : ℕ → List ℕ → ℕ → ℕ → ℕ → ℕ
 added_row k inner first last row =
     cond (nat_lt row first || nat_lt last row) (part inner row)
@@ -42,15 +42,15 @@ pub record BeginsFrom (k : ℕ) (inner : List ℕ) (first last : ℕ) : Type 0 w
   pub ordered : first ≤ last + 1
   pub passed : (row : ℕ) → 1 ≤ row → row < first → part inner last + k + row ≤ part inner row + last
 
--- the rows first, .., last are those of the current rim hook,
--- and the buffer has the lengths of the rows
+-- the rows first, .., last are those of the current rim hook, and the buffer has the lengths of the
+-- rows
 pub record IsAddedIn (buffer : List ℕ) (k : ℕ) (inner : List ℕ) (first last : ℕ) : Type 0 where
   pub ordered : first ≤ last
   pub fits : can_add k inner first last ≡ true
   pub rows_are : take (max (rows inner) last) buffer
       ≡ map (added_row k inner first last) (after 0 (max (rows inner) last))
 
--- what a lister of added rim hooks keeps
+-- the state of a lister of added rim hooks
 pub record IsAdding (inner : List ℕ) (k : ℕ) (buffer : List ℕ) (first last : ℕ)
     (listed : Bool) : Type 0 where
   pub falls : Falls inner
@@ -61,7 +61,7 @@ pub record IsAdding (inner : List ℕ) (k : ℕ) (buffer : List ℕ) (first last
   pub begins : BeginsFrom k inner first last
   pub current : IsTrue listed → IsAddedIn buffer k inner first last
 
--- the hooks still to come after the one from first to last, and that one where it is listed
+-- the hooks after the one from first to last, and that one itself if it is listed
 abbrev pub adding_at : List ℕ → ℕ → ℕ → ℕ → Bool → HooksListed
 adding_at inner k first last listed =
     record {

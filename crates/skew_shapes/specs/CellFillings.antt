@@ -1,5 +1,5 @@
--- Fillings of skew shapes, cell by cell: what stands in a cell, and one cell changed,
--- added or dropped.
+-- Fillings of skew shapes, cell by cell: the entry of a cell, and one cell changed, added or
+-- dropped.
 use Rattle.std.specs.Prelude.{◌≡◌, ℕ, ◌+◌, ◌-◌, nat_le, nat_lt, Bool, ◌&&◌, cond, List, [], ◌∷◌}
 use Rattle.std.specs.Prelude.{map, length, take, slice_index, slice_index_or, slice_set, Option}
 use Rattle.std.specs.Prelude.{Some, None}
@@ -32,7 +32,7 @@ filled_with outer inner w = record { outer = outer; inner = inner; rows = fillin
 abbrev pub row_of : List (List ℕ) → ℕ → List ℕ
 row_of rows row = slice_index_or rows (row - 1) []
 
--- how many cells of its row stand left of the column
+-- the number of cells of its row that are left of the column
 abbrev pub place_in_row : List ℕ → ℕ → ℕ → ℕ
 place_in_row inner row column = column - (part inner row + 1)
 
@@ -41,7 +41,7 @@ abbrev pub is_cell : List ℕ → List ℕ → ℕ → ℕ → Bool
 is_cell outer inner row column =
     nat_le 1 row && (nat_lt (part inner row) column && nat_le column (part outer row))
 
--- the number in the cell (row, column), where that is one
+-- the number in the cell (row, column), if that is a cell
 abbrev pub entry_at : SkewFilling → ℕ → ℕ → Option ℕ
 entry_at t row column =
     cond (is_cell t.outer t.inner row column)
@@ -66,8 +66,8 @@ with_inner_cell t row =
       rows = slice_set t.rows (row - 1) (0 ∷ row_of t.rows row);
     }
 
--- the filling without the last cell of a row;
--- a row without cells at the end of the outer partition is none
+-- the filling without the last cell of a row; a last row of the outer partition without cells is
+-- removed
 abbrev pub without_outer_cell : SkewFilling → ℕ → SkewFilling
 without_outer_cell t row =
     let outer = without_last_zeros (lowered_at row t.outer) in

@@ -1,26 +1,26 @@
--- Lists of the partitions that a rim hook makes of a partition, put on or taken away.
+-- Lists of the partitions made from a partition by adding or removing a rim hook.
 use Rattle.std.specs.Prelude.{◌≡◌, ◌↔◌, ℕ, ◌+◌, List, Option}
 use Rattle.sym_model.specs.Sum.{Among}
 use Rattle.sym_model.specs.Partition.{IsPartition, size}
 use Rattle.sym_model.specs.PartitionList.{FallsLexicographically}
 use Rattle.sym_model.specs.Strip.{IsRimHook}
 
--- the list has exactly the partitions ν for which ν/inner is a rim hook of k cells,
--- in falling lexicographic order
+-- the list has exactly the partitions ν such that ν/inner is a rim hook of k cells, in decreasing
+-- lexicographic order
 pub record AreHooksAdded (inner : List ℕ) (k : ℕ) (list : List (List ℕ)) : Type 0 where
   pub falls : FallsLexicographically list
   pub members : (ν : List ℕ) → Among ν list
       ↔ (IsPartition ν × (size ν ≡ size inner + k) × IsRimHook ν inner)
 
--- the list has exactly the partitions ν for which outer/ν is a rim hook of k cells,
--- in falling lexicographic order
+-- the list has exactly the partitions ν such that outer/ν is a rim hook of k cells, in decreasing
+-- lexicographic order
 pub record AreHooksRemoved (outer : List ℕ) (k : ℕ) (list : List (List ℕ)) : Type 0 where
   pub falls : FallsLexicographically list
   pub members : (ν : List ℕ) → Among ν list
       ↔ (IsPartition ν × (size outer ≡ size ν + k) × IsRimHook outer ν)
 
--- the partitions still to come, the current one,
--- and the one that the rim hooks are put on or taken from
+-- the partitions that are not yet listed, the current one, and the one that rim hooks are added to
+-- or removed from
 pub record HooksListed : Type 0 where
   pub rest : List (List ℕ)
   pub item : Option (List ℕ)

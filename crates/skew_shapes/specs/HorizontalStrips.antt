@@ -6,8 +6,8 @@ use Rattle.sym_model.specs.Partition.{IsPartition, size}
 use Rattle.sym_model.specs.PartitionList.{FallsLexicographically}
 use Rattle.sym_model.specs.Strip.{IsHorizontalStrip}
 
--- the list has exactly the partitions ν for which ν/inner is a horizontal strip of k cells, in
--- falling lexicographic order
+-- the list has exactly the partitions ν such that ν/inner is a horizontal strip of k cells, in
+-- decreasing lexicographic order
 pub record AreHorizontalStrips (inner : List ℕ) (k : ℕ) (list : List (List ℕ)) : Type 0 where
   pub falls : FallsLexicographically list
   pub members : (ν : List ℕ) → Among ν list
@@ -18,10 +18,10 @@ abbrev pub counting_down : ℕ → ℕ → List ℕ
 counting_down high zero = []
 counting_down high (suc n) = high ∷ counting_down (high - 1) n
 
--- the shapes that a strip of `left` cells makes of the rows of a partition, with no first row
--- longer than `most`: the first row runs down from the longest to the shortest that leaves no more
--- cells than the rows below it can take, each of which grows at most as long as the row above it
--- was
+-- the partitions made by adding a horizontal strip of `left` cells to the rows of a partition, with
+-- a first row of at most `most`, by decreasing first row: from the longest to the shortest that
+-- leaves no more cells than the rows below it can take, each of which grows at most to the length
+-- that the row above it had
 abbrev pub strips_on : ℕ → ℕ → List ℕ → List (List ℕ)
 strips_on most left [] = cond (left == 0) ([] ∷ []) ((left ∷ []) ∷ [])
 strips_on most left (a ∷ inner) =
@@ -29,7 +29,7 @@ strips_on most left (a ∷ inner) =
     flat_map (λ row. map (λ rest. row ∷ rest) (strips_on a (left + a - row) inner))
     (counting_down longest (longest + 1 - max left a))
 
--- the shape that came last where that number of shapes have come
+-- the last shape of that number of shapes from the front, if the number is not 0
 abbrev pub last_of : ℕ → List (List ℕ) → Option (List ℕ)
 last_of zero shapes = None
 last_of (suc i) shapes = slice_get shapes i

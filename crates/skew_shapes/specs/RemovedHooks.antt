@@ -15,7 +15,7 @@ can_remove k outer first last =
     nat_le (part outer (last + 1) + k) (part outer first + (last - first))
     && nat_lt (part outer first + (last - first)) (part outer last + k)
 
--- the length of a row where that rim hook is taken away
+-- the length of a row after that rim hook is removed
 abbrev pub left_row : ℕ → List ℕ → ℕ → ℕ → ℕ → ℕ
 left_row k outer first last row =
     cond (nat_lt row first || nat_lt last row) (part outer row)
@@ -46,8 +46,8 @@ pub record EndsUpTo (k : ℕ) (outer : List ℕ) (first last : ℕ) : Type 0 whe
   pub passed : (row : ℕ) → last < row → row ≤ rows outer
       → part outer row + first + k ≤ part outer first + row
 
--- the rows first, .., last are those of the current rim hook,
--- and the buffer has the lengths of the rows
+-- the rows first, .., last are those of the current rim hook, and the buffer has the lengths of the
+-- rows
 pub record IsLeftIn (buffer : List ℕ) (k : ℕ) (outer : List ℕ) (first last : ℕ) : Type 0 where
   pub ordered : first ≤ last
   pub fits : can_remove k outer first last ≡ true
@@ -62,8 +62,7 @@ pub record IsRemoving (outer : List ℕ) (k : ℕ) (buffer : List ℕ) (first la
   pub ends : EndsUpTo k outer first last
   pub current : IsTrue listed → IsLeftIn buffer k outer first last
 
--- the hooks still to be removed after the one from first to last,
--- and what that one leaves where it is listed
+-- the hooks to be removed after the one from first to last, and that one itself if it is listed
 abbrev pub removing_at : List ℕ → ℕ → ℕ → ℕ → Bool → HooksListed
 removing_at outer k first last listed =
     record {

@@ -11,8 +11,8 @@ stands_below inner rows row =
     columns_rise (row_of rows row)
     (drop (part inner row - part inner (row + 1)) (row_of rows (row + 1)))
 
--- whether the letters of a row, counted from 1, are positive and rise,
--- and are smaller than those below them
+-- whether the letters of a row, counted from 1, are positive and weakly increasing, and smaller
+-- than those below them
 abbrev pub row_passes : List ℕ → List (List ℕ) → ℕ → Bool
 row_passes inner rows row =
     are_letters (row_of rows row)

@@ -14,7 +14,7 @@ row_by f outer inner row = map (f row) (after (part inner row) (part outer row -
 abbrev pub rows_by : (ℕ → ℕ → ℕ) → List ℕ → List ℕ → List (List ℕ)
 rows_by f outer inner = map (row_by f outer inner) (after 0 (rows outer))
 
--- the place of a cell, where each row begins at its start
+-- the place of a cell, if each row begins at its start
 abbrev pub place_of : List ℕ → ℕ → ℕ → ℕ
 place_of starts row column = slice_index starts (row - 1) + (column - 1)
 
@@ -31,7 +31,7 @@ filling_in shape starts numbers =
       rows = rows_by (number_in starts numbers) shape.0 shape.1;
     }
 
--- no two cells of a partition have one place
+-- different cells of the partition have different places
 pub record HasPlaces (starts outer : List ℕ) (places : ℕ) : Type 0 where
   pub rows : length outer ≤ length starts
   pub apart : (i k : ℕ) → i < k → k < length outer
@@ -56,8 +56,8 @@ cells_right_of outer inner j =
 abbrev pub cells_above : List ℕ → List ℕ → ℕ → ℕ → List (ℕ × ℕ)
 cells_above outer inner j k = map (λ row. (row, j)) (filter (reaches outer inner j) (after 0 k))
 
--- each cell of outer/inner has the letter that it gets where the letters of the word are put into
--- the listed cells, and 0 where it is not listed
+-- each cell of outer/inner has the letter that it gets if the letters of the word are written into
+-- the listed cells, and 0 if it is not listed
 abbrev pub HoldsLetters : List ℕ → List ℕ → List ℕ → List ℕ → List (ℕ × ℕ) → List ℕ → Type 0
 HoldsLetters starts numbers outer inner cells w =
     (row column : ℕ) → IsCell outer inner row column

@@ -6,16 +6,17 @@ use Rattle.sym_model.specs.PartitionList.{FallsLexicographically}
 use Rattle.sym_model.specs.Strip.{IsVerticalStrip}
 use Rattle.skew_shapes.specs.HorizontalStrips.{counting_down}
 
--- the list has exactly the partitions ν for which ν/inner is a vertical strip of k cells, in
--- falling lexicographic order
+-- the list has exactly the partitions ν such that ν/inner is a vertical strip of k cells, in
+-- decreasing lexicographic order
 pub record AreVerticalStrips (inner : List ℕ) (k : ℕ) (list : List (List ℕ)) : Type 0 where
   pub falls : FallsLexicographically list
   pub members : (ν : List ℕ) → Among ν list
       ↔ (IsPartition ν × (size ν ≡ size inner + k) × IsVerticalStrip ν inner)
 
--- the shapes that a strip of `left` cells makes of the rows of a partition, with no first row
--- longer than `most`: the first row with a cell more, where there is one and it may be so long, and
--- then as it is; after the last row come rows of one cell
+-- the partitions made by adding a strip of `left` cells to the rows of a partition, with a first
+-- row of at most `most`: first those whose first row has a cell more, if it may be so long, and
+-- then those with the first row unchanged; after the last row come rows of one cell, for which
+-- `most` has no effect
 abbrev pub vertical_on : ℕ → ℕ → List ℕ → List (List ℕ)
 vertical_on most left [] = replicate left 1 ∷ []
 vertical_on most left (a ∷ inner) =

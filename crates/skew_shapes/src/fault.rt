@@ -9,7 +9,7 @@ use thiserror::Error;
 /// Why a list of numbers is not taken as the column reading of a tableau.
 #[derive(Clone, Copy, Debug, PartialEq, Eq, Hash, Error)]
 pub enum TableauFault {
-    /// There are not as many entries as cells.
+    /// The number of entries differs from the number of cells.
     #[error("the number of entries is not that of the cells")]
     Length,
     /// The filling is not semistandard with entries at least 1.

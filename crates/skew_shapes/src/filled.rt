@@ -24,7 +24,7 @@ use std::marker::Model;
 #[derive(Debug, Drop)]
 pub struct Filled {
     shape: Skew,
-    /// Where each row of the partition begins for whose cells there are places.
+    /// The place at which each row of the partition begins; there are places for all of its cells.
     starts: Vec<u16>,
     numbers: Vec<u16>,
 }
@@ -86,8 +86,8 @@ impl Filled {
         between(&self.numbers, from, to)
     }
 
-    /// The number in the cell of this row and this column, both counted from 1;
-    /// None where that is no cell of the shape.
+    /// The number in the cell of this row and this column, both counted from 1; None if that is not
+    /// a cell of the shape.
     pub fn entry(&self, row: u16, column: u16) -> Option<u16>
         ensures { result ≡ entry_at self.now row column }
     {
@@ -118,8 +118,8 @@ impl Filled {
         self.shape.remove_inner_corner(row);
     }
 
-    /// Puts the letters of a column reading into the cells. Letters past the last cell are left
-    /// out, and cells past the last letter get the number 0.
+    /// Writes the letters of a column reading into the cells. Letters after the last cell are left
+    /// out, and cells after the last letter get the number 0.
     pub fn fill(&mut self, reading: &[u16])
         ensures { self.new ≡ filled_with self.old.outer self.old.inner reading.now }
     {
@@ -142,8 +142,8 @@ impl Filled {
         self.shape.remove_outer_corner(row);
     }
 
-    /// The tableau with these entries. The filling comes back where it is not semistandard with
-    /// entries at least 1.
+    /// The tableau with these entries. If the filling is not semistandard with entries at least 1,
+    /// it is returned unchanged.
     pub fn into_tableau(self) -> Result<Tableau, Filled>
         ensures tableau { IsOk result ↔ (is_tableau self ≡ true) }
         ensures ok { IfOk result (λ t. t ≡ self) }
@@ -169,7 +169,8 @@ impl Filled {
         true
     }
 
-    /// Whether the numbers of this row are positive and rise, and those below them are greater.
+    /// Whether the numbers of this row are positive and weakly increasing, and those below them are
+    /// greater.
     fn row_passes(&self, row: u16) -> bool
         requires { (1 ≤ row) × (row ≤ rows self.now.outer) }
         ensures { result ≡ row_passes self.now.inner self.now.rows row }
@@ -199,8 +200,8 @@ impl Filled {
     }
 }
 
-/// The filling of a shape with this column reading: letters past the last cell are left out, and
-/// cells past the last letter have the number 0.
+/// The filling of a shape with this column reading: letters after the last cell are left out, and
+/// cells after the last letter have the number 0.
 pub fn filling_with_reading(alloc: Global, shape: Skew, reading: &[u16]) -> Result<Filled, NoMemory>
     ensures { IfOk result (λ f. f ≡ filled_with shape.0 shape.1 reading.now) }
 {

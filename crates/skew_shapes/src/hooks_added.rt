@@ -1,4 +1,4 @@
-//! The partitions that a rim hook put on a partition makes.
+//! The partitions made from a partition by adding a rim hook.
 ghost use Rattle.std.specs.Prelude.{◌≡◌, ◌+◌, ◌-◌, ◌<◌, ◌≤◌, ◌↔◌, ◌∷◌, ◌++◌, [], true, max, map};
 ghost use Rattle.std.specs.Prelude.{take, length, None, IfOk, IfSome, IsSome, IsTrue};
 ghost use Rattle.std.specs.Bool.{OnTrue, OnFalse};
@@ -15,7 +15,7 @@ use partitions::Partition;
 use std::alloc::Global;
 use std::marker::Model;
 
-/// The partitions ν for which ν/inner is a rim hook of k cells, in falling lexicographic order,
+/// The partitions ν such that ν/inner is a rim hook of k cells, in decreasing lexicographic order,
 /// each once: a `Lister` that works in one buffer.
 #[derive(Drop)]
 pub struct HooksAdded {
@@ -42,9 +42,9 @@ impl Model for HooksAdded {
 }
 
 impl HooksAdded {
-    /// The partitions that a rim hook of `k` cells put on `inner` makes, none of them current. The
-    /// cells and k together are at most 4,096, and the rows and k at most 512. For k = 0 there is
-    /// none.
+    /// The partitions made by adding a rim hook of `k` cells to `inner`; none of them is current
+    /// yet. The cells and k together are at most 4,096, and the rows and k at most 512. For k = 0
+    /// there is none.
     pub fn new(alloc: Global, inner: &Partition, k: u16) -> Result<HooksAdded, NoMemory>
         requires cells { size inner.now + k ≤ 4096 }
         requires rows { rows inner.now + k ≤ 512 }
@@ -99,7 +99,7 @@ impl Lister for HooksAdded {
     }
 }
 
-/// Moves on to the rows of the next rim hook that can be put on; false where none is left.
+/// Moves on to the rows of the next rim hook that can be added; false if there is no further one.
 fn find_next(inner: &[u16], k: u16, most: u16, hook: &mut HookRows) -> bool
     requires falls { Falls inner.now }
     requires few { most ≤ 512 }
@@ -145,7 +145,7 @@ fn first_passed(inner: &[u16], k: u16, hook: HookRows) -> u16
     first
 }
 
-/// Whether a rim hook of `k` cells can be put on in these rows.
+/// Whether a rim hook of `k` cells can be added in these rows.
 fn can_be_added(inner: &[u16], k: u16, hook: HookRows) -> bool
     requires counts { 1 ≤ hook.first }
     requires ordered { hook.first ≤ hook.last }

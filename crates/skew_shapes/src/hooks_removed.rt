@@ -1,4 +1,4 @@
-//! The partitions that are left where a rim hook is taken from a partition.
+//! The partitions made from a partition by removing a rim hook.
 ghost use Rattle.std.specs.Prelude.{◌≡◌, ◌+◌, ◌-◌, ◌<◌, ◌≤◌, ◌↔◌, ◌∷◌, ◌++◌, [], true, map, length};
 ghost use Rattle.std.specs.Prelude.{None, IfOk, IfSome, IsSome, IsTrue};
 ghost use Rattle.std.specs.Bool.{OnTrue, OnFalse};
@@ -16,7 +16,7 @@ use partitions::Partition;
 use std::alloc::Global;
 use std::marker::Model;
 
-/// The partitions ν for which outer/ν is a rim hook of k cells, in falling lexicographic order,
+/// The partitions ν such that outer/ν is a rim hook of k cells, in decreasing lexicographic order,
 /// each once: a `Lister` that works in one buffer.
 #[derive(Drop)]
 pub struct HooksRemoved {
@@ -43,8 +43,8 @@ impl Model for HooksRemoved {
 }
 
 impl HooksRemoved {
-    /// The partitions that are left where a rim hook of `k` cells is taken from `outer`, none of
-    /// them current. For k = 0 there is none.
+    /// The partitions made by removing a rim hook of `k` cells from `outer`; none of them is
+    /// current yet. For k = 0 there is none.
     pub fn new(alloc: Global, outer: &Partition, k: u16) -> Result<HooksRemoved, NoMemory>
         ensures hooks { IfOk result (λ l.
             AreHooksRemoved outer.now k (⟦<HooksRemoved as Lister>⟧.rest l)) }
@@ -100,7 +100,7 @@ impl Lister for HooksRemoved {
     }
 }
 
-/// Moves on to the rows of the next rim hook that can be taken away; false where none is left.
+/// Moves on to the rows of the next rim hook that can be removed; false if there is no further one.
 fn find_next(outer: &[u16], k: u16, hook: &mut HookRows) -> bool
     requires falls { Falls outer.now }
     requires few { rows outer.now ≤ 512 }

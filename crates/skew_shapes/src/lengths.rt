@@ -9,7 +9,7 @@ pub(crate) struct HookRows {
     pub(crate) last: u16,
 }
 
-/// The length of a row of a partition; 0 past the last.
+/// The length of a row of a partition; 0 after the last row.
 pub(crate) fn length_of(parts: &[u16], row: u16) -> u16
     requires { 1 ≤ row }
     ensures { result ≡ part parts.now row }

@@ -1,19 +1,17 @@
-//! Skew shapes, and fillings of them: semistandard tableaux, standard tableaux, and numbers in
-//! cells with no rule among them; and the shapes that a strip or a rim hook makes of a partition,
-//! one at a time, those of a strip also as a list.
+//! Skew shapes, and fillings of them: semistandard tableaux, standard tableaux, and fillings with
+//! any numbers; and the partitions made by adding a strip, or by adding or removing a rim hook: one
+//! at a time, and those of a strip also as a list.
 //!
 //! What is proved:
 //!
-//! `Skew`, `Tableau`, `Standard`, `Filled`: each is what its calls say, and each refusal comes
-//! exactly where its cause holds, but if out of memory; the calls of `Filled` take no memory.
-//! `HorizontalStrips` lists the partitions that a horizontal strip of k cells makes of a partition,
-//! exactly these, in decreasing lexicographic order; a step takes no memory. `VerticalStrips` lists
-//! the partitions that a vertical strip of k cells makes of a partition, exactly these, in
-//! decreasing lexicographic order. `with_horizontal_strip` and `with_vertical_strip` give the same
-//! lists whole. `HooksAdded` lists the partitions for which a rim hook of k cells can be put on a
-//! partition, `HooksRemoved` those that are left where one is taken away: exactly these, in
-//! decreasing lexicographic order, with the height of each hook. They work in one buffer; a step
-//! takes no memory.
+//! Each call of `Skew`, `Tableau`, `Standard` and `Filled` returns what its comment says, and
+//! refuses exactly for the cause that it names, unless memory runs out; the calls of `Filled` take
+//! no memory. `HorizontalStrips` and `VerticalStrips` list exactly the partitions made by adding a
+//! horizontal or a vertical strip of k cells to a partition, in decreasing lexicographic order; a
+//! step takes no memory. `with_horizontal_strip` and `with_vertical_strip` return the same
+//! partitions as a list. `HooksAdded` and `HooksRemoved` list exactly the partitions made by adding
+//! or removing a rim hook of k cells, in decreasing lexicographic order, with the height of each
+//! hook. They work in one buffer; a step takes no memory.
 #![tactic(auto)]
 
 mod fault;

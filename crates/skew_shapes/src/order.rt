@@ -26,8 +26,8 @@ pub(crate) fn rises(row: &[u16]) -> bool
     *first <= *second && rises(later)
 }
 
-/// Whether each number of the lower row is greater than the one above it,
-/// where both begin in one column.
+/// Whether each number of the lower row is greater than the one above it, if both rows begin in the
+/// same column.
 pub(crate) fn stands_on(upper: &[u16], lower: &[u16]) -> bool
     ensures { result ≡ columns_rise upper.now lower.now }
 {

@@ -8,7 +8,7 @@ ghost use Rattle.skew_shapes.specs.Rows.{number_in, place_of, reaches};
 
 use std::alloc::{AllocError, Global};
 
-/// Where each row begins, where rows of these lengths follow one another.
+/// The place at which each row begins, if rows of these lengths follow one another.
 pub(crate) fn row_starts(alloc: Global, lengths: &[u16]) -> Result<Vec<u16>, AllocError>
     requires { size lengths.now ≤ 4096 }
     ensures { IfOk result (λ starts. HasPlaces starts.items lengths.now (size lengths.now)) }

@@ -30,8 +30,8 @@ impl Model for Skew {
 }
 
 impl Skew {
-    /// The shape of the cells of `outer` that are not cells of `inner`;
-    /// None where `inner` is not contained in `outer`.
+    /// The shape of the cells of `outer` that are not cells of `inner`; None if `inner` is not
+    /// contained in `outer`.
     pub fn new(outer: Partition, inner: Partition) -> Option<Skew>
         ensures some { IsSome result ↔ Holds outer inner }
         ensures value { IfSome result (λ s. s ≡ (outer, inner)) }

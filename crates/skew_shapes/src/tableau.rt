@@ -32,9 +32,9 @@ impl Tableau {
     /// The tableau of a shape with this column reading: the columns from the rightmost to the
     /// leftmost, each from top to bottom.
     ///
-    /// It is refused as `Length` exactly where the number of entries is not that of the cells,
-    /// else, where there is memory for the filling, as `Order` exactly where that is not
-    /// semistandard with entries at least 1.
+    /// Fails with `Length` if and only if the number of entries differs from the number of cells.
+    /// Otherwise, if there is memory for the filling, it fails with `Order` if and only if the
+    /// filling is not semistandard with entries at least 1.
     pub fn from_reading(
         alloc: Global,
         shape: Skew,
@@ -85,8 +85,8 @@ impl Tableau {
         self.filled.row(row)
     }
 
-    /// The entry in this row and this column, both counted from 1;
-    /// None where that is no cell of the shape.
+    /// The entry in this row and this column, both counted from 1; None if that is not a cell of
+    /// the shape.
     pub fn entry(&self, row: u16, column: u16) -> Option<u16>
         ensures { result ≡ entry_at self.now row column }
     {

@@ -11,8 +11,8 @@ use partitions::Partition;
 use std::alloc::Global;
 use std::marker::Model;
 
-/// The partitions ν for which ν/inner is a vertical strip of k cells, in falling lexicographic
-/// order, each once: a `Lister` of shapes that are made at once.
+/// The partitions ν such that ν/inner is a vertical strip of k cells, in decreasing lexicographic
+/// order, each once: a `Lister` of shapes that are all made at the start.
 #[derive(Drop)]
 pub struct VerticalStrips {
     shapes: Vec<Partition>,
@@ -31,9 +31,9 @@ impl Model for VerticalStrips {
 }
 
 impl VerticalStrips {
-    /// The shapes that a strip of `k` cells makes of `inner`, none of them current. The cells and k
-    /// together are at most 4,096, and the rows and k at most 512. For k = 0 there is `inner`
-    /// alone.
+    /// The partitions made by adding a strip of `k` cells to `inner`; none of them is current yet.
+    /// The cells and k together are at most 4,096, and the rows and k at most 512. For k = 0 the
+    /// only one is `inner`.
     pub fn new(alloc: Global, inner: &Partition, k: u16) -> Result<VerticalStrips, NoMemory>
         requires cells { size inner.now + k ≤ 4096 }
         requires rows { rows inner.now + k ≤ 512 }
@@ -67,10 +67,9 @@ impl Lister for VerticalStrips {
     }
 }
 
-/// The partitions ν for which ν/inner is a vertical strip of k cells, in falling lexicographic
-/// order, each once. The cells of
-/// `inner` and k together are at most 4,096, and its rows and k at most 512. For k = 0 there is
-/// `inner` alone.
+/// The partitions ν such that ν/inner is a vertical strip of k cells, in decreasing lexicographic
+/// order, each once. The cells of `inner` and k together are at most 4,096, and its rows and k at
+/// most 512. For k = 0 the only one is `inner`.
 pub fn with_vertical_strip(
     alloc: Global,
     inner: &Partition,
@@ -93,9 +92,8 @@ pub fn with_vertical_strip(
     Ok(shapes)
 }
 
-/// Adds the shapes that begin with the rows of `above`, which stay as they are, and go on with what
-/// a strip of `left` cells makes of the rows of a partition,
-/// where no first row is longer than `most`.
+/// Adds the shapes that begin with the rows of `above`, which do not change, followed by the rows
+/// of a partition with a strip of `left` cells added, whose first row is at most `most` long.
 fn add_strips(
     alloc: Global,
     most: u16,
@@ -127,8 +125,8 @@ fn add_strips(
     Ok(())
 }
 
-/// Adds the shape of the rows of `above`, which stay as they are,
-/// and of `left` rows of one cell after them.
+/// Adds the shape of the rows of `above`, which do not change, and of `left` rows of one cell after
+/// them.
 fn add_ones(
     alloc: Global,
     left: u16,

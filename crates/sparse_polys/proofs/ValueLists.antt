@@ -16,7 +16,7 @@ use Rattle.sparse_polys.specs.Refusal.{IsRefused}
 use Rattle.sparse_polys.proofs.Coefficients.{coefficient-terms_of, keys-terms_of, value_at}
 
 module _ {L R : Type 0} (value : R → Fraction) where
-  -- ---- as they stand
+  -- ---- the list of values has the length of the list of entries
 
   pub length_values : (es : List (L × R)) → length (terms_of value es) ≡ length es
   length_values [] = refl

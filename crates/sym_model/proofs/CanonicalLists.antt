@@ -44,7 +44,7 @@ is_ordered-tells order trans (t ∷ u ∷ terms) h =
     let rest = is_ordered-tells order trans (u ∷ terms) p.1 in
     ((e, stands_before-weaker order trans t.0 u.0 terms e rest.0), rest)
 
--- no label stands twice
+-- no label occurs twice
 pub labels-once : {Label : Type 0} (order : Label → Label → Ordering) → IsTotalOrder order → (terms : Terms Label) → IsOrdered order terms → Once (map (λ (t : Label × Fraction). t.0) terms)
 labels-once order total [] h = tt
 labels-once {Label = Label} order total (t ∷ terms) h =

@@ -1,4 +1,4 @@
--- The columns of a partition: how many parts reach a bound, and the partition that these counts are.
+-- The columns of a partition: the number of parts that reach a bound, and the partition of these counts.
 use Rattle.std.proofs.Common.{◌≡◌, ◌⊎◌, leb, eqb, sym, ap, ap₂, refl, ℕ, zero, suc, ◌+◌, ◌-◌, ◌<◌, ◌≤◌, nat_le, Bool, true, false, cond, List, [], ◌∷◌, map, length, get_or, ◌∙◌, inl, inr, arith}
 use Rattle.std.proofs.lemmas.Bool.{cases_lt, cases_eq, le-leb, lt-leb, eq-eqb, ne_eqb}
 use Rattle.sym_model.specs.Sum.{Among}
@@ -10,7 +10,7 @@ use Rattle.sym_model.proofs.SortedParts.{Falls_tail}
 use Rattle.sym_model.proofs.AfterLists.{length_after}
 use Rattle.sym_model.proofs.Parts.{size-map_add, size-map_none}
 
--- no number of a falling list is greater than the first
+-- no number of a decreasing list is greater than the first
 pub under_first : (a : ℕ) (parts : List ℕ) (r : ℕ) → Falls (a ∷ parts) → get_or parts r 0 ≤ a
 under_first a [] r f = omega arith
 under_first a (b ∷ parts) zero f = f.0
@@ -48,7 +48,7 @@ pub count_from-falls : (parts : List ℕ) (j k : ℕ) → j ≤ k → count_from
 count_from-falls [] j k h = omega arith
 count_from-falls (a ∷ parts) j k h = omega (arith, reaches_less a j k h, count_from-falls parts j k h)
 
--- ---- their sum
+-- ---- the sum of the columns
 
 ones_until : (a s c : ℕ) → a ≤ s + c → size (map (λ j. cond (nat_le j a) 1 0) (after s c)) ≡ a - s
 ones_until a s zero h = omega arith

@@ -150,7 +150,7 @@ fits_in_zeros zero k = all_zero_zeros k
 fits_in_zeros (suc n) zero = refl
 fits_in_zeros (suc n) (suc k) = fits_in_zeros n k
 
--- a list of at most n places has no exponent past place n
+-- a list of at most n places has no exponent after place n
 pub fits_in_length : (n : ℕ) (α : List ℕ) → length α ≤ n → fits_in n α ≡ true
 fits_in_length zero [] h = refl
 fits_in_length zero (a ∷ α) h = absurd (omega arith)

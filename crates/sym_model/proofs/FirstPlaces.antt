@@ -8,7 +8,7 @@ use Rattle.sym_model.proofs.Parts.{size-append, Falls-zeros}
 use Rattle.sym_model.proofs.SortedParts.{insert_part-front, IsPartition_tail}
 use Rattle.sym_model.proofs.Sums.{Among_from_append}
 
--- one place more
+-- the first i + 1 places are the first i and the one after them
 pub resize-next : (n : ℕ) (xs : List ℕ) → resize (suc n) xs ≡ resize n xs ++ get_or xs n 0 ∷ []
 resize-next zero [] = refl
 resize-next zero (a ∷ xs) = refl

@@ -36,14 +36,14 @@ IsGcd-within (suc k) a (suc b) h =
 pub IsGcd-gcd : (a b : ℕ) → IsGcd a b (gcd a b)
 IsGcd-gcd a b = IsGcd-within (b + 1) a b (omega arith)
 
--- it is the only one
+-- the greatest common divisor is the only number with these properties
 pub gcd-only : (a b g : ℕ) → IsGcd a b g → gcd a b ≡ g
 gcd-only a b g h = same_from_IsGcd a b (gcd a b) g (IsGcd-gcd a b) h
 
 mul-zero_at : (n g : ℕ) → g ≡ 0 → n * g ≡ 0
 mul-zero_at n g e = ap (λ x. n * x) e ∙ omega arith
 
--- it is positive where the first number is
+-- the greatest common divisor is positive if the first number is
 pub gcd-positive : (a b : ℕ) → 0 < a → 0 < gcd a b
 gcd-positive a b h = by (gcd a b) refl
   where
@@ -51,7 +51,7 @@ gcd-positive a b h = by (gcd a b) refl
     by zero e = absurd (omega (arith, div-mul_cancel (gcd a b) (IsGcd-gcd a b).0, e, h, mul-zero_at (a / gcd a b) (gcd a b) e))
     by (suc g) e = omega arith
 
--- no number that divides both is greater, where one of them is not 0
+-- no common divisor is greater, if one of the two numbers is not 0
 pub gcd-greatest : (a b d : ℕ) → 0 < a + b → d ∣ a → d ∣ b → d ≤ gcd a b
 gcd-greatest zero b d h p q =
     le_from_IsGcd zero b (gcd zero b) d (IsGcd-gcd zero b) (subst (λ g. 0 < g) (sym (gcd-only zero b b (dvd-zero b, dvd_refl b, λ c x y. y))) (omega arith)) p q

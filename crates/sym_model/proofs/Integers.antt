@@ -1,4 +1,4 @@
--- Integers: absolute values, signs, and the test of specs/LargeAnswer for a coefficient past the limit.
+-- Integers: absolute values, signs, and the test of specs/PastLimit for a coefficient over the limit.
 use Rattle.std.proofs.Common.{ℕ, ◌+◌, ◌+ℤ◌, arith, negsuc, pos, ℤ, ◌≤◌, inl, inr, refl, suc, zero, ◌≡◌, ◌⊎◌, ◌*ℤ◌, ◌^◌, true, neg_ℤ, ◌*◌, Bool, cond, false, ◌<◌, ap}
 use Rattle.std.proofs.lemmas.Int.{ints}
 use Rattle.std.specs.Prelude.{nat_abs, ◌≤ℤ◌}

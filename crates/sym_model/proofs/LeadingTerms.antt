@@ -76,7 +76,7 @@ Above-join (a ∷ α) (t ∷ τ) [] k l h = absurd (omega arith)
 Above-join (a ∷ α) (t ∷ τ) (d ∷ δ) k l (inl h) = inl (omega arith)
 Above-join (a ∷ α) (t ∷ τ) (d ∷ δ) k l (inr h) = inr (ap (λ x. x + d) h.0, Above-join α τ δ (omega arith) (omega arith) h.1)
 
--- where the first summand falls and the sum stays, the second rises
+-- if the sum is unchanged and the first summand is smaller, the second is greater
 pub Above_rest : (α δ τ β : List ℕ) → length α ≡ length τ → length δ ≡ length β → length α ≡ length δ → Above τ α → join α δ ≡ join τ β → Above δ β
 Above_rest α δ τ β k l m h e =
     elim (Above_from_join τ δ τ β refl l (sym k ∙ m) (subst (λ γ. Above (join τ δ) γ) e (Above-join τ α δ (sym k) (sym m ∙ k) h))) [
@@ -166,7 +166,7 @@ none_above_times n f g τ β i j k l a b γ h =
 
 -- ---- the greatest exponents of the terms
 
--- no monomial stands above the greatest exponents that the terms have
+-- no monomial is above the greatest exponents of the terms
 pub none_above_terms : (f : Poly) (top : List ℕ) → ((t : Term) → Among t f → Above t.0 top → ⊥) → IsNoneAbove f top
 none_above_terms f top h α x =
     total_none (λ (t : Term). cond (same t.0 α) t.1 (pos 0)) f (λ t m. ap (λ b. cond b t.1 (pos 0)) (same_apart t.0 α (λ e. h t m (subst (λ γ. Above γ top) (sym e) x))))

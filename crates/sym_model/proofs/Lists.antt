@@ -1,4 +1,4 @@
--- Lists: `each` and `select` of specs/Sum over lists put together, and what stands at a place.
+-- Lists: `each` and `select` of specs/Sum over appended lists, and the element at a place.
 use Rattle.std.proofs.Common.{◌<◌, List, Some, [], arith, get_or, length, refl, suc, zero, ℕ, ◌∷◌, ◌≡◌, ◌++◌, ap, append_assoc, sym, ◌∙◌, append-nil, drop, ap₂, inl, inr, map, Bool, cond, false, true, ◌+◌, filter, flat_map, ◌≤◌, nat_lt, take}
 use Rattle.std.specs.Prelude.{slice_get}
 use Rattle.std.proofs.Math.Seq.{drop-cons, split_at}

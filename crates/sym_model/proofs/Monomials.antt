@@ -123,7 +123,7 @@ coefficient-monomials test n d γ =
     turn false true = refl
     turn false false = refl
 
--- in m_λ it is 1 where the exponents sort to λ, and 0 elsewhere
+-- the coefficient of x^α in m_λ is 1 if α sorts to λ, and 0 otherwise
 pub coefficient-monomial : (parts : List ℕ) (n : ℕ) (γ : List ℕ) → coefficient (monomial parts n) γ ≡ cond (eqb (length γ) n) (cond (same (sorted_parts γ) parts) (pos 1) (pos 0)) (pos 0)
 coefficient-monomial parts n γ =
     coefficient-monomials (λ α. same (sorted_parts α) parts) n (size parts) γ ∙ by (eqb (length γ) n) (eqb (size γ) (size parts)) refl (same (sorted_parts γ) parts) refl
@@ -175,7 +175,7 @@ abbrev pub one_place : ℕ → ℕ → List (List ℕ)
 one_place a zero = []
 one_place a (suc n) = (a ∷ replicate n 0) ∷ map (λ (α : List ℕ). 0 ∷ α) (one_place a n)
 
--- the one list with the sum 0 has zeros alone
+-- the only list with the sum 0 consists of zeros
 pub total_exponent_lists-zero : (φ : List ℕ → ℤ) (n : ℕ) → total φ (exponent_lists n 0) ≡ φ (replicate n 0)
 total_exponent_lists-zero φ zero = +ℤ_idr (φ [])
 total_exponent_lists-zero φ (suc n) =
@@ -191,7 +191,7 @@ total_down_from-last g (suc d) z =
     ap (λ n. n +ℤ total g (down_from d)) (z (suc d) (omega arith) (omega arith)) ∙ +ℤ_idl (total g (down_from d))
     ∙ total_down_from-last g d (λ c l h. z c l (omega arith))
 
--- a number greater than the sum does not stand in the list
+-- a number greater than the sum is not in the list
 pub has_above_size : (a : ℕ) (α : List ℕ) → size α < a → has a α ≡ false
 has_above_size a [] h = refl
 has_above_size a (c ∷ α) h = rw (ne_eqb c a (λ e. omega arith)) (has_above_size a α (omega arith))

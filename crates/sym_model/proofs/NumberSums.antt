@@ -88,7 +88,7 @@ sum_by-none f (x ∷ xs) e =
 pub sum_by-zero : {A : Type 0} (xs : List A) → sum_by (λ (x : A). 0) xs ≡ 0
 sum_by-zero xs = sum_by-none (λ x. 0) xs (λ x m. refl)
 
--- where one sum is 0, so is another whose numbers are 0 where those are
+-- if the sum of g is 0, so is the sum of f, if f is 0 at every element at which g is 0
 pub sum_by-zeros : {A : Type 0} (f g : A → ℕ) (xs : List A) → ((x : A) → g x ≡ 0 → f x ≡ 0) → sum_by g xs ≡ 0 → sum_by f xs ≡ 0
 sum_by-zeros f g [] e h = refl
 sum_by-zeros f g (x ∷ xs) e h =

@@ -32,7 +32,7 @@ listed (x ∷ xs) w o l h =
     let r = listed xs (without x w m) o.1 (omega (arith, e)) (within_rest x w xs m o.0 (Within_tail x xs w h)) in
     Among-each (insertions x) (without x w m) w (orders xs) r (insertion_of x w m)
 
--- ---- what is listed is an order
+-- ---- each listed list is an order of the entries
 
 insertion_length : (x : ℕ) (v w : List ℕ) → Among w (insertions x v) → length w ≡ suc (length v)
 insertion_length x [] w (inl e) = ap length e

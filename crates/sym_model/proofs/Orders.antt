@@ -33,7 +33,7 @@ falling_lexicographic-padded (suc n) (x ∷ xs) [] h k =
 falling_lexicographic-padded (suc n) (x ∷ xs) (y ∷ ys) h k =
     ap (ordering_then (nat_cmp y x)) (falling_lexicographic-padded n xs ys (omega arith) (omega arith))
 
--- falling lexicographic order is a total order, up to zeros at the end
+-- decreasing lexicographic order is a total order, up to zeros at the end
 pub falling_lexicographic-total : IsTotalOrder falling_lexicographic
 falling_lexicographic-total = record { antisymm = antisymm; trans = trans; congr = congr }
   where
@@ -61,7 +61,7 @@ falling_lexicographic-total = record { antisymm = antisymm; trans = trans; congr
 pub printed_order-total : IsTotalOrder printed_order
 printed_order-total = then_total (on_total size (back_total nat_cmp_total)) falling_lexicographic-total
 
--- what ties in two orders one after the other ties in both
+-- elements that are equal in two orders, one after the other, are equal in both
 pub then-equal : (o p : Ordering) → ordering_then o p ≡ Equal → (o ≡ Equal) × (p ≡ Equal)
 then-equal Less p h = cc
 then-equal Equal p h = (refl, h)

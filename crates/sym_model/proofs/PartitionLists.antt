@@ -1,4 +1,4 @@
--- The list of the partitions of a number: it has exactly these, each once, in falling lexicographic order.
+-- The list of the partitions of a number: it has exactly these, each once, in decreasing lexicographic order.
 use Rattle.std.proofs.Common.{◌≡◌, ℕ, zero, suc, ◌-◌, ◌<◌, ◌≤◌, min, List, [], ◌∷◌, ◌++◌, map, length, sym, ◌∙◌, ap, ap₂, subst, refl, inl, inr, ⊎_elim, arith, flat_map}
 use Rattle.std.proofs.Math.Nat.{eq-or-lt_of_le, min-le_left, min-le_right, le-min}
 use Rattle.std.proofs.lemmas.Cmp.{nat_cmp_total, tied_itself}
@@ -27,7 +27,7 @@ Among-down_to_one (suc k) a p h =
 
 -- ---- exactly the partitions
 
--- the parts fall, are positive, add up to d, and none is above most
+-- the parts are decreasing and positive, their sum is d, and none is greater than most
 pub record IsWithin (d most : ℕ) (parts : List ℕ) : Type 0 where
   pub falls : Falls parts
   pub positive : ArePositive parts
@@ -179,7 +179,7 @@ pub Once-partitions_of : (d : ℕ) → Once (partitions_of d)
 Once-partitions_of d =
     Once-FallsLexicographically (partitions_of d) (FallsLexicographically-partitions_within d d d)
 
--- ---- how many rows are allowed makes no difference where it is enough
+-- ---- the bound on the rows makes no difference if it is at least d
 
 each-among :
     (f g : ℕ → List (List ℕ)) (xs : List ℕ) → ((a : ℕ) → Among a xs → f a ≡ g a) → flat_map f xs ≡ flat_map g xs

@@ -1,4 +1,4 @@
--- Polynomials through their pairings with test functions. Two polynomials are the same exactly where all
+-- Polynomials through their pairings with test functions. Two polynomials are the same if and only if all
 -- pairings agree (`pair_determined`, `same_from_pair`); the pairing of a sum, product or restriction is
 -- a pairing of its parts, so that a law of polynomials is a law of finite sums.
 use Rattle.std.proofs.Common.{◌≡◌, ℕ, zero, suc, ◌+◌, ◌≤◌, ◌⊎◌, Bool, true, false, cond, not, List, [], ◌∷◌, ◌++◌, map, length, length-append, sym, ◌∙◌, ap, ap₂, subst, refl, inl, inr, arith, ℤ, pos, ◌+ℤ◌, ◌*ℤ◌, neg_ℤ, filter, flat_map}
@@ -19,7 +19,7 @@ use lib.IntN.{+ℤ_idl, *ℤ-zero, *ℤ_comm}
 pub pair_ext : (f : Poly) (φ ψ : List ℕ → ℤ) → ((α : List ℕ) → φ α ≡ ψ α) → pair f φ ≡ pair f ψ
 pair_ext f φ ψ e = total_ext (λ (t : Term). t.1 *ℤ φ t.0) (λ (t : Term). t.1 *ℤ ψ t.0) (λ t. ap (λ n. t.1 *ℤ n) (e t.0)) f
 
--- of a polynomial in n variables the test function is asked at lists of n places alone
+-- the pairing with a polynomial in n variables depends only on the test function at lists of n places
 pub pair_in : (n : ℕ) (f : Poly) (φ ψ : List ℕ → ℤ) → In n f → ((α : List ℕ) → length α ≡ n → φ α ≡ ψ α) → pair f φ ≡ pair f ψ
 pair_in n f φ ψ i e = total_among (λ (t : Term). t.1 *ℤ φ t.0) (λ (t : Term). t.1 *ℤ ψ t.0) f (λ t m. ap (λ c. t.1 *ℤ c) (e t.0 (i t m)))
 
@@ -325,7 +325,7 @@ coefficient_outside n f α i h =
     total_none (λ (t : Term). cond (same t.0 α) t.1 (pos 0)) f (λ t m.
     ap (λ b. cond b t.1 (pos 0)) (same_apart t.0 α (λ e. h (ap length (sym e) ∙ i t m))))
 
--- two polynomials in n variables are one where their coefficients at lists of n places agree
+-- two polynomials in n variables are the same if their coefficients at lists of n places agree
 pub same_in : (n : ℕ) (f g : Poly) → In n f → In n g → ((α : List ℕ) → length α ≡ n → coefficient f α ≡ coefficient g α) → Same f g
 same_in n f g i j e α =
     elim (cases_eq (length α) n) [

@@ -43,7 +43,7 @@ product-one a = omega (arith, ints)
 pub one-product : (a : ℤ) → pos 1 *ℤ a ≡ a
 one-product a = *ℤ_comm (pos 1) a ∙ product-one a
 
--- a number times one more where a test holds
+-- a number times a count that is one more if a test holds
 pub counted-product : (b : Bool) (n : ℕ) (z : ℤ)
     → pos (cond b 1 0 + n) *ℤ z ≡ cond b z (pos 0) +ℤ pos n *ℤ z
 counted-product true n z =

@@ -67,7 +67,7 @@ total_select {A} f test (x ∷ xs) = by (test x) (total_select f test xs)
     by true e = ap (λ n. f x +ℤ n) e
     by false e = e ∙ sym (+ℤ_idl _)
 
--- a sum over all is the sum where a test holds and the sum where it does not
+-- a sum is the sum over the elements that pass a test plus the sum over those that fail it
 pub total_split : {A : Type 0} (f : A → ℤ) (test : A → Bool) (xs : List A) → total f xs ≡ total f (filter test xs) +ℤ total f (filter (λ (x : A). not (test x)) xs)
 total_split f test [] = refl
 total_split {A} f test (x ∷ xs) = by (test x) (total_split f test xs)

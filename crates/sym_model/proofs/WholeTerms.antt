@@ -1,5 +1,5 @@
 -- Lists of terms with whole coefficients (specs/WholeTerms): what they stand for depends on the summed coefficient of
--- each label alone. Labels of any type are told apart by a key, a list of numbers from which the label can be had back.
+-- each label alone. Labels of any type are distinguished by a key, a list of numbers from which the label can be had back.
 use Rattle.std.proofs.Common.{◌≡◌, ℕ, List, [], ◌∷◌, ◌++◌, ◌+◌, sym, ◌∙◌, ap, ap₂, subst, refl, arith, ℤ, pos, ◌*ℤ◌}
 use Rattle.sym_model.specs.Sum.{total}
 use Rattle.sym_model.specs.Polynomial.{Poly, coefficient, Same, pair, plus, scale}
@@ -29,7 +29,7 @@ coefficient-combined polynomial terms α = coefficient_of_combined polynomial te
 
 -- ---- collecting
 
--- equal labels put together, terms with 0 left out and another order change nothing
+-- collecting equal labels, leaving out terms with 0 and reordering do not change the sums
 pub combined_respects : (polynomial : List ℕ → Poly) (terms others : WholeTerms) → Same terms others → Same (combined polynomial terms) (combined polynomial others)
 combined_respects polynomial terms others e α =
     coefficient-combined polynomial terms α ∙ pair_determined terms others (λ label. coefficient (polynomial label) α) e ∙ sym (coefficient-combined polynomial others α)
@@ -44,7 +44,7 @@ cleared-as_fractions : {Label : Type 0} (polynomial : Label → Poly) (terms : W
 cleared-as_fractions polynomial [] = refl
 cleared-as_fractions polynomial (t ∷ terms) = ap₂ plus (ap (λ c. scale c (polynomial t.0)) (product-one t.1)) (cleared-as_fractions polynomial terms)
 
--- it is the combination itself
+-- the value of a list of whole terms is the combination itself
 pub value_by-as_fractions : {Label : Type 0} (polynomial : Label → Poly) (terms : WholeTermsOf Label) → value_by polynomial (as_fractions terms) ≡ combined polynomial terms
 value_by-as_fractions polynomial terms =
     ap (λ q. cleared polynomial q (as_fractions terms)) (denominators-as_fractions terms) ∙ cleared-as_fractions polynomial terms

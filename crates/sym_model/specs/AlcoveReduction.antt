@@ -6,7 +6,7 @@ use Rattle.sym_model.specs.Partition.{part, rows}
 use Rattle.sym_model.specs.BetaList.{beta, from_beta, has_equal_entries, sorted_falling}
 use Rattle.sym_model.specs.BetaList.{sorting_sign}
 
--- how far the first entry is above the last
+-- the difference of the first entry and the last
 abbrev pub spread : List ℕ → ℕ
 spread b = part b 1 - part b (length b)
 
@@ -31,10 +31,10 @@ abbrev pub with_sign : ℤ → Option (List ℕ × ℤ) → Option (List ℕ × 
 with_sign t None = None
 with_sign t (Some answer) = Some (answer.0, t *ℤ answer.1)
 
--- where the reflections of a strictly falling list end, in at most the given number of steps. A
--- list with a spread below n stays, with the sign 1; one with the spread n is 0. Any other list is
--- reflected: with two equal entries it is then 0; otherwise it is sorted, the sign of sorting
--- multiplies, and the rule is applied again.
+-- the result of reflecting a strictly decreasing list in at most the given number of steps. A list
+-- with a spread below n is unchanged, with the sign 1; one with the spread n gives nothing. Any
+-- other list is reflected: if two entries are then equal it gives nothing; otherwise it is sorted,
+-- its sign is multiplied by the sign of sorting, and the rule is applied again.
 abbrev pub reflected_within : ℕ → ℕ → List ℕ → Option (List ℕ × ℤ)
 reflected_within zero n b = None
 reflected_within (suc steps) n b =
@@ -53,8 +53,8 @@ abbrev pub as_partition : Option (List ℕ × ℤ) → Option (List ℕ × ℤ)
 as_partition None = None
 as_partition (Some answer) = Some (from_beta answer.0, answer.1)
 
--- the reduction of a partition with at most k rows: a partition with a sign, or nothing where it is
--- 0; nothing for a partition with more rows
+-- the reduction of a partition with at most k rows: a partition with a sign, or nothing if it is 0;
+-- nothing for a partition with more rows
 abbrev pub alcove_reduction : ℕ → ℕ → List ℕ → Option (List ℕ × ℤ)
 alcove_reduction k n shape =
     cond (nat_le (rows shape) k) (as_partition (reflected_into_alcove n (beta k shape))) None

@@ -9,7 +9,7 @@ use Rattle.sym_model.specs.PrintedBlock.{block_by}
 pub data Answer : Type 0 where
   answer : (kind : Kind) → Terms (Label kind) → Answer
 
--- the number that a list of the kind number is: its one coefficient, and 0 where there is no term
+-- the number that a list of the kind number is: its one coefficient, or 0 if there is no term
 abbrev pub number_in : Terms (Label number) → ℤ
 number_in [] = pos 0
 number_in (t ∷ terms) = t.1.0

@@ -8,8 +8,8 @@ use Rattle.sym_model.specs.CommandOffence.{Offence}
 abbrev pub is_some_text : List ℕ → Bool
 is_some_text text = nat_lt 0 (length text)
 
--- the lines of a text: what stands between its line feeds (byte 10), the piece after the last one
--- only where it has a byte
+-- the lines of a text, separated by line feeds (byte 10); the piece after the last line feed is a
+-- line only if it is not empty
 abbrev pub lines_of : List ℕ → List (List ℕ)
 lines_of text = whole_lines (split_at 10 text)
   where
@@ -24,7 +24,7 @@ without_return [] = []
 without_return (byte ∷ []) = cond (byte == 13) [] (byte ∷ [])
 without_return (byte ∷ next ∷ line) = byte ∷ without_return (next ∷ line)
 
--- the words of a line: what stands between its spaces (byte 32) and tabs (byte 9)
+-- the words of a line, separated by spaces (byte 32) and tabs (byte 9)
 abbrev pub words_of_line : List ℕ → List (List ℕ)
 words_of_line line = filter is_some_text (flat_map (split_at 9) (split_at 32 line))
 
@@ -32,13 +32,13 @@ words_of_line line = filter is_some_text (flat_map (split_at 9) (split_at 32 lin
 abbrev pub most_bytes : ℕ
 most_bytes = 4096
 
--- what a line is: one that is too long, one that is skipped, or the words of a command
+-- a line of a batch: one that is too long, one that is skipped, or the words of a command
 pub data BatchLine : Type 0 where
   too_long : BatchLine
   passed_over : BatchLine
   spoken : List (List ℕ) → BatchLine
 
--- words are skipped where there is none or the first begins with `#` (byte 35)
+-- a line without words, or whose first word begins with `#` (byte 35), is skipped
 abbrev pub line_of_words : List (List ℕ) → BatchLine
 line_of_words [] = passed_over
 line_of_words ([] ∷ words) = spoken ([] ∷ words)
@@ -51,6 +51,6 @@ batch_line line =
     cond (nat_lt most_bytes (length line)) too_long
     (line_of_words (words_of_line (without_return line)))
 
--- the offence of a line that is too long
+-- the error of a line that is too long
 abbrev pub too_long_offence : Offence
 too_long_offence = (0, most_bytes, range)

@@ -40,7 +40,7 @@ abbrev pub are_done : List Block → Bool
 are_done [] = true
 are_done (b ∷ blocks) = is_done b.1 && are_done blocks
 
--- how a batch ends
+-- the ending of a batch
 abbrev pub batch_ending : List Block → Ending
 batch_ending blocks = cond (are_done blocks) done some_refused
 
@@ -57,8 +57,8 @@ pub record RunsWorkload (entries : List Entry) (lines seed : ℕ) (text : List �
   pub are_blocks : AreBlocks entries (map batch_line (work_lines lines seed)) blocks
   pub summed : text ≡ summary_text (map (λ (b : Block). b.0) blocks)
 
--- the outcome of a command without an offence, where the lines of a batch and of the workload spell
--- commands of these entries
+-- the outcome of a command whose words have no error, if these are the entries of the commands that
+-- lines of a batch and of the workload can be
 abbrev pub AnswersWith : List Entry → List ℕ → Command → List ℕ → Ending → Type 0
 AnswersWith entries input batch text ending = RunsInput entries input text ending
 AnswersWith entries input (work lines seed) text ending =

@@ -14,7 +14,7 @@ gcd_within zero a b = a
 gcd_within (suc steps) a zero = a
 gcd_within (suc steps) a (suc b) = gcd_within steps (suc b) (a % suc b)
 
--- the greatest common divisor: b falls with each step, so b + 1 steps are enough
+-- the greatest common divisor of two numbers; b decreases at each step, so b + 1 steps are enough
 abbrev pub gcd : ℕ → ℕ → ℕ
 gcd a b = gcd_within (b + 1) a b
 
@@ -22,7 +22,7 @@ gcd a b = gcd_within (b + 1) a b
 abbrev pub is_reduced : Fraction → Bool
 is_reduced c = nat_lt 0 c.1 && nat_lt 0 (nat_abs c.0) && (gcd (nat_abs c.0) c.1 == 1)
 
--- whether each label stands strictly before the next one
+-- whether each label comes strictly before the next one
 abbrev pub is_ordered : {Label : Type 0} → (Label → Label → Ordering) → Terms Label → Bool
 is_ordered order [] = true
 is_ordered order (t ∷ []) = true
@@ -33,8 +33,8 @@ abbrev pub each_term : {Label : Type 0} → (Label × Fraction → Bool) → Ter
 each_term test [] = true
 each_term test (t ∷ terms) = test t && each_term test terms
 
--- whether a fraction may be a coefficient: it is not 0 and in lowest terms, and a whole number
--- where those alone are meant
+-- whether a fraction may be a coefficient: it is not 0, is in lowest terms, and is a whole number
+-- if only whole numbers are allowed
 abbrev pub is_coefficient : Bool → Fraction → Bool
 is_coefficient has_fractions c = (has_fractions || (c.1 == 1)) && is_reduced c
 

@@ -1,5 +1,5 @@
--- What the words of a command can offend by, list by list, at which word and byte,
--- and which offence comes first.
+-- The errors that the words of a command can have, list by list, each with its word and byte; and
+-- which of them comes first.
 use Rattle.std.specs.Prelude.{◌≡◌, ◌⊎◌, ◌<◌, ℕ, ◌+◌, ◌-◌, ◌*◌, ◌==◌, nat_le, nat_lt, Bool, false}
 use Rattle.std.specs.Prelude.{◌&&◌, ◌||◌, cond, List, [], ◌∷◌, ◌++◌, map, length, drop, slice_get}
 use Rattle.std.specs.Prelude.{Option, Some, None, flat_map}
@@ -11,63 +11,62 @@ use Rattle.sym_model.specs.ExpressionOffence.{OffenceKind, literal, range, shape
 use Rattle.sym_model.specs.ExpressionOffence.{rank, WordOffence, offences, offences_within}
 use Rattle.sym_model.specs.ExpressionOffence.{inner_offences, plethysm_degree_limit}
 
--- an offence: its word, its byte there and its kind
+-- an error: its word, its byte there and its kind
 abbrev pub Offence : Type 0
 Offence = ℕ × ℕ × OffenceKind
 
--- an offence comes before another one: its word is less or, in the same word, its byte,
+-- an error comes before another one: its word is less or, in the same word, its byte,
 -- or at the same place its kind
 abbrev pub ComesBefore : Offence → Offence → Type 0
 ComesBefore o p =
     (o.0 < p.0) ⊎ ((o.0 ≡ p.0) × ((o.1 < p.1) ⊎ ((o.1 ≡ p.1) × (rank o.2 < rank p.2))))
 
--- whether an offence comes before another one or is at the same place of the same kind
+-- whether an error comes before another one or is at the same place of the same kind
 abbrev pub is_no_later : Offence → Offence → Bool
 is_no_later o p =
     nat_lt o.0 p.0
     || ((o.0 == p.0) && (nat_lt o.1 p.1 || ((o.1 == p.1) && nat_le (rank o.2) (rank p.2))))
 
--- the first of two offences, where there is one
+-- the first of two errors, of which the second may be absent
 abbrev pub earlier_of : Offence → Option Offence → Option Offence
 earlier_of o None = Some o
 earlier_of o (Some p) = cond (is_no_later o p) (Some o) (Some p)
 
--- the first offence, where there is one
+-- the first of the errors, if there is one
 abbrev pub first_offence : List Offence → Option Offence
 first_offence [] = None
 first_offence (o ∷ os) = earlier_of o (first_offence os)
 
--- a list that is judged against an earlier list is judged so only where the earlier list has no
--- offence
+-- the errors of a list relative to an earlier list count only if the earlier list has none of its
+-- own
 abbrev pub judged_against : List Offence → List Offence → List Offence
 judged_against [] found = found
 judged_against (o ∷ earlier) found = []
 
--- the kind, where a number offends by it
+-- the kind as a list of one error, if the test is true
 abbrev pub when : Bool → OffenceKind → List OffenceKind
 when test kind = cond test (kind ∷ []) []
 
--- a rule judges a number by those that stand before it in its list, the nearest first
+-- a rule gives the errors of a number, given the numbers before it in its list, the nearest first
 abbrev pub Rule : Type 0
 Rule = List ℕ → ℕ → List OffenceKind
 
--- the offences by a rule of the numbers of a list that begins at the word,
--- after those that stand before it
+-- the errors by a rule of a list of numbers that begins at the word, given the numbers before them
 abbrev pub offences_after : Rule → List ℕ → ℕ → List ℕ → List Offence
 offences_after rule before k [] = []
 offences_after rule before k (a ∷ numbers) =
     map (λ kind. (k, 0, kind)) (rule before a) ++ offences_after rule (a ∷ before) (k + 1) numbers
 
--- the offences by a rule of a list of numbers that begins at the word
+-- the errors by a rule of a list of numbers that begins at the word
 abbrev pub offences_by : Rule → ℕ → List ℕ → List Offence
 offences_by rule k numbers = offences_after rule [] k numbers
 
--- the number that stands next before
+-- the previous number of the list
 abbrev pub left_of : List ℕ → Option ℕ
 left_of [] = None
 left_of (a ∷ before) = Some a
 
--- whether the number stands in the list
+-- whether the number occurs in the list
 abbrev pub stands_in : ℕ → List ℕ → Bool
 stands_in a [] = false
 stands_in a (b ∷ numbers) = (a == b) || stands_in a numbers
@@ -88,8 +87,8 @@ most_factors = 8
 abbrev pub most_permuted : ℕ
 most_permuted = 16
 
--- the most letters of a permutation whose double Schubert polynomial is a factor,
--- and the greatest of them
+-- the greatest number of letters of a permutation in a product of double Schubert polynomials, and
+-- the greatest letter allowed in it
 abbrev pub most_doubled : ℕ
 most_doubled = 8
 
@@ -125,7 +124,7 @@ rows_rule before a = when (is_wide a) literal ++ when (is_outside most_rows a) r
 abbrev pub lines_rule : Rule
 lines_rule before a = when (is_wide a) literal ++ when (is_outside most_lines a) range
 
--- a seed
+-- the errors of a seed
 abbrev pub seed_rule : Rule
 seed_rule before a = when (is_wide a) literal ++ when (nat_lt greatest_seed a) range
 
@@ -140,21 +139,22 @@ part_rule before a =
     range
     ++ when (rises (left_of before) a) shape
 
--- a number of a permutation of `count` letters, of which at most `most` may be written: one past
--- these, the one after them; 0, one past the number of letters, one that occurs before it
+-- the errors of a number of a permutation of `count` letters: the number after the `most` that may
+-- be written is out of range, and so is a number over `most`; 0, a number over the number of
+-- letters, and one that occurs before it make no permutation
 abbrev pub permutation_rule_within : ℕ → ℕ → Rule
 permutation_rule_within most count before a =
     when (is_wide a) literal
     ++ when (nat_lt most a || (length before == most)) range
     ++ when (is_outside count a || stands_in a before) shape
 
--- a letter of a word: 0, one past 65,535, the 257th
+-- the errors of a letter of a word: 0, a number over 65,535, the 257th letter
 abbrev pub letter_rule : Rule
 letter_rule before a =
     when (is_wide a) literal ++ when
     (is_outside greatest_letter a || (length before == most_letters)) range
 
--- an entry of a tableau: 0, one past 65,535
+-- the errors of an entry of a tableau: 0, a number over 65,535
 abbrev pub entry_rule : Rule
 entry_rule before a = when (is_wide a) literal ++ when (is_outside greatest_letter a) range
 
@@ -184,7 +184,7 @@ permutation_offences_within most k letters =
 abbrev pub permutation_offences : ℕ → List ℕ → List Offence
 permutation_offences k letters = permutation_offences_within most_permuted k letters
 
--- a row of a tableau as it is written: the word at which it begins, and its entries
+-- a written row of a tableau: the word at which it begins, and its entries
 abbrev pub PlacedRow : Type 0
 PlacedRow = ℕ × List ℕ
 
@@ -199,7 +199,7 @@ count_offences count (row ∷ rows) =
     offences_by (λ before a. when (count + length before == most_letters) range) row.0 row.1
     ++ count_offences (count + length row.1) rows
 
--- whether a number is smaller than the one that stands next before it
+-- whether a number is smaller than the previous one
 abbrev pub falls : Option ℕ → ℕ → Bool
 falls None a = false
 falls (Some b) a = nat_lt a b
@@ -209,7 +209,7 @@ abbrev pub stays : Option ℕ → ℕ → Bool
 stays None a = false
 stays (Some b) a = nat_le a b
 
--- the entry above column j, counted from 0, where the row above begins at column c
+-- the entry above column j, counted from 0, if the row above begins at column c
 abbrev pub entry_above : List ℕ → ℕ → ℕ → Option ℕ
 entry_above upper c j = cond (nat_le c j) (slice_get upper (j - c)) None
 
@@ -261,13 +261,13 @@ standard_offences count earlier upper (row ∷ rows) =
 abbrev pub entries : List PlacedRow → List (List ℕ)
 entries rows = map (λ (row : PlacedRow). row.1) rows
 
--- the rows of a tableau of the shape outer/inner:
--- `.` alone is a tableau without rows where the shape has none
+-- the rows of a tableau of the shape outer/inner: a single `.` is the tableau without rows if the
+-- shape has no rows
 abbrev pub rows_in : List ℕ → List (List ℕ) → List (List ℕ)
 rows_in [] ([] ∷ []) = []
 rows_in outer rows = rows
 
--- the offences of a word, at their place in the command
+-- the errors of a word, at their place in the command
 abbrev pub offences_in_word : ℕ → List WordOffence → List Offence
 offences_in_word k found = map (λ o. (k, o.0, o.1)) found
 
@@ -275,8 +275,9 @@ offences_in_word k found = map (λ o. (k, o.0, o.1)) found
 abbrev pub expression_offences : ℕ → Basis → Phrase → List Offence
 expression_offences k target phrase = offences_in_word k (offences target phrase)
 
--- the two expressions of a plethysm, the first at the word: those of each, and the length of the
--- second, where the first has no offence and the product of the two degrees is past the limit
+-- the errors of the two expressions of a plethysm, the first of them at this word: those of each;
+-- and the length of the second, if the first has no error and the product of the two degrees
+-- exceeds the limit
 abbrev pub plethysm_offences : ℕ → Phrase → Phrase → List Offence
 plethysm_offences k outer inner =
     let first = offences_in_word k (offences_within plethysm_degree_limit outer) in

@@ -2,7 +2,7 @@
 use Rattle.std.specs.Prelude.{ℕ, ◌+◌, nat_le, cond, List, [], ◌∷◌, map}
 use Rattle.sym_model.specs.Partition.{columns, after}
 
--- how many of the numbers are at least j
+-- the number of entries that are at least j
 abbrev pub count_from : ℕ → List ℕ → ℕ
 count_from j [] = 0
 count_from j (a ∷ numbers) = cond (nat_le j a) 1 0 + count_from j numbers

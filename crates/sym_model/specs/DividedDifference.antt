@@ -11,7 +11,7 @@ use Rattle.sym_model.specs.Permutation.{exchanged}
 abbrev pub x_to : List ℕ → Poly
 x_to α = (α, pos 1) ∷ []
 
--- the monomial x^α in n variables: 0 where α has a positive exponent past place n
+-- the monomial x^α in n variables: 0 if α has a positive exponent after place n
 abbrev pub x_to_in : List ℕ → ℕ → Poly
 x_to_in α n = restrict n (x_to α)
 
@@ -30,7 +30,7 @@ raised r exponents = join exponents (replicate (r - 1) 0 ++ (1 ∷ []))
 abbrev pub with_exchanged : ℕ → Poly → Poly
 with_exchanged i f = map (λ (t : Term). (exchanged i t.0, t.1)) f
 
--- sign times the sum of x^c·y^(a+b-1-c) for c from b to a - 1, times x^rest; nothing where a ≤ b
+-- sign times the sum of x^c·y^(a+b-1-c) for c from b to a - 1, times x^rest; nothing if a ≤ b
 abbrev pub powers_between : ℤ → ℕ → ℕ → List ℕ → Poly
 powers_between sign a b rest =
     map (λ c. (c ∷ (a + b - 1 - c) ∷ rest, sign)) (range_with_len b (a - b))

@@ -25,8 +25,8 @@ difference_product n m =
     product_of (m + m) (flat_map (λ i. map (λ j. difference_in i j m) (after 0 (n - i)))
     (after 0 n))
 
--- S(w; x, y), the double Schubert polynomial of a list w of n letters, in m variables of each, m at
--- least n: divided differences in x alone, over the product of the x_i - y_j
+-- S(w; x, y), the double Schubert polynomial of a list w of n letters, in m variables x and m
+-- variables y, m at least n: divided differences in the x_i of the product of the x_i - y_j
 abbrev pub double_schubert : List ℕ → ℕ → Poly
 double_schubert w m = schubert_over (difference_product (length w) m) w
 

@@ -1,8 +1,8 @@
--- How a command ends.
+-- The ending of a command.
 
--- how a command ends: its text was put whole, a line of a batch was refused, or the words or the
--- answer were refused, with the words no command, an offence of limits or of shape,
--- or a number past 128 bits
+-- the ending of a command: all of its text was written; a line of a batch was refused; or the words or
+-- the answer were refused, because the words are no command, exceed a limit or have a wrong shape,
+-- or because a number exceeds 128 bits
 pub data Ending : Type 0 where
   done : Ending
   some_refused : Ending

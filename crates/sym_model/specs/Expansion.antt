@@ -1,4 +1,4 @@
--- The polynomial that a list of terms stands for, with its fractions cleared.
+-- The polynomial of a list of terms, with the denominators of its coefficients cleared.
 use Rattle.std.specs.Prelude.{ℕ, ◌<◌, ◌*◌, ◌/◌, ℤ, pos, ◌*ℤ◌, List, [], ◌∷◌, ◌++◌, map, flat_map}
 use Rattle.sym_model.specs.Polynomial.{Term, Poly, Same, nothing, plus, scale}
 use Rattle.sym_model.specs.Bases.{monomial, elementary, complete, power_sum}

@@ -1,13 +1,13 @@
--- Expressions of symmetric functions: their trees,
--- and what a tree stands for with its fractions cleared.
+-- Expressions of symmetric functions: their trees, and the value of a tree with its denominators
+-- cleared.
 use Rattle.std.specs.Prelude.{ℕ, ◌+◌, ◌*◌, ◌/◌, pos, max, List}
 use Rattle.sym_model.specs.Polynomial.{Poly, one, plus, scale, negate, times}
 use Rattle.sym_model.specs.Partition.{size}
 use Rattle.sym_model.specs.Expansion.{Basis, basis_polynomial}
 use Rattle.sym_model.specs.Canonical.{gcd}
 
--- an expression: a number, a fraction that need not be in lowest terms, a partition in a basis,
--- and what is made of these
+-- an expression: a number, a fraction that need not be in lowest terms, a partition in a basis, or
+-- a sum, a difference or a product of expressions
 pub data Tree : Type 0 where
   number : ℕ → Tree
   fraction : ℕ → ℕ → Tree

@@ -1,4 +1,4 @@
--- What an expression can offend by, at which byte of its word, and which offence comes first.
+-- The errors of an expression, each with its byte in the word; and which of them comes first.
 use Rattle.std.specs.Prelude.{◌≡◌, ℕ, ◌+◌, ◌^◌, ◌<◌, ◌==◌, nat_le, nat_lt, Bool, false, ◌&&◌, ◌||◌}
 use Rattle.std.specs.Prelude.{cond, List, [], ◌∷◌, ◌++◌, length, Option, Some, None, ◌⊎◌, flat_map}
 use Rattle.sym_model.specs.Expansion.{Basis, monomials, schurs}
@@ -7,22 +7,22 @@ use Rattle.sym_model.specs.PrintedBlock.{decimal_value}
 use Rattle.sym_model.specs.Phrase.{Operator, minus, Phrase, numeral, ratio, label, brackets}
 use Rattle.sym_model.specs.Phrase.{minus_first, operation, spelling, tree}
 
--- the kinds of offence in words that spell a command, in the order in which they come at one place
+-- the kinds of errors in words that spell a command, in their order at one place
 pub data OffenceKind : Type 0 where
   literal : OffenceKind
   range : OffenceKind
   shape : OffenceKind
 
--- what a byte of an expression begins: a number or a numerator, a denominator, a number of an
--- atom's list with how many stand before it there and the last of these,
--- or a parenthesis with how many are then open
+-- the meaning of a byte of an expression at which something begins: a number or a numerator; a denominator; a number in the
+-- list of an atom, with the count of numbers before it in that list and the last of these; or an
+-- opening parenthesis, with the number of parentheses that are then open
 pub data Mark : Type 0 where
   value : ℕ → Mark
   denominator : ℕ → Mark
   entry : ℕ → Option ℕ → ℕ → Mark
   opening : ℕ → Mark
 
--- whether the value is past 128 bits with a sign
+-- whether the value exceeds 2^127 - 1
 abbrev pub is_wide : ℕ → Bool
 is_wide n = nat_le (2 ^ 127) n
 
@@ -31,9 +31,9 @@ abbrev pub rises : Option ℕ → ℕ → Bool
 rises None n = false
 rises (Some before) n = nat_lt before n
 
--- whether a mark is an offence of the kind: a number past 2^127 - 1; the 65th number of an atom, a
--- parenthesis that opens depth 65; a number of an atom that is greater than the one before it,
--- a denominator 0
+-- whether a mark is an error of the kind: a number over 2^127 - 1; the 65th number of an atom, or a
+-- parenthesis that opens depth 65; a number of an atom that is greater than the one before it, or
+-- the denominator 0
 abbrev pub is_offence : Mark → OffenceKind → Bool
 is_offence (value n) literal = is_wide n
 is_offence (denominator n) literal = is_wide n
@@ -63,15 +63,15 @@ marks depth byte (minus_first inner) = marks depth (byte + 1) inner
 marks depth byte (operation operator left right) =
     marks depth byte left ++ marks depth (byte + length (spelling left) + 1) right
 
--- an offence in a word: its byte and its kind
+-- an error in a word: its byte and its kind
 abbrev pub WordOffence : Type 0
 WordOffence = ℕ × OffenceKind
 
--- the offence of the kind at a mark, where it is one
+-- the error of the kind at a mark, if it is one
 abbrev pub offence_at : OffenceKind → ℕ × Mark → List WordOffence
 offence_at kind m = cond (is_offence m.1 kind) ((m.0, kind) ∷ []) []
 
--- the offences at a mark
+-- the errors at a mark
 abbrev pub offences_at : ℕ × Mark → List WordOffence
 offences_at m = offence_at literal m ++ (offence_at range m ++ offence_at shape m)
 
@@ -86,32 +86,32 @@ degree_limit _ = 15
 abbrev pub plethysm_degree_limit : ℕ
 plethysm_degree_limit = 10
 
--- the offences of an expression as a whole: byte 4096 where it has more than 4096, its length where
--- its degree is past the limit
+-- the errors of an expression as a whole: byte 4096 if it has more than 4096 bytes, and its length
+-- if its degree exceeds the limit
 abbrev pub offences_of_whole_within : ℕ → Phrase → List WordOffence
 offences_of_whole_within limit phrase =
     cond (nat_lt 4096 (length (spelling phrase))) ((4096, range) ∷ []) []
     ++ cond (nat_lt limit (degree (tree phrase))) ((length (spelling phrase), range) ∷ []) []
 
--- all offences of an expression whose degree is to be within the limit
+-- all errors of an expression whose degree must be within the limit
 abbrev pub offences_within : ℕ → Phrase → List WordOffence
 offences_within limit phrase =
     flat_map offences_at (marks 0 0 phrase) ++ offences_of_whole_within limit phrase
 
--- the offences of an expression as a whole that is expanded into the target
+-- the errors of a whole expression that is expanded into the target
 abbrev pub offences_of_whole : Basis → Phrase → List WordOffence
 offences_of_whole target phrase = offences_of_whole_within (degree_limit target) phrase
 
--- all offences of an expression that is expanded into the target
+-- all errors of an expression that is expanded into the target
 abbrev pub offences : Basis → Phrase → List WordOffence
 offences target phrase = offences_within (degree_limit target) phrase
 
--- a minus at the byte, where the operator is one
+-- an error at the byte, if the operator is a minus
 abbrev pub minus_offences : ℕ → Operator → List WordOffence
 minus_offences byte minus = (byte, shape) ∷ []
 minus_offences byte operator = []
 
--- what an expression that begins at the byte offends by, where no coefficient may be negative or a
+-- the errors of an expression that begins at the byte, if no coefficient may be negative or a
 -- fraction: each minus, and each fraction at its first byte
 abbrev pub sign_offences : ℕ → Phrase → List WordOffence
 sign_offences byte (numeral digits) = []
@@ -124,7 +124,7 @@ sign_offences byte (operation operator left right) =
     ++ minus_offences (byte + length (spelling left)) operator
     ++ sign_offences (byte + length (spelling left) + 1) right
 
--- all offences of the inner expression of a plethysm by itself
+-- all errors of the inner expression of a plethysm by itself
 abbrev pub inner_offences : Phrase → List WordOffence
 inner_offences phrase = offences_within plethysm_degree_limit phrase ++ sign_offences 0 phrase
 
@@ -134,22 +134,22 @@ rank literal = 0
 rank range = 1
 rank shape = 2
 
--- whether an offence comes before another one or is at the same place of the same kind:
+-- whether an error comes before another one or is at the same place of the same kind:
 -- the least byte, then the kind
 abbrev pub comes_first : WordOffence → WordOffence → Bool
 comes_first o p = nat_lt o.0 p.0 || ((o.0 == p.0) && nat_le (rank o.1) (rank p.1))
 
--- the first of two offences, where there is one
+-- the first of two errors, either of which may be absent
 abbrev pub earlier : Option WordOffence → Option WordOffence → Option WordOffence
 earlier None found = found
 earlier (Some o) None = Some o
 earlier (Some o) (Some p) = cond (comes_first o p) (Some o) (Some p)
 
--- the first of the offences, where there is one
+-- the first of the errors, if there is one
 abbrev pub first_of : List WordOffence → Option WordOffence
 first_of [] = None
 first_of (o ∷ os) = earlier (Some o) (first_of os)
 
--- the first offence comes before the second one: at a lower byte, or at the same byte by its kind
+-- the first error comes before the second one: at a lower byte, or at the same byte by its kind
 abbrev pub ComesBefore : WordOffence → WordOffence → Type 0
 ComesBefore o p = (o.0 < p.0) ⊎ ((o.0 ≡ p.0) × (rank o.1 < rank p.1))

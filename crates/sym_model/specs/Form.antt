@@ -9,14 +9,14 @@ use Rattle.sym_model.specs.Expansion.{Basis}
 use Rattle.sym_model.specs.NumberWord.{IsNumberWord}
 use Rattle.sym_model.specs.Phrase.{Phrase, Is, expression, letter, spelling, SpellsPhrase}
 
--- what one word can be: a fixed text, a number, the letter of one of these bases, an expression
+-- a class of words: a fixed text, a number, the letter of one of these bases, an expression
 pub data Class : Type 0 where
   exact : List ℕ → Class
   number : Class
   target : List Basis → Class
   formula : Class
 
--- what a list of words can be: no word, one word of a class, one form and then another, one of two,
+-- a form of lists of words: no word, one word of a class, one form and then another, one of two,
 -- any number of one (Kleene's regular expressions)
 pub data Form : Type 0 where
   empty : Form
@@ -25,14 +25,14 @@ pub data Form : Type 0 where
   either : Form → Form → Form
   many : Form → Form
 
--- what is written by a word of the class
+-- the type of what a word of the class denotes
 abbrev pub WrittenWord : Class → Type 0
 WrittenWord (exact text) = Unit {0}
 WrittenWord number = List ℕ
 WrittenWord (target bases) = Basis
 WrittenWord formula = Phrase
 
--- what is written by words of the form
+-- the type of what words of the form denote
 abbrev pub Written : Form → Type 0
 Written empty = Unit {0}
 Written (word c) = WrittenWord c
@@ -92,7 +92,7 @@ pub record Has (f : Form) (words : List (List ℕ)) : Type 0 where
 abbrev pub Begins : Form → List (List ℕ) → Type 0
 Begins f words = (rest : List (List ℕ)) × Has f (words ++ rest)
 
--- an expression is awaited after the words, where words of the form are read
+-- words of the form can go on after these words with an expression
 abbrev pub Awaits : Form → List (List ℕ) → Type 0
 Awaits empty words = ⊥
 Awaits (word formula) words = words ≡ []
@@ -125,14 +125,14 @@ abbrev pub is_letter_of : List Basis → List ℕ → Bool
 is_letter_of [] text = false
 is_letter_of (basis ∷ bases) text = same (letter basis) text || is_letter_of bases text
 
--- whether the word is of the class; reads tells the expressions among words
+-- whether the word is of the class, if `reads` decides which words are expressions
 abbrev pub fits : (List ℕ → Bool) → Class → List ℕ → Bool
 fits reads (exact w) text = same w text
 fits reads number text = is_number_word text
 fits reads (target bases) text = is_letter_of bases text
 fits reads formula text = reads text
 
--- whether no word is of the form
+-- whether the empty list of words is of the form
 abbrev pub is_skippable : Form → Bool
 is_skippable empty = true
 is_skippable (word c) = false
@@ -140,8 +140,8 @@ is_skippable (sequence f g) = is_skippable f && is_skippable g
 is_skippable (either f g) = is_skippable f || is_skippable g
 is_skippable (many f) = true
 
--- the forms of what may follow the word, where words of the form begin with it:
--- the partial derivatives (Antimirov)
+-- the forms of what may follow the word in words of the form that begin with it: the partial
+-- derivatives (Antimirov)
 abbrev pub derivatives : (List ℕ → Bool) → Form → List ℕ → List Form
 derivatives reads empty text = []
 derivatives reads (word c) text = cond (fits reads c text) (empty ∷ []) []
@@ -155,12 +155,12 @@ derivatives reads (many f) text = map (λ h. sequence h (many f)) (derivatives r
 abbrev pub after_word : (List ℕ → Bool) → List Form → List ℕ → List Form
 after_word reads forms text = flat_map (λ f. derivatives reads f text) forms
 
--- one more, where some form is left
+-- one more than the number if some form is left, otherwise 0
 abbrev pub one_more : List Form → ℕ → ℕ
 one_more [] n = 0
 one_more (f ∷ forms) n = n + 1
 
--- how many of the words are taken before the rest begins words of none of these forms
+-- the number of words that can be taken before the rest begins words of none of these forms
 abbrev pub taken : (List ℕ → Bool) → List Form → List (List ℕ) → ℕ
 taken reads forms [] = 0
 taken reads forms (text ∷ words) =
@@ -180,7 +180,7 @@ after_words reads forms (text ∷ words) = after_words reads (after_word reads f
 abbrev pub are_words_of : (List ℕ → Bool) → Form → List (List ℕ) → Bool
 are_words_of reads f words = has_skippable (after_words reads (f ∷ []) words)
 
--- whether an expression may stand next
+-- whether the next word may be an expression
 abbrev pub awaits_next : Form → Bool
 awaits_next (word formula) = true
 awaits_next (sequence f g) = awaits_next f || (is_skippable f && awaits_next g)
@@ -188,12 +188,12 @@ awaits_next (either f g) = awaits_next f || awaits_next g
 awaits_next (many f) = awaits_next f
 awaits_next f = false
 
--- whether an expression may stand next in words of one of these forms
+-- whether the next word may be an expression, in words of one of these forms
 abbrev pub some_awaits_next : List Form → Bool
 some_awaits_next [] = false
 some_awaits_next (f ∷ forms) = awaits_next f || some_awaits_next forms
 
--- the test tells the expressions among words
+-- the test decides which words are expressions
 pub record TellsExpressions (reads : List ℕ → Bool) : Type 0 where
   pub sound : (text : List ℕ) → reads text ≡ true → (phrase : Phrase) × SpellsPhrase text phrase
   pub complete : (text : List ℕ) (phrase : Phrase) → SpellsPhrase text phrase → reads text ≡ true

@@ -7,7 +7,7 @@ use Rattle.sym_model.specs.Polynomial.{same, join}
 use Rattle.sym_model.specs.Partition.{part, rows, columns, after, cells, without_last_zeros}
 use Rattle.sym_model.specs.Schur.{words, content, tableaux}
 
--- the letter in column j of a row with the inner part c; nothing where that is no cell
+-- the letter in column j of a row with the inner part c; empty if that is not a cell
 abbrev pub letter_in : ℕ → List ℕ → ℕ → List ℕ
 letter_in c row j = cond (nat_lt c j) (take 1 (drop (j - (c + 1)) row)) []
 
@@ -50,31 +50,31 @@ is_good k start outer inner filling =
     every (λ j. is_falling (join start (content k (reading_right_of j outer inner filling))))
     (0 ∷ after 0 (columns outer))
 
--- the good tableaux of outer/inner with entries from 1 to k; none where start has more than k rows
+-- the good tableaux of outer/inner with entries from 1 to k; none if start has more than k rows
 abbrev pub good_tableaux : ℕ → List ℕ → List ℕ → List ℕ → List (List (List ℕ))
 good_tableaux k start outer inner =
     cond (nat_le (rows start) k) (filter (is_good k start outer inner) (tableaux k outer inner)) []
 
--- their list, in rising lexicographic order: the words with letters from 1 to k that are the column
--- reading of a good tableau
+-- their column readings in increasing lexicographic order: the words with letters from 1 to k that
+-- are the column reading of a good tableau
 abbrev pub good_readings : ℕ → List ℕ → List ℕ → List ℕ → List (List ℕ)
 good_readings k start outer inner =
     let readings = map (column_reading outer inner) (good_tableaux k start outer inner) in
     filter (λ w. is_among w readings) (words k (length (cells outer inner)))
 
--- how many good tableaux T of the shape μ with start λ and entries from 1 to k have λ plus the
--- content of T equal to ν: the count of products
+-- the number of good tableaux T of the shape μ for the start λ, with entries from 1 to k, such that
+-- λ plus the content of T is ν
 abbrev pub product_count : ℕ → List ℕ → List ℕ → List ℕ → ℕ
 product_count k λ' μ ν =
     length (filter (λ w. same (without_last_zeros (join λ' (content k w))) ν)
     (good_readings k λ' μ []))
 
--- the lattice tableaux of outer/inner: the good ones with an empty start and as many entries as
--- outer has rows
+-- the column readings of the lattice tableaux of outer/inner: the good tableaux with an empty start
+-- and entries up to the number of rows of outer
 abbrev pub lattice_readings : List ℕ → List ℕ → List (List ℕ)
 lattice_readings outer inner = good_readings (rows outer) [] outer inner
 
--- how many lattice tableaux of outer/inner have the content κ: the count of skews
+-- the number of lattice tableaux of outer/inner with the content κ
 abbrev pub skew_count : List ℕ → List ℕ → List ℕ → ℕ
 skew_count outer inner κ =
     length

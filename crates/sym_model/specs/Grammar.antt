@@ -1,5 +1,5 @@
--- The grammar of commands: for each command the form of its words,
--- what they say and what they offend by.
+-- The grammar of commands: for each command the form of its words, the command that they spell, and
+-- their errors.
 use Rattle.std.specs.Prelude.{ℕ, ◌+◌, cond, List, [], ◌∷◌, ◌++◌, map, length, codes, Option, Some}
 use Rattle.std.specs.Prelude.{None}
 use Rattle.std.proofs.Common.{inl, inr}
@@ -32,12 +32,12 @@ use Rattle.sym_model.specs.WordForms.{is_one_line, letters, row_limit, row_limit
 use Rattle.sym_model.specs.WordForms.{placed_rows, tableau_rows, shape_offences}
 use Rattle.sym_model.specs.Entry.{Entry}
 
--- the offences of two partitions with a word between them, the first of which begins at the word
+-- the errors of two partitions with a word between them, the first of which begins at the word
 abbrev pub two_partitions : ℕ → List (List ℕ) → List (List ℕ) → List Offence
 two_partitions k left right =
     part_offences k (numbers left) ++ part_offences (k + length left + 1) (numbers right)
 
--- how many words the row limit and the word for the one-line form are
+-- the number of words that the row limit and the word for the one-line form take
 abbrev pub option_words : Written (optional rows_words) → Written (optional form_words) → ℕ
 option_words limit form =
     length (words_of (optional rows_words) limit) + length (words_of (optional form_words) form)
@@ -47,11 +47,11 @@ abbrev pub mult_words : Form
 mult_words =
     in_turn (the (codes "mult") ∷ optional rows_words ∷ optional form_words ∷ factors_words ∷ [])
 
--- what the words of `mult` say
+-- the command that words of `mult` spell
 abbrev pub mult_says : Written mult_words → Command
 mult_says (name, (limit, (form, x))) = mult (row_limit limit) (is_one_line form) (factors x)
 
--- what the words of `mult` offend by
+-- the errors of words of `mult`
 abbrev pub mult_offends : Written mult_words → List Offence
 mult_offends (name, (limit, (form, x))) =
     row_limit_offences 1 limit ++ factor_offences 0 (1 + option_words limit form) (factor_numbers x)
@@ -69,12 +69,12 @@ skew_words =
     ∷ the (codes "/") ∷ partition_words
     ∷ [])
 
--- what the words of `skew` say
+-- the command that words of `skew` spell
 abbrev pub skew_says : Written skew_words → Command
 skew_says (name, (limit, (form, (outer, (slash, inner))))) =
     skew (row_limit limit) (is_one_line form) (partition outer) (partition inner)
 
--- what the words of `skew` offend by
+-- the errors of words of `skew`
 abbrev pub skew_offends : Written skew_words → List Offence
 skew_offends (name, (limit, (form, (outer, (slash, inner))))) =
     row_limit_offences 1 limit ++ two_partitions (1 + option_words limit form) outer inner
@@ -91,12 +91,12 @@ coef_words =
     (the (codes "coef") ∷ partition_words ∷ the (codes "-") ∷ partition_words ∷ the (codes "-")
     ∷ partition_words ∷ [])
 
--- what the words of `coef` say
+-- the command that words of `coef` spell
 abbrev pub coef_says : Written coef_words → Command
 coef_says (name, (outer, (minus, (left, (again, right))))) =
     coef (partition outer) (partition left) (partition right)
 
--- what the words of `coef` offend by
+-- the errors of words of `coef`
 abbrev pub coef_offends : Written coef_words → List Offence
 coef_offends (name, (outer, (minus, (left, (again, right))))) =
     part_offences 1 (numbers outer) ++ two_partitions (2 + length outer) left right
@@ -110,11 +110,11 @@ coef_entry =
 abbrev pub coprod_words : Form
 coprod_words = in_turn (the (codes "coprod") ∷ partition_words ∷ [])
 
--- what the words of `coprod` say
+-- the command that words of `coprod` spell
 abbrev pub coprod_says : Written coprod_words → Command
 coprod_says (name, parts) = coprod (partition parts)
 
--- what the words of `coprod` offend by
+-- the errors of words of `coprod`
 abbrev pub coprod_offends : Written coprod_words → List Offence
 coprod_offends (name, parts) = part_offences 1 (numbers parts)
 
@@ -140,7 +140,7 @@ last_reading outer inner (inl nothing) = None
 last_reading outer inner (inr (name, tableau)) =
     Some (column_reading outer inner (rows_in outer (tableau_rows tableau)))
 
--- the word `-from`, where the tableau after it is not in the list
+-- an error at the word `-from`, if the tableau after it is not in the list
 abbrev pub not_listed : ℕ → List ℕ → List ℕ → Written (optional from_words) → List Offence
 not_listed k outer inner (inl nothing) = []
 not_listed k outer inner (inr (name, tableau)) =
@@ -152,12 +152,12 @@ abbrev pub from_entries : ℕ → Written (optional from_words) → List Offence
 from_entries k (inl nothing) = []
 from_entries k (inr (name, tableau)) = row_offences entry_rule (placed_rows (k + 1) tableau)
 
--- what the words of `tab` say
+-- the command that words of `tab` spell
 abbrev pub tab_says : Written tab_words → Command
 tab_says (name, (outer, (slash, (inner, after)))) =
     tab (partition outer) (partition inner) (last_reading (partition outer) (partition inner) after)
 
--- what the words of `tab` offend by
+-- the errors of words of `tab`
 abbrev pub tab_offends : Written tab_words → List Offence
 tab_offends (name, (outer, (slash, (inner, after)))) =
     let lists = two_partitions 1 outer inner in
@@ -173,14 +173,14 @@ tab_entry = record { name = codes "tab"; form = tab_words; says = tab_says; offe
 abbrev pub reduction_words : List ℕ → Form
 reduction_words name = in_turn (the name ∷ word number ∷ word number ∷ factors_words ∷ [])
 
--- what the words of `quantum` and `fusion` offend by
+-- the errors of words of `quantum` and `fusion`
 abbrev pub reduction_offends : (name : List ℕ) → Written (reduction_words name) → List Offence
 reduction_offends name (first, (rows, (bound, x))) =
     offences_by rows_rule 1 (decimal_value rows ∷ [])
     ++ offences_by rows_rule 2 (decimal_value bound ∷ [])
     ++ factor_offences 0 3 (factor_numbers x)
 
--- what the words of `quantum` say: 'quantum' NUM NUM PART ('-' PART)+
+-- the command that words of `quantum` spell: 'quantum' NUM NUM PART ('-' PART)+
 abbrev pub quantum_says : Written (reduction_words (codes "quantum")) → Command
 quantum_says (name, (rows, (columns, x))) =
     quantum (decimal_value rows) (decimal_value columns) (factors x)
@@ -194,7 +194,7 @@ quantum_entry = record {
   offends = reduction_offends (codes "quantum");
 }
 
--- what the words of `fusion` say: 'fusion' NUM NUM PART ('-' PART)+
+-- the command that words of `fusion` spell: 'fusion' NUM NUM PART ('-' PART)+
 abbrev pub fusion_says : Written (reduction_words (codes "fusion")) → Command
 fusion_says (name, (rows, (level, x))) =
     fusion (decimal_value rows) (decimal_value level) (factors x)
@@ -212,11 +212,11 @@ fusion_entry = record {
 abbrev pub schubert_words : Form
 schubert_words = in_turn (the (codes "schubert") ∷ permutation_words ∷ [])
 
--- what the words of `schubert` say
+-- the command that words of `schubert` spell
 abbrev pub schubert_says : Written schubert_words → Command
 schubert_says (name, w) = schubert (kept (letters w))
 
--- what the words of `schubert` offend by
+-- the errors of words of `schubert`
 abbrev pub schubert_offends : Written schubert_words → List Offence
 schubert_offends (name, w) = permutation_offences 1 (letters w)
 
@@ -234,12 +234,12 @@ abbrev pub schubmult_words : Form
 schubmult_words =
     in_turn (the (codes "schubmult") ∷ permutation_words ∷ the (codes "-") ∷ permutation_words ∷ [])
 
--- what the words of `schubmult` say
+-- the command that words of `schubmult` spell
 abbrev pub schubmult_says : Written schubmult_words → Command
 schubmult_says (name, (left, (minus, right))) =
     schubmult (kept (letters left)) (kept (letters right))
 
--- what the words of `schubmult` offend by
+-- the errors of words of `schubmult`
 abbrev pub schubmult_offends : Written schubmult_words → List Offence
 schubmult_offends (name, (left, (minus, right))) =
     permutation_offences 1 (letters left)
@@ -259,11 +259,11 @@ abbrev pub expand_words : List Basis → Form
 expand_words bases =
     in_turn (the (codes "expand") ∷ optional form_words ∷ word (target bases) ∷ word formula ∷ [])
 
--- what the words of `expand` say
+-- the command that words of `expand` spell
 abbrev pub expand_says : (bases : List Basis) → Written (expand_words bases) → Command
 expand_says bases (name, (form, (basis, phrase))) = expand basis (is_one_line form) (tree phrase)
 
--- what the words of `expand` offend by
+-- the errors of words of `expand`
 abbrev pub expand_offends : (bases : List Basis) → Written (expand_words bases) → List Offence
 expand_offends bases (name, (form, (basis, phrase))) =
     expression_offences (2 + length (words_of (optional form_words) form)) basis phrase
@@ -281,11 +281,11 @@ expand_entry bases = record {
 abbrev pub rsk_words : Form
 rsk_words = in_turn (the (codes "rsk") ∷ many (word number) ∷ [])
 
--- what the words of `rsk` say
+-- the command that words of `rsk` spell
 abbrev pub rsk_says : Written rsk_words → Command
 rsk_says (name, w) = rsk (numbers w)
 
--- what the words of `rsk` offend by
+-- the errors of words of `rsk`
 abbrev pub rsk_offends : Written rsk_words → List Offence
 rsk_offends (name, w) = offences_by letter_rule 1 (numbers w)
 
@@ -297,11 +297,11 @@ rsk_entry = record { name = codes "rsk"; form = rsk_words; says = rsk_says; offe
 abbrev pub unrsk_words : Form
 unrsk_words = in_turn (the (codes "unrsk") ∷ tableau_words ∷ the (codes "-") ∷ tableau_words ∷ [])
 
--- what the numbers of a tableau offend by, each for itself
+-- the errors of the numbers of a tableau, each by itself
 abbrev pub filled_offences : List PlacedRow → List Offence
 filled_offences rows = row_offences entry_rule rows ++ count_offences 0 rows
 
--- the offences of the first tableau
+-- the errors of the first tableau
 abbrev pub insertion_offences : List PlacedRow → List Offence
 insertion_offences [] = []
 insertion_offences (row ∷ rows) =
@@ -310,12 +310,12 @@ insertion_offences (row ∷ rows) =
     ++ empty_row_offences (row ∷ rows)
     ++ order_offences 0 [] [] (row ∷ rows)
 
--- what the words of `unrsk` say
+-- the command that words of `unrsk` spell
 abbrev pub unrsk_says : Written unrsk_words → Command
 unrsk_says (name, (first, (minus, second))) =
     unrsk (rows_in [] (tableau_rows first)) (rows_in [] (tableau_rows second))
 
--- what the words of `unrsk` offend by
+-- the errors of words of `unrsk`
 abbrev pub unrsk_offends : Written unrsk_words → List Offence
 unrsk_offends (name, (first, (minus, second))) =
     let lengths = map length (rows_in [] (tableau_rows first)) in
@@ -341,18 +341,18 @@ rect_words =
     (the (codes "rect") ∷ partition_words ∷ the (codes "/") ∷ partition_words ∷ the (codes "-")
     ∷ tableau_words ∷ [])
 
--- what the words of `rect` say
+-- the command that words of `rect` spell
 abbrev pub rect_says : Written rect_words → Command
 rect_says (name, (outer, (slash, (inner, (minus, tableau))))) =
     rect (partition outer) (partition inner) (rows_in (partition outer) (tableau_rows tableau))
 
--- the offences of an inner partition at the word,
--- which is judged against the outer one where that has no offence
+-- the errors of an inner partition that begins at the word; it is compared with the outer partition
+-- only if that has no error
 abbrev pub inner_offences : ℕ → List Offence → List ℕ → List ℕ → List Offence
 inner_offences k earlier outer inner =
     part_offences k inner ++ judged_against earlier (offences_by (inside_rule outer) k inner)
 
--- what the words of `rect` offend by
+-- the errors of words of `rect`
 abbrev pub rect_offends : Written rect_words → List Offence
 rect_offends (name, (outer, (slash, (inner, (minus, tableau))))) =
     let outer_found = part_offences 1 (numbers outer) in
@@ -378,11 +378,11 @@ rect_entry =
 abbrev pub growth_words : Form
 growth_words = in_turn (the (codes "growth") ∷ permutation_words ∷ [])
 
--- what the words of `growth` say
+-- the command that words of `growth` spell
 abbrev pub growth_says : Written growth_words → Command
 growth_says (name, w) = growth (kept (letters w))
 
--- what the words of `growth` offend by
+-- the errors of words of `growth`
 abbrev pub growth_offends : Written growth_words → List Offence
 growth_offends (name, w) = permutation_offences 1 (letters w)
 
@@ -401,11 +401,11 @@ abbrev pub plethysm_words : List Basis → Form
 plethysm_words bases =
     in_turn (the (codes "plethysm") ∷ word (target bases) ∷ word formula ∷ word formula ∷ [])
 
--- what the words of `plethysm` say
+-- the command that words of `plethysm` spell
 abbrev pub plethysm_says : (bases : List Basis) → Written (plethysm_words bases) → Command
 plethysm_says bases (name, (basis, (outer, inner))) = plethysm basis (tree outer) (tree inner)
 
--- what the words of `plethysm` offend by
+-- the errors of words of `plethysm`
 abbrev pub plethysm_offends : (bases : List Basis) → Written (plethysm_words bases) → List Offence
 plethysm_offends bases (name, (basis, (outer, inner))) = plethysm_offences 2 outer inner
 
@@ -424,12 +424,12 @@ dschubmult_words =
     in_turn (the (codes "dschubmult") ∷ permutation_words ∷ the (codes "-") ∷ permutation_words
     ∷ [])
 
--- what the words of `dschubmult` say
+-- the command that words of `dschubmult` spell
 abbrev pub dschubmult_says : Written dschubmult_words → Command
 dschubmult_says (name, (left, (minus, right))) =
     dschubmult (kept (letters left)) (kept (letters right))
 
--- what the words of `dschubmult` offend by
+-- the errors of words of `dschubmult`
 abbrev pub dschubmult_offends : Written dschubmult_words → List Offence
 dschubmult_offends (name, (left, (minus, right))) =
     permutation_offences_within most_doubled 1 (letters left)
@@ -448,11 +448,11 @@ dschubmult_entry = record {
 abbrev pub stanley_words : Form
 stanley_words = in_turn (the (codes "stanley") ∷ rows_words ∷ permutation_words ∷ [])
 
--- what the words of `stanley` say
+-- the command that words of `stanley` spell
 abbrev pub stanley_says : Written stanley_words → Command
 stanley_says (name, (limit, w)) = stanley (decimal_value limit.1) (kept (letters w))
 
--- what the words of `stanley` offend by
+-- the errors of words of `stanley`
 abbrev pub stanley_offends : Written stanley_words → List Offence
 stanley_offends (name, (limit, w)) =
     offences_by rows_rule 2 (decimal_value limit.1 ∷ []) ++ permutation_offences 3 (letters w)
@@ -479,11 +479,11 @@ batch_entry = record {
 abbrev pub work_words : Form
 work_words = in_turn (the (codes "work") ∷ word number ∷ word number ∷ [])
 
--- what the words of `work` say
+-- the command that words of `work` spell
 abbrev pub work_says : Written work_words → Command
 work_says (name, (lines, seed)) = work (decimal_value lines) (decimal_value seed)
 
--- what the words of `work` offend by
+-- the errors of words of `work`
 abbrev pub work_offends : Written work_words → List Offence
 work_offends (name, (lines, seed)) =
     offences_by lines_rule 1 (decimal_value lines ∷ [])
@@ -503,7 +503,7 @@ line_entries bases =
     ∷ plethysm_entry bases
     ∷ dschubmult_entry ∷ stanley_entry ∷ []
 
--- all commands
+-- the entries of all commands
 abbrev pub entries_of : List Basis → List Entry
 entries_of bases = line_entries bases ++ (batch_entry ∷ work_entry ∷ [])
 

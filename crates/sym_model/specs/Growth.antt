@@ -1,6 +1,6 @@
 -- Growth of shapes by local rules (Fomin; Stanley, Enumerative Combinatorics 2, 7.13). The grid of
--- a permutation w has a shape at (i, j) for i and j from 0 to the number of its letters. Its square
--- between (i, j) and (i + 1, j + 1) is marked where w takes place i + 1 to j + 1.
+-- a permutation w has a shape at (i, j), for i and j from 0 to the number of its letters. Its
+-- square between (i, j) and (i + 1, j + 1) is marked if w(i + 1) = j + 1.
 use Rattle.std.specs.Prelude.{ℕ, zero, suc, ◌+◌, ◌==◌, max, nat_le, nat_lt, Bool, cond, List, []}
 use Rattle.std.specs.Prelude.{◌∷◌, ◌++◌, map, length, filter}
 use Rattle.sym_model.specs.Polynomial.{same}
@@ -19,16 +19,16 @@ grown [] small = 0
 grown (a ∷ large) [] = 0
 grown (a ∷ large) (b ∷ small) = cond (nat_lt b a) 0 (suc (grown large small))
 
--- the shape with one more cell in row i, counted from 0, or in a new row where there is none
+-- the shape with one more cell in row i, counted from 0; in a new row if there is no row i
 abbrev pub with_cell : ℕ → List ℕ → List ℕ
 with_cell i [] = 1 ∷ []
 with_cell zero (a ∷ shape) = (a + 1) ∷ shape
 with_cell (suc i) (a ∷ shape) = a ∷ with_cell i shape
 
--- the local rules, for the shape at a corner of a square from the shape at the opposite corner and
--- the two beside it. Two different ones give their union. Two that are the opposite shape itself
--- give that shape, with one more cell in the first row where the square is marked. Two that are it
--- with one more cell in a row get another cell in the next row.
+-- the local rules: the shape at one corner of a square, given the shape at the opposite corner and
+-- the two shapes beside it. If these two differ, it is their union. If both equal the opposite
+-- shape, it is that shape, with one more cell in the first row if the square is marked. If both are
+-- the opposite shape with one more cell in a row, it has another cell in the next row.
 abbrev pub at_corner : Bool → List ℕ → List ℕ → List ℕ → List ℕ
 at_corner marked opposite left right =
     cond (same left right)
@@ -56,14 +56,14 @@ grid_lines w = map (grid_line w) (0 ∷ after 0 (length w))
 abbrev pub at_most : ℕ → List ℕ → List ℕ
 at_most j w = filter (λ a. nat_le a j) w
 
--- the rows with k at the end of row i, counted from 0, or in a new row where there is none
+-- the rows with k at the end of row i, counted from 0; in a new row if there is no row i
 abbrev pub with_end : ℕ → ℕ → List (List ℕ) → List (List ℕ)
 with_end i k [] = (k ∷ []) ∷ []
 with_end zero k (row ∷ rows) = (row ++ k ∷ []) ∷ rows
 with_end (suc i) k (row ∷ rows) = row ∷ with_end i k rows
 
--- the tableau of a chain of shapes up to shape n:
--- number k stands in the cell that shape k has more than the one before it
+-- the tableau of a chain of shapes up to shape n: number k is in the cell by which shape k exceeds
+-- the shape before it
 abbrev pub tableau_of_chain : (ℕ → List ℕ) → ℕ → List (List ℕ)
 tableau_of_chain shape zero = []
 tableau_of_chain shape (suc k) =

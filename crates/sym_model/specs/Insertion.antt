@@ -4,8 +4,8 @@ use Rattle.std.specs.Prelude.{ℕ, ◌+◌, nat_lt, cond, List, [], ◌∷◌, �
 use Rattle.std.specs.Prelude.{Some, None}
 use Rattle.sym_model.specs.Schur.{letters_of}
 
--- the row with a put in: in place of the first letter greater than it,
--- or at the end where there is none
+-- the row with a inserted: a replaces the first letter greater than it, or is appended if there is
+-- no such letter
 abbrev pub row_with : ℕ → List ℕ → List ℕ
 row_with a [] = a ∷ []
 row_with a (b ∷ row) = cond (nat_lt a b) (a ∷ row) (b ∷ row_with a row)
@@ -15,15 +15,15 @@ abbrev pub bumped : ℕ → List ℕ → Option ℕ
 bumped a [] = None
 bumped a (b ∷ row) = cond (nat_lt a b) (Some b) (bumped a row)
 
--- the tableau with a inserted: a is put into the first row, the letter whose place it takes into
--- the next, and so on, until a letter comes to the end of a row
+-- the tableau with a inserted: a goes into the first row, the letter that it replaces into the next
+-- row, and so on, until a letter is appended to a row
 abbrev pub inserted : List (List ℕ) → Option ℕ → List (List ℕ)
 inserted rows None = rows
 inserted [] (Some a) = (a ∷ []) ∷ []
 inserted (row ∷ rows) (Some a) = row_with a row ∷ inserted rows (bumped a row)
 
--- q with k put at the end of the first row that is shorter than the same row of p,
--- a missing row having no cells
+-- q with k appended to the first row that is shorter than the same row of p; a missing row has no
+-- cells
 abbrev pub with_step : ℕ → List (List ℕ) → List (List ℕ) → List (List ℕ)
 with_step k [] q = q
 with_step k (row ∷ p) [] = (k ∷ []) ∷ []

@@ -9,7 +9,7 @@ use Rattle.sym_model.specs.PrintedOrder.{printed_order, pair_order, power_order,
 use Rattle.sym_model.specs.PrintedOrder.{shifted_order}
 use Rattle.sym_model.specs.Bounded.{Lacks}
 
--- What a block has to know of its labels: the text that follows the coefficient on a line, the
+-- The rules that a block uses for its labels: the text that follows the coefficient on a line, the
 -- label that such a text spells, the order of the lines, the limits of the labels, and whether a
 -- coefficient may be a fraction.
 pub record LabelRules (Label : Type 0) : Type 0 where
@@ -32,8 +32,7 @@ pub data Kind : Type 0 where
   polynomial : Kind
   shifts : Kind
 
--- the labels of a kind. A number stands on a line of its own,
--- so that it is a term with nothing as its label.
+-- the labels of a kind. A number is a term without a label.
 abbrev pub Label : Kind → Type 0
 Label number = Unit {0}
 Label expansion = List ℕ
@@ -58,7 +57,7 @@ after_one (first ∷ text) = text
 abbrev pub list_text : List ℕ → List ℕ
 list_text numbers = codes "  " ++ label_text numbers
 
--- the list that stands after two spaces
+-- the list after two spaces
 abbrev pub list_of : List ℕ → List ℕ
 list_of text = label_of (after_two text)
 
@@ -132,7 +131,7 @@ abbrev pub BeginsWithSpace : List ℕ → Type 0
 BeginsWithSpace [] = Unit {0}
 BeginsWithSpace (byte ∷ text) = byte ≡ 32
 
--- The labels within the limits can be read: their text stands on one line (LF is the byte 10), the
+-- Labels within the limits can be read back: their text is on one line (LF is the byte 10), the
 -- coefficient in front of it ends where it begins, and it spells the label.
 pub record IsLegible {Label : Type 0} (rules : LabelRules Label) : Type 0 where
   pub one_line : (label : Label) → rules.is_within_limits label ≡ true → Lacks 10 (rules.text label)

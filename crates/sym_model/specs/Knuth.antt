@@ -4,7 +4,7 @@ use Rattle.std.specs.Prelude.{◌≡◌, ℕ, ◌<◌, ◌≤◌, ◌⊎◌, Lis
 use Rattle.sym_model.specs.Insertion.{reading_word}
 use Rattle.sym_model.specs.Tableau.{IsStraightTableau}
 
--- three letters y z x become y x z, where x < y ≤ z
+-- three letters y z x become y x z, if x < y ≤ z
 pub record IsFirstExchange (v w : List ℕ) : Type 0 where
   pub x : ℕ
   pub y : ℕ
@@ -14,7 +14,7 @@ pub record IsFirstExchange (v w : List ℕ) : Type 0 where
   pub before : v ≡ y ∷ z ∷ x ∷ []
   pub after : w ≡ y ∷ x ∷ z ∷ []
 
--- three letters x z y become z x y, where x ≤ y < z
+-- three letters x z y become z x y, if x ≤ y < z
 pub record IsSecondExchange (v w : List ℕ) : Type 0 where
   pub x : ℕ
   pub y : ℕ

@@ -1,4 +1,4 @@
--- Which labels a line of an answer may have: partitions,
+-- The labels that a line of an answer may have: partitions,
 -- permutations and monomials within the limits of this project.
 use Rattle.std.specs.Prelude.{ℕ, ◌^◌, nat_le, nat_lt, Bool, true, ◌&&◌, not, List, [], ◌∷◌, length}
 use Rattle.sym_model.specs.Polynomial.{same}
@@ -6,7 +6,7 @@ use Rattle.sym_model.specs.Partition.{size, rows, without_last_zeros}
 use Rattle.sym_model.specs.BetaList.{has_equal_entries}
 use Rattle.sym_model.specs.Permutation.{kept}
 
--- whether a list is a partition: weakly falling, each number positive
+-- whether a list is a partition: weakly decreasing, each number positive
 abbrev pub is_partition : List ℕ → Bool
 is_partition [] = true
 is_partition (a ∷ []) = nat_lt 0 a
@@ -29,15 +29,15 @@ abbrev pub are_letters : ℕ → List ℕ → Bool
 are_letters n [] = true
 are_letters n (a ∷ w) = nat_le 1 a && nat_le a n && are_letters n w
 
--- whether a list is a permutation as it is kept, of at most 255 letters: different letters from 1
--- to n, n being at least 1, and no fixed letter at the end but that of the identity
+-- whether a list is a permutation label, of at most 255 letters: different letters from 1 to n, n
+-- at least 1, with no fixed letter at the end except the one letter of the identity
 abbrev pub is_permutation_label : List ℕ → Bool
 is_permutation_label w =
     are_letters (length w) w && not (has_equal_entries w) && nat_lt 0 (length w) && same (kept w) w
     && nat_le (length w) 255
 
--- whether a list is the exponents of a monomial without the zeros at their end, at most 255 of them
--- and of a degree of at most 32385
+-- whether a list is the exponents of a monomial without zeros at the end: at most 255 of them, of a
+-- degree of at most 32385
 abbrev pub is_monomial_label : List ℕ → Bool
 is_monomial_label exponents =
     same (without_last_zeros exponents) exponents && nat_le (length exponents) 255

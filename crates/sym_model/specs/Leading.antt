@@ -2,8 +2,8 @@
 use Rattle.std.specs.Prelude.{◌≡◌, ℕ, ◌<◌, ◌⊎◌, pos, neg_ℤ, List, [], ◌∷◌}
 use Rattle.sym_model.specs.Polynomial.{Poly, coefficient}
 
--- the lexicographic order (the usual one): at the first place where the lists differ the first has
--- the greater exponent; a longer list stands above its own front
+-- the lexicographic order: at the first place where the lists differ the first list has the greater
+-- exponent; a list is above each of its proper prefixes
 abbrev pub Above : List ℕ → List ℕ → Type 0
 Above [] β = ⊥
 Above (a ∷ α) [] = Unit {0}

@@ -1,4 +1,4 @@
--- How numbers, fractions and lists of numbers are written, and how such a text is read.
+-- The text of numbers, fractions and lists of numbers, and the reading of such a text.
 use Rattle.std.specs.Prelude.{ℕ, ◌+◌, ◌-◌, ◌*◌, ◌==◌, ℤ, pos, neg_ℤ, List, [], ◌∷◌, ◌++◌, map, cond}
 use Rattle.std.specs.Prelude.{codes, decimal}
 use Rattle.std.specs.Fmt.{signed_decimal}
@@ -19,7 +19,7 @@ numbers_text (a ∷ b ∷ numbers) = decimal a ++ (codes "," ++ numbers_text (b 
 abbrev pub label_text : List ℕ → List ℕ
 label_text numbers = codes "(" ++ (numbers_text numbers ++ codes ")")
 
--- a byte put in front of the first piece
+-- the pieces with a byte added at the front of the first piece
 abbrev pub before_first : ℕ → List (List ℕ) → List (List ℕ)
 before_first byte [] = (byte ∷ []) ∷ []
 before_first byte (piece ∷ pieces) = (byte ∷ piece) ∷ pieces
@@ -31,7 +31,7 @@ split_at separator (byte ∷ text) =
     cond (byte == separator) ([] ∷ split_at separator text)
     (before_first byte (split_at separator text))
 
--- a byte put in front of the first part of a text that is cut in two
+-- a text cut in two, with a byte added at the front of its first part
 abbrev pub before_cut : ℕ → List ℕ × List ℕ → List ℕ × List ℕ
 before_cut byte cut = (byte ∷ cut.0, cut.1)
 
@@ -72,12 +72,12 @@ without_last [] = []
 without_last (byte ∷ []) = []
 without_last (byte ∷ next ∷ text) = byte ∷ without_last (next ∷ text)
 
--- the numbers between commas; none in an empty text
+-- the numbers between commas; the empty list for an empty text
 abbrev pub numbers_of : List ℕ → List ℕ
 numbers_of [] = []
 numbers_of (byte ∷ text) = map decimal_value (split_at 44 (byte ∷ text))
 
--- the numbers of a label: what stands between its parentheses, split at commas
+-- the numbers of a label: the text between its parentheses, split at commas
 abbrev pub label_of : List ℕ → List ℕ
 label_of [] = []
 label_of (parenthesis ∷ text) = numbers_of (without_last text)

@@ -22,8 +22,8 @@ without_sign c = (pos (nat_abs c.0), c.1)
 abbrev pub is_unit : Fraction → Bool
 is_unit c = (nat_abs c.0 == 1) && (c.1 == 1)
 
--- a term without its sign: the atom, after the absolute value of the coefficient and `*` where that
--- value is not 1
+-- a term without its sign: the absolute value of the coefficient and `*`, if that value is not 1,
+-- and then the atom
 abbrev pub unsigned_text : Basis → List ℕ × Fraction → List ℕ
 unsigned_text basis t =
     cond (is_unit t.1) [] (fraction_text (without_sign t.1) ++ codes "*") ++ atom_text basis t.0
@@ -40,8 +40,8 @@ later_text basis (t ∷ terms) =
     cond (is_negative t.1.0) (codes "-") (codes "+")
     ++ (unsigned_text basis t ++ later_text basis terms)
 
--- the one-line form: the terms one after another, with `-` before a negative first one,
--- or 0 where there is none, and LF
+-- the one-line form: the terms one after another, with `-` before a negative first term, or 0 if
+-- there is no term; and LF
 abbrev pub one_line : Basis → Terms (List ℕ) → List ℕ
 one_line basis [] = codes "0\n"
 one_line basis (t ∷ terms) =
@@ -66,13 +66,13 @@ abbrev pub pieces_of : List ℕ → List (List ℕ)
 pieces_of [] = []
 pieces_of (byte ∷ text) = before_first byte (cut_at_signs text)
 
--- the numbers of an atom: what stands between its brackets, split at commas
+-- the numbers of an atom: the text between its brackets, split at commas
 abbrev pub numbers_in_atom : List ℕ → List ℕ
 numbers_in_atom (basis ∷ bracket ∷ text) = numbers_of (without_last text)
 numbers_in_atom _ = []
 
--- the term of a piece without its sign, cut in front of its first `*`: the atom, and 1 where no
--- coefficient stands before it
+-- the term of a piece without its sign, cut in front of its first `*`: the coefficient, 1 if none
+-- is written, and the atom
 abbrev pub term_of_cut : List ℕ × List ℕ → List ℕ × Fraction
 term_of_cut (atom, []) = (numbers_in_atom atom, (pos 1, 1))
 term_of_cut (coefficient, star ∷ atom) = (numbers_in_atom atom, fraction_of coefficient)
@@ -93,21 +93,21 @@ term_of_piece (byte ∷ text) =
     (negated (unsigned_term text))
     (cond (byte == 43) (unsigned_term text) (unsigned_term (byte ∷ text)))
 
--- the terms that a text spells, without its LF; none for 0
+-- the terms that a text without its LF spells; no term for 0
 abbrev pub terms_on_line : List ℕ → Terms (List ℕ)
 terms_on_line text =
     cond (same text (codes "0\n")) []
     (map {B = List ℕ × Fraction} term_of_piece (pieces_of (without_last text)))
 
--- the list of terms, where it is canonical with numbers of 128 bits and the text is its one-line
--- form; otherwise nothing
+-- the list of terms, if it is canonical with numbers of 128 bits and the text is its one-line form;
+-- otherwise nothing
 abbrev pub accepted_line : Basis → LabelRules (List ℕ) → List ℕ → Terms (List ℕ)
     → Option (Terms (List ℕ))
 accepted_line basis rules text terms =
     cond (is_canonical_by rules terms && is_printable terms && same (one_line basis terms) text)
     (Some terms) None
 
--- a text read back: the canonical list, with numbers of 128 bits, whose one-line form it is;
--- nothing where there is none
+-- a text read back: the canonical list with numbers of 128 bits whose one-line form it is; nothing
+-- if there is no such list
 abbrev pub read_one_line : Basis → LabelRules (List ℕ) → List ℕ → Option (Terms (List ℕ))
 read_one_line basis rules text = accepted_line basis rules text (terms_on_line text)

@@ -20,7 +20,7 @@ use Rattle.sym_model.specs.LargeAnswer.{HasPastCoefficient, IsHeavy}
 use Rattle.sym_model.specs.Ending.{Ending, done, syntax, range, past}
 use Rattle.sym_model.specs.RefusalText.{refusal_line, offence_line, large_line}
 
--- how a command ends whose words have the offence
+-- the ending of a command whose words have an error of this kind
 abbrev pub ending_of : OffenceKind → Ending
 ending_of literal = past
 ending_of beyond = range
@@ -28,14 +28,14 @@ ending_of shape = range
 
 -- ---- words that are refused
 
--- the words spell no command, and the text says where they first fail
+-- the words spell no command, and the text names the place of the first error of syntax
 pub record IsNoCommand (entries : List Entry) (words : List (List ℕ)) (text : List ℕ) : Type 0 where
   pub word : ℕ
   pub byte : ℕ
   pub place : IsSyntaxPlace entries words word byte
   pub line : text ≡ refusal_line (codes "Syntax") word byte
 
--- the words spell a command and offend, and the text says by what and where they do first
+-- the words spell a command and have an error, and the text names the first error and its place
 pub record IsOffending (entries : List Entry) (words : List (List ℕ)) (text : List ℕ)
     (ending : Ending) : Type 0 where
   pub offence : Offence
@@ -52,15 +52,17 @@ pub record PrintsAnswer (command : Command) (text : List ℕ) : Type 0 where
   pub meets : Meets command answer
   pub printed : text ≡ answer_text_in (printed_form command) answer
 
--- the answer is to be refused as too large: a defined coefficient is past the limit
+-- the answer must be refused as too large: a coefficient of its definition exceeds 2^127 - 1
 abbrev pub MustBeLarge : Command → Type 0
 MustBeLarge command = HasPastCoefficient command
 
--- the answer can be refused as too large: a defined coefficient is past the limit, or the weight is
+-- the answer may be refused as too large: a coefficient of its definition exceeds 2^127 - 1, or its
+-- weight does
 abbrev pub MayBeLarge : Command → Type 0
 MayBeLarge command = HasPastCoefficient command ⊎ IsHeavy command
 
--- the answer to the command is put, where it need not be refused, or it is refused, where it can be
+-- either the answer to the command is written, and it need not be refused, or it is refused, and it
+-- may be
 abbrev pub Expands : Command → List ℕ → Ending → Type 0
 Expands command text ending =
     ((MustBeLarge command → ⊥) × PrintsAnswer command text × (ending ≡ done))
@@ -68,8 +70,7 @@ Expands command text ending =
 
 -- ---- the other commands
 
--- the lattice tableaux of a skew shape, from after the one with this column reading where one is
--- given
+-- the column readings of the lattice tableaux of a skew shape; if one is given, only those after it
 abbrev pub readings_after : List ℕ → List ℕ → Option (List ℕ) → List (List ℕ)
 readings_after outer inner None = lattice_readings outer inner
 readings_after outer inner (Some last) = later_than last (lattice_readings outer inner)
@@ -88,7 +89,8 @@ pub record PrintsRectified (filling : SkewFilling) (text : List ℕ) : Type 0 wh
 
 -- ---- outcomes
 
--- the outcome of a command that has no offence, but for those that run other commands
+-- the outcome of a command whose words have no error; false for the commands that run other
+-- commands
 abbrev pub Answers : Command → List ℕ → Ending → Type 0
 Answers (tab outer inner last) text ending =
     (text ≡ readings_text outer inner (readings_after outer inner last)) × (ending ≡ done)

@@ -20,7 +20,7 @@ abbrev pub ArePositive : List ℕ → Type 0
 ArePositive [] = Unit {0}
 ArePositive (a ∷ parts) = (0 < a) × ArePositive parts
 
--- a partition is a weakly falling list of positive numbers, its parts (Macdonald)
+-- a partition is a weakly decreasing list of positive numbers, its parts (Macdonald)
 pub record IsPartition (parts : List ℕ) : Type 0 where
   pub falls : Falls parts
   pub positive : ArePositive parts
@@ -34,12 +34,12 @@ abbrev pub size : List ℕ → ℕ
 size [] = 0
 size (a ∷ parts) = a + size parts
 
--- the number of rows: how many parts there are
+-- the number of rows, which is the number of parts
 abbrev pub rows : List ℕ → ℕ
 rows parts = length parts
 
--- part i, counted from 1; 0 past the last. A part 0 is never asked for:
--- it would be the first part, by the cut-off i - 1
+-- part i, counted from 1; 0 after the last part. i is at least 1: since i - 1 is cut off at 0, i =
+-- 0 would give the first part
 abbrev pub part : List ℕ → ℕ → ℕ
 part parts i = slice_index parts (i - 1)
 
@@ -59,7 +59,7 @@ pub record IsCell (outer inner : List ℕ) (row column : ℕ) : Type 0 where
   pub outside : part inner row < column
   pub within : column ≤ part outer row
 
--- the numbers from a + 1 to a + k, rising
+-- the numbers from a + 1 to a + k, in increasing order
 abbrev pub after : ℕ → ℕ → List ℕ
 after a zero = []
 after a (suc k) = (a + 1) ∷ after (a + 1) k
@@ -73,14 +73,14 @@ row_cells outer inner row =
 abbrev pub cells : List ℕ → List ℕ → List (ℕ × ℕ)
 cells outer inner = flat_map (row_cells outer inner) (after 0 (rows outer))
 
--- the positive numbers of a list put in falling order: a into its place in a falling list
+-- a inserted into a decreasing list of positive numbers; a number 0 is left out
 abbrev pub insert_part : ℕ → List ℕ → List ℕ
 insert_part zero parts = parts
 insert_part (suc a) [] = suc a ∷ []
 insert_part (suc a) (b ∷ parts) =
     cond (nat_le b (suc a)) (suc a ∷ b ∷ parts) (b ∷ insert_part (suc a) parts)
 
--- the partition that a list of exponents sorts to: its positive numbers in falling order
+-- the partition that a list of exponents sorts to: its positive numbers in decreasing order
 abbrev pub sorted_parts : List ℕ → List ℕ
 sorted_parts [] = []
 sorted_parts (a ∷ α) = insert_part a (sorted_parts α)

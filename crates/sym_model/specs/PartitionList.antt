@@ -1,4 +1,4 @@
--- The partitions of a number, listed in falling lexicographic order.
+-- The partitions of a number, in decreasing lexicographic order.
 use Rattle.std.specs.Prelude.{◌≡◌, ℕ, zero, suc, ◌-◌, min, List, [], ◌∷◌, map, flat_map}
 use Rattle.std.specs.declared.cmp.Ordering.TheVariants.{Less}
 use Rattle.sym_model.specs.Sum.{Among}
@@ -19,11 +19,11 @@ partitions_within (suc left) most (suc rows) =
     flat_map (λ a. map (λ parts. a ∷ parts) (partitions_within (suc left - a) a rows))
     (down_to_one (min most (suc left)))
 
--- the partitions of d in falling lexicographic order
+-- the partitions of d in decreasing lexicographic order
 abbrev pub partitions_of : ℕ → List (List ℕ)
 partitions_of d = partitions_within d d d
 
--- each list of numbers stands before all the later ones in falling lexicographic order
+-- the lists of numbers are in strictly decreasing lexicographic order
 abbrev pub FallsLexicographically : List (List ℕ) → Type 0
 FallsLexicographically [] = Unit {0}
 FallsLexicographically (x ∷ xs) =

@@ -14,7 +14,7 @@ pub record IsOneLine (w : List ℕ) : Type 0 where
   pub letters : (a : ℕ) → Among a w → (1 ≤ a) × (a ≤ length w)
   pub once : Once w
 
--- the letter at place i; past the end the letters are fixed
+-- the letter at place i; letters after the end are fixed
 abbrev pub letter : List ℕ → ℕ → ℕ
 letter w i = slice_index_or w (i - 1) i
 
@@ -37,8 +37,8 @@ abbrev pub kept : List ℕ → List ℕ
 kept [] = []
 kept (a ∷ w) = a ∷ without_fixed_from 2 w
 
--- a permutation as it is kept: it has a letter and, but for the letter 1 alone,
--- no fixed letter at the end
+-- a permutation without fixed letters at the end: it has at least one letter, and its last letter
+-- is not fixed unless it is the single letter 1
 pub record IsKept (w : List ℕ) : Type 0 where
   pub one_line : IsOneLine w
   pub some : 0 < length w
@@ -79,7 +79,8 @@ abbrev pub IsCode : List ℕ → Type 0
 IsCode [] = Unit {0}
 IsCode (c ∷ cs) = (c ≤ length cs) × IsCode cs
 
--- for each entry c the letter with c smaller ones among those that are left, a rising list
+-- for each entry c of a code, the letter with c smaller ones among the remaining letters, an
+-- increasing list
 abbrev pub letters_by_code : List ℕ → List ℕ → List ℕ
 letters_by_code [] left = left
 letters_by_code (c ∷ cs) left = slice_index left c ∷ letters_by_code cs (remove left c)
@@ -96,7 +97,7 @@ swapped i j w = swap w (i - 1) (j - 1)
 abbrev pub exchanged : ℕ → List ℕ → List ℕ
 exchanged i w = swapped i (i + 1) w
 
--- w·t_ij for i < j, with fixed letters added where they are needed
+-- w·t_ij for i < j, with fixed letters added if they are needed
 abbrev pub times_swap : ℕ → ℕ → List ℕ → List ℕ
 times_swap i j w = kept (swapped i j (with_fixed j w))
 
@@ -104,11 +105,11 @@ times_swap i j w = kept (swapped i j (with_fixed j w))
 abbrev pub covers_among : List ℕ → List (List ℕ) → List (List ℕ)
 covers_among w vs = filter (λ v. inversions v == inversions w + 1) vs
 
--- the covers w·t_rj of w with j > r, by rising j; the greatest j is the first new place
+-- the covers w·t_rj of w with j > r, by increasing j; the greatest j is the first new place
 abbrev pub covers_up : ℕ → List ℕ → List (List ℕ)
 covers_up r w = covers_among w (map (λ j. times_swap r j w) (after r (max (length w) r + 1 - r)))
 
--- the covers w·t_ir of w with i < r, by rising i
+-- the covers w·t_ir of w with i < r, by increasing i
 abbrev pub covers_down : ℕ → List ℕ → List (List ℕ)
 covers_down r w = covers_among w (map (λ i. times_swap i r w) (after 0 (r - 1)))
 
@@ -120,12 +121,12 @@ pub record IsTransition (w : List ℕ) (r s : ℕ) : Type 0 where
   pub smaller : letter w s < letter w r
   pub last : (j : ℕ) → s < j → letter w r ≤ letter w j
 
--- the place of the last descent; 0 for the identity, which has none
+-- the place of the last descent; 0 for the identity, which has no descent
 abbrev pub last_descent_place : List ℕ → ℕ
 last_descent_place w = unwrap_or (last_descent w) 0
 
--- the order that the transition rule lowers: v has fewer inversions than w; or as many and an
--- earlier last descent; or as many and the same one, with a smaller letter there
+-- the order that the transition rule lowers: v has fewer inversions than w; or equally many and an
+-- earlier last descent; or equally many, the same last descent, and a smaller letter there
 abbrev pub IsLower : List ℕ → List ℕ → Type 0
 IsLower v w =
     (inversions v < inversions w)

@@ -1,5 +1,4 @@
--- Expressions as words: the grammar, as the phrases that it allows,
--- what each one spells and the tree that it stands for.
+-- Expressions as words: the phrases that the grammar allows, the text of each phrase, and its tree.
 use Rattle.std.specs.Prelude.{◌≡◌, ℕ, List, ◌++◌, map, codes}
 use Rattle.sym_model.specs.Expansion.{Basis, monomials, elementaries, completes, power_sums, schurs}
 use Rattle.sym_model.specs.Partition.{without_last_zeros}
@@ -8,13 +7,13 @@ use Rattle.sym_model.specs.NumberWord.{IsNumberWord, AreNumberWords, comma_separ
 use Rattle.sym_model.specs.Expression.{Tree, number, fraction, atom, negation, sum, difference}
 use Rattle.sym_model.specs.Expression.{product}
 
--- what joins two parts of an expression
+-- the operators of an expression
 pub data Operator : Type 0 where
   plus : Operator
   minus : Operator
   times : Operator
 
--- how a part of an expression is put together; numbers stand in it as the digits that are written
+-- the structure of a part of an expression, in which numbers are kept as their digits
 pub data Phrase : Type 0 where
   numeral : List ℕ → Phrase
   ratio : List ℕ → List ℕ → Phrase
@@ -23,7 +22,7 @@ pub data Phrase : Type 0 where
   minus_first : Phrase → Phrase
   operation : Operator → Phrase → Phrase → Phrase
 
--- what the grammar calls EXPR, TERM and FACTOR
+-- the levels EXPR, TERM and FACTOR of the grammar
 pub data Level : Type 0 where
   expression : Level
   term : Level
@@ -37,13 +36,13 @@ Covers term _ = Unit {0}
 Covers factor factor = Unit {0}
 Covers factor _ = ⊥
 
--- the level of what an operator joins, and of what stands before it
+-- the level of the result of an operator, and of its left operand
 abbrev pub level_of : Operator → Level
 level_of plus = expression
 level_of minus = expression
 level_of times = term
 
--- the level of what stands after an operator
+-- the level of the right operand of an operator
 abbrev pub level_after : Operator → Level
 level_after plus = term
 level_after minus = term

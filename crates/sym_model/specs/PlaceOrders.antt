@@ -3,13 +3,13 @@ use Rattle.std.specs.Prelude.{ℕ, zero, suc, ◌+◌, nat_lt, cond, ℤ, pos, n
 use Rattle.std.specs.Prelude.{flat_map}
 use Rattle.sym_model.specs.Partition.{after}
 
--- the lists that come of putting x at some place into a list, one for each place
+-- the lists with x inserted at one place of a list, one for each place
 abbrev pub insertions : ℕ → List ℕ → List (List ℕ)
 insertions x [] = (x ∷ []) ∷ []
 insertions x (y ∷ ys) = (x ∷ y ∷ ys) ∷ map (λ zs. y ∷ zs) (insertions x ys)
 
--- all orders of the entries of a list: the first entry put at each place into each order of the
--- others
+-- all orders of the entries of a list: the first entry inserted at each place into each order of
+-- the others
 abbrev pub orders : List ℕ → List (List ℕ)
 orders [] = [] ∷ []
 orders (x ∷ xs) = flat_map (insertions x) (orders xs)
@@ -18,7 +18,7 @@ orders (x ∷ xs) = flat_map (insertions x) (orders xs)
 abbrev pub places : ℕ → List ℕ
 places n = after 0 n
 
--- how many entries of the list are smaller than a
+-- the number of entries of the list that are smaller than a
 abbrev pub smaller : ℕ → List ℕ → ℕ
 smaller a [] = 0
 smaller a (b ∷ w) = cond (nat_lt b a) 1 0 + smaller a w
@@ -33,6 +33,6 @@ abbrev pub minus_one_to : ℕ → ℤ
 minus_one_to zero = pos 1
 minus_one_to (suc k) = neg_ℤ (minus_one_to k)
 
--- the sign of an order: 1 where its number of inversions is even, -1 where it is odd
+-- the sign of an order: 1 if its number of inversions is even, -1 if it is odd
 abbrev pub sign : List ℕ → ℤ
 sign w = minus_one_to (inversions w)

@@ -23,28 +23,28 @@ replaced n (γ ∷ γs) (a ∷ α) = join (multiplied a γ) (replaced n γs α)
 abbrev pub substitute : ℕ → List (List ℕ) → Poly → Poly
 substitute n γs f = map (λ (t : Term). (replaced n γs t.0, t.1)) f
 
--- the exponent lists of n places with a sum of at most d, in falling lexicographic order
+-- the exponent lists of n places with a sum of at most d, in decreasing lexicographic order
 abbrev pub exponent_lists_within : ℕ → ℕ → List (List ℕ)
 exponent_lists_within zero d = [] ∷ []
 exponent_lists_within (suc n) d =
     flat_map (λ a. map (λ α. a ∷ α) (exponent_lists_within n (d - a))) (down_from d)
 
--- the exponent lists of a polynomial in n variables of degree at most d with no negative
--- coefficient, in falling lexicographic order, each as often as its coefficient says
+-- the exponent lists of a polynomial in n variables, of degree at most d and without negative
+-- coefficients, in decreasing lexicographic order, each repeated as often as its coefficient says
 abbrev pub repeated_monomials : ℕ → ℕ → Poly → List (List ℕ)
 repeated_monomials d n g =
     flat_map (λ α. replicate (nat_abs (coefficient g α)) α) (exponent_lists_within n d)
 
--- f[g]: f in as many variables as g has repeated monomials, each replaced by one of them; g is in n
--- variables and of degree at most d
+-- f[g]: f in as many variables as g has repeated monomials, each variable replaced by one of them;
+-- g is in n variables and of degree at most d
 abbrev pub plethysm : (ℕ → Poly) → ℕ → ℕ → Poly → Poly
 plethysm f d n g =
     let γs = repeated_monomials d n g in
     substitute n γs (f (length γs))
 
--- the weight of a plethysm, which bounds every number that is met: N·D·(a+1)·(K·(b+1))^a·C with C
--- the greater of B(a)·(ab)! and B(ab), where N and D bound the outer list, of degree a, and K and 1
--- the inner one, of degree b
+-- the weight of a plethysm, which bounds every number that the computation meets:
+-- N·D·(a+1)·(K·(b+1))^a·C, with C the greater of B(a)·(ab)! and B(ab); N and D bound the outer
+-- list, of degree a, and K bounds the inner one, of degree b
 abbrev pub plethysm_weight : ℕ → ℕ → ℕ → ℕ → ℕ → ℕ
 plethysm_weight N D a K b =
     N * D * (a + 1) * (K * (b + 1)) ^ a

@@ -1,5 +1,5 @@
--- Polynomials with whole coefficients, as formal sums. A polynomial is what its coefficients are:
--- two formal sums are the same polynomial where all coefficients agree.
+-- Polynomials with whole coefficients, as formal sums. A polynomial is determined by its
+-- coefficients: two formal sums are the same polynomial if all coefficients agree.
 use Rattle.std.specs.Prelude.{◌≡◌, ℕ, zero, suc, ◌+◌, ◌==◌, Bool, true, false, ◌&&◌, cond, ℤ, pos}
 use Rattle.std.specs.Prelude.{neg_ℤ, ◌*ℤ◌, List, [], ◌∷◌, ◌++◌, map, length, replicate, filter}
 use Rattle.std.specs.Prelude.{flat_map}
@@ -82,7 +82,7 @@ abbrev pub all_zero : List ℕ → Bool
 all_zero [] = true
 all_zero (a ∷ α) = (a == 0) && all_zero α
 
--- whether no exponent past place n is positive
+-- whether no exponent after place n is positive
 abbrev pub fits_in : ℕ → List ℕ → Bool
 fits_in zero α = all_zero α
 fits_in (suc n) [] = true

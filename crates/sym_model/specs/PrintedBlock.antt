@@ -18,12 +18,12 @@ abbrev pub lines_by : {Label : Type 0} → LabelRules Label → Terms Label → 
 lines_by rules [] = []
 lines_by rules (t ∷ terms) = line_by rules t ++ lines_by rules terms
 
--- the printed block of a list of terms: a line for each, and the line 0 where there is none
+-- the printed block of a list of terms: a line for each term, or the line 0 if there is no term
 abbrev pub block_by : {Label : Type 0} → LabelRules Label → Terms Label → List ℕ
 block_by rules [] = codes "0\n"
 block_by rules (t ∷ terms) = lines_by rules (t ∷ terms)
 
--- the term that is spelled by a coefficient and the text after it; none where the coefficient is 0
+-- the term that a coefficient and the text after it spell; no term if the coefficient is 0
 abbrev pub term_of_parts : {Label : Type 0} → LabelRules Label → Fraction → List ℕ → Terms Label
 term_of_parts rules c text = cond (nat_lt 0 (nat_abs c.0)) ((rules.spelled text, c) ∷ []) []
 
@@ -41,16 +41,16 @@ terms_of_lines rules (line ∷ lines) =
 abbrev pub terms_of : {Label : Type 0} → LabelRules Label → List ℕ → Terms Label
 terms_of rules text = terms_of_lines rules (split_at 10 text)
 
--- the list of terms, where it is canonical with numbers of 128 bits and the text is its block;
--- otherwise nothing
+-- the list of terms, if it is canonical with numbers of 128 bits and the text is its block;
+-- otherwise the empty list
 abbrev pub accepted : {Label : Type 0} → LabelRules Label → List ℕ → Terms Label
     → Option (Terms Label)
 accepted rules text terms =
     cond (is_canonical_by rules terms && is_printable terms && same (block_by rules terms) text)
     (Some terms) None
 
--- a text read back: the canonical list, with numbers of 128 bits, whose block it is;
--- nothing where there is none
+-- a text read back: the canonical list with numbers of 128 bits whose block it is; nothing if there
+-- is no such list
 abbrev pub read_by : {Label : Type 0} → LabelRules Label → List ℕ → Option (Terms Label)
 read_by rules text = accepted rules text (terms_of rules text)
 

@@ -7,7 +7,7 @@ use Rattle.sym_model.specs.OneLine.{one_line, read_one_line}
 use Rattle.sym_model.specs.Answer.{Answer, answer}
 use Rattle.sym_model.specs.Command.{Command, mult, skew, expand}
 
--- how an answer is printed: as a block, or on one line with the atoms of a basis
+-- the form of a printed answer: a block, or one line with the atoms of a basis
 pub data PrintedForm : Type 0 where
   as_block : PrintedForm
   as_line : Basis → PrintedForm
@@ -19,7 +19,7 @@ printed_form (skew variables one_line outer inner) = cond one_line (as_line schu
 printed_form (expand target one_line e) = cond one_line (as_line target) as_block
 printed_form _ = as_block
 
--- the text of a list of terms in a form; lists of other labels than partitions stand in a block
+-- the text of a list of terms in a form; lists with labels other than partitions are always blocks
 abbrev pub text_in : PrintedForm → (kind : Kind) → Terms (Label kind) → List ℕ
 text_in (as_line basis) expansion terms = one_line basis terms
 text_in (as_line basis) product terms = one_line basis terms

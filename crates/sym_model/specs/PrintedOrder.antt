@@ -1,4 +1,4 @@
--- The orders in which the lines of an answer stand, by their labels.
+-- The orders in which the lines of an answer are printed, by their labels.
 use Rattle.std.specs.Prelude.{ℕ, ◌+◌, List, [], ◌∷◌}
 use Rattle.std.specs.Ordering.{nat_cmp, ordering_then}
 use Rattle.std.specs.declared.cmp.Ordering.{Ordering}
@@ -6,8 +6,8 @@ use Rattle.std.specs.declared.cmp.Ordering.TheVariants.{Equal}
 use Rattle.sym_model.specs.Partition.{size}
 use Rattle.sym_model.specs.PlaceOrders.{inversions}
 
--- falling lexicographic order, a missing number being 0:
--- the list with the first greater number stands first
+-- decreasing lexicographic order, a missing number being 0: the list with the first greater number
+-- comes first
 abbrev pub falling_lexicographic : List ℕ → List ℕ → Ordering
 falling_lexicographic [] [] = Equal
 falling_lexicographic [] (b ∷ bs) = ordering_then (nat_cmp b 0) (falling_lexicographic [] bs)
@@ -15,8 +15,8 @@ falling_lexicographic (a ∷ as') [] = ordering_then (nat_cmp 0 a) (falling_lexi
 falling_lexicographic (a ∷ as') (b ∷ bs) =
     ordering_then (nat_cmp b a) (falling_lexicographic as' bs)
 
--- the printed order of partitions: the greater size first, then falling lexicographic order.
--- It is that of monomials by their exponents too, where the size is the degree.
+-- the printed order of partitions: the greater size first, then decreasing lexicographic order. It
+-- is also the order of monomials by their exponents, whose size is the degree.
 abbrev pub printed_order : List ℕ → List ℕ → Ordering
 printed_order first second =
     ordering_then (nat_cmp (size second) (size first)) (falling_lexicographic first second)
@@ -30,16 +30,16 @@ pair_order first second =
 abbrev pub power_order : ℕ × List ℕ → ℕ × List ℕ → Ordering
 power_order first second = ordering_then (nat_cmp first.0 second.0) (printed_order first.1 second.1)
 
--- rising lexicographic order of the letters of two permutations from the place after i on, letters
--- past the end being fixed
+-- increasing lexicographic order of the letters of two permutations after place i; letters after
+-- the end are fixed
 abbrev pub rising_letters : ℕ → List ℕ → List ℕ → Ordering
 rising_letters i [] [] = Equal
 rising_letters i [] (b ∷ bs) = ordering_then (nat_cmp (i + 1) b) (rising_letters (i + 1) [] bs)
 rising_letters i (a ∷ as') [] = ordering_then (nat_cmp a (i + 1)) (rising_letters (i + 1) as' [])
 rising_letters i (a ∷ as') (b ∷ bs) = ordering_then (nat_cmp a b) (rising_letters (i + 1) as' bs)
 
--- the printed order of permutations: fewer inversions first,
--- then rising lexicographic order of the letters
+-- the printed order of permutations: fewer inversions first, then increasing lexicographic order of
+-- the letters
 abbrev pub permutation_order : List ℕ → List ℕ → Ordering
 permutation_order first second =
     ordering_then (nat_cmp (inversions first) (inversions second)) (rising_letters 0 first second)

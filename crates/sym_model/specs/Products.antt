@@ -1,5 +1,5 @@
--- What it means that a list is a product, a skew polynomial or a coproduct in Schur polynomials,
--- or a product of Schubert polynomials; and the classical list of a product in k variables.
+-- Lists that are products, skew polynomials and coproducts in Schur polynomials,
+-- and products of Schubert polynomials; and the classical list of a product in k variables.
 use Rattle.std.specs.Prelude.{◌≡◌, ℕ, ◌+◌, ◌≤◌, nat_le, nat_lt, nat_abs, ℤ, List, [], ◌∷◌}
 use Rattle.std.specs.Prelude.{map, Option, Some, None, filter}
 use Rattle.sym_model.specs.Sum.{Among}

@@ -3,7 +3,7 @@ use Rattle.std.specs.Prelude.{ℕ, ◌+◌, ◌==◌, cond, List, [], ◌∷◌}
 use Rattle.sym_model.specs.Partition.{insert_part}
 use Rattle.sym_model.specs.Bases.{has}
 
--- the list without the first place at which k stands
+-- the list without the first occurrence of k
 abbrev pub without_one : ℕ → List ℕ → List ℕ
 without_one k [] = []
 without_one k (a ∷ numbers) = cond (a == k) numbers (a ∷ without_one k numbers)

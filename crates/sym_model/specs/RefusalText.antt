@@ -1,9 +1,9 @@
--- The lines of refusals: what the words offend by and where, and the answer that is too large.
+-- The lines of refusals: the error of the words and its place, or an answer that is too large.
 use Rattle.std.specs.Prelude.{ℕ, List, ◌++◌, codes, decimal}
 use Rattle.sym_model.specs.ExpressionOffence.{OffenceKind, literal, range, shape}
 use Rattle.sym_model.specs.CommandOffence.{Offence}
 
--- the name of a kind of offence
+-- the name of a kind of error
 abbrev pub offence_name : OffenceKind → List ℕ
 offence_name literal = codes "Literal"
 offence_name range = codes "Range"
@@ -15,7 +15,7 @@ refusal_line name word byte =
     codes "! " ++ (name ++ (codes " "
     ++ (decimal word ++ (codes ":" ++ (decimal byte ++ codes "\n")))))
 
--- the line of an offence
+-- the line of an error
 abbrev pub offence_line : Offence → List ℕ
 offence_line offence = refusal_line (offence_name offence.2) offence.0 offence.1
 

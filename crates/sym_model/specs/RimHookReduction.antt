@@ -16,10 +16,10 @@ pub record IsRemoval (n : ℕ) (shape left : List ℕ) : Type 0 where
 abbrev pub HasNoRemoval : ℕ → List ℕ → Type 0
 HasNoRemoval n shape = (left : List ℕ) → IsRemoval n shape left → ⊥
 
--- a shape with at most k rows goes to end with a sign and a power. Where nothing can be removed
--- from shape, it goes to itself with the sign 1 and the power 0. Where removing a rim hook of
--- height h leaves a partition that goes to end with the sign t and the power p, shape goes to end
--- with the sign (-1)^(k - h)·t and the power p + 1.
+-- a shape with at most k rows goes to `end` with a sign and a power. If nothing can be removed from
+-- the shape, it goes to itself with the sign 1 and the power 0. If removing a rim hook of height h
+-- leaves a partition that goes to `end` with the sign t and the power p, then the shape goes to
+-- `end` with the sign (-1)^(k - h)·t and the power p + 1.
 abbrev pub GoesTo : ℕ → ℕ → List ℕ → List ℕ → ℤ → ℕ → Type 0
 GoesTo k n shape end sign zero =
     (rows shape ≤ k) × HasNoRemoval n shape × (shape ≡ end) × (sign ≡ pos 1)
@@ -28,8 +28,8 @@ GoesTo k n shape end sign (suc power) =
     × GoesTo k n left end t power
     × (sign ≡ minus_one_to (k - height shape left) *ℤ t)
 
--- a shape with at most k rows reduces to the answer: an end with its sign and power; nothing where
--- an end has more than n - k columns
+-- a shape with at most k rows reduces to an end with its sign and power, or to nothing if an end
+-- has more than n - k columns
 abbrev pub ReducesTo : ℕ → ℕ → List ℕ → Option (List ℕ × ℤ × ℕ) → Type 0
 ReducesTo k n shape None =
     (end : List ℕ) × (sign : ℤ) × (power : ℕ) × GoesTo k n shape end sign power

@@ -7,15 +7,14 @@ use Rattle.sym_model.specs.BetaList.{rising_pairs}
 use Rattle.sym_model.specs.Permutation.{first_ascent, exchanged}
 use Rattle.sym_model.specs.DividedDifference.{x_to, divided_difference}
 
--- the polynomial that divided differences make of g, the polynomial of the list without an ascent:
--- for a list w with an ascent it is ∂_i of that of w·s_i, where i is the first ascent;
--- at most `fuel` steps are taken
+-- the polynomial of a list w, given the polynomial g of the list without an ascent: if i is the
+-- first ascent of w, it is ∂_i of the polynomial of w·s_i; at most `fuel` steps are taken
 abbrev pub descended : Poly → ℕ → List ℕ → Poly
 descended g zero w = g
 descended g (suc fuel) w =
     option_map_or (λ i. divided_difference i (descended g fuel (exchanged i w))) (first_ascent w) g
 
--- the same with all its steps: each takes away one pair of letters in rising order
+-- the same with enough steps: each step removes one pair of letters in increasing order
 abbrev pub schubert_over : Poly → List ℕ → Poly
 schubert_over g w = descended g (rising_pairs w) w
 

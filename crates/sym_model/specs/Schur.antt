@@ -10,7 +10,7 @@ abbrev pub words : ℕ → ℕ → List (List ℕ)
 words n zero = [] ∷ []
 words n (suc k) = flat_map (λ a. map (λ w. a ∷ w) (words n k)) (after 0 n)
 
--- how many cells each row of outer/inner has
+-- the number of cells in each row of outer/inner
 abbrev pub row_lengths : List ℕ → List ℕ → List ℕ
 row_lengths [] inner = []
 row_lengths (a ∷ outer) [] = a ∷ row_lengths outer []
@@ -57,7 +57,7 @@ tableaux n outer inner =
     cond (contains outer inner) (filter (semistandard inner)
     (fillings_of n (row_lengths outer inner))) []
 
--- how often k stands in the word
+-- the number of times that k occurs in the word
 abbrev pub times_in : ℕ → List ℕ → ℕ
 times_in k [] = 0
 times_in k (a ∷ w) = cond (a == k) 1 0 + times_in k w
@@ -66,12 +66,12 @@ times_in k (a ∷ w) = cond (a == k) 1 0 + times_in k w
 abbrev pub letters_of : List (List ℕ) → List ℕ
 letters_of filling = flat_map (λ row. row) filling
 
--- the content of a word in letters from 1 to n: how often each of them stands in it
+-- the content of a word in letters from 1 to n: the number of times that each of them occurs in it
 abbrev pub content : ℕ → List ℕ → List ℕ
 content n w = map (λ k. times_in k w) (after 0 n)
 
--- s_{outer/inner} in n variables: the sum of x^content over the semistandard tableaux (Fulton);
--- 0 where inner does not lie inside outer
+-- s_{outer/inner} in n variables: the sum of x^content over the semistandard tableaux (Fulton); 0
+-- if inner is not contained in outer
 abbrev pub skew_schur : List ℕ → List ℕ → ℕ → Poly
 skew_schur outer inner n =
     map (λ filling. (content n (letters_of filling), pos 1)) (tableaux n outer inner)

@@ -13,15 +13,16 @@ moves_up right [] = false
 moves_up [] (b ∷ lower) = true
 moves_up (a ∷ right) (b ∷ lower) = nat_le b a
 
--- how many letters of the row move left before the letter below moves up or no letter is left
+-- the number of letters of the row that move left before the letter below moves up or no letter is
+-- left
 abbrev pub moves_left : List ℕ → List ℕ → ℕ
 moves_left [] lower = 0
 moves_left (a ∷ right) lower =
     cond (moves_up (a ∷ right) lower) 0 (suc (moves_left right (drop 1 lower)))
 
--- the rows from that of the empty cell on after the slide: `left` and `right` are the letters left
--- and right of the empty cell in its row, `below` the rows below it,
--- and inner the inner parts of all these rows
+-- the rows after the slide, from the row of the empty cell on: `left` and `right` are the letters
+-- left and right of the empty cell in its row, `below` the rows below it, and `inner` the inner
+-- parts of all these rows
 abbrev pub slid_rows : List ℕ → List ℕ → List ℕ → List (List ℕ) → List (List ℕ)
 slid_rows inner left right [] = (left ++ right) ∷ []
 slid_rows inner left right (row ∷ below) =

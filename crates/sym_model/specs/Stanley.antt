@@ -9,7 +9,7 @@ use Rattle.sym_model.specs.Schubert.{schubert_in}
 abbrev pub behind : ℕ → List ℕ → List ℕ
 behind m w = after 0 m ++ map (λ a. a + m) w
 
--- the Stanley polynomial of w in m variables: the Schubert polynomial of 1^m × w,
--- in these variables alone
+-- the Stanley polynomial of w in m variables: the Schubert polynomial of 1^m × w in the first m
+-- variables only
 abbrev pub stanley_in : List ℕ → ℕ → Poly
 stanley_in w m = schubert_in (behind m w) m

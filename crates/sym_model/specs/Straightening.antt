@@ -5,12 +5,12 @@ use Rattle.sym_model.specs.Polynomial.{join}
 use Rattle.sym_model.specs.Alternant.{staircase}
 use Rattle.sym_model.specs.BetaList.{from_beta, has_equal_entries, sorted_falling, sorting_sign}
 
--- α + ρ, in as many places as α has
+-- α + ρ, in the same number of places as α
 abbrev pub shifted : List ℕ → List ℕ
 shifted α = join α (staircase (length α))
 
--- 0 (None) where α + ρ has two equal entries; otherwise the sign of sorting α + ρ, and the
--- partition sorted(α + ρ) - ρ
+-- None if α + ρ has two equal entries, as s_α is then 0; otherwise the sign of sorting α + ρ, and
+-- the partition sorted(α + ρ) - ρ
 abbrev pub straightened : List ℕ → Option (ℤ × List ℕ)
 straightened α =
     cond (has_equal_entries (shifted α)) None

@@ -48,7 +48,7 @@ pub record IsRimHook (outer inner : List ℕ) : Type 0 where
   pub connected : IsConnected outer inner
   pub thin : HasNoSquare outer inner
 
--- the height of a rim hook: how many rows have cells of outer/inner
+-- the height of a rim hook: the number of rows that have cells of outer/inner
 abbrev pub height : List ℕ → List ℕ → ℕ
 height outer inner =
     length (filter (λ row. nat_lt (part inner row) (part outer row)) (after 0 (rows outer)))

@@ -16,7 +16,7 @@ abbrev pub Among : {A : Type 0} → A → List A → Type 0
 Among x [] = ⊥
 Among x (y ∷ ys) = (x ≡ y) ⊎ Among x ys
 
--- no element stands twice in the list
+-- no element occurs twice in the list
 abbrev pub Once : {A : Type 0} → List A → Type 0
 Once [] = Unit {0}
 Once (x ∷ xs) = (Among x xs → ⊥) × Once xs

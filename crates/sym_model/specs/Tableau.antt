@@ -23,7 +23,7 @@ pub record IsTableau (outer inner : List ℕ) (rows : List (List ℕ)) : Type 0 
   pub letters : are_letters (letters_of rows) ≡ true
   pub order : semistandard inner rows ≡ true
 
--- the shape of a straight filling: how many letters each row has
+-- the shape of a straight filling: the number of letters of each row
 abbrev pub shape_of : List (List ℕ) → List ℕ
 shape_of rows = map length rows
 

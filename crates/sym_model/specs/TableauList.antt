@@ -7,20 +7,21 @@ use Rattle.sym_model.specs.Schur.{words, tableaux, content, row_lengths}
 use Rattle.sym_model.specs.GoodTableau.{column_reading, is_among, lattice_readings}
 
 -- the column readings of the semistandard tableaux of outer/inner with entries from 1 to n, in
--- rising lexicographic order: the words with letters from 1 to n that are the column reading of
+-- increasing lexicographic order: the words with letters from 1 to n that are the column reading of
 -- such a tableau
 abbrev pub tableau_readings : ℕ → List ℕ → List ℕ → List (List ℕ)
 tableau_readings n outer inner =
     let readings = map (column_reading outer inner) (tableaux n outer inner) in
     filter (λ w. is_among w readings) (words n (length (cells outer inner)))
 
--- those among them of the tableaux with this content, in as many letters as the content has numbers
+-- the column readings of the semistandard tableaux with this content, with entries up to the length
+-- of the content
 abbrev pub readings_with_content : List ℕ → List ℕ → List ℕ → List (List ℕ)
 readings_with_content counts outer inner =
     filter (λ w. same (content (length counts) w) counts)
     (tableau_readings (length counts) outer inner)
 
--- the lists that come after w in a list of lists; none where w is not among them
+-- the lists after w in a list of lists; none if w is not among them
 abbrev pub later_than : List ℕ → List (List ℕ) → List (List ℕ)
 later_than w [] = []
 later_than w (v ∷ vs) = cond (same w v) vs (later_than w vs)
@@ -35,8 +36,8 @@ column_cells outer inner j =
 abbrev pub reading_cells : List ℕ → List ℕ → List (ℕ × ℕ)
 reading_cells outer inner = flat_map (column_cells outer inner) (reverse (after 0 (columns outer)))
 
--- the letter that the cell (row, column) gets where the letters of a word are put into these cells
--- one by one
+-- the letter of the cell (row, column), if the letters of a word are written into these cells one
+-- by one
 abbrev pub letter_of_cell : ℕ → ℕ → List (ℕ × ℕ) → List ℕ → ℕ
 letter_of_cell row column [] w = 0
 letter_of_cell row column (c ∷ cells) [] = 0

@@ -15,12 +15,12 @@ separated separator (piece ∷ next ∷ pieces) =
 abbrev pub spaced : List ℕ → List ℕ
 spaced numbers = separated (codes " ") (map decimal numbers)
 
--- a row of a tableau: its entries, or a point where it has no cells
+-- a row of a tableau: its entries, or a point if it has no cells
 abbrev pub row_text : List ℕ → List ℕ
 row_text [] = codes "."
 row_text (a ∷ row) = spaced (a ∷ row)
 
--- a tableau: its rows from top to bottom, or a point where it has none
+-- a tableau: its rows from top to bottom, or a point if it has no rows
 abbrev pub tableau_text : List (List ℕ) → List ℕ
 tableau_text [] = codes "."
 tableau_text (row ∷ rows) = separated (codes " / ") (map row_text (row ∷ rows))
@@ -37,8 +37,8 @@ pair_text p q = (codes "P " ++ tableau_line p) ++ (codes "Q " ++ tableau_line q)
 abbrev pub word_line : List ℕ → List ℕ
 word_line w = spaced w ++ codes "\n"
 
--- the lines of the tableaux of outer/inner with these column readings,
--- and the line 0 where there is none
+-- the lines of the tableaux of outer/inner with these column readings, or the line 0 if there are
+-- none
 abbrev pub readings_text : List ℕ → List ℕ → List (List ℕ) → List ℕ
 readings_text outer inner [] = codes "0\n"
 readings_text outer inner (w ∷ readings) =

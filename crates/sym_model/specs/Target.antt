@@ -1,4 +1,4 @@
--- What the answer to each command must be, by the polynomials that the command names.
+-- The answer to each command, by the polynomials that the command names.
 use Rattle.std.specs.Prelude.{ℕ, ◌+◌, Some}
 use Rattle.sym_model.specs.Schur.{skew_schur}
 use Rattle.sym_model.specs.Stanley.{stanley_in}

@@ -23,7 +23,7 @@ abbrev pub factorial : ℕ → ℕ
 factorial zero = 1
 factorial (suc d) = suc d * factorial d
 
--- B, how much a conversion into the target can raise the coefficients of a list of degree d:
+-- B, the factor by which a conversion into the target can raise the coefficients of a list of degree d:
 -- 1 at degree 0, d^d into m and s, d!·(2d)^d into p, h and e
 abbrev pub growth : Basis → ℕ → ℕ
 growth target zero = 1

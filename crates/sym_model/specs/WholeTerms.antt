@@ -1,4 +1,4 @@
--- Lists of terms with whole coefficients, and the polynomial that such a list stands for.
+-- Lists of terms with whole coefficients, and the polynomial of such a list.
 use Rattle.std.specs.Prelude.{◌≡◌, ℕ, ◌+◌, ℤ, pos, ◌≤ℤ◌, nat_abs, ◌==◌, Bool, ◌&&◌, cond, List, [], ◌∷◌}
 use Rattle.std.specs.Prelude.{map, flat_map}
 use Rattle.sym_model.specs.Sum.{total, Among}
@@ -9,13 +9,13 @@ use Rattle.sym_model.specs.Expansion.{Terms, Fraction}
 abbrev pub WholeTermsOf : Type 0 → Type 0
 WholeTermsOf Label = List (Label × ℤ)
 
--- the same with partitions as labels. `coefficient terms label` is what all terms of a label come
--- to, and two lists are
--- `Same` where they differ by collecting, by zeros and by order only.
+-- the same with partitions as labels. `coefficient terms label` is the sum of the coefficients of a
+-- label; two lists are `Same` if these sums agree at every label, so collecting, zeros and order
+-- make no difference.
 abbrev pub WholeTerms : Type 0
 WholeTerms = WholeTermsOf (List ℕ)
 
--- what all terms of a label come to, by a test of labels that are the same
+-- the sum of the coefficients of a label, by a test of whether two labels are the same
 abbrev pub coefficient_by : {Label : Type 0} → (Label → Label → Bool) → WholeTermsOf Label → Label
     → ℤ
 coefficient_by {Label = Label} test terms label =

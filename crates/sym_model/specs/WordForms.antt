@@ -39,7 +39,7 @@ rows_words = sequence (the (codes "-r")) (word number)
 abbrev pub form_words : Form
 form_words = the (codes "-m")
 
--- what stands between two factors, and the factor after it: '-' PART
+-- a separator and the factor after it: '-' PART
 abbrev pub next_words : Form
 next_words = sequence (the (codes "-")) partition_words
 
@@ -67,7 +67,7 @@ numbers digits = map decimal_value digits
 abbrev pub partition : List (List ℕ) → List ℕ
 partition digits = without_last_zeros (numbers digits)
 
--- the numbers of each factor as they are written
+-- the written numbers of each factor
 abbrev pub factor_numbers : Written factors_words → List (List ℕ)
 factor_numbers (first, (second, others)) =
     numbers first ∷ numbers second.1 ∷ map (λ (next : Written next_words). numbers next.1) others
@@ -81,16 +81,16 @@ abbrev pub is_one_line : Written (optional form_words) → Bool
 is_one_line (inl x) = false
 is_one_line (inr x) = true
 
--- the letters of a permutation as they are written
+-- the written letters of a permutation
 abbrev pub letters : Written permutation_words → List ℕ
 letters x = numbers (x.0 ∷ x.1)
 
--- the number of rows, where it is there
+-- the number of rows, if it is given
 abbrev pub row_limit : Written (optional rows_words) → Option ℕ
 row_limit (inl x) = None
 row_limit (inr x) = Some (decimal_value x.1)
 
--- the offences of a number of rows
+-- the errors of a number of rows
 abbrev pub row_limit_offences : ℕ → Written (optional rows_words) → List Offence
 row_limit_offences k (inl x) = []
 row_limit_offences k (inr x) = offences_by rows_rule (k + 1) (decimal_value x.1 ∷ [])
@@ -126,8 +126,8 @@ tableau_of (n ∷ []) = row_of n
 tableau_of (n ∷ m ∷ lengths) =
     sequence (row_of n) (sequence (the (codes "/")) (tableau_of (m ∷ lengths)))
 
--- the words of a tableau that stands last, from the word k on: the first at which they cannot go on
--- to rows of these lengths, or the number of all words where they end too early
+-- the errors of the words of a last tableau, from word k on: the first word at which they cannot go
+-- on to rows of these lengths, or the number of all words if they end too early
 abbrev pub shape_offences : ℕ → List ℕ → List (List ℕ) → List Offence
 shape_offences k lengths words =
     cond

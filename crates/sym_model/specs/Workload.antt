@@ -52,7 +52,7 @@ words_drawn kind x =
     codes "expand" ∷ codes "p" ∷ (codes "m[" ++ (numbers_text (partition_drawn 3 x) ++ codes "]"))
     ∷ []
 
--- how many draws a line of that kind makes after the first one
+-- the number of draws that a line of that kind makes after the first one
 abbrev pub draws_of : ℕ → ℕ
 draws_of zero = 6
 draws_of (suc zero) = 6
@@ -77,11 +77,11 @@ abbrev pub work_lines : ℕ → ℕ → List (List ℕ)
 work_lines zero x = []
 work_lines (suc n) x = work_line x ∷ work_lines n (after_line x)
 
--- how many terms a block has: one a line, and none in the line 0
+-- the number of terms of a block: one a line; the line 0 has none
 abbrev pub terms_in : List ℕ → ℕ
 terms_in block = cond (same block (codes "0\n")) 0 (times_in 10 block)
 
--- the summary of the blocks of the lines: how many lines, terms and bytes there are
+-- the summary of the blocks of the lines: the numbers of lines, terms and bytes
 abbrev pub summary_text : List (List ℕ) → List ℕ
 summary_text blocks =
     codes "lines "

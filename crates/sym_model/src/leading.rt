@@ -9,7 +9,7 @@ ghost use Rattle.sym_model.specs.Leading.{Above, Leads};
 /// In n variables a polynomial whose greatest monomial, in the lexicographic order of exponent
 /// lists, has the coefficient 1 or -1 is no zero divisor, and cancels from products. The greatest
 /// monomial of a product of two such polynomials is the product of theirs. A polynomial whose
-/// first term has the coefficient 1 or -1 and stands above all its other terms is led by it.
+/// first term has the coefficient 1 or -1 and is above all its other terms is led by it.
 ///
 /// Example: x₁ - x₂ leads with x₁, so from (x₁ - x₂)·g = (x₁ - x₂)·h follows g = h.
 pub fn leading_cancel_law()

@@ -5,7 +5,7 @@ ghost use Rattle.sym_model.specs.Sum.{Among, Once};
 ghost use Rattle.sym_model.specs.Partition.{IsPartition, size};
 ghost use Rattle.sym_model.specs.PartitionList.{partitions_of, FallsLexicographically};
 
-/// The list of the partitions of d has exactly these, each once, in falling lexicographic order.
+/// The list of the partitions of d has exactly these, each once, in decreasing lexicographic order.
 pub fn partitions_of_law()
     ensures exactly { (d : ℕ) (parts : List ℕ) → Among parts (partitions_of d)
         ↔ (IsPartition parts × (size parts ≡ d)) }

@@ -1,15 +1,15 @@
-//! Tableaux one at a time, by their column readings: the good ones, and all or those of one
-//! content; and whether rows of numbers are a lattice tableau.
+//! Tableaux one at a time, by their column readings: the good ones, and all semistandard ones or
+//! those of one content; and a test of whether rows of numbers are a lattice tableau.
 //!
 //! What is proved:
 //!
 //! `Lattice` lists the good tableaux of a skew shape for a start, by their column readings in
-//! increasing lexicographic order, each once, with their contents: all, or those after a given one;
-//! it is refused as not in the list only where it is not, and answers only where it is. `Fillings`
-//! lists all semistandard tableaux with entries up to a number, or those of one content. A step
-//! works in place and takes no memory. `lattice_reading`: whether rows of numbers are a lattice
-//! tableau of a shape over another, and then its column reading; the rows are tested, and nothing
-//! is listed. `reading_of_rows`: the column reading of rows. They fail for out of memory alone.
+//! increasing lexicographic order, each once, with their contents: all of them, or those after a
+//! given tableau; `NotListed` is returned if and only if that tableau is not in the list.
+//! `Fillings` lists all semistandard tableaux with entries up to a number, or those of one content.
+//! A step works in place and takes no memory. `lattice_reading` tests whether rows of numbers are a
+//! lattice tableau of a skew shape, without listing any, and returns its column reading.
+//! `reading_of_rows` returns the column reading of rows. The last two fail only if memory runs out.
 #![tactic(auto)]
 
 mod board;

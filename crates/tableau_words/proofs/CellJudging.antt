@@ -150,7 +150,7 @@ no_record_there cells earlier upper ns i a h =
 
 -- ---- one number after another
 
--- the offences from a place on
+-- the errors from a place on
 abbrev pub from_place : Rule → ℕ → List ℕ → ℕ → Option Offence
 from_place rule at ns i = first_offence (offences_after rule (before_of ns i) (at + i) (drop i ns))
 

@@ -1,4 +1,4 @@
--- The first offence of two tableaux that are a pair.
+-- The first error of two tableaux that are a pair.
 use Rattle.std.proofs.Common.{◌≡◌, ℕ, ◌+◌, ◌<◌, ◌≤◌, ◌==◌, min, Bool, true, false, cond, List, [], ◌∷◌, ◌++◌, map, length, refl, sym, ap, ◌∙◌, subst, arith, Option, Some, None, Result, ◌⊎◌, inl, inr}
 use Rattle.std.proofs.lemmas.List.{length-map, append-nil}
 use Rattle.sym_model.specs.Sum.{Among}
@@ -40,7 +40,7 @@ use Rattle.word_laws.proofs.NoOffences.{none_append, none_next, none_judged, not
 use Rattle.tableau_words.proofs.WrittenTableaux.{rows_placed, rows_entered}
 use Rattle.tableau_words.proofs.CutTableaux.{rows_spelled}
 
--- ---- where offences of rows stand
+-- ---- where errors of rows stand
 
 abbrev pub After : ℕ → List Offence → Type 0
 After k os = (p : Offence) → Among p os → k ≤ p.0
@@ -125,7 +125,7 @@ first_before k ws o h =
     (inserted_before 0 None [] k ws) (empty_rows_before k ws) o
     (first-among (inserted 0 None [] (rows_at k ws) ++ empty_row_offences (rows_at k ws)) o (sym (inserted_first (rows_at k ws)) ∙ h))
 
--- ---- the first offence of a pair
+-- ---- the first error of a pair
 
 pub earlier_word : (o : Offence) (rest : Option Offence) → ((q : Offence) → rest ≡ Some q → o.0 < q.0) → earlier (Some o) rest ≡ Some o
 earlier_word o None h = refl

@@ -28,7 +28,7 @@ rows_next f (y ∷ xs) (suc i) x h e =
 pub no_rows : {A : Type 0} (f : A → Words) (xs : List A) (i : ℕ) → length xs ≤ i → drop i (map f xs) ≡ []
 no_rows f xs i h = let k = length-map xs f in drop_of_length-le (map f xs) (omega (arith, h, k))
 
--- an offence that was found in a row, or what the later rows have
+-- an error that was found in a row, or what the later rows have
 abbrev pub found_next : Option Found → Option Offence → Option Offence
 found_next None rest = rest
 found_next (Some f) rest = Some (offence_of f)

@@ -1,4 +1,4 @@
--- The first offence of two shapes and a tableau.
+-- The first error of two shapes and a tableau.
 use Rattle.std.proofs.Common.{◌≡◌, ℕ, zero, suc, ◌+◌, ◌-◌, ◌<◌, ◌||◌, nat_lt, ◌⊎◌, inl, inr, List, [], ◌∷◌, ◌++◌, map, length, drop, refl, sym, ap, ◌∙◌, subst, arith, Some, None, Result}
 use Rattle.std.proofs.lemmas.List.{length-map, append-nil}
 use Rattle.sym_model.specs.Sum.{Among}
@@ -120,7 +120,7 @@ before_both k xs ys p a b m = by (Among_from_append p xs ys m)
     by (inl h) = a h
     by (inr h) = b h
 
--- the offences of the inner shape, where the outer one has none
+-- the errors of the inner shape, where the outer one has none
 abbrev pub inner_alone : ℕ → List ℕ → Words → List Offence
 inner_alone k parts inner = part_offences k (numbers inner) ++ offences_by (inside_rule parts) k (numbers inner)
 

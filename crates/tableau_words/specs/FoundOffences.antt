@@ -1,4 +1,4 @@
--- Offences that were found, and how the numbers of a row are judged where they stand (this
+-- Errors that were found, and how the numbers of a row are judged where they stand (this
 -- project's own).
 use Rattle.std.specs.Prelude.{ℕ, ◌+◌, ◌-◌, ◌==◌, nat_lt, min, Bool, ◌||◌, cond, List, [], ◌∷◌, ◌++◌}
 use Rattle.std.specs.Prelude.{take, slice_get, Option, Some, None}
@@ -16,11 +16,11 @@ kind_of Literal = literal
 kind_of Range = range
 kind_of Shape = shape
 
--- the offence
+-- the error
 abbrev pub offence_of : Found → Offence
 offence_of f = (f.word, 0, kind_of f.kind)
 
--- the offence, where one was found
+-- the error, where one was found
 abbrev pub found_of : Option Found → Option Offence
 found_of None = None
 found_of (Some f) = Some (offence_of f)

@@ -1,4 +1,4 @@
--- The offences of two tableaux that are a pair, by their rows.
+-- The errors of two tableaux that are a pair, by their rows.
 use Rattle.std.specs.Prelude.{ℕ, ◌+◌, List, [], ◌++◌, map, length}
 use Rattle.sym_model.specs.Partition.{size}
 use Rattle.sym_model.specs.CommandOffence.{Offence, PlacedRow, judged_against, standard_offences}

@@ -1,4 +1,4 @@
--- The offences of two shapes and a tableau, by their words.
+-- The errors of two shapes and a tableau, by their words.
 use Rattle.std.specs.Prelude.{ℕ, ◌+◌, List, [], ◌++◌, length}
 use Rattle.sym_model.specs.Schur.{row_lengths}
 use Rattle.sym_model.specs.CommandOffence.{Offence, PlacedRow, part_offences, judged_against}

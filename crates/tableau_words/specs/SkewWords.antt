@@ -30,7 +30,7 @@ rows_of s = map (λ r. r.items) s.rows.items
 abbrev pub AreSkewRows : List ℕ → List ℕ → List (List ℕ) → SkewRows → Type 0
 AreSkewRows outer inner rows s = (s.outer ≡ outer) × (s.inner ≡ inner) × (rows_of s ≡ rows)
 
--- the offences of the rows of a tableau of the shape outer/inner,
+-- the errors of the rows of a tableau of the shape outer/inner,
 -- the first of which begins at the word
 abbrev pub skew_offences : ℕ → List ℕ → List ℕ → List (List (List ℕ)) → List Offence
 skew_offences k outer inner rows =

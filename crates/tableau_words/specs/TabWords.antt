@@ -45,7 +45,7 @@ unlisted k outer inner [] = []
 unlisted k outer inner (row ∷ rows) =
     cond (is_lattice_tableau outer inner (rows_in outer (row ∷ rows))) [] ((k, 0, shape) ∷ [])
 
--- the offences of a tableau after `-from`, which is the word
+-- the errors of a tableau after `-from`, which is the word
 abbrev pub from_offences : ℕ → List ℕ → List ℕ → List (List (List ℕ)) → List Offence
 from_offences k outer inner rows =
     unlisted k outer inner (map numbers rows) ++ row_offences entry_rule (rows_at (k + 1) rows)

@@ -1,4 +1,4 @@
--- Two tableaux that words without an offence name.
+-- Two tableaux that words without an error name.
 use Rattle.std.specs.Prelude.{◌≡◌, ◌≤◌, ℕ, List, length}
 use Rattle.sym_model.specs.Schur.{letters_of}
 use Rattle.sym_model.specs.Tableau.{IsStraightTableau, shape_of}

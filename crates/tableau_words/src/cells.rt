@@ -253,7 +253,7 @@ fn recorded_kind(
     None
 }
 
-/// The first offence of a row that begins at the word, below another row.
+/// The first error of a row that begins at the word, below another row.
 pub(crate) fn ordered_offence(
     at: u64,
     row: &[String],
@@ -279,7 +279,7 @@ pub(crate) fn ordered_offence(
     None
 }
 
-/// The first offence of a row that begins at the word, in a tableau that records.
+/// The first error of a row that begins at the word, in a tableau that records.
 pub(crate) fn recorded_offence(
     at: u64,
     row: &[String],

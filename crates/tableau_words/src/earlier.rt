@@ -1,4 +1,4 @@
-//! Which of two offences comes first.
+//! Which of two errors comes first.
 ghost use Rattle.std.specs.Prelude.{◌≡◌, ℕ, Option, Err};
 ghost use Rattle.sym_model.specs.CommandOffence.{Offence, is_no_later};
 ghost use Rattle.sym_model.specs.ExpressionOffence.{rank as rank_of};
@@ -20,14 +20,14 @@ fn rank(kind: Kind) -> u8
     }
 }
 
-/// Whether an offence comes before another one, or is at the same place of the same kind.
+/// Whether an error comes before another one, or is at the same place of the same kind.
 fn comes_first(first: Found, second: Found) -> bool
     ensures { result ≡ is_no_later (offence_of first) (offence_of second) }
 {
     first.word < second.word || (first.word == second.word && rank(first.kind) <= rank(second.kind))
 }
 
-/// The earlier of two offences, where there are any.
+/// The earlier of two errors, where there are any.
 pub(crate) fn earlier(first: Option<Found>, second: Option<Found>) -> Option<Found>
     ensures { found_of result ≡ earlier_of_both (found_of first) (found_of second) }
 {
@@ -44,7 +44,7 @@ pub(crate) fn earlier(first: Option<Found>, second: Option<Found>) -> Option<Fou
     }
 }
 
-/// Whether an offence at a place comes before one that was found,
+/// Whether an error at a place comes before one that was found,
 /// or is at the same place of the same kind.
 pub(crate) fn stands_first(at: Place, kind: Kind, found: Found) -> bool
     ensures { result ≡ is_no_later (at.word, at.byte, kind_of kind) (offence_of found) }

@@ -1,7 +1,7 @@
-//! Offences that are found list by list, and which of them comes first.
+//! Errors that are found list by list, and which of them comes first.
 use calc_words::Kind;
 
-/// An offence: the word at which it is, and its kind.
+/// An error: the word at which it is, and its kind.
 #[derive(Clone, Copy, Debug)]
 pub(crate) struct Found {
     pub(crate) word: u64,

@@ -46,7 +46,7 @@ fn outside_offence(at: u64, outer: &[u16], words: &[String]) -> Option<Found>
     None
 }
 
-/// The refusal of an offence or of the one that was found, which of them comes first.
+/// The refusal of an error or of the one that was found, which of them comes first.
 fn earlier_refusal(fault: WordsFault, found: Option<Found>) -> WordsFault
     ensures { (first : Option Offence) → IsFirst first fault
         → IsFirst (earlier_of_both first (found_of found)) result }
@@ -62,7 +62,7 @@ fn earlier_refusal(fault: WordsFault, found: Option<Found>) -> WordsFault
     }
 }
 
-/// The refusal of an offence at the place, or of the one that was found where it comes first.
+/// The refusal of an error at the place, or of the one that was found where it comes first.
 fn sooner(at: Place, kind: Kind, found: Found) -> WordsFault
     ensures { IsFirst (earlier_of_both (Some (at.word, at.byte, kind_of kind))
         (Some (offence_of found))) result }
@@ -78,7 +78,7 @@ fn sooner(at: Place, kind: Kind, found: Found) -> WordsFault
 }
 
 /// The inner partition of the numbers that are these words, the first of which is the word `at`,
-/// or their first offence.
+/// or their first error.
 pub(crate) fn read_inner(
     alloc: Global,
     at: u64,

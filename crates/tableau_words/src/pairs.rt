@@ -43,7 +43,7 @@ struct TwoFillings {
     second: Vec<Vec<u16>>,
 }
 
-/// The first offence of a tableau that begins at the word and is to record the insertions into a
+/// The first error of a tableau that begins at the word and is to record the insertions into a
 /// shape with rows of these lengths.
 fn recording_offence(at: u64, lengths: &[usize], rows: &[&[String]]) -> Option<Found>
     requires some { 0 < length lengths.now }
@@ -76,7 +76,7 @@ pub(crate) fn rows_of_tableau(alloc: Global, rows: &[&[String]]) -> Result<Vec<V
     rows_numbers(alloc, rows)
 }
 
-/// The rows of two tableaux of which the first begins at the second word, or the first offence.
+/// The rows of two tableaux of which the first begins at the second word, or the first error.
 fn judge_pair(
     alloc: Global,
     first: &[&[String]],
@@ -129,7 +129,7 @@ fn tableaux_of(
     Ok((p, q))
 }
 
-/// The two tableaux of which the first begins at the second word, or the first offence.
+/// The two tableaux of which the first begins at the second word, or the first error.
 fn read_tableaux(
     alloc: Global,
     first: &[&[String]],
@@ -196,7 +196,7 @@ fn two_tableaux(
 /// between words `/`; `.` is a row without numbers.
 ///
 /// Words that are no such command are refused as `Syntax`, at the word where they first fail.
-/// Otherwise the first offence is refused: a number past 2^127 - 1 as `Literal`; an entry that is 0
+/// Otherwise the first error is refused: a number past 2^127 - 1 as `Literal`; an entry that is 0
 /// or past 65,535, and the 257th of a tableau, as `Range`; as `Shape` in the first tableau a number
 /// that makes its row longer than the row above, a `.` that is not the whole tableau, a number
 /// smaller than its left neighbour or not greater than the entry above it, and in the second one

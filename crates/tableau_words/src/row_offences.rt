@@ -77,7 +77,7 @@ fn empty_row(at: u64, rows: &[&[String]]) -> Option<Found>
     None
 }
 
-/// The first offence of the rows of a tableau that is inserted,
+/// The first error of the rows of a tableau that is inserted,
 /// the first of which begins at the word.
 pub(crate) fn insertion_offence(at: u64, rows: &[&[String]]) -> Option<Found>
     requires { at + length (further_text (map (λ r. map string_bytes r.now) rows.now)) < 2 ^ 64 }

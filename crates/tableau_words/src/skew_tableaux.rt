@@ -71,7 +71,7 @@ pub(crate) fn rows_of_shape(
 }
 
 /// The rows of a tableau of outer over inner of which the first begins at the word,
-/// or the first offence.
+/// or the first error.
 fn judge_rows(
     alloc: Global,
     at: u64,
@@ -107,7 +107,7 @@ fn judge_rows(
 }
 
 /// The two shapes and the rows of a tableau, the first of which begins at the second word,
-/// or the first offence.
+/// or the first error.
 fn judge_skew(
     alloc: Global,
     outer: &[String],
@@ -133,7 +133,7 @@ fn judge_skew(
     judge_rows(alloc, behind_inner, outer_shape, inner_shape, rows)
 }
 
-/// The tableau of two shapes, the first of which begins at the second word, or the first offence.
+/// The tableau of two shapes, the first of which begins at the second word, or the first error.
 fn read_skew_tableau(
     alloc: Global,
     outer: &[String],
@@ -188,7 +188,7 @@ fn skew_parts(
 /// is a row without numbers.
 ///
 /// Words that are no such command are refused as `Syntax`, at the word where they first fail.
-/// Otherwise the first offence is refused: those of the partitions as `read_skew` says, and as
+/// Otherwise the first error is refused: those of the partitions as `read_skew` says, and as
 /// `Shape` an inner number greater than the outer part of its row; an entry past 2^127 - 1 as
 /// `Literal`, one that is 0 or past 65,535 as `Range`; as `Shape` the word at which the tableau
 /// leaves the shape, an entry smaller than its left neighbour,

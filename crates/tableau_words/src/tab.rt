@@ -20,7 +20,7 @@ use std::alloc::Global;
 use tableau_iter::lattice_reading;
 
 /// The shapes with the tableau of these rows, which stands after this word, `-from`; or its first
-/// offence, where it is not in the list of the shapes. No rows are no tableau.
+/// error, where it is not in the list of the shapes. No rows are no tableau.
 fn judge_last(
     alloc: Global,
     at: u64,
@@ -53,7 +53,7 @@ fn judge_last(
 }
 
 /// The shapes and the last tableau, the first of which begins at the second word,
-/// or the first offence.
+/// or the first error.
 fn judge_tab(
     alloc: Global,
     outer: &[String],
@@ -103,7 +103,7 @@ fn tab_parts(
 /// words `/`; `.` is a row without numbers.
 ///
 /// Words that are no such command are refused as `Syntax`, at the word where they first fail.
-/// Otherwise the first offence is refused: those of the partitions as `read_mult` says, and as
+/// Otherwise the first error is refused: those of the partitions as `read_mult` says, and as
 /// `Shape`, at the word `-from`, a tableau that is not one of the list of the lattice tableaux of
 /// the outer over the inner partition.
 pub fn read_tab(alloc: Global, words: &[String]) -> Result<Command, WordsFault>

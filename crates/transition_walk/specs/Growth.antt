@@ -21,7 +21,7 @@ pub record GrowsBy {L : Type 0} (extent : L → ℕ) (takes : L → Type 0) (ima
   pub labels : HaveLabels (λ x. extent x ≤ k + 1) (image label)
   pub few : mass (image label) ≤ k + extra
 
--- the list is the label alone
+-- every label of the list is this one, and Σ|c| ≤ 1
 pub record IsSingle {L : Type 0} (label : L) (list : WholeTermsOf L) : Type 0 where
   pub one : (f : L → ℕ) → weighed f list ≤ f label
   pub labels : HaveLabels (λ x. x ≡ label) list
@@ -30,8 +30,9 @@ pub record IsSingle {L : Type 0} (label : L) (list : WholeTermsOf L) : Type 0 wh
 abbrev pub top_of : List ℕ → ℕ → ℕ
 top_of w extent = max (length w) extent + inversions w
 
--- shares of the labels that wait with the permutations of at most n letters, to which no step of
--- the transition rule adds: those of what it puts in the place of w come to at most that of w
+-- a weight on labels, `share w`, for each permutation w of at most n letters, that no step of the
+-- transition rule increases: the weights of the labels that replace a label at w add up to at most
+-- its own
 pub record IsShare {L : Type 0} (image : ℕ → List ℕ → L → WholeTermsOf L) (extent : L → ℕ)
     (n top : ℕ) (share : List ℕ → L → ℕ) : Type 0 where
   pub falls : (r s : ℕ) (w : List ℕ) (label : L) → IsShort n w → length w ≤ 255 → IsTransition w r s

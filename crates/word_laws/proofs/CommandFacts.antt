@@ -1,4 +1,4 @@
--- Each command has words, and the expression of an `expand` without offence is within its target's degree.
+-- Each command has words, and the expression of an `expand` without error is within its target's degree.
 use Rattle.std.proofs.Common.{◌≡◌, arith, None, ◌+◌, ◌≤◌, Bool, List, [], ◌∷◌, length, sym, subst, inl, inr}
 use Rattle.sym_model.specs.Expansion.{Basis, monomials}
 use Rattle.sym_model.specs.Expression.{Tree, number, degree}
@@ -31,7 +31,7 @@ abbrev expression_of : Command → Tree
 expression_of (expand target form e) = e
 expression_of _ = number 0
 
--- what the words of the entry say where they have no offence: an expression within the degree of its target, if any
+-- what the words of the entry say where they have no error: an expression within the degree of its target, if any
 abbrev Within : Entry → Type 0
 Within e = (x : Written e.form) → first_offence (e.offends x) ≡ None → degree (expression_of (e.says x)) ≤ degree_limit (target_of (e.says x))
 

@@ -1,4 +1,4 @@
--- The first offence of two lists, and of lists that have the same offences as often.
+-- The first error of two lists, and of lists that have the same errors as often.
 use Rattle.std.proofs.Common.{◌≡◌, ℕ, ◌+◌, ◌<◌, ◌==◌, nat_le, nat_lt, Bool, true, false, not, ◌&&◌, ◌||◌, cond, List, [], ◌∷◌, ◌++◌, refl, sym, ap, ◌∙◌, subst, arith, Option, Some, None, inl, inr}
 use Rattle.std.proofs.lemmas.Bool.Decides.{nat_tests}
 use Rattle.std.proofs.lemmas.Bool.{and_parts}
@@ -113,7 +113,7 @@ pub first_of_both : (xs ys : List Offence) → first_offence (xs ++ ys) ≡ earl
 first_of_both [] ys = refl
 first_of_both (x ∷ xs) ys = ap (earlier_of x) (first_of_both xs ys) ∙ earlier_both x (first_offence xs) (first_offence ys)
 
--- ---- lists that have the same offences as often
+-- ---- lists that have the same errors as often
 
 abbrev pub tally : (Offence → ℕ) → List Offence → ℕ
 tally f [] = 0
@@ -154,7 +154,7 @@ first_is_least os o m h = by (first_offence os) refl
     by None e = absurd (subst (Among o) (first_none os e) m)
     by (Some q) e = ap Some (one_place q o (first_least os q o e m) (h q (first-among os q e)))
 
--- how often an offence stands among others, and how many of them come before it
+-- how often an error stands among others, and how many of them come before it
 abbrev pub one_if : Bool → ℕ
 one_if b = cond b 1 0
 

@@ -1,11 +1,11 @@
--- The first of a list of offences is one of them, and none comes before it.
+-- The first of a list of errors is one of them, and none comes before it.
 use Rattle.std.proofs.Common.{◌≡◌, ℕ, ◌<◌, ◌==◌, nat_le, nat_lt, Bool, true, false, ◌&&◌, ◌||◌, cond, List, [], ◌∷◌, refl, sym, ap, ◌∙◌, subst, arith, Option, Some, None, ◌⊎◌, inl, inr}
 use Rattle.std.proofs.lemmas.Bool.Decides.{nat_tests}
 use Rattle.sym_model.specs.Sum.{Among}
 use Rattle.sym_model.specs.CommandOffence.{Offence, is_no_later, ComesBefore, earlier_of, first_offence}
 use Rattle.sym_model.specs.ExpressionOffence.{rank}
 
--- no offence comes before itself
+-- no error comes before itself
 never_itself : (o : Offence) → ComesBefore o o → ⊥
 never_itself o (inl h) = omega arith
 never_itself o (inr h) = by h.1

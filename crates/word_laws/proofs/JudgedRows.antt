@@ -1,4 +1,4 @@
--- Rows judged by one rule for each number have the same offences as often as rows judged by one rule after another.
+-- Rows judged by one rule for each number have the same errors as often as rows judged by one rule after another.
 use Rattle.std.proofs.Common.{◌≡◌, ℕ, ◌+◌, Bool, List, [], ◌∷◌, ◌++◌, map, length, drop, refl, arith, Option, Some, None}
 use Rattle.sym_model.specs.Partition.{part}
 use Rattle.sym_model.specs.ExpressionOffence.{OffenceKind, range, shape}
@@ -10,7 +10,7 @@ use Rattle.word_laws.proofs.EarlierOffences.{tally, Alike, tally_append, first_a
 abbrev Weight : Type 0
 Weight = Offence → ℕ
 
--- the offence of a kind at a word
+-- the error of a kind at a word
 abbrev pub of_kind : ℕ → OffenceKind → Offence
 of_kind k kind = (k, 0, kind)
 
@@ -19,7 +19,7 @@ kinds_of_both : (f : Weight) (k : ℕ) (xs ys : List OffenceKind)
 kinds_of_both f k [] ys = omega arith
 kinds_of_both f k (x ∷ xs) ys = let e = kinds_of_both f k xs ys in omega (arith, e)
 
--- the offences by two rules
+-- the errors by two rules
 both_rules : (f : Weight) (r s : Rule) (b : List ℕ) (k : ℕ) (ns : List ℕ)
     → tally f (offences_after (λ before a. r before a ++ s before a) b k ns) ≡ tally f (offences_after r b k ns) + tally f (offences_after s b k ns)
 both_rules f r s b k [] = refl

@@ -1,4 +1,4 @@
--- What has no offence: lists that are empty, numbers by a rule, expressions.
+-- What has no error: lists that are empty, numbers by a rule, expressions.
 use Rattle.std.proofs.Common.{◌≡◌, ℕ, ◌+◌, ◌≤◌, nat_lt, Bool, true, false, cond, List, [], ◌∷◌, ◌++◌, map, length, refl, ap, None, flat_map}
 use Rattle.std.proofs.lemmas.Bool.{ltb-false}
 use Rattle.sym_model.specs.Expression.{degree}
@@ -35,7 +35,7 @@ none_next rule before k a ns h =
 
 -- ---- expressions
 
--- the one offence of a number past its limit is not there
+-- the one error of a number past its limit is not there
 pub not_past : {A : Type 0} (limit d : ℕ) (o : A) → cond (nat_lt limit d) (o ∷ []) [] ≡ [] → d ≤ limit
 not_past limit d o h = ltb-false limit d (by (nat_lt limit d) h)
   where
@@ -43,7 +43,7 @@ not_past limit d o h = ltb-false limit d (by (nat_lt limit d) h)
     by true h = cc
     by false h = refl
 
--- the degree of an expression without an offence is within the limit
+-- the degree of an expression without an error is within the limit
 pub within_limit : (limit : ℕ) (phrase : Phrase) → offences_within limit phrase ≡ [] → degree (tree phrase) ≤ limit
 within_limit limit phrase h =
     let long = cond (nat_lt 4096 (length (spelling phrase))) ((4096, range) ∷ []) [] in
@@ -51,7 +51,7 @@ within_limit limit phrase h =
     let whole = (none_append (flat_map offences_at (marks 0 0 phrase)) (offences_of_whole_within limit phrase) h).1 in
     not_past limit (degree (tree phrase)) (length (spelling phrase), range) (none_append long past whole).1
 
--- a word without an offence at its place in the command has none
+-- a word without an error at its place in the command has none
 pub none_in_word : (k : ℕ) (found : List WordOffence) → first_offence (offences_in_word k found) ≡ None → found ≡ []
 none_in_word k found h = none_map (λ (o : WordOffence). (k, o.0, o.1)) found (first_none (offences_in_word k found) h)
 

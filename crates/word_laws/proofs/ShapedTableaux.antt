@@ -175,7 +175,7 @@ no_offence : (b : Bool) (o : Offence) → cond b [] (o ∷ []) ≡ [] → b ≡ 
 no_offence true o h = refl
 no_offence false o h = cc
 
--- there is no offence exactly where the words are a tableau with rows of these lengths
+-- there is no error exactly where the words are a tableau with rows of these lengths
 pub shape_none : (k : ℕ) (lengths : List ℕ) (words : Words) → (shape_offences k lengths words ≡ []) ↔ Has (tableau_of lengths) words
 shape_none k lengths words = (
   λ h. has_sound lengths words (no_offence (are_words_of never (tableau_of lengths) words) (k + taken never (tableau_of lengths ∷ []) words, 0, shape) h),

@@ -1,4 +1,4 @@
--- The offences of the rows of a tableau, row by row, each number by one rule.
+-- The errors of the rows of a tableau, row by row, each number by one rule.
 use Rattle.std.specs.Prelude.{ℕ, ◌+◌, ◌==◌, nat_le, nat_lt, Bool, false, ◌||◌, List, [], ◌∷◌, ◌++◌}
 use Rattle.std.specs.Prelude.{length, drop, Option, Some, None}
 use Rattle.sym_model.specs.Partition.{part}
@@ -7,7 +7,7 @@ use Rattle.sym_model.specs.CommandOffence.{Offence, Rule, PlacedRow, when, offen
 use Rattle.sym_model.specs.CommandOffence.{left_of, falls, stays, stands_in, entry_above}
 use Rattle.sym_model.specs.CommandOffence.{most_letters, earlier_of}
 
--- the earlier of two offences, where there are any
+-- the earlier of two errors, where there are any
 abbrev pub earlier : Option Offence → Option Offence → Option Offence
 earlier None p = p
 earlier (Some o) p = earlier_of o p

@@ -44,7 +44,7 @@ pub fn syntax_place_law()
 {}
 
 /// Where the first word tells the command and each further word tells by its class alone to which
-/// part of the form it belongs, words spell one command at most and have one first offence. So it
+/// part of the form it belongs, words spell one command at most and have one first error. So it
 /// is with all commands, and with those of a line of a batch.
 pub fn one_command_law()
     ensures all_commands { (bases : List Basis)
@@ -60,8 +60,8 @@ pub fn one_command_law()
         → a ≡ b }
 {}
 
-/// The first offence is one of the offences, and none of them comes before it; there is none
-/// exactly where there is no offence.
+/// The first error is one of the errors, and none of them comes before it; there is none
+/// exactly where there is no error.
 pub fn command_offence_law()
     ensures is_one { (offences : List Offence) (first : Offence)
         → first_offence offences ≡ Some first
@@ -72,7 +72,7 @@ pub fn command_offence_law()
     ensures none { (offences : List Offence) → (first_offence offences ≡ None) ↔ (offences ≡ []) }
 {}
 
-/// Each command has words. The expression of an `expand` without offence has at most the degree of
+/// Each command has words. The expression of an `expand` without error has at most the degree of
 /// its target's limit.
 pub fn words_of_commands_law()
     ensures words { (basis : Basis) (bases : List Basis)

@@ -1,4 +1,4 @@
-//! The offences of the rows of a tableau, by one rule for each number.
+//! The errors of the rows of a tableau, by one rule for each number.
 
 ghost use Rattle.std.specs.Prelude.{◌≡◌, ℕ, List, [], ◌∷◌, ◌++◌, None};
 ghost use Rattle.sym_model.specs.CommandOffence.{Offence, PlacedRow, first_offence, row_offences};
@@ -7,14 +7,14 @@ ghost use Rattle.sym_model.specs.CommandOffence.{standard_offences, empty_row_of
 ghost use Rattle.sym_model.specs.Grammar.{insertion_offences, filled_offences};
 ghost use Rattle.word_laws.specs.JudgedRows.{earlier, inserted, recorded, skewed};
 
-/// The first offence of two lists is the earlier of the first offences of each. It does nothing
+/// The first error of two lists is the earlier of the first errors of each. It does nothing
 /// when it runs.
 pub fn earlier_offence_law()
     ensures { (left right : List Offence)
         → first_offence (left ++ right) ≡ earlier (first_offence left) (first_offence right) }
 {}
 
-/// The first offence of the rows of a tableau is the same where each number is judged once, by all
+/// The first error of the rows of a tableau is the same where each number is judged once, by all
 /// rules, as where all numbers are judged by one rule after another. It does nothing when it runs.
 pub fn judged_rows_law()
     ensures inserted { (rows : List PlacedRow)

@@ -6,9 +6,8 @@ ghost use Rattle.std.specs.Prelude.{true};
 ghost use Rattle.sym_model.specs.WordForms.{shape_offences};
 ghost use Rattle.word_laws.specs.WrittenRows.{rows_text, left_at};
 
-/// The words of rows that are to have given lengths offend where the rows leave that shape: inside
-/// the first row that has another length, or after the last row where there are fewer or more. It
-/// does nothing when it runs.
+/// The first error of rows that must have given lengths is inside the first row of a wrong length,
+/// or after the last row if rows are missing or left over.
 pub fn left_shape_law()
     ensures { (k n : ℕ) (lengths : List ℕ) (row : List (List ℕ)) (rows : List (List (List ℕ)))
         → EachOf (EachOf (λ w. is_number_word w ≡ true)) (row ∷ rows)

@@ -10,7 +10,7 @@ ghost use Rattle.sym_model.specs.WordForms.{tableau_words, tableau_rows, tableau
 ghost use Rattle.sym_model.specs.WordForms.{shape_offences};
 
 /// A tableau that is to have rows of given lengths is judged by these alone: its words have no
-/// offence exactly where its rows have them, and otherwise offend at the word after the longest
+/// error exactly where its rows have them, and otherwise offend at the word after the longest
 /// prefix that begins such a tableau. One row without cells is written as no row is.
 pub fn tableau_shape_law()
     ensures none { (k : ℕ) (lengths : List ℕ) (words : List (List ℕ))

@@ -170,7 +170,7 @@ offends_sound (e ∷ entries) words o m =
         inl (record { has = s.0; first_is = a.2 ∙ ap (λ x. first_offence (e.offends x)) (sym s.1) })
     by (inr m) again = inr (again m)
 
--- the commands that the words spell without offence
+-- the commands that the words spell without error
 abbrev freely : Option Offence → Command → List Command
 freely None c = c ∷ []
 freely (Some o) c = []

@@ -13,7 +13,7 @@ use Rattle.sym_model.specs.BatchLine.{words_of_line}
 abbrev pub all_commands : List Entry
 all_commands = entries_of all_bases
 
--- the words of the line spell the command, without offence
+-- the words of the line spell the command, without error
 abbrev pub Says : List ℕ → Command → Type 0
 Says line command = SpellsWithoutOffence all_commands (words_of_line line) command
 
