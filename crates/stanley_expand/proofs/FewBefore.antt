@@ -243,13 +243,12 @@ some_left m q b w o s last few = by (find_smaller (get_or (swap_at q b w) q 0) q
         let none = none_between (get_or (swap_at q b w) i 0) (get_or (swap_at q b w) q 0) (q - (i + 1)) (i + 1) (swap_at q b w)
         (λ c x y. elim (gap c (omega arith) (λ z. omega arith)) [ inl r ↦ inl (omega arith) | inr r ↦ inr r ]) (omega arith) in
         let count = rising_count i q (swap_at q b w) h (omega arith) ou.once l in
-        let same = ap inversions (swap_is (swap_at q b w) i q (omega arith) (omega arith)) in
-        (
+        let same = ap inversions (swap_is (swap_at q b w) i q (omega arith) (omega arith)) in (
           i,
           h,
           omega arith,
           λ p k. up_few m i q p (swap_at q b w) h (omega arith) l gap
-          (λ c x n. down_few m q b c w o s few (omega arith) n) (down_first m q b w s (few b inside)) k,
+              (λ c x n. down_few m q b c w o s few (omega arith) n) (down_first m q b w s (few b inside)) k,
         )
 
 -- fixed letters at the end make no difference
@@ -283,14 +282,13 @@ some_cover w r s m o t h few =
     let oy = one_line_swap left.0 p.0 (swap_at p.0 p.1 w) (omega arith) (omega arith) ou in
     let y : times_swap (suc left.0) (suc p.0) (swap_at p.0 p.1 w) ≡ kept (swap_at left.0 p.0 (swap_at p.0 p.1 w)) = kept_swap (swap_at p.0 p.1 w) left.0 p.0 left.1 (omega arith) in
     let i : inversions (times_swap (suc left.0) (suc p.0) (swap_at p.0 p.1 w)) ≡ inversions (swap_at p.0 p.1 w) + 1 = ap inversions y ∙ inversions_kept (swap_at left.0 p.0 (swap_at p.0 p.1 w)) oy ∙ left.2 in
-    let ly = length-swap_at left.0 p.0 (swap_at p.0 p.1 w) in
-    (
+    let ly = length-swap_at left.0 p.0 (swap_at p.0 p.1 w) in (
       times_swap (suc left.0) (suc p.0) (swap_at p.0 p.1 w),
       subst (Among (times_swap (suc left.0) (suc p.0) (swap_at p.0 p.1 w))) (sym c)
-      (Among-select (λ (v : List ℕ). inversions v == inversions (swap_at p.0 p.1 w) + 1) (times_swap (suc left.0) (suc p.0) (swap_at p.0 p.1 w))
-      (map (λ k. times_swap k (suc p.0) (swap_at p.0 p.1 w)) (after 0 (suc p.0 - 1)))
-      (Among-map (λ k. times_swap k (suc p.0) (swap_at p.0 p.1 w)) (suc left.0) (after 0 (suc p.0 - 1)) (among_after 0 (suc p.0 - 1) (suc left.0) (omega arith) (omega arith)))
-      (eq-eqb (inversions (times_swap (suc left.0) (suc p.0) (swap_at p.0 p.1 w))) (inversions (swap_at p.0 p.1 w) + 1) i)),
+          (Among-select (λ (v : List ℕ). inversions v == inversions (swap_at p.0 p.1 w) + 1) (times_swap (suc left.0) (suc p.0) (swap_at p.0 p.1 w))
+          (map (λ k. times_swap k (suc p.0) (swap_at p.0 p.1 w)) (after 0 (suc p.0 - 1)))
+          (Among-map (λ k. times_swap k (suc p.0) (swap_at p.0 p.1 w)) (suc left.0) (after 0 (suc p.0 - 1)) (among_after 0 (suc p.0 - 1) (suc left.0) (omega arith) (omega arith)))
+          (eq-eqb (inversions (times_swap (suc left.0) (suc p.0) (swap_at p.0 p.1 w))) (inversions (swap_at p.0 p.1 w) + 1) i)),
       λ more. few_kept m (swap_at left.0 p.0 (swap_at p.0 p.1 w)) oy (λ j l. left.3 j (omega arith)) (subst (HasMoreBefore m) y more),
     )
   where

@@ -116,15 +116,17 @@ covers_number m r s p x few i t h mem =
     let place = ap (λ d. unwrap_or d 0) t.descent in
     let as_many = cover_inversions r (times_swap r s p) x mem ∙ sym (transition_inversions p r s i.short.one_line t) in
     let less = rank_lower 81 x p rising.short.one_line (omega arith) (transition_covers_lower p r s i.short.one_line t x mem) in
-    let here = ap (λ b. cond b ((last_descent_place p - m) * 81 + letter p (last_descent_place p)) 0) (lt-ltb m (last_descent_place p) (omega arith)) in
-    (rising, elim (cases_lt m (last_descent_place x)) [
-      | inl a ↦
-          let there = ap (λ b. cond b ((last_descent_place x - m) * 81 + letter x (last_descent_place x)) 0) (lt-ltb m (last_descent_place x) a) in
-          omega arith
-      | inr a ↦
-          let there = ap (λ b. cond b ((last_descent_place x - m) * 81 + letter x (last_descent_place x)) 0) (nat_lt-false m (last_descent_place x) a) in
-          omega arith
-    ])
+    let here = ap (λ b. cond b ((last_descent_place p - m) * 81 + letter p (last_descent_place p)) 0) (lt-ltb m (last_descent_place p) (omega arith)) in (
+      rising,
+      elim (cases_lt m (last_descent_place x)) [
+        | inl a ↦
+            let there = ap (λ b. cond b ((last_descent_place x - m) * 81 + letter x (last_descent_place x)) 0) (lt-ltb m (last_descent_place x) a) in
+            omega arith
+        | inr a ↦
+            let there = ap (λ b. cond b ((last_descent_place x - m) * 81 + letter x (last_descent_place x)) 0) (nat_lt-false m (last_descent_place x) a) in
+            omega arith
+      ],
+    )
 
 -- ---- its Schur polynomial is added
 

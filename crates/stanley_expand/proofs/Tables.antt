@@ -21,7 +21,7 @@ use Rattle.sym_model.proofs.Integers.{product-nonnegative, cond-nonnegative}
 use Rattle.sym_model.proofs.Sums.{total_append, Among-append_right}
 use Rattle.sym_model.proofs.Ring.{distributes_left, one-product}
 use Rattle.coeff_rings.specs.Fractions.{whole}
-use Rattle.linear_combinations.specs.Entries.{IsCombination}
+use Rattle.linear_combinations.specs.Entries.{IsCombination, IsWholeTable}
 use Rattle.linear_combinations.specs.Gains.{over, only, Gains, HaveLabels}
 use Rattle.linear_combinations.specs.Labels.{same_partition}
 use Rattle.linear_combinations.proofs.Found.{coefficient_over, coefficient_of_term, counts_at}
@@ -111,10 +111,12 @@ large_with m f g h l =
     let b = l.3 in
     (l.0, l.1, l.2, omega (arith, ints))
 
+pub large_same : (m : ℕ) (f g : (List ℕ → ℤ) → ℤ) → ((φ : List ℕ → ℤ) → f φ ≡ g φ) → HasLargeShape m f → HasLargeShape m g
+large_same m f g e l = (l.0, l.1, l.2, subst (λ z. pos (2 ^ 127) ≤ℤ z) (e (schur_test m l.0)) l.3)
+
 pub overflows_as : (m : ℕ) (sum : WholeTerms) (todo : List WholeTerms) (f g : (List ℕ → ℤ) → ℤ) → ((φ : List ℕ → ℤ) → f φ ≡ g φ) → OverflowsWith m sum todo f → OverflowsWith m sum todo g
 overflows_as m sum todo f g e large waiting shapes =
-    let l = large waiting shapes in
-    (l.0, l.1, l.2, subst (λ z. pos (2 ^ 127) ≤ℤ (walked m (schur_test m l.0) sum todo +ℤ z)) (e (schur_test m l.0)) l.3)
+    large_same m (λ φ. walked m φ sum todo +ℤ f φ) (λ φ. walked m φ sum todo +ℤ g φ) (λ φ. ap (λ z. walked m φ sum todo +ℤ z) (e φ)) (large waiting shapes)
 
 -- ---- loops
 
@@ -209,8 +211,11 @@ module _ (m at : ℕ) (p : List ℕ) (c : ℤ) (waits : WaitsAt m at p) (positiv
 
 -- ---- the last table, and those in front of it
 
-none_distinct : IsDistinct (pointwise nat_eq) (keys_of {V = ℤ} [])
-none_distinct = (IsCombination-empty {L = List ℕ} {R = ℤ} (pointwise nat_eq) is_label whole).distinct
+no_terms : IsWholeTable []
+no_terms = IsCombination-empty (pointwise nat_eq) is_label whole
+
+none_distinct : (λ (t : WholeTerms). IsDistinct (pointwise nat_eq) (keys_of t)) []
+none_distinct = no_terms.distinct
 
 none_held : IsHeld []
 none_held = held_nothing (pointwise nat_eq) (pos 0) (FitsSigned w128) zero_fits_128_bits
@@ -268,17 +273,20 @@ module _ (m : ℕ) where
 
 pub no_shapes : (m : ℕ) → AreShapes m []
 no_shapes m = record {
-  table = IsCombination-empty (pointwise nat_eq) is_label whole;
+  table = no_terms;
   held = none_held;
   few = λ t i. absurd i;
   natural = λ κ. omega (arith, ints);
 }
 
-pub start_walked : (m n : ℕ) (φ : List ℕ → ℤ) (start : List ℕ) (one : ℤ) (sum : WholeTerms) (tables todo : List WholeTerms) → ◌≡◌ {A = WholeTerms} sum [] → ◌≡◌ {A = List WholeTerms} tables (replicate n []) → one ≡ pos 1
-    → IsWorkedOff m sum tables (λ ψ. one *ℤ pair (schubert_in start m) ψ) sum todo → walked m φ sum todo ≡ pair (schubert_in start m) φ
-start_walked m n φ start one sum tables todo none empty is step =
-    let a = step.value φ in
-    let b = ap (over (λ κ. pair (schur κ m) φ)) none in
+pub begun : (m n : ℕ) (φ : List ℕ → ℤ) (start : List ℕ) (one : ℤ) (tables : List WholeTerms) → ◌≡◌ {A = List WholeTerms} tables (replicate n []) → one ≡ pos 1
+    → walked m φ [] tables +ℤ one *ℤ pair (schubert_in start m) φ ≡ pair (schubert_in start m) φ
+begun m n φ start one tables empty is =
     let c = ap (waited m φ) empty ∙ empty_waited m φ n in
     let d = ap (λ z. z *ℤ pair (schubert_in start m) φ) is ∙ one-product (pair (schubert_in start m) φ) in
     omega (arith, ints)
+
+pub start_walked : (m n : ℕ) (φ : List ℕ → ℤ) (start : List ℕ) (one : ℤ) (sum : WholeTerms) (tables todo : List WholeTerms) → ◌≡◌ {A = WholeTerms} sum [] → ◌≡◌ {A = List WholeTerms} tables (replicate n []) → one ≡ pos 1
+    → IsWorkedOff m sum tables (λ ψ. one *ℤ pair (schubert_in start m) ψ) sum todo → walked m φ sum todo ≡ pair (schubert_in start m) φ
+start_walked m n φ start one sum tables todo none empty is step =
+    step.value φ ∙ ap (λ s. walked m φ s tables +ℤ one *ℤ pair (schubert_in start m) φ) none ∙ begun m n φ start one tables empty is

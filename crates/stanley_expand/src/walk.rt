@@ -184,12 +184,7 @@ fn expand(
 }
 
 /// Adds permutations with one count to the tables where they wait.
-fn put_each(
-    todo: &mut Vec<Counts>,
-    perms: Vec<Perm>,
-    count: Int,
-    rows: u16,
-) -> Result<(), SumFault>
+fn put_each(todo: &mut Vec<Counts>, perms: Vec<Perm>, count: Int, rows: u16) -> Result<(), SumFault>
     requires few { rows ≤ 64 }
     requires waiting { (p : List ℕ) → Among p perms.items
         → IsRising rows (rows + 16) p × (number rows p < length todo.old.items) }
