@@ -1,10 +1,10 @@
 -- Permutations in which at most m greater letters come before each letter: something is left of each.
 --     some_cover    one of those that the transition rule makes is such a permutation too
 --     some_shape    so the Schubert polynomial in m variables has a positive Schur coefficient
-use Rattle.std.proofs.Common.{◌≡◌, ◌⊎◌, ℕ, zero, suc, ◌+◌, ◌-◌, ◌*◌, ◌<◌, ◌≤◌, Bool, true, false, List, [], ◌∷◌, ◌++◌, ◌==◌, map, take, drop, length, get_or, refl, sym, ◌∙◌, ap, ap₂, subst, arith, inl, inr, cond, nat_lt, count_by, Some, None, Option, unwrap_or, ℤ, pos, ◌+ℤ◌, ◌≤ℤ◌}
+use Rattle.std.proofs.Common.{◌≡◌, ◌⊎◌, ℕ, zero, suc, ◌+◌, ◌-◌, ◌<◌, ◌≤◌, Bool, false, List, [], ◌∷◌, ◌==◌, map, take, drop, length, get_or, refl, sym, ◌∙◌, ap, ap₂, subst, arith, inl, inr, cond, count_by, Some, None, Option, unwrap_or, pos, ◌≤ℤ◌}
 use Rattle.std.proofs.lemmas.Int.{ints}
-use Rattle.std.proofs.lemmas.Bool.{cases_lt, cases_eq, lt-ltb, eq-eqb}
-use Rattle.sym_model.specs.Sum.{total, Among}
+use Rattle.std.proofs.lemmas.Bool.{cases_lt, cases_eq, eq-eqb}
+use Rattle.sym_model.specs.Sum.{Among}
 use Rattle.std.proofs.lemmas.List.{get_or_append_left}
 use Rattle.std.proofs.Common.{length-append}
 use Rattle.std.proofs.lemmas.Bool.Decides.{nat_tests}
@@ -12,11 +12,11 @@ use Rattle.sym_model.specs.BetaList.{greater}
 use Rattle.sym_model.specs.Partition.{IsPartition, rows, after}
 use Rattle.sym_model.specs.Polynomial.{pair}
 use Rattle.sym_model.specs.PlaceOrders.{inversions}
-use Rattle.sym_model.specs.Permutation.{IsOneLine, IsTransition, letter, last_descent, last_descent_place, kept, times_swap, covers_down}
+use Rattle.sym_model.specs.Permutation.{IsOneLine, IsTransition, last_descent, last_descent_place, kept, times_swap, covers_down}
 use Rattle.sym_model.specs.Schubert.{schubert_in}
 use Rattle.sym_model.proofs.AfterLists.{among_after}
 use Rattle.sym_model.proofs.Exponents.{same_refl}
-use Rattle.sym_model.proofs.Numbers.{counts-less, counts-not_less, nat_lt-false}
+use Rattle.sym_model.proofs.Numbers.{counts-less, counts-not_less}
 use Rattle.sym_model.proofs.Sums.{without, Among-map, Among-select, total-without, Among_from_without}
 use Rattle.schubert_laws.proofs.FixedTails.{one_line_kept, inversions_kept}
 use Rattle.schubert_laws.proofs.LowerPermutations.{kept_whole, transition_exists, transition_covers_lower}
@@ -30,8 +30,7 @@ use Rattle.perm_codes.proofs.OneSwap.{lies_between, rising_count}
 use Rattle.stanley_laws.specs.GreaterBefore.{HasMoreBefore}
 use Rattle.stanley_laws.specs.Grassmannian.{IsRising, front_shape}
 use Rattle.stanley_laws.specs.SchurPositive.{schur_test}
-use Rattle.stanley_laws.proofs.FirstPlaces.{leaf}
-use Rattle.stanley_laws.proofs.GreaterBefore.{MoreBefore, before, at_letter, from_letters, to_letters, greater_longer, greater_fewer, greater_past, greater_one, greater_both, smaller_between, take_later, take_front}
+use Rattle.stanley_laws.proofs.GreaterBefore.{before, at_letter, from_letters, to_letters, greater_longer, greater_fewer, greater_past, greater_one, greater_both, smaller_between, take_later, take_front}
 use Rattle.stanley_laws.proofs.SchurPositive.{front_partition, front_rows, rising_covers, schur_pairs}
 use Rattle.stanley_expand.proofs.GreaterLetters.{greater_next}
 use Rattle.stanley_expand.proofs.Steps.{covers_pair, shape_pairs}

@@ -1,9 +1,8 @@
 -- A count that is too large makes some Schur coefficient too large, since something is left of each permutation that waits.
-use Rattle.std.proofs.Common.{◌≡◌, ℕ, zero, suc, ◌+◌, ◌^◌, ◌≤◌, Bool, true, false, cond, List, [], ◌∷◌, get_or, refl, sym, ◌∙◌, ap, subst, arith, inl, inr, ℤ, pos, negsuc, ◌+ℤ◌, ◌*ℤ◌, ◌≤ℤ◌}
+use Rattle.std.proofs.Common.{◌≡◌, ℕ, zero, suc, ◌+◌, ◌≤◌, Bool, true, false, cond, List, [], ◌∷◌, get_or, refl, ◌∙◌, ap, subst, arith, inl, inr, ℤ, pos, negsuc, ◌+ℤ◌, ◌*ℤ◌, ◌≤ℤ◌}
 use Rattle.std.specs.Prelude.{nat_eq}
 use Rattle.std.specs.Cmp.Lexicographic.{pointwise}
 use Rattle.std.proofs.lemmas.Int.{ints}
-use Rattle.sym_model.specs.Sum.{total, Among}
 use Rattle.sym_model.specs.Partition.{IsPartition, rows}
 use Rattle.sym_model.specs.Polynomial.{pair}
 use Rattle.sym_model.specs.Schubert.{schubert_in}
@@ -15,7 +14,7 @@ use Rattle.linear_combinations.specs.Labels.{same_partition}
 use Rattle.stanley_laws.specs.GreaterBefore.{HasMoreBefore}
 use Rattle.stanley_laws.specs.Grassmannian.{IsRising}
 use Rattle.stanley_laws.specs.SchurPositive.{schur_test}
-use Rattle.stanley_expand.specs.Walk.{WaitsAt, AreWaiting, AreShapes, waited, walked, OverflowsWith}
+use Rattle.stanley_expand.specs.Walk.{WaitsAt, waited, OverflowsWith}
 use Rattle.stanley_expand.proofs.FewBefore.{some_shape}
 use Rattle.stanley_expand.proofs.Steps.{over_schurs, large_at}
 use Rattle.stanley_expand.proofs.Tables.{over_natural, rising_natural, table_natural, tables_natural, only_natural}

@@ -12,7 +12,6 @@ use Rattle.sym_model.proofs.Ring.{product-one}
 use Rattle.sym_model.specs.Sum.{total, Among}
 use Rattle.sym_model.specs.Polynomial.{pair}
 use Rattle.sym_model.specs.Partition.{IsPartition, rows}
-use Rattle.sym_model.specs.PlaceOrders.{inversions}
 use Rattle.sym_model.specs.Schur.{schur}
 use Rattle.sym_model.specs.Permutation.{IsTransition, letter, last_descent_place, times_swap, covers_down}
 use Rattle.sym_model.specs.Schubert.{schubert_in, schuberts_in}

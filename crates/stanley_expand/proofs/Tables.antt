@@ -24,9 +24,8 @@ use Rattle.coeff_rings.specs.Fractions.{whole}
 use Rattle.linear_combinations.specs.Entries.{IsCombination, IsWholeTable}
 use Rattle.linear_combinations.specs.Gains.{over, only, Gains, HaveLabels}
 use Rattle.linear_combinations.specs.Labels.{same_partition}
-use Rattle.linear_combinations.proofs.Found.{coefficient_over, coefficient_of_term, counts_at}
+use Rattle.linear_combinations.proofs.Found.{coefficient_over, coefficient_of_term}
 use Rattle.linear_combinations.proofs.Gains.{over_append}
-use Rattle.sym_model.specs.Schur.{schur}
 use Rattle.sym_model.specs.LabelLimits.{is_label}
 use Rattle.linear_combinations.proofs.Steps.{IsCombination-empty}
 use Rattle.linear_combinations.proofs.Tables.{held_nothing}

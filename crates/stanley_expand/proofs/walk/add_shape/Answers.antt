@@ -1,10 +1,9 @@
-use Rattle.std.proofs.Common.{◌≡◌, ℕ, List, [], ◌∷◌, length, ap, ◌∙◌, subst, arith, ℤ, pos}
+use Rattle.std.proofs.Common.{ℕ, List, [], ◌∷◌, length, ap, ◌∙◌, subst, arith}
 use Rattle.std.specs.Prelude.{nat_eq}
 use Rattle.std.specs.Cmp.Lexicographic.{pointwise}
 use Rattle.sym_model.specs.BetaList.{from_beta}
 use Rattle.linear_combinations.specs.Gains.{Gains, Overflows}
 use Rattle.linear_combinations.proofs.Steps.{on_ok}
-use Rattle.stanley_laws.specs.Grassmannian.{front_shape}
 use Rattle.stanley_laws.proofs.SchurPositive.{length_front}
 use Rattle.stanley_expand.proofs.walk.add_shape.Goals as goal
 

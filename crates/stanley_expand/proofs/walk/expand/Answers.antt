@@ -1,11 +1,11 @@
-use Rattle.std.proofs.Common.{◌≡◌, ◌<◌, arith, sym, subst, ap, length, ◌*ℤ◌, ◌∙◌, ◌+◌, ℤ, ℕ, List}
-use Rattle.sym_model.specs.Permutation.{times_swap, covers_down}
+use Rattle.std.proofs.Common.{◌<◌, arith, subst, ap, ◌*ℤ◌, ◌∙◌, ◌+◌}
+use Rattle.sym_model.specs.Permutation.{covers_down}
 use Rattle.sym_model.specs.Polynomial.{pair}
 use Rattle.sym_model.specs.Schubert.{schubert_in}
 use Rattle.sym_model.specs.Sum.{total, Among}
 use Rattle.schubert_laws.proofs.Members.{place_within}
 use Rattle.linear_combinations.proofs.Steps.{on_ok}
-use Rattle.stanley_expand.specs.Walk.{OverflowsWith, IsWorkedOff, number}
+use Rattle.stanley_expand.specs.Walk.{number}
 use Rattle.stanley_expand.proofs.Tables.{as_step, overflows_as}
 use Rattle.stanley_expand.proofs.Steps.{put_pair, covers_number}
 use Rattle.stanley_expand.proofs.walk.expand.Goals as goal

@@ -1,4 +1,4 @@
-use Rattle.std.proofs.Common.{◌≡◌, ◌+◌, ◌<◌, ◌∙◌, [], ◌∷◌, length, length-append, subst, sym, ap, arith, ◌+ℤ◌, ◌*ℤ◌, pos, ◌≤ℤ◌, ℤ}
+use Rattle.std.proofs.Common.{◌+◌, ◌∙◌, [], ◌∷◌, length, length-append, subst, sym, ap, arith, ◌+ℤ◌, ◌*ℤ◌, pos, ◌≤ℤ◌}
 use Rattle.std.proofs.lemmas.Int.{ints}
 use Rattle.std.specs.Prelude.{Err}
 use Rattle.std.proofs.lemmas.List.{length-replicate}

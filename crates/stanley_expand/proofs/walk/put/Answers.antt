@@ -1,4 +1,4 @@
-use Rattle.std.proofs.Common.{◌≡◌, ◌<◌, sym, subst, ap, ◌∙◌, length, pos, ◌*ℤ◌}
+use Rattle.std.proofs.Common.{◌<◌, sym, subst, ap, ◌∙◌, length, ◌*ℤ◌}
 use Rattle.std.proofs.Common.{[]}
 use Rattle.std.proofs.lemmas.Bool.{both_ways}
 use Rattle.std.specs.Prelude.{nat_eq}

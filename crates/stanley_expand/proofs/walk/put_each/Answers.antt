@@ -1,16 +1,14 @@
 use Rattle.std.proofs.Common.{◌≡◌, ◌<◌, ℕ, List, ◌++◌, [], ◌∷◌, append_assoc, append-nil, sym, ap, ◌∙◌}
-use Rattle.std.proofs.Common.{subst, rules, arith, refl, inl, length, ◌+ℤ◌, ◌*ℤ◌, ℤ}
+use Rattle.std.proofs.Common.{subst, rules, arith, ◌+ℤ◌, ◌*ℤ◌, ℤ}
 use Rattle.std.specs.Prelude.{Err}
 use Rattle.std.proofs.lemmas.Grind.{common_steps}
 use Rattle.std.specs.Vec.Iter.{into_iter_items}
 use Rattle.sym_model.specs.Polynomial.{pair}
 use Rattle.sym_model.specs.Schubert.{schubert_in}
-use Rattle.sym_model.specs.Sum.{total, Among}
-use Rattle.sym_model.specs.WholeTerms.{WholeTerms}
+use Rattle.sym_model.specs.Sum.{total}
 use Rattle.sym_model.proofs.Ring.{distributes_left}
-use Rattle.sym_model.proofs.Sums.{total_append, Among-append_right}
+use Rattle.sym_model.proofs.Sums.{total_append}
 use Rattle.linear_combinations.proofs.Steps.{error_is}
-use Rattle.stanley_laws.specs.Grassmannian.{IsRising}
 use Rattle.stanley_expand.specs.Walk.{IsWorkedOff, number}
 use Rattle.stanley_expand.proofs.Tables.{none_step, both_steps, large_perm, still_all, next_among}
 use Rattle.stanley_expand.proofs.walk.put_each.Goals as goal
