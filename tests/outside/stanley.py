@@ -5,7 +5,9 @@ For permutations made with a fixed seed it finds the insertion tableaux of all r
 Greene: the coefficient of a partition is how many of them have its shape. The reduced words of a permutation end at a
 descent, so the tableaux of a permutation come of those of the permutations below it, a letter at a time. And for small ones
 `schubert` of the permutation behind fixed letters, in the variables of these alone, must be the sum of the Schur polynomials,
-which are multiplied out by listing tableaux. No transition is made here."""
+which are multiplied out by listing tableaux. No transition is made here. Where many equal permutations meet, the Stanley
+polynomial of k falling letters, as often as they fit one after another, must be that power of the Schur polynomial of a staircase,
+by `mult`."""
 import itertools
 import random
 import re
@@ -89,6 +91,13 @@ def multiplied_out(schurs, rows):
     return dict(found)
 
 
+def powers():
+    """The permutations of falling letters behind falling letters, with the staircase and how often it is taken."""
+    for size, most in ((2, 6), (3, 5), (4, 4), (5, 3), (6, 2), (7, 2)):
+        for count in range(2, most + 1):
+            yield [block * size + letter for block in range(count) for letter in range(size, 0, -1)], list(range(size - 1, 0, -1)), count
+
+
 def main():
     program, rng, differences = sys.argv[1], random.Random(1984), Differences()
     for _ in range(200):
@@ -99,6 +108,11 @@ def main():
         w, rows = random_permutation(rng, 5), rng.randint(1, 4)
         schurs = terms(printed(program, "stanley", "-r", rows, *w))
         differences.compare(f"stanley -r {rows} {w} as a polynomial", multiplied_out(schurs, rows), in_front(program, w, rows))
+    for w, staircase, count in powers():
+        for rows in (len(staircase), 8, 16):
+            factors = staircase + (count - 1) * ["-", *staircase]
+            product = printed(program, "mult", "-r", rows, *factors)
+            differences.compare(f"stanley -r {rows} {w}", printed(program, "stanley", "-r", rows, *w), product)
     return differences.status("Stanley polynomials against reduced words")
 
 

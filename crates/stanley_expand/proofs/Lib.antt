@@ -1,6 +1,7 @@
+pub mod Tables
 pub mod Steps
-pub mod Weights
+pub mod FewBefore
+pub mod Overflows
 pub mod ShapeLimits
-pub mod Popped
 pub mod Expansions
 pub mod GreaterLetters

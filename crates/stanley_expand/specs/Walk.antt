@@ -1,21 +1,32 @@
 -- What still waits for the transition rule, and the sum of Schur polynomials so far.
-use Rattle.std.specs.Prelude.{ℕ, ◌^◌, ◌≤◌, ◌≤ℤ◌, ◌+ℤ◌, ℤ, pos, nat_eq, FitsSigned, List}
+use Rattle.std.specs.Prelude.{◌≡◌, ℕ, ◌+◌, ◌-◌, ◌*◌, ◌^◌, ◌≤◌, ◌≤ℤ◌, ◌+ℤ◌, ℤ, pos, nat_eq, nat_lt}
+use Rattle.std.specs.Prelude.{FitsSigned, List, [], cond, length, get_or}
 use Rattle.std.specs.Int.{w128}
 use Rattle.std.specs.Cmp.Lexicographic.{pointwise}
-use Rattle.sym_model.specs.Sum.{total, Among}
+use Rattle.std.specs.List.{IsDistinct}
+use Rattle.std.specs.Map.{keys_of}
+use Rattle.sym_model.specs.Sum.{total}
 use Rattle.sym_model.specs.Partition.{IsPartition, rows}
 use Rattle.sym_model.specs.Polynomial.{pair}
 use Rattle.sym_model.specs.Schur.{schur}
 use Rattle.sym_model.specs.Schubert.{schubert_in}
-use Rattle.sym_model.specs.WholeTerms.{WholeTerms}
+use Rattle.sym_model.specs.WholeTerms.{WholeTerms, AreCounts}
+use Rattle.sym_model.specs.Permutation.{letter, last_descent_place}
 use Rattle.linear_combinations.specs.Entries.{AreHeld, IsWholeTable}
 use Rattle.linear_combinations.specs.Gains.{over, only, HaveLabels}
 use Rattle.stanley_laws.specs.Grassmannian.{IsRising}
 use Rattle.stanley_laws.specs.SchurPositive.{schur_test}
 
--- each permutation has at most n letters and rises at the places 1 to m
-abbrev pub AreRising : ℕ → ℕ → List (List ℕ) → Type 0
-AreRising m n todo = (p : List ℕ) → Among p todo → IsRising m n p
+-- the number of the table in which a permutation waits: by the last descent past place m, and then
+-- by the letter there, in at most 80; 0 if there is no such descent
+abbrev pub number : ℕ → List ℕ → ℕ
+number m p = cond (nat_lt m (last_descent_place p))
+    ((last_descent_place p - m) * 81 + letter p (last_descent_place p)) 0
+
+-- the permutation rises at the places 1 to m and waits in the table with this number
+pub record WaitsAt (m at : ℕ) (p : List ℕ) : Type 0 where
+  pub rising : IsRising m (m + 16) p
+  pub here : number m p ≡ at
 
 -- each coefficient is a number of 128 bits
 abbrev pub IsHeld : WholeTerms → Type 0
@@ -28,13 +39,36 @@ pub record AreShapes (m : ℕ) (sum : WholeTerms) : Type 0 where
   pub few : HaveLabels (λ κ. rows κ ≤ m) sum
   pub natural : (κ : List ℕ) → pos 0 ≤ℤ over (only (pointwise nat_eq) κ) sum
 
--- the sum so far and the Schubert polynomials that still wait, in m variables,
+-- what waits, in tables by their numbers from 0: permutations with counts
+pub record AreWaiting (m : ℕ) (todo : List WholeTerms) : Type 0 where
+  pub labels : (at : ℕ) → HaveLabels (WaitsAt m at) (get_or todo at [])
+  pub counts : (at : ℕ) → AreCounts (get_or todo at [])
+  pub distinct : (at : ℕ) → IsDistinct (pointwise nat_eq) (keys_of (get_or todo at []))
+  pub held : (at : ℕ) → IsHeld (get_or todo at [])
+
+-- the Schubert polynomials that wait, in m variables, each times its count,
 -- paired with a test function
-abbrev pub walked : ℕ → (List ℕ → ℤ) → WholeTerms → List (List ℕ) → ℤ
-walked m φ sum todo =
-    over (λ κ. pair (schur κ m) φ) sum +ℤ total (λ p. pair (schubert_in p m) φ) todo
+abbrev pub waited : ℕ → (List ℕ → ℤ) → List WholeTerms → ℤ
+waited m φ todo = total (λ table. over (λ p. pair (schubert_in p m) φ) table) todo
+
+-- the sum so far and what waits, paired with a test function
+abbrev pub walked : ℕ → (List ℕ → ℤ) → WholeTerms → List WholeTerms → ℤ
+walked m φ sum todo = over (λ κ. pair (schur κ m) φ) sum +ℤ waited m φ todo
+
+-- VALUE: something was added, given by its pairings
+pub record IsWorkedOff (m : ℕ) (sum : WholeTerms) (todo : List WholeTerms)
+    (more : (List ℕ → ℤ) → ℤ) (sum2 : WholeTerms) (todo2 : List WholeTerms) : Type 0 where
+  pub value : (φ : List ℕ → ℤ) → walked m φ sum2 todo2 ≡ walked m φ sum todo +ℤ more φ
+  pub tables : length todo2 ≡ length todo
+  pub waiting : AreWaiting m todo → AreWaiting m todo2
+  pub shapes : AreShapes m sum → AreShapes m sum2
 
 -- some Schur coefficient of a polynomial in m variables, given by its pairings, is 2^127 or more
 abbrev pub HasLargeShape : ℕ → ((List ℕ → ℤ) → ℤ) → Type 0
 HasLargeShape m sum =
     (κ : List ℕ) × IsPartition κ × (rows κ ≤ m) × (pos (2 ^ 127) ≤ℤ sum (schur_test m κ))
+
+-- OVERFLOW: with what is added, some Schur coefficient is 2^127 or more
+abbrev pub OverflowsWith : ℕ → WholeTerms → List WholeTerms → ((List ℕ → ℤ) → ℤ) → Type 0
+OverflowsWith m sum todo more = AreWaiting m todo → AreShapes m sum
+    → HasLargeShape m (λ φ. walked m φ sum todo +ℤ more φ)

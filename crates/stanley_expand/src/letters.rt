@@ -1,5 +1,5 @@
 //! Greater letters in front of a letter.
-ghost use Rattle.std.specs.Prelude.{◌≡◌, ◌≤◌, IsTrue, length};
+ghost use Rattle.std.specs.Prelude.{◌≡◌, ◌≤◌, ◌↔◌, IsTrue, length};
 ghost use Rattle.sym_model.specs.BetaList.{greater};
 ghost use Rattle.stanley_laws.specs.GreaterBefore.{HasMoreBefore};
 
@@ -11,7 +11,7 @@ use perm_codes::Perm;
 /// permutation falls are counted.
 pub(crate) fn has_more_before(perm: &Perm, most: u16) -> bool
     requires { length perm.now ≤ 254 }
-    ensures { IsTrue result → HasMoreBefore most perm.now }
+    ensures { IsTrue result ↔ HasMoreBefore most perm.now }
 {
     let letters = perm.letters();
     let mut last = 0;

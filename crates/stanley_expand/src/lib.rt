@@ -1,7 +1,7 @@
 //! Stanley polynomials in Schur polynomials, by the transition rule from 1^m × w: terms with a
 //! further variable drop out, and so does a permutation in which more greater letters come before a
 //! letter than there are variables; what is left without a descent after the fixed places is a
-//! Schur polynomial.
+//! Schur polynomial. Equal permutations are put together, with a count.
 //!
 //! What is proved:
 //!

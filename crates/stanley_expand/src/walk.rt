@@ -1,18 +1,19 @@
-//! The transition rule without the terms of variables that are 0, depth first.
-ghost use Rattle.std.specs.Prelude.{◌≡◌, ℕ, ◌+◌, ◌<◌, ◌≤◌, ◌+ℤ◌, ℤ, pos, ◌++◌, List, [], ◌∷◌};
-ghost use Rattle.std.specs.Prelude.{nat_eq, IfOk, OnOk, IsErrOf};
+//! The transition rule without the terms of variables that are 0, on permutations with counts.
+ghost use Rattle.std.specs.Prelude.{◌≡◌, ℕ, ◌<◌, ◌≤◌, ◌+ℤ◌, ◌*ℤ◌, ℤ, pos, ◌≤ℤ◌, List, [], ◌∷◌};
+ghost use Rattle.std.specs.Prelude.{◌+◌, nat_eq, length, replicate, IfOk, OnOk, IsErrOf};
 ghost use Rattle.std.specs.Cmp.Lexicographic.{pointwise};
-ghost use Rattle.sym_model.specs.Permutation.{IsTransition, times_swap, covers_down};
+ghost use Rattle.sym_model.specs.Permutation.{IsTransition};
 ghost use Rattle.sym_model.specs.Polynomial.{pair};
 ghost use Rattle.sym_model.specs.Schubert.{schubert_in};
+ghost use Rattle.sym_model.specs.Sum.{total, Among};
+ghost use Rattle.sym_model.specs.WholeTerms.{WholeTerms, AreCounts};
 ghost use Rattle.partitions.specs.Limits.{IsWithinLimits};
-ghost use Rattle.linear_combinations.specs.Gains.{Gains, Overflows};
-ghost use Rattle.transition_walk.specs.Transitions.{IsShort, weight};
+ghost use Rattle.linear_combinations.specs.Gains.{Gains, Overflows, HaveLabels, over};
+ghost use Rattle.transition_walk.specs.Transitions.{IsShort};
 ghost use Rattle.stanley_laws.specs.Grassmannian.{IsRising, front_beta, front_shape};
-ghost use Rattle.stanley_expand.specs.Walk.{AreRising, AreShapes, IsHeld, walked};
-ghost use Rattle.stanley_expand.specs.Walk.{HasLargeShape};
+ghost use Rattle.stanley_expand.specs.Walk.{AreShapes, HasLargeShape, IsHeld, IsWorkedOff};
+ghost use Rattle.stanley_expand.specs.Walk.{OverflowsWith, WaitsAt, number, walked};
 ghost use Rattle.linear_combinations.specs.Entries.{IsWholeTable};
-ghost use Rattle.sym_model.specs.Sum.{sum_by};
 
 use crate::letters::has_more_before;
 use calc_base::{NoMemory, SumFault};
@@ -23,13 +24,20 @@ use perm_codes::Perm;
 use std::alloc::Global;
 use transition_walk::transition_places;
 
+/// The most letters of a permutation that waits.
+const MAX_LETTERS: usize = 80;
+
 /// A sum of Schur polynomials.
 pub(crate) type Schurs = Lin<Partition, Int>;
+
+/// Permutations that wait, each with the number of times that the rule came to it.
+type Counts = Lin<Perm, Int>;
 
 /// The Schubert polynomial of a permutation that rises at the places from 1 to `rows`, in that
 /// number of variables, as a sum of Schur polynomials.
 ///
-/// What still waits is worked off from its end, so that few permutations wait at a time.
+/// The table of the greatest number is worked off first: the transition rule lowers the number, so
+/// equal permutations have met there by then.
 pub(crate) fn in_schurs(alloc: Global, start: Perm, rows: u16) -> Result<Schurs, SumFault>
     requires few { rows ≤ 64 }
     requires rising { IsRising rows (rows + 16) start }
@@ -39,116 +47,180 @@ pub(crate) fn in_schurs(alloc: Global, start: Perm, rows: u16) -> Result<Schurs,
     ensures large { IsErrOf result SumFault.Large
         → HasLargeShape rows (λ φ. pair (schubert_in start rows) φ) }
 {
-    let mut todo = Vec::new(alloc);
-    todo.push(start)?;
+    let mut todo = empty_tables(alloc, number(&start, rows) + 1)?;
+    put(&mut todo, start, Int::one(), rows)?;
     let mut sum = Lin::new(alloc);
-    while let Some(perm) = todo.pop() {
-        work_off(alloc, &mut todo, &perm, rows, &mut sum)?;
+    while let Some(counts) = todo.pop() {
+        work_off_each(alloc, &mut todo, &counts, rows, &mut sum)?;
     }
     Ok(sum)
 }
 
-/// Works off a permutation: nothing is left of one in which more than `rows` greater letters stand
-/// in front of some letter.
-fn work_off(
-    alloc: Global,
-    todo: &mut Vec<Perm>,
-    perm: &Perm,
-    rows: u16,
-    sum: &mut Schurs,
-) -> Result<(), SumFault>
-    requires few { rows ≤ 64 }
-    requires rising { IsRising rows (rows + 16) perm.now }
-    ensures value { OnOk result ((φ : List ℕ → ℤ) → walked rows φ sum.new todo.new.items
-        ≡ walked rows φ sum.old todo.old.items +ℤ pair (schubert_in perm.now rows) φ) }
-    ensures rising { OnOk result (AreRising rows (rows + 16) todo.old.items
-        → AreRising rows (rows + 16) todo.new.items) }
-    ensures shapes { OnOk result (AreShapes rows sum.old → AreShapes rows sum.new) }
-    ensures weight { OnOk result (sum_by weight todo.new.items
-        < sum_by weight todo.old.items + weight perm.now) }
-    ensures large { IsErrOf result SumFault.Large → AreRising rows (rows + 16) todo.old.items
-        → AreShapes rows sum.old
-        → HasLargeShape rows (λ φ. walked rows φ sum.old todo.old.items
-        +ℤ pair (schubert_in perm.now rows) φ) }
+/// That number of empty tables.
+fn empty_tables(alloc: Global, count: usize) -> Result<Vec<Counts>, NoMemory>
+    ensures { IfOk result (λ tables. tables.items ≡ replicate count []) }
 {
-    if has_more_before(perm, rows) {
-        return Ok(());
+    let mut tables = Vec::with_capacity(alloc, count)?;
+    for _ in 0..count {
+        tables.push(Lin::new(alloc))?;
     }
-    replace(alloc, todo, perm, rows, sum)
+    Ok(tables)
 }
 
-/// Puts in the place of a permutation those that the transition rule makes of it;
-/// one without a descent after the place
-/// `rows` is Grassmannian, and its Schur polynomial is added to the sum.
-fn replace(
+/// The number of the table in which a permutation waits: by the last descent past the place
+/// `rows`, and then by the letter there. It is 0 if there is no such descent.
+fn number(perm: &Perm, rows: u16) -> usize
+    ensures number { result ≡ number rows perm.now }
+    ensures small { result < 16777216 }
+{
+    match perm.last_descent() {
+        Some(r) => {
+            if r > rows {
+                return usize::from(r - rows) * (MAX_LETTERS + 1) + usize::from(perm.letter(r));
+            }
+            0
+        }
+        None => 0,
+    }
+}
+
+/// Adds a permutation with its count to the table where it waits. Nothing is left of one in which
+/// more than `rows` greater letters stand in front of some letter.
+fn put(todo: &mut Vec<Counts>, perm: Perm, count: Int, rows: u16) -> Result<(), SumFault>
+    requires few { rows ≤ 64 }
+    requires rising { IsRising rows (rows + 16) perm }
+    requires table { number rows perm < length todo.old.items }
+    requires counts { pos 0 ≤ℤ count }
+    ensures step { OnOk result ((sum : WholeTerms)
+        → IsWorkedOff rows sum todo.old.items
+        (λ φ. count *ℤ pair (schubert_in perm rows) φ) sum todo.new.items) }
+    ensures large { IsErrOf result SumFault.Large → (sum : WholeTerms)
+        → OverflowsWith rows sum todo.old.items
+        (λ φ. count *ℤ pair (schubert_in perm rows) φ) }
+{
+    if has_more_before(&perm, rows) {
+        return Ok(());
+    }
+    let at = number(&perm, rows);
+    let counts = &mut todo[at];
+    counts.add_owned(perm, count)
+}
+
+/// Works off the permutations of a table.
+fn work_off_each(
     alloc: Global,
-    todo: &mut Vec<Perm>,
-    perm: &Perm,
+    todo: &mut Vec<Counts>,
+    counts: &Counts,
     rows: u16,
     sum: &mut Schurs,
 ) -> Result<(), SumFault>
     requires few { rows ≤ 64 }
-    requires rising { IsRising rows (rows + 16) perm.now }
-    ensures value { OnOk result ((φ : List ℕ → ℤ) → walked rows φ sum.new todo.new.items
-        ≡ walked rows φ sum.old todo.old.items +ℤ pair (schubert_in perm.now rows) φ) }
-    ensures rising { OnOk result (AreRising rows (rows + 16) todo.old.items
-        → AreRising rows (rows + 16) todo.new.items) }
-    ensures shapes { OnOk result (AreShapes rows sum.old → AreShapes rows sum.new) }
-    ensures weight { OnOk result (sum_by weight todo.new.items
-        < sum_by weight todo.old.items + weight perm.now) }
-    ensures large { IsErrOf result SumFault.Large → AreRising rows (rows + 16) todo.old.items
-        → AreShapes rows sum.old
-        → HasLargeShape rows (λ φ. walked rows φ sum.old todo.old.items
-        +ℤ pair (schubert_in perm.now rows) φ) }
+    requires waiting { HaveLabels (WaitsAt rows (length todo.old.items)) counts.now }
+    requires counts { AreCounts counts.now }
+    ensures step { OnOk result (IsWorkedOff rows sum.old todo.old.items
+        (λ φ. over (λ p. pair (schubert_in p rows) φ) counts.now) sum.new todo.new.items) }
+    ensures large { IsErrOf result SumFault.Large → OverflowsWith rows sum.old todo.old.items
+        (λ φ. over (λ p. pair (schubert_in p rows) φ) counts.now) }
+{
+    for (perm, count) in counts.iter() {
+        work_off(alloc, todo, perm, *count, rows, sum)?;
+    }
+    Ok(())
+}
+
+/// Puts in the place of a permutation those that the transition rule makes of it; one without a
+/// descent after the place `rows` is Grassmannian, and its Schur polynomial is added to the sum.
+fn work_off(
+    alloc: Global,
+    todo: &mut Vec<Counts>,
+    perm: &Perm,
+    count: Int,
+    rows: u16,
+    sum: &mut Schurs,
+) -> Result<(), SumFault>
+    requires few { rows ≤ 64 }
+    requires waiting { WaitsAt rows (length todo.old.items) perm.now }
+    requires counts { pos 0 ≤ℤ count }
+    ensures step { OnOk result (IsWorkedOff rows sum.old todo.old.items
+        (λ φ. count *ℤ pair (schubert_in perm.now rows) φ) sum.new todo.new.items) }
+    ensures large { IsErrOf result SumFault.Large → OverflowsWith rows sum.old todo.old.items
+        (λ φ. count *ℤ pair (schubert_in perm.now rows) φ) }
 {
     match transition_places(perm) {
         Some((r, s)) => {
             if r > rows {
-                expand(todo, perm, r, s)?;
-                return Ok(());
+                return expand(todo, perm, count, r, s, rows);
             }
         }
         None => {}
     }
-    add_shape(alloc, sum, perm, rows)
+    add_shape(alloc, sum, perm, count, rows)
 }
 
-/// Puts the permutations at the end that the transition rule makes, but for the one that is
+/// Puts the permutations in their tables that the transition rule makes, but for the one that is
 /// multiplied by a variable.
-fn expand(todo: &mut Vec<Perm>, perm: &Perm, r: u16, s: u16) -> Result<(), NoMemory>
-    requires short { IsShort 254 perm.now }
+fn expand(
+    todo: &mut Vec<Counts>,
+    perm: &Perm,
+    count: Int,
+    r: u16,
+    s: u16,
+    rows: u16,
+) -> Result<(), SumFault>
+    requires few { rows ≤ 64 }
+    requires waiting { WaitsAt rows (length todo.old.items) perm.now }
     requires places { IsTransition perm.now r s }
-    ensures { OnOk result (todo.new.items
-        ≡ todo.old.items ++ covers_down r (times_swap r s perm.now)) }
+    requires after { rows < r }
+    requires counts { pos 0 ≤ℤ count }
+    ensures step { OnOk result ((sum : WholeTerms)
+        → IsWorkedOff rows sum todo.old.items
+        (λ φ. count *ℤ pair (schubert_in perm.now rows) φ) sum todo.new.items) }
+    ensures large { IsErrOf result SumFault.Large → (sum : WholeTerms)
+        → OverflowsWith rows sum todo.old.items
+        (λ φ. count *ℤ pair (schubert_in perm.now rows) φ) }
 {
     let lower = perm.times_swap(r, s)?;
-    let covers = lower.covers_down(r)?;
-    push_all(todo, covers)
+    put_each(todo, lower.covers_down(r)?, count, rows)
 }
 
-/// Puts some permutations at the end.
-fn push_all(todo: &mut Vec<Perm>, perms: Vec<Perm>) -> Result<(), NoMemory>
-    ensures { OnOk result (todo.new.items ≡ todo.old.items ++ perms.items) }
+/// Adds permutations with one count to the tables where they wait.
+fn put_each(todo: &mut Vec<Counts>, perms: Vec<Perm>, count: Int, rows: u16) -> Result<(), SumFault>
+    requires few { rows ≤ 64 }
+    requires waiting { (p : List ℕ) → Among p perms.items
+        → IsRising rows (rows + 16) p × (number rows p < length todo.old.items) }
+    requires counts { pos 0 ≤ℤ count }
+    ensures step { OnOk result ((sum : WholeTerms) → IsWorkedOff rows sum todo.old.items
+        (λ φ. count *ℤ total (λ p. pair (schubert_in p rows) φ) perms.items)
+        sum todo.new.items) }
+    ensures large { IsErrOf result SumFault.Large → (sum : WholeTerms)
+        → OverflowsWith rows sum todo.old.items
+        (λ φ. count *ℤ total (λ p. pair (schubert_in p rows) φ) perms.items) }
 {
     for perm in perms {
-        todo.push(perm)?;
+        put(todo, perm, count, rows)?;
     }
     Ok(())
 }
 
 /// Adds the Schur polynomial of a Grassmannian permutation.
-fn add_shape(alloc: Global, sum: &mut Schurs, perm: &Perm, rows: u16) -> Result<(), SumFault>
+fn add_shape(
+    alloc: Global,
+    sum: &mut Schurs,
+    perm: &Perm,
+    count: Int,
+    rows: u16,
+) -> Result<(), SumFault>
     requires few { rows ≤ 64 }
     requires limits { IsWithinLimits (front_shape rows perm.now) }
-    ensures gains { OnOk result (Gains sum.old ((front_shape rows perm.now, pos 1) ∷ []) sum.new) }
+    ensures gains { OnOk result (Gains sum.old ((front_shape rows perm.now, count) ∷ []) sum.new) }
     ensures table { OnOk result (IsWholeTable sum.new) }
     ensures held { OnOk result (IsHeld sum.new) }
     ensures large { IsErrOf result SumFault.Large
-        → Overflows (pointwise nat_eq) sum.old ((front_shape rows perm.now, pos 1) ∷ []) }
+        → Overflows (pointwise nat_eq) sum.old ((front_shape rows perm.now, count) ∷ []) }
 {
     let beta = front(alloc, perm, rows)?;
     let shape = Partition::from_beta(alloc, beta.as_slice())?;
-    sum.add_at_label(&shape, Int::one())
+    sum.add_owned(shape, count)
 }
 
 /// The letters at the places from `rows` down to 1, each less by 1.

@@ -35,13 +35,13 @@ use Rattle.stanley_laws.proofs.FirstPlaces.{dropped, rises_past}
 
 -- ---- counts in the front of a list
 
-greater_longer : (x p q : ℕ) (w : List ℕ) → p ≤ q → greater x (take p w) ≤ greater x (take q w)
+pub greater_longer : (x p q : ℕ) (w : List ℕ) → p ≤ q → greater x (take p w) ≤ greater x (take q w)
 greater_longer x zero q w h = omega arith
 greater_longer x (suc p) zero w h = absurd (omega arith)
 greater_longer x (suc p) (suc q) [] h = omega arith
 greater_longer x (suc p) (suc q) (y ∷ w) h = let e = greater_longer x p q w (omega arith) in omega arith
 
-greater_fewer : (x y : ℕ) (w : List ℕ) → y ≤ x → greater x w ≤ greater y w
+pub greater_fewer : (x y : ℕ) (w : List ℕ) → y ≤ x → greater x w ≤ greater y w
 greater_fewer x y [] h = omega arith
 greater_fewer x y (z ∷ w) h =
     let e = greater_fewer x y w h in
@@ -61,7 +61,7 @@ greater_most x (suc m) (y ∷ w) =
     ]
 
 -- entries from place k on that are not greater count nothing
-greater_past : (x k q : ℕ) (w : List ℕ) → ((c : ℕ) → k ≤ c → c < q → get_or w c 0 ≤ x)
+pub greater_past : (x k q : ℕ) (w : List ℕ) → ((c : ℕ) → k ≤ c → c < q → get_or w c 0 ≤ x)
     → greater x (take q w) ≤ greater x (take k w)
 greater_past x k zero w h = omega arith
 greater_past x k (suc q) [] h = omega arith
@@ -87,7 +87,7 @@ take_set_later (suc p) zero x w h = absurd (omega arith)
 take_set_later (suc p) (suc b) x [] h = refl
 take_set_later (suc p) (suc b) x (y ∷ w) h = ap (λ v. y ∷ v) (take_set_later p b x w (omega arith))
 
-take_later : (p a b : ℕ) (w : List ℕ) → p ≤ a → p ≤ b → take p (swap_at a b w) ≡ take p w
+pub take_later : (p a b : ℕ) (w : List ℕ) → p ≤ a → p ≤ b → take p (swap_at a b w) ≡ take p w
 take_later zero a b w h k = refl
 take_later (suc p) zero b w h k = absurd (omega arith)
 take_later (suc p) (suc a) zero w h k = absurd (omega arith)
@@ -105,11 +105,11 @@ take_swap (suc p) (suc a) zero (y ∷ w) h k =
 take_swap (suc p) (suc a) (suc b) (y ∷ w) h k = ap (λ v. y ∷ v) (take_swap p a b w (omega arith) (omega arith))
 
 -- both places in front
-greater_both : (x p a b : ℕ) (w : List ℕ) → a < p → b < p → greater x (take p (swap_at a b w)) ≡ greater x (take p w)
+pub greater_both : (x p a b : ℕ) (w : List ℕ) → a < p → b < p → greater x (take p (swap_at a b w)) ≡ greater x (take p w)
 greater_both x p a b w h k = ap (greater x) (take_swap p a b w h k) ∙ greater_swap x a b (take p w)
 
 -- the first place in front, and not the second
-greater_one : (x p a b : ℕ) (w : List ℕ) → a < p → p ≤ b → b < length w
+pub greater_one : (x p a b : ℕ) (w : List ℕ) → a < p → p ≤ b → b < length w
     → greater x (take p (swap_at a b w)) + cond (nat_lt x (get_or w a 0)) 1 0
     ≡ greater x (take p w) + cond (nat_lt x (get_or w b 0)) 1 0
 greater_one x zero a b w h k l = absurd (omega arith)
@@ -133,7 +133,7 @@ before w p = greater (get_or w p 0) (take p w)
 abbrev pub MoreBefore : ℕ → List ℕ → Type 0
 MoreBefore m w = (p : ℕ) × (p < length w) × (m < before w p)
 
-at_letter : (w : List ℕ) (p x : ℕ) → get_or w p 0 ≡ x → before w p ≡ greater x (take p w)
+pub at_letter : (w : List ℕ) (p x : ℕ) → get_or w p 0 ≡ x → before w p ≡ greater x (take p w)
 at_letter w p x e = ap (λ z. greater z (take p w)) e
 
 -- a rising pair of places exchanged: the place q then has one more
@@ -187,7 +187,7 @@ up m j q p u h k l i f =
     ]
 
 -- the letters from the last descent up to its partner rise, and are smaller than that
-smaller_between : (q b c : ℕ) (w : List ℕ) → IsOneLine w → IsStep w q b → q < c → c < b → get_or w c 0 < get_or w b 0
+pub smaller_between : (q b c : ℕ) (w : List ℕ) → IsOneLine w → IsStep w q b → q < c → c < b → get_or w c 0 < get_or w b 0
 smaller_between q b c w o s h k =
     let inside = s.inside in
     strict_get w c b o.once (omega arith) inside (λ z. omega arith) (rises_chain q c b w s.rises h (omega arith) inside)
@@ -269,7 +269,7 @@ one_line_most w n c o h = elim (cases_lt c (length w)) [
   | inr l ↦ let p = get_past w c 0 l in omega arith
 ]
 
-from_letters : (m : ℕ) (w : List ℕ) → IsOneLine w → HasMoreBefore m w → MoreBefore m w
+pub from_letters : (m : ℕ) (w : List ℕ) → IsOneLine w → HasMoreBefore m w → MoreBefore m w
 from_letters m w o (i, h, f) = elim (cases_lt (i - 1) (length w)) [
   | inl l ↦
       let e = ap (λ z. greater z (take (i - 1) w)) (get_or-any w (i - 1) i 0 l) in
@@ -291,7 +291,7 @@ to_letters m w (p, i, f) =
     let c : greater_before w (suc p) ≡ greater (get_or w p 0) (take p w) = ap₂ (λ x t. greater x (take t w)) (a ∙ b) e in
     (suc p, omega arith, omega arith)
 
-take_front : (p : ℕ) (a t : List ℕ) → p ≤ length a → take p (a ++ t) ≡ take p a
+pub take_front : (p : ℕ) (a t : List ℕ) → p ≤ length a → take p (a ++ t) ≡ take p a
 take_front zero a t h = refl
 take_front (suc p) [] t h = absurd (omega arith)
 take_front (suc p) (x ∷ a) t h = ap (λ v. x ∷ v) (take_front p a t (omega arith))

@@ -1,4 +1,10 @@
+use Rattle.std.proofs.Common.{◌≡◌, ℕ, ◌-◌, ◌<◌, ◌≤◌, get_or}
+use Rattle.stanley_laws.proofs.GreaterBefore.{before}
 use Rattle.stanley_expand.proofs.letters.has_more_before.Given as goal
 
+-- no letter so far has too many in front; the one before this place
 abbrev pub invariant-loop-at : goal.invariant-loop-at
-invariant-loop-at l = Unit {0}
+invariant-loop-at l = record {
+  few : (p : ℕ) → p < l.at → before l.letters p ≤ l.most;
+  last : 0 < l.at → l.last ≡ get_or l.letters (l.at - 1) 0;
+}

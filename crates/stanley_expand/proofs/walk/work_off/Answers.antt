@@ -1,21 +1,45 @@
-use Rattle.std.proofs.Common.{◌≡◌, arith, pos}
-use Rattle.std.proofs.lemmas.Int.{ints}
-use Rattle.sym_model.specs.Polynomial.{pair, nothing}
-use Rattle.sym_model.specs.Schubert.{schubert_in}
-use Rattle.sym_model.proofs.Polynomials.{pair_determined}
-use Rattle.transition_walk.proofs.Ranks.{weight_positive}
-use Rattle.stanley_laws.proofs.GreaterBefore.{no_polynomial}
+use Rattle.std.proofs.Common.{◌≤◌, ◌+◌, arith, ap, unwrap_or}
+use Rattle.sym_model.specs.Permutation.{last_descent_place}
+use Rattle.linear_combinations.proofs.Masses.{on_both}
+use Rattle.linear_combinations.proofs.Steps.{on_ok}
+use Rattle.linear_combinations.specs.Entries.{IsWholeTable}
+use Rattle.stanley_expand.specs.Walk.{IsHeld}
+use Rattle.stanley_expand.proofs.ShapeLimits.{shape_limits}
+use Rattle.stanley_expand.proofs.Steps.{shape_step, large_shape}
+use Rattle.stanley_expand.proofs.walk.work_off.Goals.{in-Some+else-r-rows, in-None}
 use Rattle.stanley_expand.proofs.walk.work_off.Goals as goal
 
--- nothing is left of a permutation with too many greater letters in front of one
-pub returns-then-has_more_before-clause-value : goal.returns-then-has_more_before-clause-value
-returns-then-has_more_before-clause-value c φ =
-    let more = c.has_more_before.ensures c.if-has_more_before.true in
-    let none : pair (schubert_in c.args.perm.now c.args.rows) φ ≡ pos 0 =
-    pair_determined (schubert_in c.args.perm.now c.args.rows) nothing φ
-    (no_polynomial c.args.rows c.args.perm.now c.requires.rising.short.one_line more) in
-    omega (arith, ints)
+pub returns-then-r-rows-clause-step : goal.returns-then-r-rows-clause-step
+returns-then-r-rows-clause-step c = on_ok c.expand.result c.expand.ensures.step
+    (λ step. step c.args.sum.now)
 
-pub returns-then-has_more_before-clause-weight : goal.returns-then-has_more_before-clause-weight
-returns-then-has_more_before-clause-weight c = let p = weight_positive c.args.perm.now in
-    omega arith
+pub returns-then-r-rows-clause-large : goal.returns-then-r-rows-clause-large
+returns-then-r-rows-clause-large c err = c.expand.ensures.large err c.args.sum.now
+
+pub add_shape-requires-clause-limits : goal.add_shape-requires-clause-limits
+add_shape-requires-clause-limits c = shape_limits c.args.rows c.args.perm.now c.requires.few
+    c.requires.waiting.rising
+
+-- no descent past the last of the first places
+small : (c : goal.After-add_shape) → last_descent_place c.args.perm.now ≤ c.args.rows
+small c = elim c.match-transition_places.branch [
+  | in-Some+else-r-rows w ↦ let h = w.if-r-rows.false in let d = ap (λ t. unwrap_or t 0)
+      w.in-Some.ensures.places.descent in omega arith
+  | in-None w ↦ let d = ap (λ t. unwrap_or t 0) w.in-None.ensures.none in omega arith
+]
+
+pub returns-clause-step : goal.returns-clause-step
+returns-clause-step c =
+    on_both {Q = IsWholeTable c.add_shape.new.sum × IsHeld c.add_shape.new.sum} c.add_shape.result
+    c.add_shape.ensures.gains
+    (on_both c.add_shape.result c.add_shape.ensures.table c.add_shape.ensures.held (λ table held.
+    (table, held)))
+    (λ gains is. shape_step c.args.rows (c.args.rows + 16) c.args.perm.now c.requires.waiting.rising
+    (small c) c.args.count c.args.sum.now c.add_shape.new.sum c.args.todo.now.items
+    c.requires.counts gains is.0 is.1)
+
+pub returns-clause-large : goal.returns-clause-large
+returns-clause-large c err =
+    large_shape c.args.rows (c.args.rows + 16) c.args.perm.now c.requires.waiting.rising
+    (small c) c.args.count c.args.sum.now c.args.todo.now.items c.requires.counts
+    (c.add_shape.ensures.large err)

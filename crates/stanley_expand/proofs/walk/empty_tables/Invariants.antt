@@ -1,0 +1,7 @@
+use Rattle.std.proofs.Common.{◌≡◌, [], replicate, List}
+use Rattle.sym_model.specs.WholeTerms.{WholeTerms}
+use Rattle.stanley_expand.proofs.walk.empty_tables.Given as goal
+
+-- as many as were counted
+abbrev pub invariant-loop : goal.invariant-loop
+invariant-loop l = ◌≡◌ {A = List WholeTerms} l.tables.items (replicate l.counter [])
