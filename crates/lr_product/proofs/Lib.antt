@@ -15,6 +15,7 @@ mod Sums
 mod Pruned
 mod CountedLists
 pub mod GoodCounts
+mod NoRoom
 mod PastCoefficients
 mod ManyStarts
 mod Partial

@@ -5,3 +5,4 @@ pub mod Extension
 pub mod ColumnLine
 pub mod Counts
 pub mod ProductOfFactors
+pub mod LetterRoom

@@ -19,6 +19,7 @@ mod columns;
 mod counts;
 mod extension;
 mod factor_product;
+mod letter_room;
 mod letters;
 mod next_factor;
 mod product;
