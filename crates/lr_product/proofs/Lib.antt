@@ -16,6 +16,7 @@ mod Pruned
 mod CountedLists
 pub mod GoodCounts
 mod NoRoom
+mod Placed
 mod PastCoefficients
 mod ManyStarts
 mod Partial

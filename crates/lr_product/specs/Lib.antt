@@ -6,3 +6,4 @@ pub mod ColumnLine
 pub mod Counts
 pub mod ProductOfFactors
 pub mod LetterRoom
+pub mod Places

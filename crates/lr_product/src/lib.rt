@@ -24,6 +24,7 @@ mod letters;
 mod next_factor;
 mod product;
 mod skew_expansion;
+mod sorted_pairs;
 mod states;
 mod step;
 mod table;
