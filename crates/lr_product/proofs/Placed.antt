@@ -1,5 +1,5 @@
 -- The states of a table by their indices: what they add up to, and the list of terms that they make.
-use Rattle.std.proofs.Common.{◌≡◌, ℕ, zero, suc, ◌+◌, ◌*◌, ◌^◌, ◌<◌, ◌≤◌, ◌⊎◌, inl, inr, Bool, true, false, cond, List, [], ◌∷◌, ◌++◌, length, take, drop, get_or, refl, sym, ap, ◌∙◌, subst, arith, ℤ, pos, ◌+ℤ◌}
+use Rattle.std.proofs.Common.{◌≡◌, ℕ, zero, suc, ◌+◌, ◌*◌, ◌^◌, ◌<◌, ◌≤◌, ◌⊎◌, inl, inr, Bool, true, false, cond, List, [], ◌∷◌, ◌++◌, length, take, drop, refl, sym, ap, ◌∙◌, subst, arith, ℤ, pos, ◌+ℤ◌}
 use Rattle.std.specs.Prelude.{Some, None, slice_get, nat_eq, ◌<ℤ◌}
 use Rattle.std.specs.Cmp.Lexicographic.{pointwise}
 use Rattle.std.specs.List as lists
@@ -7,7 +7,7 @@ use Rattle.std.proofs.lemmas.Bool.{cases_lt, and_parts}
 use Rattle.std.proofs.lemmas.Int.{ints}
 use Rattle.std.proofs.lemmas.List.Sums.{sum_by_push}
 use Rattle.sym_model.specs.Sum.{Among}
-use Rattle.sym_model.specs.Partition.{IsPartition, rows, without_last_zeros}
+use Rattle.sym_model.specs.Partition.{without_last_zeros}
 use Rattle.sym_model.specs.Polynomial.{same, coefficient}
 use Rattle.sym_model.specs.WholeTerms.{WholeTerms}
 use Rattle.sym_model.specs.LabelLimits.{is_label}
@@ -28,7 +28,7 @@ use Rattle.lr_product.specs.WeighedSum.{at_state, weighed, unreached, comes_to}
 use Rattle.lr_product.specs.Counts.{HasCounts, IsPastSomewhere}
 use Rattle.lr_product.specs.Places.{entry_at, count_at, AreSmallTerms}
 use Rattle.lr_product.proofs.Steps.{IsReached, reached-tells, weighed-none}
-use Rattle.lr_product.proofs.CountedLists.{Finds, has_counts, counted-long, weighed-take, weighed-front}
+use Rattle.lr_product.proofs.CountedLists.{has_counts, counted-long, weighed-take, weighed-front}
 
 -- ---- entries by index
 
