@@ -15,6 +15,8 @@ mod Sums
 mod Pruned
 mod CountedLists
 pub mod GoodCounts
+mod NoRoom
+mod Placed
 mod PastCoefficients
 mod ManyStarts
 mod Partial

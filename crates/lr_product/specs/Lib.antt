@@ -5,3 +5,5 @@ pub mod Extension
 pub mod ColumnLine
 pub mod Counts
 pub mod ProductOfFactors
+pub mod LetterRoom
+pub mod Places

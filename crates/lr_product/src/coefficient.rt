@@ -10,6 +10,7 @@ ghost use Rattle.lr_product.specs.WeighedSum.{weighed, comes_to};
 ghost use Rattle.lr_product.specs.Capped.{Agree};
 
 use crate::columns::ways_by_columns;
+use crate::letter_room::has_no_room;
 use crate::states::{CAP, States};
 use crate::table::capped;
 use calc_base::SumFault;
@@ -78,10 +79,7 @@ fn count_inside(
         < 2 ^ 127) }
     ensures factors { IsPartition outer.now × IsPartition inner.now × IsPartition content.now }
 {
-    if inner.size() + content.size() != outer.size() {
-        return Ok(Int::new(0));
-    }
-    if !outer.contains(inner) {
+    if has_no_room(outer, inner, content) {
         return Ok(Int::new(0));
     }
     let letters = content.rows();

@@ -10,6 +10,7 @@ ghost use Rattle.lr_product.specs.WeighedSum.{weighed, unreached, comes_to};
 ghost use Rattle.lr_product.specs.Counts.{good_count, HasCounts, IsPastSomewhere};
 
 use crate::columns::ways_by_columns;
+use crate::sorted_pairs::sorted_pairs;
 use crate::states::{CAP, States};
 use calc_base::SumFault;
 use coeff_rings::Int;
@@ -55,6 +56,29 @@ pub(crate) fn no_terms(alloc: Global) -> Result<Terms<Partition, Int>, SumFault>
 
 /// The numbers of ways to come to each sum, by the partition that the sum is.
 pub(crate) fn terms_of_table(
+    alloc: Global,
+    table: States,
+    letters: u16,
+) -> Result<Terms<Partition, Int>, SumFault>
+    requires letters { letters ≤ 512 }
+    requires reached { weighed letters (unreached letters 4096) table.entries ≡ 0 }
+    ensures counts { IfOk result (HasCounts letters
+        (λ parts. weighed letters (comes_to parts) table.entries)) }
+    ensures fits { OnOk result ((parts : List ℕ)
+        → weighed letters (comes_to parts) table.entries < 2 ^ 127) }
+    ensures large { IsErrOf result SumFault.Large
+        → IsPastSomewhere letters (λ parts. weighed letters (comes_to parts) table.entries) }
+{
+    let pairs = sorted_pairs(alloc, &table, letters)?;
+    if let Some(terms) = Terms::from_pairs(pairs) {
+        return Ok(terms);
+    }
+    collected_terms(alloc, table, letters)
+}
+
+/// The same for a table that may have sums of several sizes, or one sum twice: the counts are
+/// collected by label.
+fn collected_terms(
     alloc: Global,
     table: States,
     letters: u16,

@@ -2,6 +2,7 @@
 ghost use Rattle.std.specs.Prelude.{◌≡◌, ℕ, ◌+◌, ◌*◌, ◌^◌, ◌<◌, List, ◌∷◌, [], ◌++◌, min};
 ghost use Rattle.std.specs.Prelude.{length, slice_get, OnOk, IfOk, IsTrue, Some};
 ghost use Rattle.std.specs.Map.{keys_of};
+ghost use Rattle.std.specs.Option.{option_map};
 ghost use Rattle.lr_product.specs.WeighedSum.{at_state, weighed};
 ghost use Rattle.lr_product.specs.Capped.{Agree};
 
@@ -66,6 +67,16 @@ impl States {
     {
         let start = at * self.width;
         (&self.numbers[start..start + self.width], self.counts[at])
+    }
+
+    /// The state and the count at an index, `None` exactly past the last one.
+    pub(crate) fn get(&self, at: usize) -> Option<(&[u16], u128)>
+        ensures { option_map (λ e. (e.0.now, e.1)) result ≡ slice_get self.now.entries at }
+    {
+        if at < self.len() {
+            return Some(self.entry(at));
+        }
+        None
     }
 
     /// Whether this state is the one at an index.

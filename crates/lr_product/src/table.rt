@@ -6,7 +6,7 @@ ghost use Rattle.lr_product.specs.WeighedSum.{at_state, weighed};
 ghost use Rattle.lr_product.specs.Capped.{Agree};
 
 use crate::states::{CAP, States};
-use calc_base::{NoMemory, mixed};
+use calc_base::NoMemory;
 use std::alloc::Global;
 use std::marker::Model;
 
@@ -113,10 +113,30 @@ fn find(slots: &[u32], states: &States, state: &[u16]) -> Result<usize, usize>
     Err(slot)
 }
 
-/// The slot of that number of in which the search for a state begins.
+/// The slot of that number of in which the search for a state begins. Four numbers are mixed in at
+/// a time.
 fn first_slot(state: &[u16], len: usize) -> usize {
-    let hash = mixed(state).wrapping_mul(SPREAD) >> 32;
-    (hash.wrapping_mul(len as u64) >> 32) as usize
+    let mut hash: u64 = 0;
+    for numbers in state.chunks(4) {
+        hash = (hash.rotate_left(23) ^ word_of(numbers)).wrapping_mul(SPREAD);
+    }
+    ((hash >> 32).wrapping_mul(len as u64) >> 32) as usize
+}
+
+/// Up to four numbers in one word.
+fn word_of(numbers: &[u16]) -> u64 {
+    match numbers {
+        [a, b, c, d] => joined(*a, *b, *c, *d),
+        [a, b, c] => joined(*a, *b, *c, 0),
+        [a, b] => joined(*a, *b, 0, 0),
+        [a] => u64::from(*a),
+        _ => 0,
+    }
+}
+
+/// Four numbers in one word, the first one in its lowest bits.
+fn joined(a: u16, b: u16, c: u16, d: u16) -> u64 {
+    u64::from(a) | u64::from(b) << 16 | u64::from(c) << 32 | u64::from(d) << 48
 }
 
 /// Notes in a slot the index of a state. States past the first 2^32 have no slots.

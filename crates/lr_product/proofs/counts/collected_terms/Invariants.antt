@@ -1,6 +1,6 @@
 use Rattle.std.proofs.Common.{◌≡◌, length}
 use Rattle.lr_product.proofs.CountedLists.{Finds, counted}
-use Rattle.lr_product.proofs.counts.terms_of_table.Given as goal
+use Rattle.lr_product.proofs.counts.collected_terms.Given as goal
 
 abbrev pub invariant-loop-at : goal.invariant-loop-at
 invariant-loop-at l = record {

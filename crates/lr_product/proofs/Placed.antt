@@ -1,0 +1,159 @@
+-- The states of a table by their indices: what they add up to, and the list of terms that they make.
+use Rattle.std.proofs.Common.{◌≡◌, ℕ, zero, suc, ◌+◌, ◌*◌, ◌^◌, ◌<◌, ◌≤◌, ◌⊎◌, inl, inr, Bool, true, false, cond, List, [], ◌∷◌, ◌++◌, length, take, drop, refl, sym, ap, ◌∙◌, subst, arith, ℤ, pos, ◌+ℤ◌}
+use Rattle.std.specs.Prelude.{Some, None, slice_get, nat_eq, ◌<ℤ◌}
+use Rattle.std.specs.Cmp.Lexicographic.{pointwise}
+use Rattle.std.specs.List as lists
+use Rattle.std.proofs.lemmas.Bool.{cases_lt, and_parts}
+use Rattle.std.proofs.lemmas.Int.{ints}
+use Rattle.std.proofs.lemmas.List.Sums.{sum_by_push}
+use Rattle.sym_model.specs.Sum.{Among}
+use Rattle.sym_model.specs.Partition.{without_last_zeros}
+use Rattle.sym_model.specs.Polynomial.{same, coefficient}
+use Rattle.sym_model.specs.WholeTerms.{WholeTerms}
+use Rattle.sym_model.specs.LabelLimits.{is_label}
+use Rattle.sym_model.specs.PrintedOrder.{printed_order}
+use Rattle.sym_model.proofs.Exponents.{same_from}
+use Rattle.sym_model.proofs.Orders.{printed_order-total}
+use Rattle.sym_model.proofs.Polynomials.{coefficient_plus}
+use Rattle.sym_model.proofs.Parts.{length-without_last_zeros}
+use Rattle.sym_model.proofs.SortedParts.{IsPartition-without_last_zeros}
+use Rattle.coeff_rings.specs.Fractions.{whole}
+use Rattle.linear_combinations.specs.Entries.{is_ordered, IsCanonicalList, IsCombination}
+use Rattle.linear_combinations.specs.Labels.{same_partition}
+use Rattle.linear_combinations.proofs.Found.{coefficient_found, coefficient_of_term}
+use Rattle.linear_combinations.proofs.Ordered.{canonical-ordered, distinct-ordered}
+use Rattle.alternant_laws.proofs.FallingAlternants.{falls_from_test}
+use Rattle.product_laws.proofs.CountLists.{some_term}
+use Rattle.lr_product.specs.WeighedSum.{at_state, weighed, unreached, comes_to}
+use Rattle.lr_product.specs.Counts.{HasCounts, IsPastSomewhere}
+use Rattle.lr_product.specs.Places.{entry_at, count_at, AreSmallTerms}
+use Rattle.lr_product.proofs.Steps.{IsReached, reached-tells, weighed-none}
+use Rattle.lr_product.proofs.CountedLists.{has_counts, counted-long, weighed-take, weighed-front}
+
+-- ---- entries by index
+
+pub none_at : (es : List (List ℕ × ℕ)) (at : ℕ) → slice_get es at ≡ None → entry_at es at ≡ ([], 0)
+none_at [] zero h = refl
+none_at [] (suc at) h = refl
+none_at (e ∷ es) zero h = cc
+none_at (e ∷ es) (suc at) h = none_at es at h
+
+pub some_at : (es : List (List ℕ × ℕ)) (at : ℕ) (key : List ℕ) (w : ℕ) → slice_get es at ≡ Some (key, w) → entry_at es at ≡ (key, w)
+some_at [] at key w h = cc
+some_at (e ∷ es) zero key w h = cc
+some_at (e ∷ es) (suc at) key w h = some_at es at key w h
+
+here_at : (es : List (List ℕ × ℕ)) (at : ℕ) → at < length es → slice_get es at ≡ Some ((entry_at es at).0, (entry_at es at).1)
+here_at [] at h = absurd (omega arith)
+here_at (e ∷ es) zero h = refl
+here_at (e ∷ es) (suc at) h = here_at es at (omega arith)
+
+past_at_end : (es : List (List ℕ × ℕ)) (at : ℕ) → length es ≤ at → entry_at es at ≡ ([], 0)
+past_at_end [] zero h = refl
+past_at_end [] (suc at) h = refl
+past_at_end (e ∷ es) zero h = absurd (omega arith)
+past_at_end (e ∷ es) (suc at) h = past_at_end es at (omega arith)
+
+-- one index more
+pub sums_next : (n : ℕ) (es : List (List ℕ × ℕ)) (f : List ℕ → List ℕ → ℕ) (at : ℕ) (places : List ℕ) → at < length es → lists.sum_by (count_at n es f) places ≡ weighed n f (take at es)
+    → lists.sum_by (count_at n es f) (places ++ at ∷ []) ≡ weighed n f (take (at + 1) es)
+sums_next n es f at places h e =
+    sum_by_push (count_at n es f) places at ∙ ap (λ s. s + count_at n es f at) e
+    ∙ sym (weighed-take n f es at (entry_at es at).0 (entry_at es at).1 (here_at es at h))
+
+-- ---- what one index adds
+
+pub nothing_counted : (n : ℕ) (es : List (List ℕ × ℕ)) (f : List ℕ → List ℕ → ℕ) (at : ℕ) (z : ℤ) → (entry_at es at).1 ≡ 0 → z ≡ z +ℤ pos (count_at n es f at)
+nothing_counted n es f at z e =
+    let c : count_at n es f at ≡ 0 * at_state n f (entry_at es at).0 = ap (λ w. w * at_state n f (entry_at es at).0) e in
+    let d : 0 * at_state n f (entry_at es at).0 ≡ 0 = omega arith in
+    omega (arith, ints)
+
+pub pushed_counts : (n : ℕ) (es : List (List ℕ × ℕ)) (at : ℕ) (key : List ℕ) (w : ℕ) (old new : WholeTerms) (label : List ℕ) (z : ℤ) (parts : List ℕ)
+    → slice_get es at ≡ Some (key, w) → new ≡ old ++ (label, z) ∷ [] → label ≡ without_last_zeros (take n key) → z ≡ pos w
+    → coefficient new parts ≡ coefficient old parts +ℤ pos (count_at n es (comes_to parts) at)
+pushed_counts n es at key w old new label z parts h e l c =
+    ap (λ (t : WholeTerms). coefficient t parts) e ∙ coefficient_plus old ((label, z) ∷ []) parts
+    ∙ ap (λ x. coefficient old parts +ℤ x) (one ∙ sym (ap (λ (x : List ℕ × ℕ). pos (x.1 * at_state n (comes_to parts) x.0)) (some_at es at key w h)))
+  where
+    by : (t : Bool) → cond t (pos w) (pos 0) +ℤ pos 0 ≡ pos (w * cond t 1 0)
+    by true = let m : w * 1 ≡ w = omega arith in omega (arith, ints)
+    by false = let m : w * 0 ≡ 0 = omega arith in omega (arith, ints)
+
+    one : coefficient ((label, z) ∷ []) parts ≡ pos (w * at_state n (comes_to parts) key)
+    one = ap (λ (x : List ℕ). cond (same x parts) z (pos 0) +ℤ pos 0) l ∙ ap (λ y. cond (same (without_last_zeros (take n key)) parts) y (pos 0) +ℤ pos 0) c ∙ by (same (without_last_zeros (take n key)) parts)
+
+among_pushed : (old : WholeTerms) (x t : List ℕ × ℤ) → Among t (old ++ x ∷ []) → Among t old ⊎ (t ≡ x)
+among_pushed [] x t (inl e) = inr e
+among_pushed [] x t (inr m) = absurd m
+among_pushed (y ∷ old) x t (inl e) = inl (inl e)
+among_pushed (y ∷ old) x t (inr m) = by (among_pushed old x t m)
+  where
+    by : Among t old ⊎ (t ≡ x) → Among t (y ∷ old) ⊎ (t ≡ x)
+    by (inl k) = inl (inr k)
+    by (inr e) = inr e
+
+pub pushed_small : (old new : WholeTerms) (label : List ℕ) (z : ℤ) (w : ℕ) → new ≡ old ++ (label, z) ∷ [] → z ≡ pos w → w < 2 ^ 127 → AreSmallTerms old → AreSmallTerms new
+pushed_small old new label z w e c l small t m = by (among_pushed old (label, z) t (subst (λ (l : WholeTerms). Among t l) e m))
+  where
+    by : Among t old ⊎ (t ≡ (label, z)) → t.1 <ℤ pos (2 ^ 127)
+    by (inl k) = small t k
+    by (inr d) = let q : t.1 ≡ z = ap (λ (x : List ℕ × ℤ). x.1) d in omega (arith, ints)
+
+-- ---- a count past the limit
+
+pub reached_at : (n : ℕ) (es : List (List ℕ × ℕ)) (i : ℕ) (key : List ℕ) (w : ℕ) → weighed n (unreached n 4096) es ≡ 0 → slice_get es i ≡ Some (key, w) → 0 < w → IsReached n 4096 (take n key)
+reached_at n es i key w z h some = reached-tells n 4096 (take n key) (drop n key) (weighed-none n (unreached n 4096) es i key w z h some)
+
+pub past_at : (n : ℕ) (es : List (List ℕ × ℕ)) (at : ℕ) → weighed n (unreached n 4096) es ≡ 0 → 2 ^ 127 ≤ (entry_at es at).1 → IsPastSomewhere n (λ parts. weighed n (comes_to parts) es)
+past_at n es at z l = by (cases_lt at (length es))
+  where
+    there : slice_get es at ≡ Some ((entry_at es at).0, (entry_at es at).1) → IsPastSomewhere n (λ parts. weighed n (comes_to parts) es)
+    there h =
+        let key = (entry_at es at).0 in
+        let w = (entry_at es at).1 in
+        let label = without_last_zeros (take n key) in
+        let r = reached_at n es at key w z h (omega arith) in
+        record {
+          parts = label;
+          partition = IsPartition-without_last_zeros (take n key) (falls_from_test (take n key) r.falls);
+          within = let a = length-without_last_zeros (take n key) in let e = r.long in omega arith;
+          past =
+              let one : w * at_state n (comes_to label) key ≡ w * 1 = ap (λ t. w * cond t 1 0) (same_from label label refl) in
+              let more = weighed-take n (comes_to label) es at key w h in
+              let front = weighed-front n (comes_to label) es (at + 1) in
+              omega arith;
+        }
+
+    by : (at < length es) ⊎ (length es ≤ at) → IsPastSomewhere n (λ parts. weighed n (comes_to parts) es)
+    by (inl h) = there (here_at es at h)
+    by (inr h) = let e = ap (λ (x : List ℕ × ℕ). x.1) (past_at_end es at h) in absurd (omega arith)
+
+-- ---- a canonical list with these coefficients
+
+table_of : (terms : WholeTerms) → IsCanonicalList printed_order is_label whole terms → IsCombination (pointwise nat_eq) is_label whole terms
+table_of terms c = record {
+  distinct = distinct-ordered printed_order printed_order-total same_partition terms (canonical-ordered printed_order is_label whole printed_order-total.trans terms c);
+  proper = (and_parts (is_ordered printed_order terms) _ c).1;
+}
+
+pub canonical_counts : (n : ℕ) (es : List (List ℕ × ℕ)) (terms : WholeTerms) → IsCanonicalList printed_order is_label whole terms
+    → ((parts : List ℕ) → coefficient terms parts ≡ pos (weighed n (comes_to parts) es)) → HasCounts n (λ parts. weighed n (comes_to parts) es) terms
+canonical_counts n es terms c e =
+    let is = table_of terms c in
+    has_counts n (λ parts. weighed n (comes_to parts) es) terms is (λ parts. sym (coefficient_found terms is.distinct parts) ∙ e parts) (λ parts. counted-long n es parts)
+
+pub canonical_small : (n : ℕ) (es : List (List ℕ × ℕ)) (terms : WholeTerms) → IsCanonicalList printed_order is_label whole terms → AreSmallTerms terms
+    → ((parts : List ℕ) → coefficient terms parts ≡ pos (weighed n (comes_to parts) es)) → (parts : List ℕ) → weighed n (comes_to parts) es < 2 ^ 127
+canonical_small n es terms c small e parts = by (cases_lt (weighed n (comes_to parts) es) (2 ^ 127))
+  where
+    by : (weighed n (comes_to parts) es < 2 ^ 127) ⊎ (2 ^ 127 ≤ weighed n (comes_to parts) es) → weighed n (comes_to parts) es < 2 ^ 127
+    by (inl l) = l
+    by (inr l) =
+        let is = table_of terms c in
+        let here = e parts in
+        let found = some_term terms parts (λ z. omega (arith, ints)) in
+        let k = small found.0 found.1 in
+        let d = coefficient_of_term terms is.distinct found.0 found.1 in
+        let g : coefficient terms found.0.0 ≡ coefficient terms parts = ap (λ x. coefficient terms x) found.2 in
+        absurd (omega (arith, ints))
