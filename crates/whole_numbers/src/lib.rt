@@ -3,7 +3,7 @@
 //! What is proved:
 //!
 //! `gcd`, `factorial`, `common_denominator` and `denominator_product` are those of the definitions,
-//! the last two without an answer exactly where it is 2^127 or more; `quotient_of` is the fraction
+//! the last two refused exactly where they are 2^127 or more; `quotient_of` is the fraction
 //! in lowest terms.
 #![tactic(auto)]
 

@@ -20,7 +20,7 @@ one_is : (c : goal.After-drop-beta-2) → ◌≡◌ {A = WholeTerms}
     ((c.in_ok-shape.shape, c.one.result) ∷ []) ((front_shape c.args.rows c.args.perm.now, pos 1)
     ∷ [])
 one_is c =
-    ap (λ (x : List ℕ). (x, c.one.result) ∷ []) (c.in_ok-shape.ensures ∙ ap from_beta
+    ap (λ (x : List ℕ). (x, c.one.result) ∷ []) (c.in_ok-shape.ensures.value ∙ ap from_beta
     (c.as_slice.ensures.value ∙ c.in_ok-beta.ensures))
     ∙ ap (λ (z : ℤ). (front_shape c.args.rows c.args.perm.now, z) ∷ []) c.one.ensures.one
 
