@@ -97,9 +97,7 @@ fn by_augmented(
 {
     let size = greatest_size(list);
     let factor = factorial(size);
-    let Some(den) = denominator_product(bound.den, factor) else {
-        return Err(SumFault::Large);
-    };
+    let den = denominator_product(bound.den, factor)?;
     let powers = power_sums(alloc, family, size)?;
     let start = in_augmented(alloc, list, bound.den, factor)?;
     let end = converted(alloc, start, &powers[1..], size)?;

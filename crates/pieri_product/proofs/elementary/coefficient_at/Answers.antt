@@ -88,4 +88,4 @@ returns c = λ k e.
     c.parts-rows.ensures.limits.partition c.requires k e in
     let is = c.loop-at.invariant.count_is
     ∙ ap (so_far c.args.inner.now c.args.outer.now) last ∙ a in
-    subst (λ n. SomeIff c.coefficient_of.result (n < 2 ^ 127) (pos n)) is c.coefficient_of.ensures
+    (omega (arith, is), is)
