@@ -8,6 +8,7 @@ use Rattle.std.specs.Prelude.{Option, Some, None, IfSome, IfNone, is_some, slice
 use Rattle.std.specs.Cmp.Lexicographic.{pointwise, nat_list_eq_equiv}
 use Rattle.std.specs.List.{position_from}
 use Rattle.std.specs.Map.{keys_of}
+use Rattle.std.proofs.lemmas.Iterator.Adapters.{position_from-zero}
 use Rattle.std.proofs.lemmas.List.Quantifiers.{position-Some}
 use Rattle.sym_model.specs.Sum.{Among}
 use Rattle.sym_model.proofs.Sums.{Among_from_append}
@@ -67,7 +68,7 @@ missed {X} (x ∷ lists) label i (suc at) e s = by (pointwise nat_eq label x.0) 
 
 pub place-missed : {X : Type 0} (lists : List (List ℕ × X)) (label : List ℕ) (found : Option ℕ) → found ≡ position (pointwise nat_eq label) (keys_of lists)
     → IfNone found ((at : ℕ) → ¬ StandsAt lists label at)
-place-missed {X} lists label None e at s = missed lists label 0 at (sym e) s
+place-missed {X} lists label None e = λ at s. missed lists label 0 at (sym (position_from-zero (pointwise nat_eq label) (keys_of lists)) ∙ sym e) s
 place-missed {X} lists label (Some i) e = tt
 
 -- a list of its partition is kept besides

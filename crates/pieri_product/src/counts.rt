@@ -1,6 +1,6 @@
 //! Counts that are found factor by factor, and products of coefficients with them.
 ghost use Rattle.std.specs.Prelude.{◌≡◌, ◌≢◌, ℕ, ◌*◌, ◌^◌, ◌<◌, ◌≤◌, ◌*ℤ◌, pos, nat_abs};
-ghost use Rattle.std.specs.Prelude.{MatchResult, SomeIff};
+ghost use Rattle.std.specs.Prelude.{MatchOption, MatchResult, SomeIff};
 
 use calc_base::Large;
 use coeff_rings::Int;
@@ -31,7 +31,7 @@ fn coefficient_of(count: u128) -> Option<Int>
 /// is refused exactly where its absolute value is 2^127 or more.
 pub(crate) fn times_count(c: Int, count: Option<u128>) -> Result<Int, Large>
     requires { c ≢ pos 0 }
-    ensures { (n : ℕ) → SomeIff count (n < 2 ^ 128) n
+    ensures { (n : ℕ) → MatchOption count (2 ^ 128 ≤ n) (λ m. m ≡ n)
         → MatchResult result (λ product. product ≡ c *ℤ pos n)
         (λ _. 2 ^ 127 ≤ nat_abs (c *ℤ pos n)) }
 {

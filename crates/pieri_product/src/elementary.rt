@@ -1,6 +1,6 @@
 //! A list in m times e_k.
-ghost use Rattle.std.specs.Prelude.{◌≡◌, ℕ, ◌+◌, ◌^◌, ◌<◌, List, [], ◌∷◌, get_or};
-ghost use Rattle.std.specs.Prelude.{SomeIff, IfOk, OnOk, IsErrOf};
+ghost use Rattle.std.specs.Prelude.{◌≡◌, ℕ, ◌+◌, ◌^◌, ◌≤◌, List, [], ◌∷◌, get_or};
+ghost use Rattle.std.specs.Prelude.{MatchOption, IfOk, OnOk, IsErrOf};
 ghost use Rattle.sym_model.specs.Partition.{IsPartition, size};
 ghost use Rattle.sym_model.specs.Polynomial.{coefficient};
 ghost use Rattle.sym_model.specs.Strip.{IsVerticalStrip};
@@ -32,8 +32,8 @@ fn row_at(rows: &[u16], at: usize) -> u16
 fn coefficient_at(inner: &Partition, outer: &Partition) -> Option<u128>
     requires { IsVerticalStrip outer.now inner.now }
     ensures { (k : ℕ) → size outer.now ≡ size inner.now + k
-        → SomeIff result (column_count k inner.now outer.now < 2 ^ 128)
-        (column_count k inner.now outer.now) }
+        → MatchOption result (2 ^ 128 ≤ column_count k inner.now outer.now)
+        (λ count. count ≡ column_count k inner.now outer.now) }
 {
     let shorter = inner.parts();
     let rows = outer.parts();
