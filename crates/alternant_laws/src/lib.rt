@@ -7,10 +7,12 @@
 //! What is proved:
 //!
 //! `bender_knuth_law`: the involutions on semistandard tableaux, and the symmetry of skew Schur
-//! polynomials. `alternant_law`: exchanging two exponents changes the sign of an alternant.
+//! polynomials. `alternant_law`: exchanging two exponents changes the sign of an alternant, and the
+//! leading monomial of a_ρ is x^ρ.
 //! `stembridge_law`: in every number of variables a_(λ+ρ)·s_(μ/ν) is the sum over the good
 //! tableaux. `littlewood_richardson_law`: so products of Schur polynomials and skew Schur
-//! polynomials are sums over good tableaux, and their Schur coefficients the counts.
+//! polynomials are sums over good tableaux, and their Schur coefficients the counts; and the
+//! classical product of several factors has the Schur coefficients of their product.
 //! `straighten_law`: a monomial symmetric polynomial as the sum of Schur polynomials, with signs,
 //! over the arrangements of its label, in every number of variables.
 #![tactic(auto)]
@@ -21,14 +23,16 @@ mod straightening;
 
 ghost use Rattle.std.specs.Prelude.{ℕ, List, ◌∷◌, ◌++◌};
 ghost use Rattle.sym_model.specs.Polynomial.{Same, nothing, negate};
-ghost use Rattle.sym_model.specs.Alternant.{alternant};
+ghost use Rattle.sym_model.specs.Alternant.{alternant, staircase};
+ghost use Rattle.sym_model.specs.Leading.{Leads};
 
 pub use bender_knuth::bender_knuth_law;
 pub use stembridge::{littlewood_richardson_law, stembridge_law};
 pub use straightening::straighten_law;
 
 /// Exchanging two exponents of β changes the sign of the alternant a_β, and an alternant with two
-/// equal exponents is 0 (Macdonald, I.3).
+/// equal exponents is 0 (Macdonald, I.3). In every number of variables the leading monomial of a_ρ
+/// is x^ρ, and its coefficient is 1 or -1.
 ///
 /// Example: a_(0,1) = x₂ - x₁ = -a_(1,0), and a_(1,1) = 0.
 pub fn alternant_law()
@@ -37,4 +41,5 @@ pub fn alternant_law()
         (negate (alternant (left ++ (b ∷ (middle ++ (a ∷ right)))))) }
     ensures equal { (left middle right : List ℕ) (a : ℕ)
         → Same (alternant (left ++ (a ∷ (middle ++ (a ∷ right))))) nothing }
+    ensures staircase { (n : ℕ) → Leads (alternant (staircase n)) (staircase n) }
 {}

@@ -6,8 +6,7 @@ ghost use Rattle.sym_model.specs.Polynomial.{Same, same, coefficient, nothing, j
 ghost use Rattle.sym_model.specs.Schur.{contains, schur, skew_schur};
 ghost use Rattle.sym_model.specs.GoodTableau.{is_falling, product_count, skew_count};
 ghost use Rattle.sym_model.specs.Alternant.{alternant, staircase, schur_coefficient};
-ghost use Rattle.sym_model.specs.Kind as kinds;
-ghost use Rattle.sym_model.specs.Command as commands;
+ghost use Rattle.sym_model.specs.Products.{classical_product, schur_product};
 ghost use Rattle.alternant_laws.specs.GoodSums.{good_alternants, good_schurs};
 
 /// In n variables, for each partition λ with at most n rows and each skew shape μ/ν: a_(λ+ρ) times
@@ -34,6 +33,10 @@ pub fn stembridge_law()
 /// So the Schur coefficients of a product and of a skew Schur polynomial are the counts of good
 /// tableaux: an alternant a_(α+ρ), α falling, has at x^(ν+ρ) the coefficient 1 where α without the
 /// zeros at its end is ν, and 0 for other partitions ν.
+///
+/// The classical product of several factors, which lists the partitions of one size alone, has at
+/// each partition κ with at most k rows, of whatever size, the Schur coefficient of κ in the product
+/// of the factors in k variables.
 pub fn littlewood_richardson_law()
     ensures product { (n : ℕ) (start outer inner : List ℕ) → IsPartition start → IsPartition outer
         → IsPartition inner
@@ -56,4 +59,8 @@ pub fn littlewood_richardson_law()
         → IsPartition outer → IsPartition inner → contains outer inner ≡ true → IsPartition κ
         → rows κ ≤ n
         → schur_coefficient n κ (skew_schur outer inner n) ≡ pos (skew_count outer inner κ) }
+    ensures classical { (k : ℕ) (factors : List (List ℕ)) (κ : List ℕ) → IsPartition κ
+        → rows κ ≤ k
+        → coefficient (classical_product k factors) κ
+        ≡ schur_coefficient k κ (schur_product factors k) }
 {}

@@ -1,6 +1,6 @@
 //! What a call answers where memory, a source or a sink failed it.
 ghost use Rattle.std.specs.Prelude.{◌≡◌};
-ghost use Rattle.calc_base.specs.declared.faults.SumFault.TheVariants.{NoMemory as no_memory};
+ghost use Rattle.calc_base.specs.declared.faults.SumFault.TheVariants.{Large as large, NoMemory as no_memory};
 
 use std::alloc::{AllocError, AllocFailed};
 use thiserror::Error;
@@ -9,6 +9,12 @@ use thiserror::Error;
 #[derive(Clone, Copy, Debug, PartialEq, Eq, Hash, Error)]
 #[error("out of memory")]
 pub struct NoMemory;
+
+/// A number is too large. It is the error of code that takes no memory, so that such code can't
+/// name a want of memory.
+#[derive(Clone, Copy, Debug, PartialEq, Eq, Hash, Error)]
+#[error("a number is too large")]
+pub struct Large;
 
 /// A source failed to give bytes.
 #[derive(Clone, Copy, Debug, PartialEq, Eq, Hash, Error)]
@@ -40,6 +46,14 @@ impl From<AllocError> for NoMemory {
 impl<T: Drop> From<AllocFailed<T>> for NoMemory {
     fn from(_: AllocFailed<T>) -> Self {
         NoMemory
+    }
+}
+
+impl From<Large> for SumFault {
+    ghost from_gives = { λ _ e. e ≡ large };
+
+    fn from(_: Large) -> Self {
+        SumFault::Large
     }
 }
 

@@ -29,7 +29,7 @@ mod words;
 mod writing;
 
 pub use count_sink::CountSink;
-pub use faults::{NoMemory, SinkFault, SourceFault, SumFault};
+pub use faults::{Large, NoMemory, SinkFault, SourceFault, SumFault};
 pub use fixed_sink::FixedSink;
 pub use growing_sink::GrowingSink;
 pub use hashing::mixed;

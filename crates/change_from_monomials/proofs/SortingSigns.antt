@@ -6,7 +6,7 @@ use Rattle.coeff_rings.specs.Checked.{checked_i128}
 use Rattle.sym_model.specs.PlaceOrders.{minus_one_to}
 use Rattle.sym_model.proofs.Ring.{ring, one-product}
 use Rattle.family_lists.proofs.SignParities.{sign-even, sign-odd}
-use Rattle.family_lists.proofs.RowSteps.{checked-tells}
+use Rattle.whole_numbers.proofs.CheckedResults.{checked-tells}
 
 minus-times : (z : ℤ) → negsuc 0 *ℤ z ≡ neg_ℤ z
 minus-times z = simp ring (omega (arith, ints))

@@ -1,7 +1,5 @@
 -- The table that a conversion starts from.
 use Rattle.std.proofs.Common.{◌≡◌, ◌⊎◌, ℕ, ◌*◌, ◌^◌, ◌<◌, ◌≤◌, List, [], ◌∷◌, refl, sym, ap, subst, inl, inr, arith, ℤ}
-use Rattle.std.specs.Prelude.{Option, None, Some, SomeIff}
-use Rattle.std.proofs.lemmas.Bool.{cases_lt}
 use Rattle.sym_model.specs.Sum.{Among}
 use Rattle.sym_model.specs.Partition.{IsPartition}
 use Rattle.sym_model.specs.Expansion.{Basis, Fraction, Terms}
@@ -21,14 +19,6 @@ use Rattle.linear_combinations.specs.Gains.{weighed}
 use Rattle.change_from_monomials.proofs.MixedLabels.{label_laws}
 use Rattle.linear_combinations.proofs.Weighed.{gains_weighed}
 use Rattle.change_from_monomials.proofs.CostTable.{cost-within}
-
-pub none-large : (n : ℕ) (answer : Option ℕ) → SomeIff answer (n < 2 ^ 127) n → answer ≡ None → 2 ^ 127 ≤ n
-none-large n None h e = by (cases_lt n (2 ^ 127))
-  where
-    by : (n < 2 ^ 127) ⊎ (2 ^ 127 ≤ n) → 2 ^ 127 ≤ n
-    by (inl l) = absurd (h l)
-    by (inr l) = l
-none-large n (Some x) h e = cc
 
 module _ (N D d factor : ℕ) (terms : Terms (List ℕ)) (is_factor : factor ≡ factorial d) (low : d ≤ 15) (is : IsFractionTable terms) (within : AreWithin d terms) where
   pub start-cost : IsBounded N D terms → weighed cost (cleared_terms D factor terms) ≤ N * growth Basis.completes d

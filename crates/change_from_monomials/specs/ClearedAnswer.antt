@@ -1,10 +1,12 @@
 -- A number that clears all fractions of a list,
 -- and what the list then adds up to.
-use Rattle.std.specs.Prelude.{◌≡◌, ℕ, ◌%◌, ◌≤◌, List}
+use Rattle.std.specs.Prelude.{◌≡◌, ℕ, ◌*◌, ◌%◌, ◌≤◌, List}
 use Rattle.sym_model.specs.Sum.{Among}
 use Rattle.sym_model.specs.Expansion.{Basis, monomials, elementaries, completes, power_sums, schurs}
 use Rattle.sym_model.specs.Expansion.{Fraction, Terms}
 use Rattle.sym_model.specs.ListWeight.{absolute_sum}
+use Rattle.sym_model.specs.Weight.{factorial, growth}
+use Rattle.sparse_polys.specs.MonomialProducts.{greatest_size}
 use Rattle.whole_lists.specs.LabelSizes.{AreWithin}
 
 -- m times each coefficient is whole, the absolute values of these products add up to at most
@@ -21,3 +23,11 @@ IsMultiplied elementaries = Unit {0}
 IsMultiplied completes = Unit {0}
 IsMultiplied power_sums = Unit {0}
 IsMultiplied schurs = ⊥
+
+-- A change into e, h or p: with d the greatest size of a label, `den` times d! times each
+-- coefficient of the answer is whole, the absolute values of these products add up to at most `num`
+-- times the growth at d, and no label of the answer has more than d cells.
+abbrev pub MultipliesOut : Basis → ℕ → ℕ → Terms (List ℕ) → Terms (List ℕ) → Type 0
+MultipliesOut target num den list answer =
+    let d = greatest_size list in
+    IsMultiplied target → IsClearedBy (den * factorial d) (num * growth target d) d answer

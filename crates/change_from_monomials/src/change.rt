@@ -10,7 +10,7 @@ ghost use Rattle.whole_lists.specs.LabelSizes.{AreWithin};
 ghost use Rattle.whole_lists.specs.Tables.{IsFractionTable};
 ghost use Rattle.change_from_monomials.specs.Limits.{most_cells};
 ghost use Rattle.whole_lists.specs.Families.{basis_in};
-ghost use Rattle.change_from_monomials.specs.ClearedAnswer.{IsClearedBy, IsMultiplied};
+ghost use Rattle.change_from_monomials.specs.ClearedAnswer.{IsClearedBy, MultipliesOut};
 
 use crate::clearing::{greatest_size, in_augmented};
 use crate::rewriting::converted;
@@ -46,9 +46,8 @@ pub fn to_basis(
     requires sizes { AreWithin (most_cells (basis_of target)) list.now }
     ensures value { IfOk result (λ answer. (n : ℕ) (f : Poly) (q : ℕ)
         → IsExpansionOf monomials list.now n f q → IsExpansionOf (basis_of target) answer n f q) }
-    ensures cleared { let d = greatest_size list.now in
-        IfOk result (λ answer. IsMultiplied (basis_of target)
-        → IsClearedBy (bound.den * factorial d) (bound.num * growth (basis_of target) d) d answer) }
+    ensures cleared { IfOk result
+        (MultipliesOut (basis_of target) bound.num bound.den list.now) }
     ensures table { IfOk result IsFractionTable }
     ensures large { IsErrOf result SumFault.Large → (d : ℕ) → AreWithin d list.now
         → 2 ^ 127 ≤ bound.num * bound.den * growth (basis_of target) d }
@@ -97,9 +96,7 @@ fn by_augmented(
 {
     let size = greatest_size(list);
     let factor = factorial(size);
-    let Some(den) = denominator_product(bound.den, factor) else {
-        return Err(SumFault::Large);
-    };
+    let den = denominator_product(bound.den, factor)?;
     let powers = power_sums(alloc, family, size)?;
     let start = in_augmented(alloc, list, bound.den, factor)?;
     let end = converted(alloc, start, &powers[1..], size)?;

@@ -11,12 +11,13 @@ ghost use Rattle.change_from_monomials.specs.AugmentedProducts.{equal, products,
 use crate::parts::put_raised;
 use calc_base::SumFault;
 use coeff_rings::{Int, Ring};
-use family_lists::{product_of, put_merged};
+use family_lists::put_merged;
 use linear_combinations::Lin;
 use partitions::Partition;
 use sparse_polys::Pair;
 use std::alloc::Global;
 use whole_lists::Whole;
+use whole_numbers::product_of;
 
 /// Such a sum: the first partition of a label is that of the target's polynomial, the second that
 /// of the augmented monomial.
@@ -42,9 +43,7 @@ fn add_mixed_term(
     ensures large { IsErrOf result SumFault.Large → Overflows equal sum.old
         (((merged converted.now label.now, augmented.now), c *ℤ have) ∷ []) }
 {
-    let Some(product) = product_of(c, have) else {
-        return Err(SumFault::Large);
-    };
+    let product = product_of(c, have)?;
     put_merged(room, converted, label.parts())?;
     let label = Pair {
         first: Partition::from_valid_parts(alloc, room.as_slice())?,

@@ -36,8 +36,6 @@ pub fn to_family(
         → 2 ^ 127 ≤ weight (basis_in target) (tree_of formula.now.tree) }
 {
     let node = evaluate(alloc, &InFamily { family: target }, formula.tree())?;
-    let Some(den) = denominator_product(node.den, factorial(node.degree)) else {
-        return Err(SumFault::Large);
-    };
+    let den = denominator_product(node.den, factorial(node.degree))?;
     divided(alloc, &node.terms, den)
 }

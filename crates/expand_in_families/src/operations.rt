@@ -1,5 +1,5 @@
 //! The targets e, h and p: numbers, atoms, negations, sums and products as lists in the target.
-ghost use Rattle.std.specs.Prelude.{◌≡◌, ◌<◌, ◌≤◌, ◌^◌, ◌*ℤ◌, pos, nat_abs, MatchOption};
+ghost use Rattle.std.specs.Prelude.{◌≡◌, ◌<◌, ◌≤◌, ◌^◌, ◌*ℤ◌, pos, nat_abs, MatchResult};
 ghost use Rattle.whole_lists.specs.Families.{polynomial_of};
 ghost use Rattle.expand_in_families.specs.Nodes.{ClearsTo, IsHeavy};
 ghost use Rattle.expand_in_families.specs.TargetLaws.{clears-difference, heavy-whole};
@@ -7,16 +7,16 @@ ghost use Rattle.expand_in_families.specs.TargetLaws.{clears-difference, heavy-w
 use crate::atoms::atom;
 use crate::factorials::{binomial, rise};
 use crate::node::Node;
-use calc_base::{Basis, SumFault};
+use calc_base::{Basis, Large, SumFault};
 use change_from_monomials::whole_of;
 use coeff_rings::Int;
 use expression_evaluation::Target;
-use family_lists::{add_products, product_of};
+use family_lists::add_products;
 use linear_combinations::Lin;
 use partitions::Partition;
 use std::alloc::Global;
 use whole_lists::{Family, single, sum_of};
-use whole_numbers::{common_denominator, denominator_product};
+use whole_numbers::{common_denominator, denominator_product, product_of};
 
 /// The target of a family.
 #[derive(Clone, Copy)]
@@ -24,10 +24,11 @@ pub(crate) struct InFamily {
     pub(crate) family: Family,
 }
 
-/// A number times another; none where it is too large.
-fn times(from: i128, by: u128) -> Option<Int>
+/// A number times another. It is refused exactly where that is 2^127 or more.
+fn times(from: i128, by: u128) -> Result<Int, Large>
     requires { by < 2 ^ 127 }
-    ensures { MatchOption result (2 ^ 127 ≤ nat_abs (from *ℤ pos by)) (λ p. p ≡ from *ℤ pos by) }
+    ensures { MatchResult result (λ p. p ≡ from *ℤ pos by)
+        (λ _. 2 ^ 127 ≤ nat_abs (from *ℤ pos by)) }
 {
     product_of(Int::new(from), whole_of(by))
 }
@@ -62,18 +63,12 @@ impl Target for InFamily {
 
     /// Over the least common denominator and the factorial of the greater degree.
     fn added(&self, _: Global, left: Node, right: Node) -> Result<Node, SumFault> {
-        let Some(common) = common_denominator(left.den, right.den) else {
-            return Err(SumFault::Large);
-        };
+        let common = common_denominator(left.den, right.den)?;
         let degree = left.degree.max(right.degree);
         let by_left = rise(left.degree, degree);
         let by_right = rise(right.degree, degree);
-        let Some(p) = times(common.from_left, by_left) else {
-            return Err(SumFault::Large);
-        };
-        let Some(q) = times(common.from_right, by_right) else {
-            return Err(SumFault::Large);
-        };
+        let p = times(common.from_left, by_left)?;
+        let q = times(common.from_right, by_right)?;
         let terms = sum_of(left.terms, p.get(), right.terms, q.get())?;
         Ok(Node {
             terms,
@@ -83,9 +78,7 @@ impl Target for InFamily {
     }
 
     fn multiplied(&self, alloc: Global, left: Node, right: Node) -> Result<Node, SumFault> {
-        let Some(den) = denominator_product(left.den, right.den) else {
-            return Err(SumFault::Large);
-        };
+        let den = denominator_product(left.den, right.den)?;
         let ways = whole_of(binomial(left.degree, right.degree));
         let mut terms = Lin::new(alloc);
         add_products(alloc, &mut terms, &left.terms, ways, &right.terms)?;

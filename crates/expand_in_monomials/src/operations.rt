@@ -44,9 +44,7 @@ impl Target for Monomials {
 
     /// Over the least common denominator.
     fn added(&self, _: Global, left: Cleared, right: Cleared) -> Result<Cleared, SumFault> {
-        let Some(common) = common_denominator(left.den, right.den) else {
-            return Err(SumFault::Large);
-        };
+        let common = common_denominator(left.den, right.den)?;
         let terms = sum_of(left.terms, common.from_left, right.terms, common.from_right)?;
         Ok(Cleared {
             terms,
@@ -60,9 +58,7 @@ impl Target for Monomials {
         left: Cleared,
         right: Cleared,
     ) -> Result<Cleared, SumFault> {
-        let Some(den) = denominator_product(left.den, right.den) else {
-            return Err(SumFault::Large);
-        };
+        let den = denominator_product(left.den, right.den)?;
         let terms = times_whole_in_m(alloc, &left.terms, &right.terms)?;
         Ok(Cleared { terms, den })
     }

@@ -1,5 +1,5 @@
 //! The expansion of an expression in m, by way of Schur polynomials where that is faster.
-ghost use Rattle.std.specs.Prelude.{ℕ, ◌<◌, ◌^◌, ◌≤◌, IfOk, IfSome, IsErrOf};
+ghost use Rattle.std.specs.Prelude.{ℕ, ◌<◌, ◌^◌, ◌≤◌, IfOk, IsErrOf};
 ghost use Rattle.sym_model.specs.Expansion.{monomials, schurs, IsExpansionOf};
 ghost use Rattle.sym_model.specs.Expression.{cleared_value, denominator};
 ghost use Rattle.sym_model.specs.Polynomial.{Poly};
@@ -8,7 +8,7 @@ ghost use Rattle.expression_reading.specs.Trees.{tree_of};
 ghost use Rattle.linear_combinations.specs.Cleared.{IsCommonDenominator};
 
 use crate::operations::converted;
-use calc_base::{Basis, NoMemory, SumFault};
+use calc_base::{Basis, Large, NoMemory, SumFault};
 use change_from_monomials::{denominator_of, greatest_size, whole_terms};
 use coeff_rings::Frac;
 use expand_in_monomials::{schurs_to_monomials, to_monomial};
@@ -23,18 +23,16 @@ use whole_numbers::common_denominator;
 /// The most cells of a label that goes into m.
 const MAX_CELLS: u16 = 512;
 
-/// A common denominator of the coefficients, the least; none where it is 2^127 or more.
-fn denominator_of_all(list: &Lin<Partition, Frac>) -> Option<u128>
-    ensures { IfSome result (λ den. (den < 2 ^ 127) × IsCommonDenominator den list.now) }
+/// A common denominator of the coefficients, the least; it is refused where that is 2^127 or more.
+fn denominator_of_all(list: &Lin<Partition, Frac>) -> Result<u128, Large>
+    ensures { IfOk result (λ den. (den < 2 ^ 127) × IsCommonDenominator den list.now) }
 {
     let mut den = 1;
     for (_, c) in list.iter() {
-        let Some(common) = common_denominator(den, denominator_of(*c)) else {
-            return None;
-        };
+        let common = common_denominator(den, denominator_of(*c))?;
         den = common.den;
     }
-    Some(den)
+    Ok(den)
 }
 
 /// The list, read as an expansion in s, as an expansion in m: its fractions are cleared first, and
@@ -51,9 +49,7 @@ fn in_monomials(
     if cells > MAX_CELLS {
         return Err(SumFault::Large);
     }
-    let Some(den) = denominator_of_all(list) else {
-        return Err(SumFault::Large);
-    };
+    let den = denominator_of_all(list)?;
     let terms = whole_terms(alloc, list, den)?;
     let answer = schurs_to_monomials(alloc, &terms, cells)?;
     divided(alloc, &answer, den)

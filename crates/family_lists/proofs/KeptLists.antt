@@ -1,12 +1,14 @@
 -- Lists that are kept under partitions (specs/KeptLists).
 --     entry_found, none_found     what a look-up gives
---     place-found                 where it finds a partition, that stands
+--     place-found, place-missed   where it finds a partition, that stands; else it stands nowhere
 --     lists-kept                  one more that is right keeps all right
 --     list-found                  the list that is read where a partition stands
-use Rattle.std.proofs.Common.{◌≡◌, ◌⊎◌, ℕ, zero, suc, ◌<◌, Bool, true, false, List, [], ◌∷◌, ◌++◌, length, get_or, refl, sym, ap, ◌∙◌, subst, inl, inr, arith}
-use Rattle.std.specs.Prelude.{Option, Some, None, IfSome, is_some, slice_get, position, nat_eq}
-use Rattle.std.specs.Cmp.Lexicographic.{pointwise}
+use Rattle.std.proofs.Common.{◌≡◌, ◌⊎◌, ℕ, zero, suc, ◌+◌, ◌<◌, Bool, cond, true, false, List, [], ◌∷◌, ◌++◌, length, get_or, refl, sym, ap, ◌∙◌, subst, inl, inr, arith}
+use Rattle.std.specs.Prelude.{Option, Some, None, IfSome, IfNone, is_some, slice_get, position, nat_eq}
+use Rattle.std.specs.Cmp.Lexicographic.{pointwise, nat_list_eq_equiv}
+use Rattle.std.specs.List.{position_from}
 use Rattle.std.specs.Map.{keys_of}
+use Rattle.std.proofs.lemmas.Iterator.Adapters.{position_from-zero}
 use Rattle.std.proofs.lemmas.List.Quantifiers.{position-Some}
 use Rattle.sym_model.specs.Sum.{Among}
 use Rattle.sym_model.proofs.Sums.{Among_from_append}
@@ -49,6 +51,25 @@ place-found {X} lists label None e within = tt
 place-found {X} lists label (Some i) e within =
     let f = entry_found lists (pointwise nat_eq label) i within (sym e) in
     (f.0.1, f.1 ∙ ap (λ (x : List ℕ). Some (x, f.0.1)) (sym (same_partition label f.0.0 f.2)))
+
+-- where a look-up finds nothing, the partition stands nowhere
+missed : {X : Type 0} (lists : List (List ℕ × X)) (label : List ℕ) (i at : ℕ) → position_from (pointwise nat_eq label) i (keys_of lists) ≡ None → StandsAt lists label at → ⊥
+missed {X} [] label i at e s = let h = s.1 in cc
+missed {X} (x ∷ lists) label i zero e s =
+    let same : x.0 ≡ label = ap (λ (y : List ℕ × X). y.0) (same_some x (label, s.0) s.1) in
+    let test : pointwise nat_eq label x.0 ≡ true = ap (pointwise nat_eq label) same ∙ nat_list_eq_equiv.refl label in
+    let found : cond true (Some i) (position_from (pointwise nat_eq label) (i + 1) (keys_of lists)) ≡ None = sym (ap (λ b. cond b (Some i) (position_from (pointwise nat_eq label) (i + 1) (keys_of lists))) test) ∙ e in cc
+missed {X} (x ∷ lists) label i (suc at) e s = by (pointwise nat_eq label x.0) e (λ rest. missed lists label (i + 1) at rest s)
+  where
+    by : (b : Bool) → cond b (Some i) (position_from (pointwise nat_eq label) (i + 1) (keys_of lists)) ≡ None
+        → (position_from (pointwise nat_eq label) (i + 1) (keys_of lists) ≡ None → ⊥) → ⊥
+    by true found rest = cc
+    by false none rest = rest none
+
+pub place-missed : {X : Type 0} (lists : List (List ℕ × X)) (label : List ℕ) (found : Option ℕ) → found ≡ position (pointwise nat_eq label) (keys_of lists)
+    → IfNone found ((at : ℕ) → ¬ StandsAt lists label at)
+place-missed {X} lists label None e = λ at s. missed lists label 0 at (sym (position_from-zero (pointwise nat_eq label) (keys_of lists)) ∙ sym e) s
+place-missed {X} lists label (Some i) e = tt
 
 -- a list of its partition is kept besides
 pub lists-kept : {X : Type 0} (IsListOf : List ℕ → X → Type 0) (old new : List (List ℕ × X)) (label : List ℕ) (list : X)

@@ -1,13 +1,10 @@
 -- Products of lists label by label, and where they are refused.
-use Rattle.std.proofs.Common.{◌≡◌, ℕ, zero, suc, ◌+◌, ◌*◌, ◌^◌, ◌≤◌, Bool, true, false, cond, List, [], ◌∷◌, ◌++◌, length, sym, ◌∙◌, ap, ap₂, refl, inl, arith, ℤ, pos, negsuc, ◌*ℤ◌}
-use Rattle.std.specs.Prelude.{nat_abs, MatchOption}
+use Rattle.std.proofs.Common.{◌≡◌, ℕ, zero, suc, ◌+◌, ◌*◌, ◌^◌, ◌≤◌, cond, List, [], ◌∷◌, ◌++◌, length, sym, ◌∙◌, ap, ap₂, refl, inl, arith, ℤ, pos, negsuc, ◌*ℤ◌}
+use Rattle.std.specs.Prelude.{nat_abs}
 use Rattle.std.proofs.lemmas.Int.{unsigned_abs-mul}
 use Rattle.std.proofs.lemmas.Nat.{mul-le}
-use Rattle.coeff_rings.specs.Checked.{checked_i128, where_fits}
-use Rattle.coeff_rings.proofs.Sizes.{refused_size}
 use Rattle.sym_model.specs.Partition.{IsPartition, size}
 use Rattle.sym_model.specs.Polynomial.{scale}
-use Rattle.sym_model.specs.Canonical.{fits_128_bits}
 use Rattle.sym_model.specs.WholeTerms.{WholeTerms, absolute_total}
 use Rattle.sym_model.proofs.Ring.{product_assoc}
 use Rattle.sym_model.proofs.SortedParts.{rows_within_size}
@@ -20,13 +17,6 @@ use Rattle.basis_change_laws.specs.JoinedLists.{merged, row, joined}
 use Rattle.basis_change_laws.proofs.MergedParts.{IsPartition-merged, size-merged}
 use Rattle.basis_change_laws.proofs.JoinedLists.{absolute-scale, absolute-joined}
 use lib.IntN.{*ℤ_comm}
-
-pub checked-tells : (z : ℤ) → MatchOption (checked_i128 z) (2 ^ 127 ≤ nat_abs z) (λ w. w ≡ z)
-checked-tells z = by (fits_128_bits z) refl
-  where
-    by : (b : Bool) → fits_128_bits z ≡ b → MatchOption (where_fits b z) (2 ^ 127 ≤ nat_abs z) (λ w. w ≡ z)
-    by true e = refl
-    by false e = refused_size z (ap (λ b. where_fits b z) e)
 
 pub limits-merged : (left right : List ℕ) → IsPartition left → IsPartition right → size left + size right ≤ 512 → IsWithinLimits (merged left right)
 limits-merged left right p q h =

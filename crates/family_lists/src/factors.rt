@@ -1,5 +1,5 @@
 //! The polynomials of one part of e, h and p as lists in e, h and p: p_k, and e_k and h_k times k!.
-ghost use Rattle.std.specs.Prelude.{◌≡◌, ◌≢◌, ℕ, ◌+◌, ◌<◌, ◌≤◌, pos, vec_len, IfOk, IsErrOf};
+ghost use Rattle.std.specs.Prelude.{◌≡◌, ◌≢◌, ℕ, ◌+◌, ◌<◌, ◌≤◌, pos, [], vec_len, IfOk, IsErrOf};
 ghost use Rattle.whole_lists.specs.Families.{polynomial_of};
 ghost use Rattle.family_lists.specs.FactorLists.{AreFactors, ArePowers, IsFactor};
 ghost use Rattle.family_lists.specs.FactorLists.{list_at, over_number};
@@ -51,13 +51,14 @@ fn closed_list(alloc: Global, target: Family, family: Family, k: u16) -> Result<
     Ok(list)
 }
 
-/// The polynomial of k of a family as a list in the target: p_k, or e_k or h_k times k!; nothing
-/// for k = 0. It is never refused as `Large`.
+/// The polynomial of k of a family as a list in the target: p_k, or e_k or h_k times k!; the empty
+/// list for k = 0. It is never refused as `Large`.
 ///
 /// Example: 2!·h_2 in p is p_1^2 + p_2.
 pub fn factor_list(alloc: Global, target: Family, family: Family, k: u16) -> Result<Whole, SumFault>
     requires { k ≤ 20 }
     ensures value { IfOk result (λ list. 0 < k → IsFactor (polynomial_of target) family k list) }
+    ensures nothing { IfOk result (λ list. k ≡ 0 → list ≡ []) }
     ensures small { ¬ IsErrOf result SumFault.Large }
 {
     if k == 0 {

@@ -1,6 +1,6 @@
 //! Lists that are made once: each is kept under a partition.
-ghost use Rattle.std.specs.Prelude.{◌≡◌, ◌<◌, [], ◌∷◌, ◌++◌, length, slice_get, nat_eq, Some, None};
-ghost use Rattle.std.specs.Prelude.{IfOk, IfSome, OnOk};
+ghost use Rattle.std.specs.Prelude.{◌≡◌, ◌<◌, ℕ, [], ◌∷◌, ◌++◌, length, slice_get, nat_eq, Some};
+ghost use Rattle.std.specs.Prelude.{None, IfOk, IfSome, IfNone, OnOk, OnErr};
 ghost use Rattle.std.specs.Cmp.Lexicographic.{pointwise};
 ghost use Rattle.indexmap.specs.IndexMap.{get};
 ghost use Rattle.family_lists.specs.KeptLists.{HasKept, StandsAt};
@@ -12,9 +12,10 @@ use std::alloc::AllocError;
 /// Partitions, each with a list.
 pub type Lists<V> = IndexMap<Partition, V>;
 
-/// The place of a partition's list.
+/// The place of a partition's list; none exactly where it has none.
 pub fn place_of<V>(lists: &Lists<V>, label: &Partition) -> Option<usize>
-    ensures { IfSome result (StandsAt lists.now.entries label.now) }
+    ensures place { IfSome result (StandsAt lists.now.entries label.now) }
+    ensures none { IfNone result ((at : ℕ) → ¬ StandsAt lists.now.entries label.now at) }
 {
     lists.get_index_of(label)
 }
@@ -30,16 +31,19 @@ pub fn list_at<V>(lists: &Lists<V>, at: usize) -> (&Partition, &V)
 /// Puts a list after the others.
 fn put<V: Drop>(lists: &mut Lists<V>, label: Partition, list: V) -> Result<(), AllocError>
     requires { get (pointwise nat_eq) lists.old label ≡ None }
-    ensures { OnOk result (lists.new.entries ≡ lists.old.entries ++ (label, list) ∷ []) }
+    ensures ok { OnOk result (lists.new.entries ≡ lists.old.entries ++ (label, list) ∷ []) }
+    ensures err { OnErr result (lists.new.entries ≡ lists.old.entries) }
 {
     lists.insert(label, list)?;
     Ok(())
 }
 
 /// Keeps a list under a partition that has none yet, and gives its place; one that is there stays.
+/// After a refusal the lists are as they were.
 pub fn keep<V: Drop>(lists: &mut Lists<V>, label: Partition, list: V) -> Result<usize, AllocError>
     ensures kept { OnOk result (HasKept label list lists.old.entries lists.new.entries) }
     ensures place { IfOk result (StandsAt lists.new.entries label) }
+    ensures err { OnErr result (lists.new.entries ≡ lists.old.entries) }
 {
     match lists.get_index_of(&label) {
         Some(at) => Ok(at),

@@ -5,8 +5,8 @@
 //! `factor_list`: p_k, and e_k and h_k times k!, in e, h or p, by closed coefficients; `power_sums`
 //! and `factor_lists`: those up to a number. `add_products`: c times the product of two lists is
 //! added, and `add_row`: that of a label and a list; `Large` only where the absolute values at one
-//! label come to 2^127 or more. `keep` and `list_at`: lists that are made
-//! once, each kept under a partition.
+//! label come to 2^127 or more. `keep`, `place_of` and `list_at`: lists that are made once, each
+//! kept under a partition.
 #![tactic(auto)]
 
 mod coefficients;
@@ -18,4 +18,4 @@ mod products;
 pub use coefficients::signed;
 pub use factors::{factor_list, factor_lists, power_sums};
 pub use kept::{Lists, keep, list_at, place_of};
-pub use products::{add_products, add_row, product_of, put_merged};
+pub use products::{add_products, add_row, put_merged};

@@ -1,6 +1,5 @@
 //! Products of lists whose labels are multiplied by joining their parts.
-ghost use Rattle.std.specs.Prelude.{◌≡◌, ◌+◌, ◌≤◌, ◌^◌, ◌*ℤ◌, ◌++◌, ◌∷◌, [], nat_abs};
-ghost use Rattle.std.specs.Prelude.{MatchOption, IfOk, OnOk, IsErrOf};
+ghost use Rattle.std.specs.Prelude.{◌≡◌, ◌+◌, ◌≤◌, ◌*ℤ◌, ◌++◌, ◌∷◌, [], OnOk, IsErrOf};
 ghost use Rattle.sym_model.specs.Partition.{IsPartition, size};
 ghost use Rattle.sparse_polys.specs.MonomialProducts.{greatest_size};
 ghost use Rattle.basis_change_laws.specs.JoinedLists.{merged, joined, row};
@@ -8,18 +7,12 @@ ghost use Rattle.linear_combinations.specs.Gains.{Gains, Overflows, scaled};
 ghost use Rattle.whole_lists.specs.Tables.{equal, IsWholeTable};
 
 use calc_base::{NoMemory, SumFault};
-use coeff_rings::{Int, Ring};
+use coeff_rings::Int;
 use linear_combinations::Rule;
 use partitions::Partition;
 use std::alloc::Global;
 use whole_lists::Whole;
-
-/// The product; none where it is too large.
-pub fn product_of(x: Int, y: Int) -> Option<Int>
-    ensures { MatchOption result (2 ^ 127 ≤ nat_abs (x *ℤ y)) (λ z. z ≡ x *ℤ y) }
-{
-    x.mul(y)
-}
+use whole_numbers::product_of;
 
 /// Puts the numbers after those in the buffer, with no call where there are none.
 #[inline(always)]
@@ -34,6 +27,7 @@ fn put_rest(buffer: &mut Vec<u16>, rest: &[u16]) -> Result<(), NoMemory>
 }
 
 /// Puts the parts of both partitions into the buffer in falling order, in place of what it holds.
+/// After a refusal the buffer holds some of them.
 #[inline(always)]
 pub fn put_merged(buffer: &mut Vec<u16>, more: &[u16], parts: &[u16]) -> Result<(), NoMemory>
     requires more { IsPartition more.now }
@@ -59,7 +53,7 @@ pub fn put_merged(buffer: &mut Vec<u16>, more: &[u16], parts: &[u16]) -> Result<
 
 /// Adds z times the product of a label with a list. The parts of both labels are joined in one
 /// vector, which is used again; there is room in it for a short label from the start. It is refused
-/// as `Large` only where that overflows.
+/// as `Large` only where that overflows. After a refusal the table has some of this added.
 pub fn add_row(
     alloc: Global,
     sum: &mut Whole,
@@ -95,9 +89,7 @@ fn add_joined(
     ensures large { IsErrOf result SumFault.Large
         → Overflows equal sum.old ((merged left.now label.now, z *ℤ c) ∷ []) }
 {
-    let Some(product) = product_of(z, c) else {
-        return Err(SumFault::Large);
-    };
+    let product = product_of(z, c)?;
     put_merged(parts, left.parts(), label.parts())?;
     sum.add_owned(
         Partition::from_valid_parts(alloc, parts.as_slice())?,
@@ -127,14 +119,13 @@ impl Rule<Partition, Partition> for TimesList<'_> {
         if self.list.len() == 0 {
             return Ok(());
         }
-        let Some(c) = product_of(x, self.c) else {
-            return Err(SumFault::Large);
-        };
+        let c = product_of(x, self.c)?;
         add_row(self.alloc, sum, label, c, self.list)
     }
 }
 
-/// Adds c times the product of two lists. It is refused as `Large` only where that overflows.
+/// Adds c times the product of two lists. It is refused as `Large` only where that overflows. After
+/// a refusal the table has some of this added.
 pub fn add_products(
     alloc: Global,
     sum: &mut Whole,

@@ -22,8 +22,7 @@ use std::alloc::{AllocError, Global};
 use std::marker::Model;
 
 /// A finite map from labels to coefficients that are not 0. A contract sees it as a list of terms
-/// in no stated order:
-/// each label once, with the value of its coefficient.
+/// in no stated order: each label once, with its coefficient.
 #[derive(Drop)]
 pub struct Lin<L: Label, R: Scalar> {
     table: IndexMap<L, R>,

@@ -16,7 +16,7 @@ pub trait Rule<K: Label, L: Label> {
     ghost image: { Self → K → List (L × ℤ) };
 
     /// Adds `c` times what the label stands for. It is refused as `Large` only where that
-    /// overflows.
+    /// overflows. After a refusal the table may have some of it added.
     fn add_image(&self, label: &K, c: Int, sum: &mut Lin<L, Int>) -> Result<(), SumFault>
         requires { takes self.now label.now }
         ensures gains { OnOk result (Gains sum.old (scaled c (image self.now label.now)) sum.new) }

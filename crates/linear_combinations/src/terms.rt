@@ -13,7 +13,7 @@ use std::marker::Model;
 use std::{slice, vec};
 
 /// The terms of a finite map, strictly in the order in which labels are printed. A contract sees
-/// the list of labels with the values of their coefficients.
+/// the list of labels with their coefficients.
 #[derive(Drop)]
 pub struct Terms<L: Label, R: Scalar> {
     pairs: Vec<(L, R)>,

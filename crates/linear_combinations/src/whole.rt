@@ -1,10 +1,13 @@
 //! Adders to tables of whole numbers: each says by one relation what is gained,
-//! and by one where it overflows.
-ghost use Rattle.std.specs.Prelude.{◌≡◌, ℤ, pos, neg_ℤ, [], ◌∷◌, FitsSigned, OnOk, IsErrOf};
+//! and by one where it overflows. After a refusal an adder of one term leaves the table as it was;
+//! an adder of many terms leaves it with some of them added, and the table is of no further use.
+ghost use Rattle.std.specs.Prelude.{◌≡◌, ◌↔◌, ℤ, pos, neg_ℤ, [], ◌∷◌, FitsSigned};
+ghost use Rattle.std.specs.Prelude.{OnOk, OnErr, IsErrOf};
 ghost use Rattle.std.specs.Int.{w128};
 ghost use Rattle.coeff_rings.specs.Fractions.{whole};
 ghost use Rattle.sym_model.specs.Sum.{Among};
-ghost use Rattle.linear_combinations.specs.Entries.{AreHeld, IsCanonicalList, IsCombination};
+ghost use Rattle.linear_combinations.specs.Entries.{coefficient, AreHeld, IsCanonicalList};
+ghost use Rattle.linear_combinations.specs.Entries.{IsCombination, IsRefused};
 ghost use Rattle.linear_combinations.specs.Gains.{Gains, Overflows, scaled, each_with, replaced};
 
 use crate::label::Label;
@@ -12,13 +15,20 @@ use crate::lin::Lin;
 use crate::rule::Rule;
 use crate::terms::Terms;
 use calc_base::SumFault;
-use coeff_rings::{Int, Ring};
+use coeff_rings::{Int, Ring, Scalar};
 
 impl<L: Label> Lin<L, Int> {
     /// Adds a number at a label that is given away.
+    ///
+    /// It is refused as `Large` exactly where the sum at the label is refused. After a refusal the
+    /// table is as it was.
     pub fn add_owned(&mut self, label: L, c: Int) -> Result<(), SumFault>
         ensures gains { OnOk result (Gains self.old ((label, c) ∷ []) self.new) }
         ensures large { IsErrOf result SumFault.Large → Overflows L.eq self.old ((label, c) ∷ []) }
+        ensures refused { IsErrOf result SumFault.Large
+            ↔ IsRefused (FitsSigned w128) ⟦<Int as Scalar>⟧.checked_sum
+            (coefficient L.eq (pos 0) self.old label) c }
+        ensures err { OnErr result (self.new ≡ self.old) }
         ensures table { OnOk result (IsCombination L.eq L.is_label whole self.new) }
         ensures held { OnOk result (AreHeld L.eq (pos 0) (FitsSigned w128) self.new) }
     {
@@ -26,10 +36,19 @@ impl<L: Label> Lin<L, Int> {
     }
 
     /// Adds a number at a copy of a label.
+    ///
+    /// It is refused as `Large` only where the sum at the label is refused, and then there is no
+    /// sum. After a refusal the table is as it was.
     pub fn add_at_label(&mut self, label: &L, c: Int) -> Result<(), SumFault>
         ensures gains { OnOk result (Gains self.old ((label.now, c) ∷ []) self.new) }
         ensures large { IsErrOf result SumFault.Large
             → Overflows L.eq self.old ((label.now, c) ∷ []) }
+        ensures refused { IsErrOf result SumFault.Large
+            → IsRefused (FitsSigned w128) ⟦<Int as Scalar>⟧.checked_sum
+            (coefficient L.eq (pos 0) self.old label.now) c }
+        ensures fits { OnOk result (¬ IsRefused (FitsSigned w128) ⟦<Int as Scalar>⟧.checked_sum
+            (coefficient L.eq (pos 0) self.old label.now) c) }
+        ensures err { OnErr result (self.new ≡ self.old) }
         ensures table { OnOk result (IsCombination L.eq L.is_label whole self.new) }
         ensures held { OnOk result (AreHeld L.eq (pos 0) (FitsSigned w128) self.new) }
     {
@@ -37,6 +56,8 @@ impl<L: Label> Lin<L, Int> {
     }
 
     /// Adds a number at each of some labels.
+    ///
+    /// After a refusal the table has some of this added.
     pub fn add_each(&mut self, labels: &[L], c: Int) -> Result<(), SumFault>
         ensures gains { OnOk result (Gains self.old (each_with c labels.now) self.new) }
         ensures large { IsErrOf result SumFault.Large
@@ -52,6 +73,8 @@ impl<L: Label> Lin<L, Int> {
     }
 
     /// Subtracts a number at each of some labels.
+    ///
+    /// After a refusal the table has some of this added.
     pub fn subtract_each(&mut self, labels: &[L], c: Int) -> Result<(), SumFault>
         ensures gains { OnOk result (Gains self.old (each_with (neg_ℤ c) labels.now) self.new) }
         ensures large { IsErrOf result SumFault.Large
@@ -68,6 +91,8 @@ impl<L: Label> Lin<L, Int> {
     }
 
     /// Adds `c` times another table.
+    ///
+    /// After a refusal the table has some of this added.
     pub fn add_multiple(&mut self, other: &Lin<L, Int>, c: Int) -> Result<(), SumFault>
         ensures gains { OnOk result (Gains self.old (scaled c other.now) self.new) }
         ensures large { IsErrOf result SumFault.Large
@@ -85,6 +110,8 @@ impl<L: Label> Lin<L, Int> {
     }
 
     /// Adds another table.
+    ///
+    /// After a refusal the table has some of this added.
     pub fn add_terms(&mut self, other: &Lin<L, Int>) -> Result<(), SumFault>
         ensures gains { OnOk result (Gains self.old other.now self.new) }
         ensures large { IsErrOf result SumFault.Large → Overflows L.eq self.old other.now }
@@ -100,6 +127,8 @@ impl<L: Label> Lin<L, Int> {
     }
 
     /// Adds `c` times the terms of a list.
+    ///
+    /// After a refusal the table has some of this added.
     pub fn add_list(&mut self, list: &Terms<L, Int>, c: Int) -> Result<(), SumFault>
         ensures gains { OnOk result (Gains self.old (scaled c list.now) self.new) }
         ensures large { IsErrOf result SumFault.Large
@@ -117,6 +146,8 @@ impl<L: Label> Lin<L, Int> {
     }
 
     /// Adds what a rule makes of a table.
+    ///
+    /// After a refusal the table has some of this added.
     pub fn add_by<K: Label, T: Rule<K, L>>(
         &mut self,
         rule: &T,

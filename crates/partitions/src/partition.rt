@@ -7,6 +7,7 @@ ghost use Rattle.std.specs.Hash as fed;
 ghost use Rattle.std.proofs.Common.{ap};
 ghost use Rattle.std.proofs.lemmas.Slice.Eq.{bytes_eq-Decides};
 ghost use Rattle.calc_base.specs.Mixing.{mixed as mixed_of};
+ghost use Rattle.beta_list_laws.specs.StrictFall.{FallsStrictly};
 ghost use Rattle.sym_model.specs.BetaList.{beta, from_beta};
 ghost use Rattle.sym_model.specs.Conjugate.{conjugate};
 ghost use Rattle.sym_model.specs.Partition.{Falls, Holds, columns, part, rows, size};
@@ -220,7 +221,8 @@ impl Partition {
     pub fn from_beta(alloc: Global, b: &[u16]) -> Result<Partition, NoMemory>
         requires few { length b.now ≤ 512 }
         requires limits { IsWithinLimits (from_beta b.now) }
-        ensures { IfOk result (λ p. p ≡ from_beta b.now) }
+        ensures value { IfOk result (λ p. p ≡ from_beta b.now) }
+        ensures beta { FallsStrictly b.now → IfOk result (λ p. beta (length b.now) p ≡ b.now) }
     {
         let numbers = less_the_later(alloc, b)?;
         Partition::from_valid_numbers(alloc, numbers.as_slice())

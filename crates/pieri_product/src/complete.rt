@@ -1,6 +1,6 @@
 //! Lists of monomial symmetric polynomials times h_k.
 ghost use Rattle.std.specs.Prelude.{◌≡◌, ◌+◌, ◌^◌, ◌<◌, ◌≤◌, ◌≤ℤ◌, ◌*ℤ◌, pos, nat_abs};
-ghost use Rattle.std.specs.Prelude.{ℕ, List, [], ◌∷◌, ◌++◌, drop, MatchOption, SomeIff};
+ghost use Rattle.std.specs.Prelude.{ℕ, List, [], ◌∷◌, ◌++◌, drop, MatchResult, SomeIff};
 ghost use Rattle.std.specs.Prelude.{IfOk, OnOk, IsErrOf};
 ghost use Rattle.sym_model.specs.Conjugate.{count_from};
 ghost use Rattle.sym_model.specs.Partition.{IsPartition, Falls, Holds, part, size};
@@ -15,9 +15,9 @@ ghost use Rattle.product_laws.specs.StripLists.{ListsEach};
 ghost use Rattle.whole_lists.specs.Tables.{equal, IsWholeTable};
 ghost use Rattle.pieri_product.specs.Rows.{AddsBelow, AddsCells, HasAdded, with_placings};
 
-use crate::counts::{coefficient_of, times_quotient};
-use calc_base::{NoMemory, SumFault};
-use coeff_rings::{Int, Ring, Scalar};
+use crate::counts::{times_count, times_quotient};
+use calc_base::{Large, NoMemory, SumFault};
+use coeff_rings::{Int, Scalar};
 use linear_combinations::{Lin, Rule};
 use partitions::Partition;
 use std::alloc::Global;
@@ -54,19 +54,20 @@ fn placings(inner: &[u16], shape: &[u16]) -> Option<u128>
     times_quotient(later, rows_from(shape, *v), rows_from(inner, *v))
 }
 
-/// The product of a number with such a count, or `None` where it is too large.
-fn times_placings(c: Int, inner: &[u16], shape: &[u16]) -> Option<Int>
+/// The product of a number with such a count. It is refused exactly where its absolute value is
+/// 2^127 or more.
+fn times_placings(c: Int, inner: &[u16], shape: &[u16]) -> Result<Int, Large>
     requires inner { IsPartition inner.now }
     requires shape { IsPartition shape.now }
     requires contained { Holds shape.now inner.now }
-    ensures { MatchOption result (2 ^ 127 ≤ nat_abs (c *ℤ pos (placings inner.now shape.now)))
-        (λ product. product ≡ c *ℤ pos (placings inner.now shape.now)) }
+    ensures { MatchResult result
+        (λ product. product ≡ c *ℤ pos (placings inner.now shape.now))
+        (λ _. 2 ^ 127 ≤ nat_abs (c *ℤ pos (placings inner.now shape.now))) }
 {
     if c.is_zero() {
-        return Some(c);
+        return Ok(c);
     }
-    let count = coefficient_of(placings(inner, shape)?)?;
-    c.mul(count)
+    times_count(c, placings(inner, shape))
 }
 
 /// Adds `c` times the placings of a partition at each of some shapes that contain it.
@@ -83,9 +84,7 @@ fn add_placings(
         → Overflows equal sum.old (scaled c (with_placings label.now shapes.now)) }
 {
     for shape in shapes {
-        let Some(product) = times_placings(c, label.parts(), shape.parts()) else {
-            return Err(SumFault::Large);
-        };
+        let product = times_placings(c, label.parts(), shape.parts())?;
         sum.add_at_label(shape, product)?;
     }
     Ok(())

@@ -1,7 +1,10 @@
-//! Counts that are found factor by factor, and as coefficients.
-ghost use Rattle.std.specs.Prelude.{◌≡◌, ℕ, ◌*◌, ◌^◌, ◌<◌, pos, SomeIff};
+//! Counts that are found factor by factor, and products of coefficients with them.
+ghost use Rattle.std.specs.Prelude.{◌≡◌, ◌≢◌, ℕ, ◌*◌, ◌^◌, ◌<◌, ◌≤◌, ◌*ℤ◌, pos, nat_abs};
+ghost use Rattle.std.specs.Prelude.{MatchOption, MatchResult, SomeIff};
 
+use calc_base::Large;
 use coeff_rings::Int;
+use whole_numbers::product_of;
 
 /// count·over/under, which is a whole number, or `None` where it is 2^128 or more.
 pub(crate) fn times_quotient(count: u128, over: usize, under: usize) -> Option<u128>
@@ -18,8 +21,25 @@ pub(crate) fn times_quotient(count: u128, over: usize, under: usize) -> Option<u
 }
 
 /// The count as a coefficient, or `None` where it is 2^127 or more.
-pub(crate) fn coefficient_of(count: u128) -> Option<Int>
+fn coefficient_of(count: u128) -> Option<Int>
     ensures { SomeIff result (count < 2 ^ 127) (pos count) }
 {
     Some(Int::new(i128::try_from(count).ok()?))
+}
+
+/// The product of a number other than 0 with a count, which is `None` where it is 2^128 or more. It
+/// is refused exactly where its absolute value is 2^127 or more.
+pub(crate) fn times_count(c: Int, count: Option<u128>) -> Result<Int, Large>
+    requires { c ≢ pos 0 }
+    ensures { (n : ℕ) → MatchOption count (2 ^ 128 ≤ n) (λ m. m ≡ n)
+        → MatchResult result (λ product. product ≡ c *ℤ pos n)
+        (λ _. 2 ^ 127 ≤ nat_abs (c *ℤ pos n)) }
+{
+    let Some(number) = count else {
+        return Err(Large);
+    };
+    let Some(factor) = coefficient_of(number) else {
+        return Err(Large);
+    };
+    product_of(c, factor)
 }

@@ -1,6 +1,6 @@
 //! A list in m times e_k.
-ghost use Rattle.std.specs.Prelude.{◌≡◌, ℕ, ◌+◌, ◌^◌, ◌<◌, pos, List, [], ◌∷◌, get_or};
-ghost use Rattle.std.specs.Prelude.{SomeIff, IfOk, OnOk, IsErrOf};
+ghost use Rattle.std.specs.Prelude.{◌≡◌, ℕ, ◌+◌, ◌^◌, ◌≤◌, List, [], ◌∷◌, get_or};
+ghost use Rattle.std.specs.Prelude.{MatchOption, IfOk, OnOk, IsErrOf};
 ghost use Rattle.sym_model.specs.Partition.{IsPartition, size};
 ghost use Rattle.sym_model.specs.Polynomial.{coefficient};
 ghost use Rattle.sym_model.specs.Strip.{IsVerticalStrip};
@@ -11,9 +11,9 @@ ghost use Rattle.whole_lists.specs.Large.{ProductIsLarge};
 ghost use Rattle.whole_lists.specs.Tables.{equal, IsWholeTable};
 ghost use Rattle.pieri_product.specs.Columns.{HasRoom, column_count};
 
-use crate::counts::{coefficient_of, times_quotient};
+use crate::counts::{times_count, times_quotient};
 use calc_base::SumFault;
-use coeff_rings::{Int, Ring, Scalar};
+use coeff_rings::{Int, Scalar};
 use linear_combinations::{Lin, Rule};
 use partitions::Partition;
 use skew_shapes::with_vertical_strip;
@@ -28,12 +28,12 @@ fn row_at(rows: &[u16], at: usize) -> u16
 }
 
 /// The coefficient of m_outer in m_inner·e_k, outer/inner being a vertical strip of k cells; none
-/// where it is 2^127 or more.
-fn coefficient_at(inner: &Partition, outer: &Partition) -> Option<Int>
+/// where it is 2^128 or more.
+fn coefficient_at(inner: &Partition, outer: &Partition) -> Option<u128>
     requires { IsVerticalStrip outer.now inner.now }
     ensures { (k : ℕ) → size outer.now ≡ size inner.now + k
-        → SomeIff result (column_count k inner.now outer.now < 2 ^ 127)
-        (pos (column_count k inner.now outer.now)) }
+        → MatchOption result (2 ^ 128 ≤ column_count k inner.now outer.now)
+        (λ count. count ≡ column_count k inner.now outer.now) }
 {
     let shorter = inner.parts();
     let rows = outer.parts();
@@ -53,7 +53,7 @@ fn coefficient_at(inner: &Partition, outer: &Partition) -> Option<Int>
             longer = 0;
         }
     }
-    coefficient_of(count)
+    Some(count)
 }
 
 /// Adds c times the term of a shape that a vertical strip makes of the label.
@@ -67,8 +67,7 @@ fn add_shape(label: &Partition, shape: &Partition, c: Int, sum: &mut Whole) -> R
     if c.is_zero() {
         return Ok(());
     }
-    let count = coefficient_at(label, shape).ok_or(SumFault::Large)?;
-    let product = c.mul(count).ok_or(SumFault::Large)?;
+    let product = times_count(c, coefficient_at(label, shape))?;
     sum.add_at_label(shape, product)
 }
 

@@ -97,9 +97,7 @@ fn in_m(
 {
     let size = greatest_size(outer);
     let factor = factorial(size);
-    let Some(den) = denominator_product(bound.den, factor) else {
-        return Err(SumFault::Large);
-    };
+    let den = denominator_product(bound.den, factor)?;
     let terms = to_basis(alloc, outer, bound, Basis::P)?;
     let sum = multiplied_out(alloc, &terms, den, inner)?;
     divided(alloc, &sum, den)

@@ -5,7 +5,8 @@ use Rattle.sym_model.specs.Sum.{Among}
 use Rattle.sym_model.specs.Partition.{IsPartition, size}
 use Rattle.sym_model.specs.PartitionList.{partitions_of}
 use Rattle.sym_model.specs.ListWeight.{common_denominator}
-use Rattle.sym_model.specs.Expansion.{Terms}
+use Rattle.sym_model.specs.Expansion.{Terms, IsExpansionOf, denominators, monomials, value}
+use Rattle.sym_model.specs.Polynomial.{times}
 use Rattle.sym_model.specs.WholeTerms.{WholeTerms}
 use Rattle.linear_combinations.specs.Gains.{replaced}
 use Rattle.monomial_laws.specs.MonomialProduct.{arrangements, product_coefficient}
@@ -34,6 +35,13 @@ product_terms left right =
 -- the product of two lists of terms in m, as a list
 abbrev pub products : WholeTerms → WholeTerms → WholeTerms
 products left right = replaced (λ l. replaced (product_terms l) right) left
+
+-- VALUE: the last list is the product of the two others, read in m, in every number of variables
+abbrev pub IsProductInMonomials : Terms (List ℕ) → Terms (List ℕ) → Terms (List ℕ) → Type 0
+IsProductInMonomials left right product =
+    (n : ℕ) → IsExpansionOf monomials product n
+    (times (value monomials left n) (value monomials right n))
+    (denominators left * denominators right)
 
 -- the size of each label of a product is the sum of the sizes of a label of the one list and of a
 -- label of the other

@@ -1,10 +1,10 @@
 -- Products of polynomials that are given as lists of terms.
-use Rattle.std.specs.Prelude.{◌≡◌, ℕ, nat_eq, List, map}
+use Rattle.std.specs.Prelude.{◌≡◌, ℕ, ◌*◌, nat_eq, List, map}
 use Rattle.std.specs.Cmp.Lexicographic.{pointwise}
 use Rattle.sym_model.specs.Sum.{Among}
-use Rattle.sym_model.specs.Polynomial.{Poly, Term, join}
+use Rattle.sym_model.specs.Polynomial.{Poly, Term, join, times}
 use Rattle.sym_model.specs.DividedDifference.{x_to_in}
-use Rattle.sym_model.specs.Expansion.{Fraction, Terms, value_by}
+use Rattle.sym_model.specs.Expansion.{Fraction, Terms, Represents, denominators, value_by}
 use Rattle.sparse_polys.specs.Combination.{coefficient}
 use Rattle.sparse_polys.specs.Limits.{IsWithinLimits}
 use Rattle.sparse_polys.specs.Raised.{raised}
@@ -12,6 +12,12 @@ use Rattle.sparse_polys.specs.Raised.{raised}
 -- the polynomial of a list in n variables, times the product of its denominators
 abbrev pub value_in : Terms (List ℕ) → ℕ → Poly
 value_in terms n = value_by (λ e. x_to_in e n) terms
+
+-- VALUE: the last list is the product of the two others, in every number of variables
+abbrev pub IsProductOf : Terms (List ℕ) → Terms (List ℕ) → Terms (List ℕ) → Type 0
+IsProductOf left right product =
+    (n : ℕ) → Represents (λ e. x_to_in e n) product (times (value_in left n) (value_in right n))
+    (denominators left * denominators right)
 
 -- each product of a monomial of the first list and one of the second stays within the limits of a
 -- monomial

@@ -4,10 +4,8 @@ ghost use Rattle.std.specs.Prelude.{List, [], ◌∷◌, IfOk, IfSome, OnOk, IsE
 ghost use Rattle.std.specs.Int.{◌∣◌};
 ghost use Rattle.std.specs.Prelude.{nat_eq};
 ghost use Rattle.std.specs.Cmp.Lexicographic.{pointwise};
-ghost use Rattle.sym_model.specs.Polynomial.{coefficient, times};
+ghost use Rattle.sym_model.specs.Polynomial.{coefficient};
 ghost use Rattle.sym_model.specs.Canonical.{is_label};
-ghost use Rattle.sym_model.specs.Expansion.{denominators, value, IsExpansionOf};
-ghost use Rattle.sym_model.specs.Expansion.Basis.{monomials};
 ghost use Rattle.linear_combinations.specs.Entries.{IsCombination};
 ghost use Rattle.sparse_polys.specs.Combination.{terms_of};
 ghost use Rattle.sym_model.specs.Partition.{IsPartition, size};
@@ -18,7 +16,7 @@ ghost use Rattle.monomial_laws.specs.MonomialProduct.{product_coefficient};
 ghost use Rattle.monomial_laws.specs.ExpressionTerms.{over, absolute};
 ghost use Rattle.linear_combinations.specs.Gains.{replaced, scaled as multiple};
 ghost use Rattle.sparse_polys.specs.MonomialProducts.{greatest_size, product_terms, products};
-ghost use Rattle.sparse_polys.specs.MonomialProducts.{AreSums, IsTooLarge};
+ghost use Rattle.sparse_polys.specs.MonomialProducts.{AreSums, IsProductInMonomials, IsTooLarge};
 ghost use Rattle.linear_combinations.specs.Cleared.{IsDenominator, IsCommonDenominator};
 ghost use Rattle.linear_combinations.specs.Cleared.{AreCleared, GainsCleared, OverflowsCleared};
 
@@ -187,11 +185,8 @@ pub fn times_in_m<R: Ring>(
     right: &Lin<Partition, R>,
 ) -> Result<Lin<Partition, R>, SumFault>
     requires sizes { greatest_size left.now + greatest_size right.now ≤ 512 }
-    ensures value { IfOk result (λ product. (n : ℕ) → IsExpansionOf monomials
-        (terms_of R.value product) n
-        (times (value monomials (terms_of R.value left.now) n)
-        (value monomials (terms_of R.value right.now) n))
-        (denominators (terms_of R.value left.now) * denominators (terms_of R.value right.now))) }
+    ensures value { IfOk result (λ product. IsProductInMonomials (terms_of R.value left.now)
+        (terms_of R.value right.now) (terms_of R.value product)) }
     ensures labels { IfOk result (AreSums left.now right.now) }
     ensures large { IsErrOf result SumFault.Large → IsTooLarge (terms_of R.value left.now)
         (terms_of R.value right.now) }

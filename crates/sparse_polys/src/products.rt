@@ -13,6 +13,7 @@ ghost use Rattle.coeff_rings.specs.Fractions.{scaled, whole};
 ghost use Rattle.sparse_polys.specs.Combination.{terms_of, HasMoreAt, IsPolynomialTable};
 ghost use Rattle.sparse_polys.specs.Limits.{IsWithinLimits};
 ghost use Rattle.sparse_polys.specs.Products.{value_in, coefficient_at, FitTogether, HasRoom};
+ghost use Rattle.sparse_polys.specs.Products.{IsProductOf};
 ghost use Rattle.linear_combinations.specs.Cleared.{AreCleared, IsCommonDenominator, IsDenominator};
 ghost use Rattle.linear_combinations.specs.Cleared.{GainsCleared, OverflowsCleared};
 
@@ -83,10 +84,8 @@ fn add_row<R: Ring>(
 /// more.
 pub fn times<R: Ring>(alloc: Global, left: &Poly<R>, right: &Poly<R>) -> Result<Poly<R>, SumFault>
     requires { FitTogether (terms_of R.value left.now) (terms_of R.value right.now) }
-    ensures value { IfOk result (λ product. (n : ℕ) → Represents (λ e. x_to_in e n)
-        (terms_of R.value product)
-        (times (value_in (terms_of R.value left.now) n) (value_in (terms_of R.value right.now) n))
-        (denominators (terms_of R.value left.now) * denominators (terms_of R.value right.now))) }
+    ensures value { IfOk result (λ product. IsProductOf (terms_of R.value left.now)
+        (terms_of R.value right.now) (terms_of R.value product)) }
     ensures large { IsErrOf result SumFault.Large
         → 2 ^ 127
         ≤ list_weight (terms_of R.value left.now) * list_weight (terms_of R.value right.now) }

@@ -5,10 +5,15 @@ use Rattle.std.specs.Cmp.Lexicographic.{pointwise}
 use Rattle.sym_model.specs.Partition.{size, rows}
 use Rattle.sym_model.specs.Polynomial.{Poly, pair, times}
 use Rattle.sym_model.specs.Schur.{schur}
-use Rattle.sym_model.specs.Expansion.{Fraction}
+use Rattle.sym_model.specs.Expansion.{Fraction, Terms, IsExpansionOf, denominators, schurs, value}
 use Rattle.sym_model.specs.WholeTerms.{WholeTerms}
 use Rattle.coeff_rings.specs.Fractions.{scaled as numerator_over}
 use Rattle.linear_combinations.specs.Gains.{over, mass, mass_at, HaveLabels}
+
+-- VALUE: the second list in s is the first one times f, in every number of variables
+abbrev pub IsTimes : (ℕ → Poly) → Terms (List ℕ) → Terms (List ℕ) → Type 0
+IsTimes f list product =
+    (n : ℕ) → IsExpansionOf schurs product n (times (f n) (value schurs list n)) (denominators list)
 
 -- d is c times the sign, over the same denominator
 pub record IsSigned (c : Fraction) (sign : ℤ) (d : Fraction) : Type 0 where

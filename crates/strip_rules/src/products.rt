@@ -3,18 +3,15 @@ ghost use Rattle.std.specs.Prelude.{◌≡◌, ◌+◌, ◌*◌, ◌^◌, ◌≤
 ghost use Rattle.std.specs.Cmp.Lexicographic.{pointwise};
 ghost use Rattle.sym_model.specs.Canonical.{is_label};
 ghost use Rattle.sym_model.specs.Bases.{complete_of, elementary_of, power_sum_of};
-ghost use Rattle.sym_model.specs.Expansion.{denominators, value, IsExpansionOf};
-ghost use Rattle.sym_model.specs.Expansion.Basis.{schurs};
 ghost use Rattle.sym_model.specs.ListWeight.{list_weight};
 ghost use Rattle.sym_model.specs.Partition.{IsPartition, size, rows};
-ghost use Rattle.sym_model.specs.Polynomial.{times};
 ghost use Rattle.sym_model.specs.WholeTerms.{WholeTerms};
 ghost use Rattle.coeff_rings.specs.Fractions.{InLowestTerms};
 ghost use Rattle.sparse_polys.specs.Combination.{terms_of};
 ghost use Rattle.sparse_polys.specs.MonomialProducts.{greatest_size};
 ghost use Rattle.whole_lists.specs.Families.{polynomial_of};
 ghost use Rattle.linear_combinations.specs.Cleared.{GainsMultiple, OverflowsMultiple};
-ghost use Rattle.strip_rules.specs.Adding.{IsProduct};
+ghost use Rattle.strip_rules.specs.Adding.{IsProduct, IsTimes};
 ghost use Rattle.strip_rules.specs.Room.{AreWithin, HasRoom};
 
 use crate::shapes::{add_shapes, add_signed_shapes};
@@ -69,10 +66,8 @@ pub fn times_family<R: Ring>(
 ) -> Result<Lin<Partition, R>, SumFault>
     requires positive { family ≡ Family.PowerSum → 1 ≤ k }
     requires room { HasRoom k list.now }
-    ensures value { IfOk result (λ product. (n : ℕ)
-        → IsExpansionOf schurs (terms_of R.value product) n
-        (times (polynomial_of family k n) (value schurs (terms_of R.value list.now) n))
-        (denominators (terms_of R.value list.now))) }
+    ensures value { IfOk result (λ product. IsTimes (polynomial_of family k)
+        (terms_of R.value list.now) (terms_of R.value product)) }
     ensures labels { IfOk result (λ product. (cells lengths : ℕ) → AreWithin cells lengths list.now
         → AreWithin (cells + k) (lengths + k) product) }
     ensures weight { IfOk result (λ product. list_weight (terms_of R.value product)
@@ -101,10 +96,8 @@ pub fn add_row<R: Ring>(
     k: u16,
 ) -> Result<Lin<Partition, R>, SumFault>
     requires room { HasRoom k list }
-    ensures value { IfOk result (λ product. (n : ℕ)
-        → IsExpansionOf schurs (terms_of R.value product) n
-        (times (complete_of k n) (value schurs (terms_of R.value list) n))
-        (denominators (terms_of R.value list))) }
+    ensures value { IfOk result (λ product. IsTimes (complete_of k)
+        (terms_of R.value list) (terms_of R.value product)) }
     ensures labels { IfOk result (λ product. (cells lengths : ℕ) → AreWithin cells lengths list
         → AreWithin (cells + k) (lengths + k) product) }
     ensures weight { IfOk result (λ product. list_weight (terms_of R.value product)
@@ -123,10 +116,8 @@ pub fn add_column<R: Ring>(
     k: u16,
 ) -> Result<Lin<Partition, R>, SumFault>
     requires room { HasRoom k list }
-    ensures value { IfOk result (λ product. (n : ℕ)
-        → IsExpansionOf schurs (terms_of R.value product) n
-        (times (elementary_of k n) (value schurs (terms_of R.value list) n))
-        (denominators (terms_of R.value list))) }
+    ensures value { IfOk result (λ product. IsTimes (elementary_of k)
+        (terms_of R.value list) (terms_of R.value product)) }
     ensures labels { IfOk result (λ product. (cells lengths : ℕ) → AreWithin cells lengths list
         → AreWithin (cells + k) (lengths + k) product) }
     ensures weight { IfOk result (λ product. list_weight (terms_of R.value product)
@@ -147,10 +138,8 @@ pub fn add_hook<R: Ring>(
 ) -> Result<Lin<Partition, R>, SumFault>
     requires positive { 1 ≤ k }
     requires room { HasRoom k list }
-    ensures value { IfOk result (λ product. (n : ℕ)
-        → IsExpansionOf schurs (terms_of R.value product) n
-        (times (power_sum_of k n) (value schurs (terms_of R.value list) n))
-        (denominators (terms_of R.value list))) }
+    ensures value { IfOk result (λ product. IsTimes (power_sum_of k)
+        (terms_of R.value list) (terms_of R.value product)) }
     ensures labels { IfOk result (λ product. (cells lengths : ℕ) → AreWithin cells lengths list
         → AreWithin (cells + k) (lengths + k) product) }
     ensures weight { IfOk result (λ product. list_weight (terms_of R.value product)

@@ -1,5 +1,5 @@
 //! The shapes of one term of an expansion in s times h_k, e_k or p_k, added to a table.
-ghost use Rattle.std.specs.Prelude.{◌-◌, ◌^◌, ◌≤◌, ℕ, nat_eq, pos, List, IfOk, OnOk, IsErrOf};
+ghost use Rattle.std.specs.Prelude.{◌-◌, ◌^◌, ◌≤◌, ℕ, nat_eq, pos, List, IfOk, IfErr, OnOk, IsErrOf};
 ghost use Rattle.std.specs.Cmp.Lexicographic.{pointwise};
 ghost use Rattle.sym_model.specs.Canonical.{is_label};
 ghost use Rattle.sym_model.specs.Partition.{IsPartition};
@@ -15,7 +15,7 @@ ghost use Rattle.linear_combinations.specs.Cleared.{OverflowsMultiple};
 ghost use Rattle.strip_rules.specs.Adding.{IsSigned};
 ghost use Rattle.linear_combinations.specs.Gains.{each_by};
 
-use calc_base::{Lister, SumFault};
+use calc_base::{Large, Lister, SumFault};
 use coeff_rings::Ring;
 use linear_combinations::Lin;
 use partitions::Partition;
@@ -44,20 +44,20 @@ pub(crate) fn add_shapes<R: Ring>(
 }
 
 /// The coefficient with the sign of a rim hook of a height: it changes where the height is even.
-fn signed<R: Ring>(c: R, height: u16) -> Result<R, SumFault>
+fn signed<R: Ring>(c: R, height: u16) -> Result<R, Large>
     requires height { 1 ≤ height }
     requires lowest { InLowestTerms (R.value c) }
     ensures value { IfOk result (λ d.
         IsSigned (R.value c) (minus_one_to (height - 1)) (R.value d)) }
     ensures lowest { IfOk result (λ d. InLowestTerms (R.value d)) }
-    ensures large { IsErrOf result SumFault.Large
-        → (q : ℕ) → IsDenominator q (R.value c) → 2 ^ 127 ≤ magnitude q (R.value c) }
+    ensures large { IfErr result (λ _. (q : ℕ) → IsDenominator q (R.value c)
+        → 2 ^ 127 ≤ magnitude q (R.value c)) }
 {
     if height % 2 == 1 {
         return Ok(c);
     }
     let Some(negated) = c.neg() else {
-        return Err(SumFault::Large);
+        return Err(Large);
     };
     Ok(negated)
 }

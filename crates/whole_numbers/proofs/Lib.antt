@@ -1,2 +1,3 @@
 pub mod CommonMultiples
 pub mod LowestTerms
+pub mod CheckedResults

@@ -1,8 +1,9 @@
 //! Denominators that are joined.
-ghost use Rattle.std.specs.Prelude.{◌≡◌, ◌/◌, ◌*◌, ◌<◌, ◌≤◌, ◌^◌, pos, MatchOption, SomeIff};
+ghost use Rattle.std.specs.Prelude.{◌≡◌, ◌/◌, ◌*◌, ◌<◌, ◌≤◌, ◌^◌, pos, IfOk, IfErr, OkIff};
 ghost use Rattle.sym_model.specs.Expression.{lcm};
 
 use crate::divisors::gcd;
+use calc_base::Large;
 
 /// Denominators are below this.
 const LIMIT: u128 = 1 << 127;
@@ -18,32 +19,30 @@ pub struct Common {
     pub from_right: i128,
 }
 
-/// The least common multiple of two denominators, which are below 2^127;
-/// none where it is 2^127 or more.
-pub fn common_denominator(a: u128, b: u128) -> Option<Common>
+/// The least common multiple of two denominators, which are below 2^127.
+///
+/// It is refused exactly where it is 2^127 or more.
+pub fn common_denominator(a: u128, b: u128) -> Result<Common, Large>
     requires left { (0 < a) × (a < 2 ^ 127) }
     requires right { (0 < b) × (b < 2 ^ 127) }
-    ensures { MatchOption result (2 ^ 127 ≤ lcm a b)
-        (λ c. (c.den ≡ lcm a b) × (c.den < 2 ^ 127) × (0 < c.den)
+    ensures ok { IfOk result (λ c. (c.den ≡ lcm a b) × (c.den < 2 ^ 127) × (0 < c.den)
         × (c.from_left ≡ pos (lcm a b / a)) × (c.from_right ≡ pos (lcm a b / b))) }
+    ensures large { IfErr result (λ _. 2 ^ 127 ≤ lcm a b) }
 {
     let divisor = gcd(a, b);
     let from_left = b / divisor;
     let from_right = a / divisor;
-    let den = from_right.checked_mul(b)?;
-    if den >= LIMIT {
-        return None;
-    }
-    Some(Common {
+    let den = denominator_product(from_right, b)?;
+    Ok(Common {
         den,
         from_left: from_left as i128,
         from_right: from_right as i128,
     })
 }
 
-/// The product of two denominators; none where it is 2^127 or more.
-pub fn denominator_product(a: u128, b: u128) -> Option<u128>
-    ensures { SomeIff result (a * b < 2 ^ 127) (a * b) }
+/// The product of two denominators. It is refused exactly where it is 2^127 or more.
+pub fn denominator_product(a: u128, b: u128) -> Result<u128, Large>
+    ensures { OkIff result (a * b < 2 ^ 127) (a * b) }
 {
-    a.checked_mul(b).filter(|den| *den < LIMIT)
+    a.checked_mul(b).filter(|den| *den < LIMIT).ok_or(Large)
 }

@@ -1,10 +1,11 @@
-//! Whole numbers of 128 bits: greatest common divisors, factorials, common denominators, quotients.
+//! Whole numbers of 128 bits: greatest common divisors, factorials, products, common denominators,
+//! quotients.
 //!
 //! What is proved:
 //!
-//! `gcd`, `factorial`, `common_denominator` and `denominator_product` are those of the definitions,
-//! the last two without an answer exactly where it is 2^127 or more; `quotient_of` is the fraction
-//! in lowest terms.
+//! `gcd`, `factorial`, `common_denominator` and `denominator_product` are those of the definitions;
+//! the last two, and `product_of`, are refused exactly where they are 2^127 or more; `quotient_of`
+//! is the fraction in lowest terms.
 #![tactic(auto)]
 
 mod denominators;
@@ -14,5 +15,5 @@ mod quotients;
 
 pub use denominators::{Common, common_denominator, denominator_product};
 pub use divisors::gcd;
-pub use products::factorial;
+pub use products::{factorial, product_of};
 pub use quotients::quotient_of;

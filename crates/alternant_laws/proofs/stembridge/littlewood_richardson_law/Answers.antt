@@ -3,6 +3,7 @@ use Rattle.alternant_laws.proofs.FallingAlternants.{coefficient_at_partition}
 use Rattle.alternant_laws.proofs.SchurProducts.{product-good_schurs, skew-good_schurs}
 use Rattle.alternant_laws.proofs.CountedTerms.{product_coefficients, product_counts_stable}
 use Rattle.alternant_laws.proofs.CountedTerms.{skew_coefficients}
+use Rattle.alternant_laws.proofs.ClassicalProducts.{classical_product-coefficient}
 use Rattle.alternant_laws.proofs.stembridge.littlewood_richardson_law.Goals as goal
 
 pub returns-clause-product : goal.returns-clause-product
@@ -23,3 +24,6 @@ returns-clause-product_stable c = product_counts_stable
 
 pub returns-clause-skew_coefficient : goal.returns-clause-skew_coefficient
 returns-clause-skew_coefficient c = skew_coefficients
+
+pub returns-clause-classical : goal.returns-clause-classical
+returns-clause-classical c = classical_product-coefficient

@@ -21,7 +21,7 @@ use Rattle.change_from_monomials.proofs.ClearedAnswers.{greatest_is, cleared-ans
 use Rattle.change_from_monomials.proofs.Costs.{cost-positive}
 use Rattle.change_from_monomials.proofs.CostTable.{has-factors}
 use Rattle.change_from_monomials.proofs.Bounds.{large-number, large-denominator, same_growth}
-use Rattle.change_from_monomials.proofs.Starts.{none-large, start-cost, table-cost, table-ready}
+use Rattle.change_from_monomials.proofs.Starts.{start-cost, table-cost, table-ready}
 use Rattle.change_from_monomials.proofs.Ends.{expansion-changed}
 use Rattle.change_from_monomials.proofs.change.by_augmented.Goals as goal
 use native.Mathlib.Nat.{mul-pos, mul-le-mul_left}
@@ -31,11 +31,12 @@ use Rattle.linear_combinations.proofs.Weighed.{overflow_weighed}
 use Rattle.sparse_polys.specs.Labels.{same_pair}
 use Rattle.monomial_laws.proofs.Growths.{factorial-positive}
 
-pub returns-in_default-clause-large : goal.returns-in_default-clause-large
-returns-in_default-clause-large c err d w =
+pub returns-in_err-den-clause-large : goal.returns-in_err-den-clause-large
+returns-in_err-den-clause-large c err d w =
     let size = c.greatest_size-size.result in
-    let large = none-large (c.args.bound.den * c.factorial-factor.result)
-    c.denominator_product.result c.denominator_product.ensures c.in_default.is in
+    let not_below : c.args.bound.den * c.factorial-factor.result < 2 ^ 127 → ⊥ =
+    c.in_err-den.ensures in
+    let large : 2 ^ 127 ≤ c.args.bound.den * c.factorial-factor.result = omega arith in
     large-denominator c.args.family c.args.bound.num c.args.bound.den size d c.requires.positive.0
     (c.greatest_size-size.ensures.least d w)
     (subst (λ f. 2 ^ 127 ≤ c.args.bound.den * f) c.factorial-factor.ensures large)
@@ -72,7 +73,7 @@ returns-in_err-end-clause-large c err d w =
 
 pub in_augmented-requires-clause-den : goal.in_augmented-requires-clause-den
 in_augmented-requires-clause-den c =
-    let small = c.in-Some.ensures.0 in
+    let small = c.in_ok-den.ensures.0 in
     let f = factorial-positive c.greatest_size-size.result in
     let e = c.factorial-factor.ensures in
     below c.args.bound.den c.factorial-factor.result small (omega arith)
@@ -120,8 +121,8 @@ converted-requires-clause-ready c =
 
 pub divided-requires : goal.divided-requires
 divided-requires c =
-    let small = c.in-Some.ensures.0 in
-    let den = c.in-Some.ensures.1 in
+    let small = c.in_ok-den.ensures.0 in
+    let den = c.in_ok-den.ensures.1 in
     let f = factorial-positive c.greatest_size-size.result in
     let e = c.factorial-factor.ensures in
     let p : 0 < c.args.bound.den * c.factorial-factor.result = mul-pos c.requires.positive.1
@@ -133,8 +134,8 @@ returns-clause-value c =
     let size = c.greatest_size-size.result in
     let lists = c.deref.result.now in
     let low = c.greatest_size-size.ensures.least 15 c.requires.sizes in
-    let den : c.in-Some.den ≡ c.args.bound.den * factorial c.greatest_size-size.result =
-    c.in-Some.ensures.1 ∙ ap (λ f. c.args.bound.den * f) c.factorial-factor.ensures in
+    let den : c.in_ok-den.den ≡ c.args.bound.den * factorial c.greatest_size-size.result =
+    c.in_ok-den.ensures.1 ∙ ap (λ f. c.args.bound.den * f) c.factorial-factor.ensures in
     let l : length c.deref.result.now ≡ c.greatest_size-size.result + 1 =
     omega (arith, ap length c.deref.ensures.value, c.in_ok-powers.ensures.length) in
     let are : ArePowerSums c.args.family (take (length c.deref.result.now - 1)
@@ -162,8 +163,8 @@ pub returns-clause-cleared : goal.returns-clause-cleared
 returns-clause-cleared c =
     let size = c.greatest_size-size.result in
     let low = c.greatest_size-size.ensures.least 15 c.requires.sizes in
-    let den : c.in-Some.den ≡ c.args.bound.den * factorial c.greatest_size-size.result =
-    c.in-Some.ensures.1 ∙ ap (λ f. c.args.bound.den * f) c.factorial-factor.ensures in
+    let den : c.in_ok-den.den ≡ c.args.bound.den * factorial c.greatest_size-size.result =
+    c.in_ok-den.ensures.1 ∙ ap (λ f. c.args.bound.den * f) c.factorial-factor.ensures in
     let k : length c.deref.result.now ≡ c.greatest_size-size.result + 1 =
     omega (arith, ap length c.deref.ensures.value, c.in_ok-powers.ensures.length) in
     let l = ap length (take_rest c.deref.result.now 1) ∙ behind-first c.deref.result.now

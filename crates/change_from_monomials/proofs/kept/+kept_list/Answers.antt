@@ -32,7 +32,7 @@ from_valid_parts-requires t c =
 
 pub returns-in-Some-clause-place : goal.returns-in-Some-clause-place
 returns-in-Some-clause-place t c = subst (λ (x : List ℕ). StandsAt c.args.lists.now.entries x
-    c.in-Some.at) c.in_ok-label.ensures.ok c.in-Some.ensures
+    c.in-Some.at) c.in_ok-label.ensures.ok c.in-Some.ensures.place
 
 pub returns-then-is_empty-clause-kept : goal.returns-then-is_empty-clause-kept
 returns-then-is_empty-clause-kept t c =

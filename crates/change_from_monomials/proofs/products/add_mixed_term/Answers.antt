@@ -7,11 +7,11 @@ use Rattle.family_lists.proofs.RowSteps.{limits-merged}
 use Rattle.change_from_monomials.proofs.MixedLabels.{label_laws}
 use Rattle.change_from_monomials.proofs.products.add_mixed_term.Goals as goal
 
-pub returns-in_default-clause-large : goal.returns-in_default-clause-large
-returns-in_default-clause-large c err =
+pub returns-in_err-product-clause-large : goal.returns-in_err-product-clause-large
+returns-in_err-product-clause-large c err =
     overflows_alone label_laws same_pair c.args.sum.now
     (merged c.args.converted.now c.args.label.now, c.args.augmented.now)
-    (c.args.c *ℤ c.args.have) c.in_default.ensures
+    (c.args.c *ℤ c.args.have) c.in_err-product.ensures
 
 pub from_valid_parts-requires : goal.from_valid_parts-requires
 from_valid_parts-requires c =

@@ -25,8 +25,8 @@ returns-in_err-node-clause-large c = λ large.
     heavy-in_target c.args.target (tree_of c.args.formula.now.tree)
     (subst (λ t. 2 ^ 127 ≤ weight completes (tree_of t)) c.tree.ensures.tree h)
 
-pub returns-in_default-clause-large : goal.returns-in_default-clause-large
-returns-in_default-clause-large c = λ large.
+pub returns-in_err-den-clause-large : goal.returns-in_err-den-clause-large
+returns-in_err-den-clause-large c = λ large.
     let e = tree_of c.args.formula.now.tree in
     let k = c.in_ok-node.node in
     let h : ClearsTo (polynomial_of c.args.target) (tree_of c.args.formula.now.tree)
@@ -39,13 +39,13 @@ returns-in_default-clause-large c = λ large.
     (tree_of c.args.formula.now.tree) * factorial (degree (tree_of c.args.formula.now.tree)) =
     ap₂ ◌*◌ h.den_is (c.factorial.ensures ∙ ap factorial h.degree_is) in
     let not_below : c.in_ok-node.node.den * c.factorial.result < 2 ^ 127 → ⊥ =
-    c.in_default.ensures in
+    c.in_err-den.ensures in
     heavy-in_target c.args.target (tree_of c.args.formula.now.tree) (omega arith)
 
 pub divided-requires : goal.divided-requires
 divided-requires c =
-    let small = c.in-Some.ensures.0 in
-    let den = c.in-Some.ensures.1 in
+    let small = c.in_ok-den.ensures.0 in
+    let den = c.in_ok-den.ensures.1 in
     let f = factorial-positive c.in_ok-node.node.degree in
     let e = c.factorial.ensures in
     let p : 0 < c.in_ok-node.node.den * c.factorial.result = mul-pos c.in_ok-node.node.positive
@@ -61,8 +61,8 @@ returns-clause-value c =
     subst (λ t. ClearsTo (polynomial_of c.args.target) (tree_of t) c.in_ok-node.node)
     c.tree.ensures.tree c.in_ok-node.ensures.ok in
     let plain = HasDenominators-plain c.args.formula.now.tree c.tree.ensures.within.numbers in
-    let same : c.in-Some.den ≡ denominator (tree_of c.args.formula.now.tree) * factorial
-    (degree (tree_of c.args.formula.now.tree)) = c.in-Some.ensures.1 ∙ ap₂ ◌*◌ h.den_is
+    let same : c.in_ok-den.den ≡ denominator (tree_of c.args.formula.now.tree) * factorial
+    (degree (tree_of c.args.formula.now.tree)) = c.in_ok-den.ensures.1 ∙ ap₂ ◌*◌ h.den_is
     (c.factorial.ensures ∙ ap factorial h.degree_is) in
     if_ok_both c.divided.result c.divided.ensures.value c.divided.ensures.table
     (λ list q is n.

@@ -23,13 +23,13 @@ loop-c-preserved c =
       c.in-Some.c,
     ) ∷ []) =
     sym (map-append deref_pair c.loop-c.yielded ((c.in-Some.field-0-0, c.in-Some.c) ∷ [])) in
-    let next = c.in-Some-common_denominator.ensures in
+    let next = c.in_ok-common.ensures.ok in
     record {
       low = next.1;
       common =
           subst (λ (es : Terms (List ℕ)).
-          IsCommonDenominator c.in-Some-common_denominator.common.den es) pushed
-          (common-next c.loop-c.den c.in-Some-common_denominator.common.den done k v
+          IsCommonDenominator c.in_ok-common.common.den es) pushed
+          (common-next c.loop-c.den c.in_ok-common.common.den done k v
           c.denominator_of.ensures.positive
           (next.0 ∙ ap (lcm c.loop-c.den) c.denominator_of.ensures.value)
           c.loop-c.invariant.common);

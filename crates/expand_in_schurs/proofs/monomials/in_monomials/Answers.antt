@@ -4,7 +4,7 @@ use Rattle.expand_in_schurs.proofs.monomials.in_monomials.Goals as goal
 
 pub schurs_to_monomials-requires-clause-within : goal.schurs_to_monomials-requires-clause-within
 schurs_to_monomials-requires-clause-within c =
-    within-whole c.greatest_size-cells.result c.in-Some.den c.args.list.now c.in_ok-terms.terms
+    within-whole c.greatest_size-cells.result c.in_ok-den.den c.args.list.now c.in_ok-terms.terms
     c.in_ok-terms.ensures.table c.greatest_size-cells.ensures.within
     c.in_ok-terms.ensures.value
 
@@ -13,5 +13,5 @@ returns c =
     if_ok_both c.divided.result c.divided.ensures.value c.divided.ensures.table
     (λ answer quotients table n f q h.
     expansion-in_monomials c.args.list.now answer c.in_ok-terms.terms c.in_ok-answer.answer
-    c.in-Some.den c.in-Some.ensures.1
+    c.in_ok-den.den c.in_ok-den.ensures.1
     c.in_ok-terms.ensures.value c.in_ok-answer.ensures.value table quotients n f q h)

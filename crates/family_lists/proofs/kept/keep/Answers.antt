@@ -20,11 +20,11 @@ pub put-requires : goal.put-requires
 put-requires g c = none_found _ c.in-None.ensures.found
 
 pub returns-in_ok-put-in-None-clause-kept : goal.returns-in_ok-put-in-None-clause-kept
-returns-in_ok-put-in-None-clause-kept g c = inr c.in_ok-put-in-None.ensures
+returns-in_ok-put-in-None-clause-kept g c = inr c.in_ok-put-in-None.ensures.ok
 
 pub returns-in_ok-put-in-None-clause-place : goal.returns-in_ok-put-in-None-clause-place
 returns-in_ok-put-in-None-clause-place g c = (
   c.args.list,
-  ap (λ es. slice_get es c.len-at.result) c.in_ok-put-in-None.ensures ∙ slice-last
+  ap (λ es. slice_get es c.len-at.result) c.in_ok-put-in-None.ensures.ok ∙ slice-last
       c.args.lists.now.entries (c.args.label, c.args.list) c.len-at.result c.len-at.ensures.len,
 )

@@ -14,10 +14,10 @@ use Rattle.family_lists.proofs.products.add_joined.Goals as goal
 abbrev term : List ℕ → ℤ → WholeTerms
 term label c = (label, c) ∷ []
 
-pub returns-in_default-clause-large : goal.returns-in_default-clause-large
-returns-in_default-clause-large c err =
+pub returns-in_err-product-clause-large : goal.returns-in_err-product-clause-large
+returns-in_err-product-clause-large c err =
     overflows_alone nat_list_eq_equiv same_partition c.args.sum.now
-    (merged c.args.left.now c.args.label.now) (c.args.z *ℤ c.args.c) c.in_default.ensures
+    (merged c.args.left.now c.args.label.now) (c.args.z *ℤ c.args.c) c.in_err-product.ensures
 
 pub from_valid_parts-requires : goal.from_valid_parts-requires
 from_valid_parts-requires c =
@@ -39,17 +39,17 @@ returns-clause-gains c =
     (λ more.
     subst (λ (l : WholeTerms). Gains c.args.sum.now l c.add_owned.new.self)
     (joined_label c.in_ok-from_valid_parts.field-0 c.as_slice.result.now c.args.left.now
-    c.args.label.now c.in-Some.product (c.args.z *ℤ c.args.c)
+    c.args.label.now c.in_ok-product.product (c.args.z *ℤ c.args.c)
     c.in_ok-from_valid_parts.ensures.ok
     (c.as_slice.ensures.value ∙ c.in_ok-put_merged.ensures ∙ ap₂ merged c.parts.ensures.value
-    c.parts-2.ensures.value) c.in-Some.ensures) more)
+    c.parts-2.ensures.value) c.in_ok-product.ensures) more)
 
 pub returns-clause-large : goal.returns-clause-large
 returns-clause-large c err =
     subst (λ (l : WholeTerms). Overflows equal c.args.sum.now l)
     (joined_label c.in_ok-from_valid_parts.field-0 c.as_slice.result.now c.args.left.now
-    c.args.label.now c.in-Some.product (c.args.z *ℤ c.args.c)
+    c.args.label.now c.in_ok-product.product (c.args.z *ℤ c.args.c)
     c.in_ok-from_valid_parts.ensures.ok
     (c.as_slice.ensures.value ∙ c.in_ok-put_merged.ensures ∙ ap₂ merged c.parts.ensures.value
-    c.parts-2.ensures.value) c.in-Some.ensures)
+    c.parts-2.ensures.value) c.in_ok-product.ensures)
     (c.add_owned.ensures.large err)

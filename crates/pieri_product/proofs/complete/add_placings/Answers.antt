@@ -32,8 +32,8 @@ times_placings-requires-clause-contained c =
     (subst (Holds c.shape-item.result) (sym c.parts.ensures.value)
     (c.requires c.shape-item.result m))
 
-pub returns-in_default-clause-large : goal.returns-in_default-clause-large
-returns-in_default-clause-large c = λ large.
+pub returns-in_err-product-clause-large : goal.returns-in_err-product-clause-large
+returns-in_err-product-clause-large c = λ large.
     let shape = c.shape-item.result in
     let number : ℤ = c.args.c *ℤ pos (placings c.parts.result.now c.parts-in-loop-shape.result.now)
     in
@@ -46,28 +46,28 @@ returns-in_default-clause-large c = λ large.
     c.loop-shape.invariant (pointwise nat_eq)
     (subst (λ (z : ℤ). Overflows (pointwise nat_eq) c.loop-shape.sum ((shape, z) ∷ [])) is
     (overflows_alone nat_list_eq_equiv same_partition c.loop-shape.sum shape number
-    c.in_default.ensures))
+    c.in_err-product.ensures))
 
 pub returns-in_err-add_at_label-clause-large : goal.returns-in_err-add_at_label-clause-large
 returns-in_err-add_at_label-clause-large c = λ large.
     let shape = c.shape-item.result in
     let is = term c.args.label.now shape c.parts.result.now c.parts-in-loop-shape.result.now
-    c.args.c c.in-Some.product c.parts.ensures.value c.parts-in-loop-shape.ensures.value
-    c.in-Some.ensures in
+    c.args.c c.in_ok-product.product c.parts.ensures.value c.parts-in-loop-shape.ensures.value
+    c.in_ok-product.ensures in
     places_overflow
     (λ (shapes : List (List ℕ)). scaled c.args.c (with_placings c.args.label.now shapes))
     (scaled_each_by-append (λ ν. pos (placings c.args.label.now ν)) c.args.c) c.args.shapes.now
     c.loop-shape.shape-index shape (omega arith) c.shape-item.is c.args.sum.now c.loop-shape.sum
     c.loop-shape.invariant (pointwise nat_eq)
     (subst (λ (z : ℤ). Overflows (pointwise nat_eq) c.loop-shape.sum ((shape, z) ∷ [])) is
-    (c.in_err-add_at_label.ensures.large (ap Err (error_is _ _ _ c.from_residual.ensures.1 large))))
+    (c.in_err-add_at_label.ensures.large (ap Err (error_is _ _ _ c.from_residual-in_err-add_at_label.ensures.1 large))))
 
 pub loop-shape-preserved : goal.loop-shape-preserved
 loop-shape-preserved c =
     let shape = c.shape-item.result in
     let is = term c.args.label.now shape c.parts.result.now c.parts-in-loop-shape.result.now
-    c.args.c c.in-Some.product c.parts.ensures.value c.parts-in-loop-shape.ensures.value
-    c.in-Some.ensures in
+    c.args.c c.in_ok-product.product c.parts.ensures.value c.parts-in-loop-shape.ensures.value
+    c.in_ok-product.ensures in
     places_gain
     (λ (shapes : List (List ℕ)). scaled c.args.c (with_placings c.args.label.now shapes))
     (scaled_each_by-append (λ ν. pos (placings c.args.label.now ν)) c.args.c) c.args.shapes.now

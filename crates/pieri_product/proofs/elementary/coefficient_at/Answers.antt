@@ -1,4 +1,4 @@
-use Rattle.std.proofs.Common.{◌≡◌, ℕ, suc, ◌+◌, ◌^◌, ◌<◌, pos, List, length, get_or, SomeIff}
+use Rattle.std.proofs.Common.{◌≡◌, ℕ, suc, ◌+◌, ◌<◌, List, length, get_or}
 use Rattle.std.proofs.Common.{sym, ◌∙◌, ap, ap₂, subst, arith}
 use Rattle.pieri_product.proofs.ColumnRows.{IsRow, IsCounted, so_far, counted-none}
 use Rattle.pieri_product.proofs.ColumnRows.{fraction, row_raised, row_kept, next_shorter, next_same}
@@ -78,14 +78,13 @@ returns-in_err-count c = λ k e.
     let r = rises μ ν p q c.requires (suc c.loop-at.at) (length c.args.outer.now)
     (omega (arith, more)) (omega arith) in
     let a = at_end μ ν p q c.requires k e in
-    rw c.from_residual.ensures (λ few. large (omega (arith, few, r, a)))
+    rw c.from_residual.ensures (omega (arith, large, r, a))
 
 pub returns : goal.returns
 returns c = λ k e.
     let last : c.loop-at.at ≡ length c.args.outer.now =
     omega (arith, ap length c.parts-rows.ensures.value) in
-    let a = at_end c.args.inner.now c.args.outer.now c.parts-shorter.ensures.limits.partition
-    c.parts-rows.ensures.limits.partition c.requires k e in
-    let is = c.loop-at.invariant.count_is
-    ∙ ap (so_far c.args.inner.now c.args.outer.now) last ∙ a in
-    subst (λ n. SomeIff c.coefficient_of.result (n < 2 ^ 127) (pos n)) is c.coefficient_of.ensures
+    c.loop-at.invariant.count_is
+    ∙ ap (so_far c.args.inner.now c.args.outer.now) last
+    ∙ at_end c.args.inner.now c.args.outer.now c.parts-shorter.ensures.limits.partition
+    c.parts-rows.ensures.limits.partition c.requires k e

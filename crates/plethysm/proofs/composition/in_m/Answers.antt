@@ -29,15 +29,15 @@ factorial-factor-requires c =
     in
     omega arith
 
-pub returns-in_default-clause-large : goal.returns-in_default-clause-large
-returns-in_default-clause-large c err K b k h =
+pub returns-in_err-den-clause-large : goal.returns-in_err-den-clause-large
+returns-in_err-den-clause-large c err K b k h =
     let e = greatest_is c.greatest_size-size.result c.args.outer.now
     c.greatest_size-size.ensures.within c.greatest_size-size.ensures.least in
     let f = ap (λ x. c.args.bound.den * x) (c.factorial-factor.ensures ∙ ap factorial e) in
     let w = weight-denominator c.args.bound.num c.args.bound.den (greatest_size c.args.outer.now) K
     b c.requires.positive.0 c.requires.positive.1 k in
     let not_below : c.args.bound.den * c.factorial-factor.result < 2 ^ 127 → ⊥ =
-    c.in_default.ensures in
+    c.in_err-den.ensures in
     omega arith
 
 pub to_basis-requires-clause-sizes : goal.to_basis-requires-clause-sizes
@@ -47,7 +47,7 @@ to_basis-requires-clause-sizes c t m = let s = greatest_size-among c.args.outer.
 pub returns-in_err-terms-clause-large : goal.returns-in_err-terms-clause-large
 returns-in_err-terms-clause-large c err K b k h =
     let l =
-    c.in_err-terms.ensures.large (ap Err (error_is _ _ _ c.from_residual.ensures.1 err))
+    c.in_err-terms.ensures.large (ap Err (error_is _ _ _ c.from_residual-in_err-terms.ensures.1 err))
     (greatest_size c.args.outer.now) (λ t m. greatest_size-among c.args.outer.now t m) in
     let w = weight-outer c.args.bound.num c.args.bound.den (greatest_size c.args.outer.now) K b
     c.requires.positive.0 c.requires.positive.1 k in
@@ -64,8 +64,8 @@ pub returns-in_err-sum-clause-large : goal.returns-in_err-sum-clause-large
 returns-in_err-sum-clause-large c err K b k h =
     let e = greatest_is c.greatest_size-size.result c.args.outer.now
     c.greatest_size-size.ensures.within c.greatest_size-size.ensures.least in
-    let den : c.in-Some.den ≡ c.args.bound.den * factorial (greatest_size c.args.outer.now) =
-    c.in-Some.ensures.1 ∙ ap (λ f. c.args.bound.den * f) (c.factorial-factor.ensures ∙ ap factorial
+    let den : c.in_ok-den.den ≡ c.args.bound.den * factorial (greatest_size c.args.outer.now) =
+    c.in_ok-den.ensures.1 ∙ ap (λ f. c.args.bound.den * f) (c.factorial-factor.ensures ∙ ap factorial
     e) in
     past-weight c.args.bound.num c.args.bound.den (greatest_size c.args.outer.now) K b
     c.in_ok-terms.terms c.args.inner.now
@@ -79,21 +79,21 @@ pub divided-requires : goal.divided-requires
 divided-requires c =
     let p = mul-pos c.requires.positive.1 (factorial-positive c.greatest_size-size.result) in
     let f = ap (λ x. c.args.bound.den * x) c.factorial-factor.ensures in
-    let e = c.in-Some.ensures.1 in
-    (omega arith, omega (arith, c.in-Some.ensures.0))
+    let e = c.in_ok-den.ensures.1 in
+    (omega arith, omega (arith, c.in_ok-den.ensures.0))
 
 pub returns-clause-value : goal.returns-clause-value
 returns-clause-value c =
     let e = greatest_is c.greatest_size-size.result c.args.outer.now
     c.greatest_size-size.ensures.within c.greatest_size-size.ensures.least in
-    let den : c.in-Some.den ≡ c.args.bound.den * factorial (greatest_size c.args.outer.now) =
-    c.in-Some.ensures.1 ∙ ap (λ f. c.args.bound.den * f) (c.factorial-factor.ensures ∙ ap factorial
+    let den : c.in_ok-den.den ≡ c.args.bound.den * factorial (greatest_size c.args.outer.now) =
+    c.in_ok-den.ensures.1 ∙ ap (λ f. c.args.bound.den * f) (c.factorial-factor.ensures ∙ ap factorial
     e) in
     let some = mul-pos c.requires.positive.1 (factorial-positive (greatest_size c.args.outer.now))
     in
     if_ok_both c.divided.result c.divided.ensures.value c.divided.ensures.table
     (λ list quotients table K b h.
-    plethysm-answer c.in-Some.den K b c.args.outer.now c.in_ok-terms.terms list c.args.inner.now
+    plethysm-answer c.in_ok-den.den K b c.args.outer.now c.in_ok-terms.terms list c.args.inner.now
     c.in_ok-sum.sum (subst (λ m. 0 < m) (sym den) some) c.in_ok-terms.ensures.table table
     (subst (λ m. (t : List ℕ × Fraction) → Among t c.in_ok-terms.terms → m % t.1.1 ≡ 0) (sym den)
     (c.in_ok-terms.ensures.cleared tt).whole)
@@ -104,8 +104,8 @@ returns-clause-bounded c =
     let a = greatest_size c.args.outer.now in
     let e = greatest_is c.greatest_size-size.result c.args.outer.now
     c.greatest_size-size.ensures.within c.greatest_size-size.ensures.least in
-    let den : c.in-Some.den ≡ c.args.bound.den * factorial (greatest_size c.args.outer.now) =
-    c.in-Some.ensures.1 ∙ ap (λ f. c.args.bound.den * f) (c.factorial-factor.ensures ∙ ap factorial
+    let den : c.in_ok-den.den ≡ c.args.bound.den * factorial (greatest_size c.args.outer.now) =
+    c.in_ok-den.ensures.1 ∙ ap (λ f. c.args.bound.den * f) (c.factorial-factor.ensures ∙ ap factorial
     e) in
     if_ok_both c.divided.result c.divided.ensures.value c.divided.ensures.table
     (λ list quotients table K b h.

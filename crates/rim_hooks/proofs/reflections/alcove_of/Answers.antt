@@ -78,7 +78,7 @@ returns-clause-value c =
     alcove_some c.args.k c.args.n c.in-Some.start c.args.shape.now c.as_slice.result.now
     c.as_slice-3.result.now c.in_ok-end.end c.in_ok-sorted.sorted.is_odd
     (to_z w8 (of_z w8 c.sign.result))
-    (omega arith) c.requires.rows.0 c.in_ok-entries.ensures.limits w c.in_ok-end.ensures
+    (omega arith) c.requires.rows.0 c.in_ok-entries.ensures.limits w c.in_ok-end.ensures.value
     (ap (λ v. to_z w8 (of_z w8 v)) c.sign.ensures ∙ kept_sign c.in_ok-sorted.sorted.is_odd)
 
 pub returns-clause-remainders : goal.returns-clause-remainders
@@ -94,5 +94,5 @@ returns-clause-remainders c =
     alcove_told c.args.k c.args.n c.in-Some.start c.args.shape.now c.as_slice.result.now
     c.as_slice-3.result.now c.in_ok-end.end c.in_ok-sorted.sorted.is_odd
     (to_z w8 (of_z w8 c.sign.result))
-    (omega arith) c.in_ok-entries.ensures.limits w c.in_ok-end.ensures
+    (omega arith) c.in_ok-entries.ensures.limits w c.in_ok-end.ensures.value
     (ap (λ v. to_z w8 (of_z w8 v)) c.sign.ensures ∙ kept_sign c.in_ok-sorted.sorted.is_odd)

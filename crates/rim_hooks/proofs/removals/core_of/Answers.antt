@@ -45,7 +45,7 @@ returns-then-from-clause-reduces c =
     let z = c.from-3.ensures in
     let t = c.if-from.true in
     let none = core_none c.args.k c.args.n c.args.shape.now c.as_slice-2.result.now c.in_ok-end.end
-    c.in_ok-lowest.lowest.is_odd w c.in_ok-end.ensures (omega arith) in
+    c.in_ok-lowest.lowest.is_odd w c.in_ok-end.ensures.value (omega arith) in
     core_reduces c.args.k c.args.n c.args.shape.now None (omega arith) c.size-cells.ensures.limits
     c.requires.rows.0 none
 
@@ -61,7 +61,7 @@ returns-then-from-clause-only c =
     let z = c.from-3.ensures in
     let t = c.if-from.true in
     let none = core_none c.args.k c.args.n c.args.shape.now c.as_slice-2.result.now c.in_ok-end.end
-    c.in_ok-lowest.lowest.is_odd w c.in_ok-end.ensures (omega arith) in
+    c.in_ok-lowest.lowest.is_odd w c.in_ok-end.ensures.value (omega arith) in
     core_only c.args.k c.args.n c.args.shape.now None (omega arith) c.size-cells.ensures.limits none
 
 pub overflow_sub-power : goal.overflow_sub-power
@@ -74,7 +74,7 @@ overflow_sub-power c =
     let y = c.size.ensures.value in
     let z = core_smaller c.args.k c.args.n c.args.shape.now c.as_slice-2.result.now c.in_ok-end.end
     c.in_ok-lowest.lowest.is_odd (omega arith) c.requires.rows.0 c.size-cells.ensures.limits w
-    c.in_ok-end.ensures in
+    c.in_ok-end.ensures.value in
     omega arith
 
 pub returns-clause-reduces : goal.returns-clause-reduces
@@ -98,7 +98,7 @@ returns-clause-reduces c =
     let some = core_some c.args.k c.args.n c.args.shape.now c.as_slice-2.result.now c.in_ok-end.end
     c.in_ok-lowest.lowest.is_odd c.from-4.result (to_z w8 (of_z w8 c.sign.result))
     (sign_of c.turns_the_sign.result)
-    w c.in_ok-end.ensures (omega arith) power turns sign in
+    w c.in_ok-end.ensures.value (omega arith) power turns sign in
     core_reduces c.args.k c.args.n c.args.shape.now
     (Some (c.in_ok-end.end, to_z w8 (of_z w8 c.sign.result), c.from-4.result)) (omega arith)
     c.size-cells.ensures.limits c.requires.rows.0 some
@@ -124,7 +124,7 @@ returns-clause-only c =
     let some = core_some c.args.k c.args.n c.args.shape.now c.as_slice-2.result.now c.in_ok-end.end
     c.in_ok-lowest.lowest.is_odd c.from-4.result (to_z w8 (of_z w8 c.sign.result))
     (sign_of c.turns_the_sign.result)
-    w c.in_ok-end.ensures (omega arith) power turns sign in
+    w c.in_ok-end.ensures.value (omega arith) power turns sign in
     core_only c.args.k c.args.n c.args.shape.now
     (Some (c.in_ok-end.end, to_z w8 (of_z w8 c.sign.result), c.from-4.result)) (omega arith)
     c.size-cells.ensures.limits some
@@ -141,7 +141,7 @@ returns-then-from-clause-remainders c =
     let z = c.from-3.ensures in
     let t = c.if-from.true in
     let none = core_none c.args.k c.args.n c.args.shape.now c.as_slice-2.result.now c.in_ok-end.end
-    c.in_ok-lowest.lowest.is_odd w c.in_ok-end.ensures (omega arith) in
+    c.in_ok-lowest.lowest.is_odd w c.in_ok-end.ensures.value (omega arith) in
     sym none
 
 pub returns-clause-remainders : goal.returns-clause-remainders
@@ -165,5 +165,5 @@ returns-clause-remainders c =
     let some = core_some c.args.k c.args.n c.args.shape.now c.as_slice-2.result.now c.in_ok-end.end
     c.in_ok-lowest.lowest.is_odd c.from-4.result (to_z w8 (of_z w8 c.sign.result))
     (sign_of c.turns_the_sign.result)
-    w c.in_ok-end.ensures (omega arith) power turns sign in
+    w c.in_ok-end.ensures.value (omega arith) power turns sign in
     sym some

@@ -18,10 +18,10 @@ pub returns-clause-gains : goal.returns-clause-gains
 returns-clause-gains c =
     on_ok c.add_owned.result c.add_owned.ensures.gains
     (λ more. subst (λ (x : List ℕ). Gains c.args.sum.now ((x, c.args.count) ∷ [])
-    c.add_owned.new.self) (c.in_ok-shape.ensures ∙ ap from_beta (c.as_slice.ensures.value
+    c.add_owned.new.self) (c.in_ok-shape.ensures.value ∙ ap from_beta (c.as_slice.ensures.value
     ∙ c.in_ok-beta.ensures)) more)
 
 pub returns-clause-large : goal.returns-clause-large
 returns-clause-large c err = subst (λ (x : List ℕ). Overflows (pointwise nat_eq) c.args.sum.now
-    ((x, c.args.count) ∷ [])) (c.in_ok-shape.ensures ∙ ap from_beta (c.as_slice.ensures.value
+    ((x, c.args.count) ∷ [])) (c.in_ok-shape.ensures.value ∙ ap from_beta (c.as_slice.ensures.value
     ∙ c.in_ok-beta.ensures)) (c.add_owned.ensures.large err)

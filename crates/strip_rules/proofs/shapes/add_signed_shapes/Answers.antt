@@ -119,8 +119,7 @@ returns-in_err-signed-clause-large g c large =
     _
     _ on
     (Overflows-size (value c.args.c) (sign label) label cur (sign_size (height label base - 1))
-    (c.in_err-signed.ensures.large (ap Err (error_is _ _ _ c.from_residual-in_err-signed.ensures.1
-    large))))
+    c.in_err-signed.ensures.large)
 
 pub returns-clause-ok : goal.returns-clause-ok
 returns-clause-ok g c =

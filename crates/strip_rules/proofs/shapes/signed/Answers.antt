@@ -6,7 +6,7 @@ returns-then-height-eq1-clause-value g c = signed_odd c.args.height (g.R.Scalar.
     c.if-height-eq1.true
 
 pub returns-in_default-clause-large : goal.returns-in_default-clause-large
-returns-in_default-clause-large g c err q d = negation_large g.R.Scalar.value c.args.c
+returns-in_default-clause-large g c q d = negation_large g.R.Scalar.value c.args.c
     c.in_default.ensures.answer q d
 
 pub returns-clause-value : goal.returns-clause-value

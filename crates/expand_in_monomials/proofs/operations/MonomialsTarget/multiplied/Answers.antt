@@ -3,21 +3,23 @@ use Rattle.sym_model.specs.Expression.{product, degree}
 use Rattle.whole_lists.proofs.Bounds.{AreWithin-cleared}
 use Rattle.whole_lists.proofs.Bounds.{greatest-within}
 use Rattle.whole_lists.proofs.WholeLists.{Once-labels}
-use Rattle.expression_evaluation.proofs.Making.{failed, done, refused}
+use Rattle.expression_evaluation.proofs.Making.{failed, done}
 use Rattle.expand_in_monomials.specs.Clearing.{ClearsTo, IsHeavy}
 use Rattle.expand_in_monomials.proofs.Conversions.{converted-product, large-product}
 use Rattle.expand_in_monomials.proofs.Conversions.{large-product_denominator}
 use Rattle.expand_in_monomials.proofs.operations.MonomialsTarget.multiplied.Goals as goal
 
-pub returns-in_default : goal.returns-in_default
-returns-in_default c e f t h k = refused ClearsTo IsHeavy (product e f)
-    (large-product_denominator e f c.args.left c.args.right t.plain.0 t.plain.1 h k
-    (let not_below : c.args.left.den * c.args.right.den < 2 ^ 127 → ⊥ = c.in_default.ensures in
+pub returns-in_err-den : goal.returns-in_err-den
+returns-in_err-den c e f t h k =
+    failed ClearsTo IsHeavy (product e f) _ _ c.from_residual.ensures.0 c.from_residual.ensures.1
+    (λ _. large-product_denominator e f c.args.left c.args.right t.plain.0 t.plain.1 h k
+    (let not_below : c.args.left.den * c.args.right.den < 2 ^ 127 → ⊥ = c.in_err-den.ensures in
     omega arith))
 
 pub returns-in_err-terms : goal.returns-in_err-terms
 returns-in_err-terms c e f t h k =
-    failed ClearsTo IsHeavy (product e f) _ _ c.from_residual.ensures.0 c.from_residual.ensures.1
+    failed ClearsTo IsHeavy (product e f) _ _ c.from_residual-in_err-terms.ensures.0
+    c.from_residual-in_err-terms.ensures.1
     (λ large.
     large-product e f _ _ t.plain.0 t.plain.1
     (Once-labels c.args.left.terms c.args.left.table)
@@ -27,7 +29,7 @@ returns-in_err-terms c e f t h k =
 pub returns : goal.returns
 returns c e f t h k =
     done ClearsTo IsHeavy (product e f) _ (converted-product e f c.args.left c.args.right _
-    c.in-Some.ensures.1 c.in_ok-terms.ensures.coefficients h k)
+    c.in_ok-den.ensures.1 c.in_ok-terms.ensures.coefficients h k)
 
 pub times_whole_in_m-requires : goal.times_whole_in_m-requires
 times_whole_in_m-requires c =

@@ -18,11 +18,11 @@ returns-then-len-eq0-clause-gains c =
     nothing c.args.sum.now c.args.label.now c.args.x c.args.self.now.c c.args.self.now.list.now
     (sym c.len.ensures.len ∙ c.if-len-eq0.true)
 
-pub returns-in_default-clause-large : goal.returns-in_default-clause-large
-returns-in_default-clause-large c err =
+pub returns-in_err-c-clause-large : goal.returns-in_err-c-clause-large
+returns-in_err-c-clause-large c err =
     large-row c.args.sum.now c.args.label.now c.args.x c.args.self.now.c c.args.self.now.list.now
     c.len.ensures.combination
-    (λ e. c.if-len-eq0.false (c.len.ensures.len ∙ e)) c.in_default.ensures
+    (λ e. c.if-len-eq0.false (c.len.ensures.len ∙ e)) c.in_err-c.ensures
 
 -- what the inner rule adds
 image : (k : List ℕ) (x c z : ℤ) (V : WholeTerms) → z ≡ x *ℤ c → row k z V ≡ scaled x (row k c V)
@@ -33,12 +33,12 @@ returns-clause-gains c =
     on_ok c.add_row.result c.add_row.ensures.gains
     (λ more.
     subst (λ (l : WholeTerms). Gains c.args.sum.now l c.add_row.new.sum)
-    (image c.args.label.now c.args.x c.args.self.now.c c.in-Some.c c.args.self.now.list.now
-    c.in-Some.ensures) more)
+    (image c.args.label.now c.args.x c.args.self.now.c c.in_ok-c.c c.args.self.now.list.now
+    c.in_ok-c.ensures) more)
 
 pub returns-clause-large : goal.returns-clause-large
 returns-clause-large c err =
     subst (λ (l : WholeTerms). Overflows equal c.args.sum.now l)
-    (image c.args.label.now c.args.x c.args.self.now.c c.in-Some.c c.args.self.now.list.now
-    c.in-Some.ensures)
+    (image c.args.label.now c.args.x c.args.self.now.c c.in_ok-c.c c.args.self.now.list.now
+    c.in_ok-c.ensures)
     (c.add_row.ensures.large err)
