@@ -1,6 +1,5 @@
 //! One-line forms, read back as answers.
-ghost use Rattle.std.specs.Prelude.{◌≡◌, ◌≢◌, None, IfOk, IsErrOf, MatchBool};
-ghost use Rattle.std.specs.Bool.{OnFalse};
+ghost use Rattle.std.specs.Prelude.{◌≡◌, ◌≢◌, None, IfOk, IsErrOf, MatchBool, OnErr, length};
 ghost use Rattle.sym_model.specs.Answer.{IsPrintable};
 ghost use Rattle.sym_model.specs.PrintedForm.{as_line, answer_text_in, read_in};
 ghost use Rattle.expression_reading.specs.Trees.{basis_of};
@@ -54,6 +53,11 @@ fn checked(
     ensures printable { IfOk result (λ same. IsPrintable (plain_answer same)) }
     ensures not_printed { IsErrOf result ReadBackFault.NotPrinted
         → answer_text_in (as_line (basis_of basis)) (plain_answer answer) ≢ text.now }
+
+    // Memory is taken only where the line has as many bytes as the text.
+    ensures no_memory { IsErrOf result ReadBackFault.NoMemory
+        → length (answer_text_in (as_line (basis_of basis)) (plain_answer answer))
+        ≡ length text.now }
 {
     if is_line(alloc, &answer, basis, text)? {
         Ok(answer)
@@ -67,6 +71,9 @@ fn is_line(alloc: Global, answer: &Answer, basis: Basis, text: &[u8]) -> Result<
     ensures compares { IfOk result (λ same. MatchBool same
         (answer_text_in (as_line (basis_of basis)) (plain_answer answer.now) ≡ text.now)
         (answer_text_in (as_line (basis_of basis)) (plain_answer answer.now) ≢ text.now)) }
+    ensures no_memory { OnErr result
+        (length (answer_text_in (as_line (basis_of basis)) (plain_answer answer.now))
+        ≡ length text.now) }
     ensures printable { IsPrintable (plain_answer answer.now) }
 {
     if !has_length(answer, basis, text) {
@@ -82,8 +89,8 @@ fn is_line(alloc: Global, answer: &Answer, basis: Basis, text: &[u8]) -> Result<
 
 /// Whether the line of the answer has as many bytes as the text.
 fn has_length(answer: &Answer, basis: Basis, text: &[u8]) -> bool
-    ensures length { OnFalse result
-        (answer_text_in (as_line (basis_of basis)) (plain_answer answer.now) ≢ text.now) }
+    ensures length { let line = answer_text_in (as_line (basis_of basis)) (plain_answer answer.now) in
+        MatchBool result (length line ≡ length text.now) (length line ≢ length text.now) }
     ensures printable { IsPrintable (plain_answer answer.now) }
 {
     let mut count = CountSink::new();

@@ -1,6 +1,5 @@
 //! Texts, read back as answers.
-ghost use Rattle.std.specs.Prelude.{◌≡◌, ◌≢◌, None, IfOk, IsErrOf, MatchBool};
-ghost use Rattle.std.specs.Bool.{OnFalse};
+ghost use Rattle.std.specs.Prelude.{◌≡◌, ◌≢◌, None, IfOk, IsErrOf, MatchBool, OnErr, length};
 ghost use Rattle.sym_model.specs.Answer.{answer_text, IsPrintable};
 ghost use Rattle.sym_model.specs.Kind.{label_rules, number, expansion, product, pairs, powers};
 ghost use Rattle.sym_model.specs.Kind.{permutations, polynomial, shifts};
@@ -39,6 +38,10 @@ fn checked(alloc: Global, answer: Answer, text: &[u8]) -> Result<Answer, ReadBac
     ensures printable { IfOk result (λ same. IsPrintable (plain_answer same)) }
     ensures not_printed { IsErrOf result ReadBackFault.NotPrinted
         → answer_text (plain_answer answer) ≢ text.now }
+
+    // Memory is taken only where the block has as many bytes as the text.
+    ensures no_memory { IsErrOf result ReadBackFault.NoMemory
+        → length (answer_text (plain_answer answer)) ≡ length text.now }
 {
     if is_block(alloc, &answer, text)? {
         Ok(answer)
@@ -52,6 +55,8 @@ fn is_block(alloc: Global, answer: &Answer, text: &[u8]) -> Result<bool, NoMemor
     ensures compares { IfOk result
         (λ same. MatchBool same (answer_text (plain_answer answer.now) ≡ text.now)
         (answer_text (plain_answer answer.now) ≢ text.now)) }
+    ensures no_memory { OnErr result
+        (length (answer_text (plain_answer answer.now)) ≡ length text.now) }
     ensures printable { IsPrintable (plain_answer answer.now) }
 {
     if !has_length(answer, text) {
@@ -67,7 +72,9 @@ fn is_block(alloc: Global, answer: &Answer, text: &[u8]) -> Result<bool, NoMemor
 
 /// Whether the block of the answer has as many bytes as the text.
 fn has_length(answer: &Answer, text: &[u8]) -> bool
-    ensures length { OnFalse result (answer_text (plain_answer answer.now) ≢ text.now) }
+    ensures length { MatchBool result
+        (length (answer_text (plain_answer answer.now)) ≡ length text.now)
+        (length (answer_text (plain_answer answer.now)) ≢ length text.now) }
     ensures printable { IsPrintable (plain_answer answer.now) }
 {
     let mut count = CountSink::new();

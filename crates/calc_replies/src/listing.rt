@@ -13,7 +13,7 @@ ghost use Rattle.calc_replies.specs.Computed.{IsReplyTo, listing_text};
 use crate::outcome::Outcome;
 use crate::tableau_answer::{TableauAnswer, told};
 use calc_base::{Lister, NoMemory, Sink, Word, put_if};
-use expansion_printer::{ReadingOrder, print_reading};
+use expansion_printer::{ReadingOrder, print_in_order};
 use partitions::Partition;
 use skew_shapes::Skew;
 use std::alloc::Global;
@@ -87,7 +87,7 @@ fn put_listing<K: Sink>(list: &mut Listing, sink: &mut K) -> bool
     if !list.lattice.advance() {
         return put_if(true, sink, b"0\n");
     }
-    let well = print_reading(&list.order, list.lattice.current(), sink).is_ok();
+    let well = print_in_order(&list.order, list.lattice.current(), sink).is_ok();
     put_lines(well, &list.order, &mut list.lattice, sink)
 }
 
@@ -98,7 +98,7 @@ fn put_lines<K: Sink>(well: bool, order: &ReadingOrder, lattice: &mut Lattice, s
 {
     let mut well = well;
     while well && lattice.advance() {
-        well = print_reading(order, lattice.current(), sink).is_ok();
+        well = print_in_order(order, lattice.current(), sink).is_ok();
     }
     well
 }

@@ -1,11 +1,12 @@
 -- Coefficients as they are printed, and terms one after another.
-use Rattle.std.proofs.Common.{◌≡◌, ℕ, ◌<◌, length, arith, Bool, true, false, List, [], ◌∷◌, ◌++◌, cond, eqb, ℤ, nat_abs, refl, sym, ◌∙◌, ap, append_assoc, append-nil, decimal}
+use Rattle.std.proofs.Common.{◌≡◌, ℕ, ◌<◌, length, arith, Bool, true, false, List, [], ◌∷◌, ◌++◌, cond, eqb, ℤ, pos, negsuc, suc, nat_abs, refl, sym, ◌∙◌, ap, append_assoc, append-nil, decimal}
 use Rattle.std.specs.Prelude.{codes}
+use Rattle.std.specs.Fmt.{signed_decimal}
 use Rattle.std.proofs.lemmas.Bool.{and_parts, eqb-true, cond-false}
 use Rattle.sym_model.specs.Expansion.{Basis, Fraction, Terms}
 use Rattle.sym_model.specs.NumberText.{fraction_text}
 use Rattle.sym_model.specs.OneLine.{is_unit, is_negative, without_sign, unsigned_text, later_text, one_line}
-use Rattle.expansion_printer.specs.SignedTerms.{coefficient_text, signed_text, signed_terms, is_empty}
+use Rattle.expansion_printer.specs.SignedTerms.{sign_text, coefficient_text, signed_text, signed_terms, is_empty}
 
 not_unit : (num : ℤ) (den size : ℕ) → size ≡ nat_abs num → (size ≡ 1 → den ≡ 1 → ⊥) → is_unit (num, den) ≡ false
 not_unit num den size e other = by (is_unit (num, den)) refl
@@ -28,6 +29,18 @@ coefficient-printed num den size e other =
         ≡ cond b (decimal (nat_abs num)) (decimal (nat_abs num) ++ (47 ∷ decimal den)) ++ codes "*"
     by true = refl
     by false = sym (append_assoc (decimal (nat_abs num)) (47 ∷ decimal den) (codes "*"))
+
+-- a coefficient, as it is put
+pub fraction-printed : (num : ℤ) (den : ℕ)
+    → sign_text true num ++ (decimal (nat_abs num) ++ cond (eqb den 1) [] (47 ∷ decimal den)) ≡ fraction_text (num, den)
+fraction-printed num den = by (eqb den 1) num
+  where
+    by : (b : Bool) (z : ℤ) → sign_text true z ++ (decimal (nat_abs z) ++ cond b [] (47 ∷ decimal den))
+        ≡ cond b (signed_decimal z) (signed_decimal z ++ (47 ∷ decimal den))
+    by true (pos n) = append-nil (decimal n)
+    by true (negsuc n) = ap (λ t. 45 ∷ t) (append-nil (decimal (suc n)))
+    by false (pos n) = refl
+    by false (negsuc n) = refl
 
 -- ---- terms one after another
 

@@ -13,20 +13,18 @@ use Rattle.skew_shapes.specs.Rows.{reaches}
 use Rattle.sym_model.specs.Partition.{size}
 use Rattle.skew_shapes.specs.CellFillings.{filled_with}
 use Rattle.skew_shapes.proofs.CellRows.{letter-rows_by}
-use Rattle.expansion_printer.specs.ReadingPlaces.{HasReadingPlaces}
+use Rattle.expansion_printer.specs.ReadingPlaces.{HasReadingPlaces, before_in_row}
 use Rattle.expansion_printer.proofs.RowTexts.{after-push}
 use Rattle.expansion_printer.proofs.TableauRows.{parts-told}
 
--- how many cells of a row, whose columns go from left + 1 to right, are read before one in this column and a row below it, or
--- before one in this column and a row that is not below it
-abbrev before_in_row : ℕ → ℕ → ℕ → Bool → ℕ
-before_in_row left right column is_above =
-    (right - max left column) + cond (is_above && (nat_lt left column && nat_le column right)) 1 0
+-- how many cells of these rows of outer/inner are read before one
+abbrev pub cells_in_rows : List ℕ → List ℕ → ℕ → ℕ → List ℕ → ℕ
+cells_in_rows outer inner row column numbers =
+    sum_by (λ i. before_in_row (part inner i) (part outer i) column (nat_lt i row)) numbers
 
 -- how many cells of outer/inner are read before one
-abbrev cells_before : List ℕ → List ℕ → ℕ → ℕ → ℕ
-cells_before outer inner row column =
-    sum_by (λ i. before_in_row (part inner i) (part outer i) column (nat_lt i row)) (after 0 (rows outer))
+abbrev pub cells_before : List ℕ → List ℕ → ℕ → ℕ → ℕ
+cells_before outer inner row column = cells_in_rows outer inner row column (after 0 (rows outer))
 
 one-add : (k : ℕ) → 1 + k ≡ suc k
 one-add k = omega arith
@@ -233,7 +231,7 @@ first_greatest (a ∷ b ∷ parts) falls zero = omega arith
 first_greatest (a ∷ b ∷ parts) falls (suc k) = let h = first_greatest (b ∷ parts) falls.1 k in omega (arith, falls.0)
 
 -- the letter of a cell stands in the reading after those of the cells before it
-letter-is : (outer inner : List ℕ) (row column : ℕ) → Falls outer → IsCell outer inner row column → (w : List ℕ)
+pub letter-is : (outer inner : List ℕ) (row column : ℕ) → Falls outer → IsCell outer inner row column → (w : List ℕ)
     → slice_index w (cells_before outer inner row column) ≡ letter_of_cell row column (reading_cells outer inner) w
 letter-is outer inner row column falls cell w =
     let most : column ≤ columns outer = (let h = first_greatest outer falls (row - 1) in let k = cell.within in omega arith) in
@@ -251,6 +249,17 @@ before-few left right column true = grind (arith, nat_tests)
 sum_by-size : (f : ℕ → ℕ) (xs : List ℕ) → sum_by f xs ≡ size (map f xs)
 sum_by-size f [] = refl
 sum_by-size f (x ∷ xs) = sum_by-cons f x xs ∙ ap (λ n. f x + n) (sum_by-size f xs)
+
+-- the cells of one more row
+pub cells_in_rows-more : (outer inner : List ℕ) (row column at : ℕ)
+    → cells_in_rows outer inner row column (after 0 at) + before_in_row (part inner (at + 1)) (part outer (at + 1)) column (nat_lt (at + 1) row)
+    ≡ cells_in_rows outer inner row column (after 0 (at + 1))
+cells_in_rows-more outer inner row column at =
+    let count : ℕ → ℕ = λ i. before_in_row (part inner i) (part outer i) column (nat_lt i row) in
+    let so_far : ℕ = cells_in_rows outer inner row column (after 0 at) in
+    let here : at + 1 ≡ 0 + at + 1 = omega arith in
+    ap (λ n. so_far + n) (sym (zero-add (count (at + 1)))) ∙ ap (λ i. so_far + (0 + count i)) here
+    ∙ sym (sum_by-append count (after 0 at) ((0 + at + 1) ∷ [])) ∙ ap (sum_by count) (after-push 0 at)
 
 -- no more cells are read before one than the outer partition has
 before-within : (outer inner : List ℕ) (row column : ℕ) → cells_before outer inner row column ≤ size outer

@@ -1,5 +1,6 @@
 -- The places of cells in the column reading.
-use Rattle.std.specs.Prelude.{◌≡◌, ℕ, List, slice_index}
+use Rattle.std.specs.Prelude.{◌≡◌, ℕ, ◌+◌, ◌-◌, max, nat_le, nat_lt, Bool, ◌&&◌, cond, List}
+use Rattle.std.specs.Prelude.{slice_index}
 use Rattle.sym_model.specs.Partition.{IsCell}
 use Rattle.sym_model.specs.Tableau.{SkewFilling}
 use Rattle.sym_model.specs.TableauList.{letter_of_cell, reading_cells}
@@ -10,3 +11,9 @@ pub record HasReadingPlaces (t : SkewFilling) : Type 0 where
   pub letters : (row column : ℕ) → IsCell t.outer t.inner row column → (w : List ℕ)
       → slice_index w (slice_index (row_of t.rows row) (place_in_row t.inner row column))
       ≡ letter_of_cell row column (reading_cells t.outer t.inner) w
+
+-- how many cells of a row, which go from column left + 1 to right, come before the cell in a column
+-- of another row, which is below it or not
+abbrev pub before_in_row : (left right column : ℕ) → Bool → ℕ
+before_in_row left right column is_above =
+    (right - max left column) + cond (is_above && (nat_lt left column && nat_le column right)) 1 0

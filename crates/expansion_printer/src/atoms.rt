@@ -1,5 +1,5 @@
 //! Atoms: the letter of a basis and numbers in brackets.
-ghost use Rattle.std.specs.Prelude.{◌≡◌, ◌++◌, ◌==◌, decimal, codes, if◌then◌else◌};
+ghost use Rattle.std.specs.Prelude.{◌≡◌, ◌∷◌, [], ◌++◌, ◌==◌, decimal, codes, if◌then◌else◌};
 ghost use Rattle.expansion_printer.specs.Gathering.{Gathers};
 ghost use Rattle.expression_reading.specs.Trees.{basis_of};
 ghost use Rattle.sym_model.specs.NumberText.{numbers_text};
@@ -15,21 +15,21 @@ pub(crate) fn put_atom<K: Sink>(basis: Basis, parts: &[u16], text: &mut TextBuff
     ensures { Gathers text.old (K.seen sink.old) text.new (K.seen sink.new)
         (atom_text (basis_of basis) parts.now) }
 {
-    text.put(letter_of(basis), sink);
-    text.put(b"[", sink);
-    put_separated(b",", parts, text, sink);
-    text.put(b"]", sink);
+    text.put_byte(letter_of(basis), sink);
+    text.put_byte(b'[', sink);
+    put_separated(b',', parts, text, sink);
+    text.put_byte(b']', sink);
 }
 
 /// The letter of a basis.
-fn letter_of(basis: Basis) -> &'static [u8]
-    ensures { result.now ≡ letter (basis_of basis) }
+fn letter_of(basis: Basis) -> u8
+    ensures { result ∷ [] ≡ letter (basis_of basis) }
 {
     match basis {
-        Basis::M => b"m",
-        Basis::E => b"e",
-        Basis::H => b"h",
-        Basis::P => b"p",
-        Basis::S => b"s",
+        Basis::M => b'm',
+        Basis::E => b'e',
+        Basis::H => b'h',
+        Basis::P => b'p',
+        Basis::S => b's',
     }
 }

@@ -11,10 +11,11 @@ ghost use Rattle.sparse_polys.specs.Combination.{terms_of};
 ghost use Rattle.expansion_printer.specs.Answers.{plain_answer, number_terms};
 
 use crate::answer::Answer;
+use crate::coefficients::{Ratio, put_fraction};
 use crate::named::Named;
 use crate::text_buffer::TextBuffer;
 use calc_base::{Sink, SinkFault};
-use coeff_rings::{Digits, Int, Scalar};
+use coeff_rings::Int;
 use linear_combinations::Terms;
 
 /// Prints the block of the answer: a line for each term,
@@ -74,14 +75,13 @@ fn put_value<K: Sink>(value: Int, text: &mut TextBuffer, sink: &mut K)
         (answer_text (answer number (number_terms value))) }
     ensures printable { IsPrintable (answer number (number_terms value)) }
 {
-    let mut digits = Digits::new();
-    value.digits(&mut digits);
-    text.put(digits.as_bytes(), sink);
-    text.put(b"\n", sink);
+    let (num, den) = value.parts();
+    put_fraction(num, den, text, sink);
+    text.put_byte(b'\n', sink);
 }
 
 /// Puts the block of the terms.
-fn put_terms<L: Named, R: Scalar, K: Sink>(terms: &Terms<L, R>, text: &mut TextBuffer, sink: &mut K)
+fn put_terms<L: Named, R: Ratio, K: Sink>(terms: &Terms<L, R>, text: &mut TextBuffer, sink: &mut K)
     ensures goes { Gathers text.old (K.seen sink.old) text.new (K.seen sink.new)
         (block_by L.line_rules (terms_of R.value terms.now)) }
     ensures held { All (λ (t : L × R). R.is_held t.1) terms.now }
@@ -96,14 +96,13 @@ fn put_terms<L: Named, R: Scalar, K: Sink>(terms: &Terms<L, R>, text: &mut TextB
 }
 
 /// Puts the line of a term: its coefficient and its label.
-fn put_line<L: Named, R: Scalar, K: Sink>(label: &L, c: R, text: &mut TextBuffer, sink: &mut K)
+fn put_line<L: Named, R: Ratio, K: Sink>(label: &L, c: R, text: &mut TextBuffer, sink: &mut K)
     ensures goes { Gathers text.old (K.seen sink.old) text.new (K.seen sink.new)
         (line_by L.line_rules (label.now, R.value c)) }
     ensures held { R.is_held c }
 {
-    let mut digits = Digits::new();
-    c.digits(&mut digits);
-    text.put(digits.as_bytes(), sink);
+    let (num, den) = c.parts();
+    put_fraction(num, den, text, sink);
     label.put_name(text, sink);
-    text.put(b"\n", sink);
+    text.put_byte(b'\n', sink);
 }

@@ -4,11 +4,12 @@ ghost use Rattle.std.specs.Prelude.{FitsSigned};
 ghost use Rattle.std.specs.Int.{w128};
 ghost use Rattle.expansion_printer.specs.Gathering.{Gathers};
 ghost use Rattle.expansion_printer.specs.SignedTerms.{sign_text, coefficient_text};
+ghost use Rattle.sym_model.specs.NumberText.{fraction_text};
 
+use crate::numbers::{self, put_long};
 use crate::text_buffer::TextBuffer;
 use calc_base::Sink;
 use coeff_rings::{Frac, Int, Scalar};
-use itoa::Buffer;
 
 /// Coefficients that tell their two numbers.
 pub(crate) trait Ratio: Scalar {
@@ -38,12 +39,12 @@ pub(crate) fn put_sign<K: Sink>(is_first: bool, num: i128, text: &mut TextBuffer
         (sign_text is_first num) }
 {
     if num < 0 {
-        return text.put(b"-", sink);
+        return text.put_byte(b'-', sink);
     }
     if is_first {
         return;
     }
-    text.put(b"+", sink);
+    text.put_byte(b'+', sink);
 }
 
 /// Puts the absolute value of a coefficient and `*`, and nothing where that value is 1.
@@ -57,7 +58,17 @@ pub(crate) fn put_coefficient<K: Sink>(num: i128, den: u128, text: &mut TextBuff
     }
     put_number(size, text, sink);
     put_denominator(den, text, sink);
-    text.put(b"*", sink);
+    text.put_byte(b'*', sink);
+}
+
+/// Puts a coefficient: `NUM/DEN`, and a whole one without its denominator.
+pub(crate) fn put_fraction<K: Sink>(num: i128, den: u128, text: &mut TextBuffer, sink: &mut K)
+    ensures { Gathers text.old (K.seen sink.old) text.new (K.seen sink.new)
+        (fraction_text (num, den)) }
+{
+    put_sign(true, num, text, sink);
+    put_number(num.unsigned_abs(), text, sink);
+    put_denominator(den, text, sink);
 }
 
 /// Puts `/` and the denominator of a fraction, and nothing where that is 1.
@@ -68,7 +79,7 @@ fn put_denominator<K: Sink>(den: u128, text: &mut TextBuffer, sink: &mut K)
     if den == 1 {
         return;
     }
-    text.put(b"/", sink);
+    text.put_byte(b'/', sink);
     put_number(den, text, sink);
 }
 
@@ -76,5 +87,8 @@ fn put_denominator<K: Sink>(den: u128, text: &mut TextBuffer, sink: &mut K)
 fn put_number<K: Sink>(number: u128, text: &mut TextBuffer, sink: &mut K)
     ensures { Gathers text.old (K.seen sink.old) text.new (K.seen sink.new) (decimal number) }
 {
-    text.put(Buffer::new().format(number).as_bytes(), sink);
+    match u64::try_from(number) {
+        Ok(number) => numbers::put_number(number, text, sink),
+        Err(_) => put_long(number, text, sink),
+    }
 }

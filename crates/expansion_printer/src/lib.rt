@@ -9,7 +9,7 @@
 //! What is proved:
 //!
 //! `print` puts the block of an answer of any kind, `print_refusal` and `print_large` the line of a
-//! refusal, `print_label`, `print_letters`, `print_shapes`, `print_reading` and
+//! refusal, `print_label`, `print_letters`, `print_shapes`, `print_reading`, `print_in_order` and
 //! `print_tableau` their lines: whole, or after a fault a prefix with no further put. Every answer
 //! is canonical with numbers of 128 bits. `print_one_line`: an expansion or a product on one line
 //! with the atoms of a basis, put to any sink, with the fault clauses of `print`; any other answer
@@ -35,5 +35,5 @@ pub use block::{print, print_after};
 pub use line::{print_one_line, print_one_line_after};
 pub use reading::ReadingOrder;
 pub use refusal::{print_large, print_refusal};
-pub use tableau::{print_reading, print_tableau};
+pub use tableau::{print_in_order, print_reading, print_tableau};
 pub use words::{print_label, print_letters, print_shapes};

@@ -100,7 +100,7 @@ fn put_line<R: Ratio, K: Sink>(
         put_term(basis, is_first, label, *c, text, sink);
         is_first = false;
     }
-    text.put(b"\n", sink);
+    text.put_byte(b'\n', sink);
 }
 
 /// Puts a term with its sign, which a first term has only where it is negative.

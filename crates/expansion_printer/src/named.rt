@@ -1,5 +1,5 @@
 //! The labels of lines.
-ghost use Rattle.std.specs.Prelude.{List, ℕ};
+ghost use Rattle.std.specs.Prelude.{List, ℕ, codes};
 ghost use Rattle.expansion_printer.specs.Gathering.{Gathers};
 ghost use Rattle.sym_model.specs.Kind.{LabelRules, label_rules, expansion, pairs, powers};
 ghost use Rattle.sym_model.specs.Kind.{permutations, polynomial, shifts};
@@ -27,7 +27,7 @@ impl Named for Partition {
     ghost line_rules = { label_rules expansion };
 
     fn put_name<K: Sink>(&self, text: &mut TextBuffer, sink: &mut K) {
-        text.put(b"  ", sink);
+        put_spaces(text, sink);
         put_label(self.parts(), text, sink);
     }
 }
@@ -37,7 +37,7 @@ impl Named for Pair {
 
     fn put_name<K: Sink>(&self, text: &mut TextBuffer, sink: &mut K) {
         self.first.put_name(text, sink);
-        text.put(b" ", sink);
+        text.put_byte(b' ', sink);
         put_label(self.second.parts(), text, sink);
     }
 }
@@ -56,7 +56,7 @@ impl Named for Perm {
     ghost line_rules = { label_rules permutations };
 
     fn put_name<K: Sink>(&self, text: &mut TextBuffer, sink: &mut K) {
-        text.put(b"  ", sink);
+        put_spaces(text, sink);
         put_label(self.letters(), text, sink);
     }
 }
@@ -65,7 +65,7 @@ impl Named for Monomial {
     ghost line_rules = { label_rules polynomial };
 
     fn put_name<K: Sink>(&self, text: &mut TextBuffer, sink: &mut K) {
-        text.put(b"  ", sink);
+        put_spaces(text, sink);
         put_label(self.exponents(), text, sink);
     }
 }
@@ -75,7 +75,16 @@ impl Named for Shifted {
 
     fn put_name<K: Sink>(&self, text: &mut TextBuffer, sink: &mut K) {
         self.perm.put_name(text, sink);
-        text.put(b" ", sink);
+        text.put_byte(b' ', sink);
         put_label(self.y.exponents(), text, sink);
     }
+}
+
+/// Puts the two spaces in front of a label.
+#[inline]
+fn put_spaces<K: Sink>(text: &mut TextBuffer, sink: &mut K)
+    ensures { Gathers text.old (K.seen sink.old) text.new (K.seen sink.new) (codes "  ") }
+{
+    text.put_byte(b' ', sink);
+    text.put_byte(b' ', sink);
 }

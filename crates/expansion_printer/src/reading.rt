@@ -2,6 +2,7 @@
 ghost use Rattle.std.specs.Prelude.{◌≡◌, ◌≤◌, ◌<◌, ℕ, List, slice_index, IfOk};
 ghost use Rattle.sym_model.specs.Partition.{IsCell};
 ghost use Rattle.sym_model.specs.TableauList.{filling_of, letter_of_cell, reading_cells};
+ghost use Rattle.expansion_printer.specs.ReadingPlaces.{before_in_row};
 
 use crate::rows::Entries;
 use calc_base::NoMemory;
@@ -101,4 +102,63 @@ impl Entries for Reading<'_> {
         let place = self.order.place(row, column);
         self.letters.get(place).copied().unwrap_or(0)
     }
+}
+
+/// The same of a shape whose places are counted where they are needed, which takes no memory.
+#[derive(Drop)]
+pub(crate) struct CountedReading<'a> {
+    pub(crate) shape: &'a Skew,
+    pub(crate) letters: &'a [u16],
+}
+
+impl Entries for CountedReading<'_> {
+    ghost outer = { λ r. r.shape.now.0 };
+
+    ghost inner = { λ r. r.shape.now.1 };
+
+    ghost entry = { λ r row column. letter_of_cell row column
+        (reading_cells r.shape.now.0 r.shape.now.1) r.letters.now };
+
+    ghost rows = { λ r. filling_of r.shape.now.0 r.shape.now.1 r.letters.now };
+
+    fn outer(&self) -> &Partition {
+        self.shape.outer()
+    }
+
+    fn inner(&self) -> &Partition {
+        self.shape.inner()
+    }
+
+    fn entry(&self, row: u16, column: u16) -> u16 {
+        let place = place_of(self.shape, row, column);
+        self.letters.get(place).copied().unwrap_or(0)
+    }
+}
+
+/// The place of the letter of a cell: the number of the cells further right, and of those above it
+/// in its column.
+fn place_of(shape: &Skew, row: u16, column: u16) -> usize
+    requires { IsCell shape.now.0 shape.now.1 row column }
+    ensures { (w : List ℕ) → slice_index w result
+        ≡ letter_of_cell row column (reading_cells shape.now.0 shape.now.1) w }
+{
+    let mut before = 0;
+    for at in 0..shape.outer().rows() {
+        let left = shape.inner().part(at + 1);
+        let right = shape.outer().part(at + 1);
+        before += usize::from(cells_before(left, right, column, at + 1 < row));
+    }
+    before
+}
+
+/// How many cells of a row, which go from column `left + 1` to `right`, come before the cell in a
+/// column of another row, which is below it or not.
+fn cells_before(left: u16, right: u16, column: u16, is_above: bool) -> u16
+    ensures { result ≡ before_in_row left right column is_above }
+{
+    let further_right = right.saturating_sub(left.max(column));
+    if is_above && left < column && column <= right {
+        return further_right + 1;
+    }
+    further_right
 }

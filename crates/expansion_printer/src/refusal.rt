@@ -44,10 +44,10 @@ fn print_offence<K: Sink>(name: &[u8], at: Place, sink: &mut K) -> Result<(), Si
     let mut text = TextBuffer::new();
     text.put(b"! ", sink);
     text.put(name, sink);
-    text.put(b" ", sink);
+    text.put_byte(b' ', sink);
     put_number(at.word, &mut text, sink);
-    text.put(b":", sink);
+    text.put_byte(b':', sink);
     put_number(at.byte, &mut text, sink);
-    text.put(b"\n", sink);
+    text.put_byte(b'\n', sink);
     text.finish(sink)
 }

@@ -41,7 +41,7 @@ pub(crate) fn put_rows<E: Entries, K: Sink>(filling: &E, text: &mut TextBuffer, 
 {
     let rows = filling.outer().rows();
     if rows == 0 {
-        return text.put(b".", sink);
+        return text.put_byte(b'.', sink);
     }
     for at in 0..rows {
         put_next_row(filling, at, text, sink);
@@ -77,7 +77,7 @@ fn put_row<E: Entries, K: Sink>(filling: &E, at: u16, text: &mut TextBuffer, sin
     let left = filling.inner().part(row);
     let right = filling.outer().part(row);
     if right <= left {
-        return text.put(b".", sink);
+        return text.put_byte(b'.', sink);
     }
     put_entries(filling, row, left, right, text, sink);
 }
@@ -101,6 +101,6 @@ fn put_entries<E: Entries, K: Sink>(
 {
     for column in left..right {
         let entry = u64::from(filling.entry(row, column + 1));
-        put_piece(b" ", usize::from(column - left), entry, text, sink);
+        put_piece(b' ', usize::from(column - left), entry, text, sink);
     }
 }

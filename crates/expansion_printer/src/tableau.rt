@@ -5,12 +5,12 @@ ghost use Rattle.sym_model.specs.TableauList.{filling_of};
 ghost use Rattle.sym_model.specs.TableauText.{tableau_line};
 ghost use Rattle.skew_shapes.specs.CellFillings.{place_in_row, row_of};
 
-use crate::reading::{Reading, ReadingOrder};
+use crate::reading::{CountedReading, Reading, ReadingOrder};
 use crate::rows::{Entries, put_rows};
 use crate::text_buffer::TextBuffer;
 use calc_base::{Sink, SinkFault};
 use partitions::Partition;
-use skew_shapes::Tableau;
+use skew_shapes::{Skew, Tableau};
 
 impl Entries for Tableau {
     ghost outer = { λ t. t.outer };
@@ -50,7 +50,23 @@ pub fn print_tableau<K: Sink>(t: &Tableau, sink: &mut K) -> Result<(), SinkFault
 ///
 /// `SinkFault` exactly where a put failed. It is the last one,
 /// and what was put is then a prefix of the line.
-pub fn print_reading<K: Sink>(
+pub fn print_reading<K: Sink>(shape: &Skew, reading: &[u16], sink: &mut K) -> Result<(), SinkFault>
+    ensures { Prints (K.seen sink.old) (K.seen sink.new)
+        (tableau_line (filling_of shape.now.0 shape.now.1 reading.now)) result }
+{
+    let filling = CountedReading {
+        shape,
+        letters: reading,
+    };
+    print_filling(&filling, sink)
+}
+
+/// Prints what `print_reading` prints, of the shape of the order, whose places are not counted
+/// again.
+///
+/// `SinkFault` exactly where a put failed. It is the last one,
+/// and what was put is then a prefix of the line.
+pub fn print_in_order<K: Sink>(
     order: &ReadingOrder,
     reading: &[u16],
     sink: &mut K,
@@ -72,6 +88,6 @@ fn print_filling<E: Entries, K: Sink>(filling: &E, sink: &mut K) -> Result<(), S
 {
     let mut text = TextBuffer::new();
     put_rows(filling, &mut text, sink);
-    text.put(b"\n", sink);
+    text.put_byte(b'\n', sink);
     text.finish(sink)
 }

@@ -1,5 +1,5 @@
 //! A buffer for text on its way to a sink.
-ghost use Rattle.std.specs.Prelude.{◌≡◌, ◌+◌, ◌≤◌, ◌↔◌, [], ◌++◌, length, true, false, IsTrue};
+ghost use Rattle.std.specs.Prelude.{◌≡◌, ◌+◌, ◌≤◌, ◌↔◌, [], ◌∷◌, ◌++◌, length, true, false, IsTrue};
 ghost use Rattle.std.specs.Prelude.{is_ok};
 ghost use Rattle.calc_base.specs.Puts.{Puts};
 ghost use Rattle.expansion_printer.specs.Gathering.{Waiting, Gathers};
@@ -36,7 +36,19 @@ impl TextBuffer {
         }
     }
 
+    /// Puts the byte after what was put before.
+    #[inline]
+    pub(crate) fn put_byte<K: Sink>(&mut self, byte: u8, sink: &mut K)
+        ensures { Gathers self.old (K.seen sink.old) self.new (K.seen sink.new) (byte ∷ []) }
+    {
+        if self.bytes.is_full() {
+            return self.put(&[byte], sink);
+        }
+        self.bytes.push(byte);
+    }
+
     /// Puts the piece after what was put before.
+    #[inline(never)]
     pub(crate) fn put<K: Sink>(&mut self, piece: &[u8], sink: &mut K)
         ensures { Gathers self.old (K.seen sink.old) self.new (K.seen sink.new) piece.now }
     {

@@ -19,8 +19,8 @@ pub fn print_letters<K: Sink>(w: &[u16], sink: &mut K) -> Result<(), SinkFault>
     ensures { Prints (K.seen sink.old) (K.seen sink.new) (word_line w.now) result }
 {
     let mut text = TextBuffer::new();
-    put_separated(b" ", w, &mut text, sink);
-    text.put(b"\n", sink);
+    put_separated(b' ', w, &mut text, sink);
+    text.put_byte(b'\n', sink);
     text.finish(sink)
 }
 
@@ -46,7 +46,7 @@ pub fn print_shapes<K: Sink>(shapes: &[Partition], sink: &mut K) -> Result<(), S
 {
     let mut text = TextBuffer::new();
     put_shapes(shapes, &mut text, sink);
-    text.put(b"\n", sink);
+    text.put_byte(b'\n', sink);
     text.finish(sink)
 }
 
@@ -69,6 +69,6 @@ fn put_next_shape<K: Sink>(at: usize, shape: &Partition, text: &mut TextBuffer, 
     if at == 0 {
         return put_label(shape.parts(), text, sink);
     }
-    text.put(b" ", sink);
+    text.put_byte(b' ', sink);
     put_label(shape.parts(), text, sink);
 }

@@ -11,7 +11,7 @@ pub loop-well-preserved : goal.loop-well-preserved
 loop-well-preserved g c =
     PutsUpTo-more (line c.args.order.now.0 c.args.order.now.1) _ _ _ _ _ c.loop-well.invariant
     c.advance.ensures.next c.current.ensures
-    (rw c.loop-well-test.true (Puts-from_prints c.print_reading.result c.print_reading.ensures
+    (rw c.loop-well-test.true (Puts-from_prints c.print_in_order.result c.print_in_order.ensures
     c.is_ok-well.ensures.value))
 
 pub returns-else-advance : goal.returns-else-advance

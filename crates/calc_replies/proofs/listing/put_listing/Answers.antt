@@ -15,5 +15,5 @@ returns g c =
     let whole : w ∷ rest ≡ c.args.list.now.lattice.rest =
     sym (c.advance.ensures.next ∙ ap (λ o. option_to_list o ++ rest) c.current.ensures) in
     Puts-as (readings_text-more outer inner w rest ∙ ap (readings_text outer inner) whole)
-    (Puts-then (Puts-from_prints c.print_reading.result c.print_reading.ensures
+    (Puts-then (Puts-from_prints c.print_in_order.result c.print_in_order.ensures
     c.is_ok-well.ensures.value) c.put_lines.ensures)

@@ -8,8 +8,8 @@ use Rattle.expansion_printer.proofs.atoms.put_atom.Goals as goal
 pub returns : goal.returns
 returns g c =
     let parts = c.args.parts.now in
-    Gathers-then (Gathers-as c.letter_of.ensures c.put.ensures)
-    (Gathers-then c.put-2.ensures
+    Gathers-then (Gathers-as c.letter_of.ensures c.put_byte.ensures)
+    (Gathers-then c.put_byte-2.ensures
     (Gathers-then (Gathers-as (ap (λ ns. separated (codes ",") (map decimal ns)) (map_same parts)
     ∙ numbers_text-separated parts) c.put_separated.ensures)
-    c.put-3.ensures))
+    c.put_byte-3.ensures))

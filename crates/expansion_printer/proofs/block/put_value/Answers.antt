@@ -1,4 +1,6 @@
-use Rattle.std.proofs.Common.{◌∙◌}
+use Rattle.std.proofs.Common.{◌∙◌, ap, sym, ℤ, to_z-of_z}
+use Rattle.sym_model.specs.Expansion.{Fraction}
+use Rattle.sym_model.specs.NumberText.{fraction_text}
 use Rattle.expansion_printer.proofs.GatheringLaws.{Gathers-then, Gathers-as}
 use Rattle.expansion_printer.proofs.Texts.{number_line}
 use Rattle.expansion_printer.proofs.block.put_value.Goals as goal
@@ -6,5 +8,6 @@ use Rattle.expansion_printer.proofs.block.put_value.Goals as goal
 pub returns-clause-goes : goal.returns-clause-goes
 returns-clause-goes g c =
     Gathers-as (number_line c.args.value)
-    (Gathers-then (Gathers-as (c.as_bytes.ensures ∙ c.digits.ensures.text) c.put.ensures)
-    c.put-2.ensures)
+    (Gathers-then (Gathers-as (ap (λ (z : ℤ). fraction_text (z, c.parts-num.result.1))
+    (to_z-of_z c.parts-num.ensures.fits) ∙ ap fraction_text (sym c.parts-num.ensures.parts))
+    c.put_fraction.ensures) c.put_byte.ensures)

@@ -15,4 +15,4 @@ returns g c =
       | else-size-eq1-via-else-size-eq1 w ↦ (λ e f. w.if-size-eq1.false e)
     ] in
     Gathers-as (coefficient-printed c.args.num c.args.den size is other)
-    (Gathers-then c.put_number.ensures (Gathers-then c.put_denominator.ensures c.put.ensures))
+    (Gathers-then c.put_number.ensures (Gathers-then c.put_denominator.ensures c.put_byte.ensures))

@@ -8,4 +8,4 @@ pub returns : goal.returns
 returns g c =
     Gathers-as (sym (cond-false (c.args.den == 1) [] (47 ∷ decimal c.args.den)
     (ne_eqb c.args.den 1 c.if-den-eq1.false)))
-    (Gathers-then c.put.ensures c.put_number.ensures)
+    (Gathers-then c.put_byte.ensures c.put_number.ensures)

@@ -66,4 +66,4 @@ returns-clause-goes g c =
     Gathers-as (ap (λ (ts : List (List ℕ × g.row.R.Denot)).
     signed_terms basis (terms_of value ts) ++ codes "\n") all
     ∙ one_line-some basis (terms_of value c.args.terms.now) (omega (arith, length_is, some)))
-    (Gathers-then c.loop-label.invariant.goes c.put-2.ensures)
+    (Gathers-then c.loop-label.invariant.goes c.put_byte.ensures)

@@ -5,6 +5,6 @@ use Rattle.expansion_printer.proofs.numbers.put_label.Goals as goal
 
 pub returns : goal.returns
 returns g c =
-    Gathers-then c.put.ensures
+    Gathers-then c.put_byte.ensures
     (Gathers-then (Gathers-as (numbers_text-separated (map g.N.Numeral.number c.args.numbers.now))
-    c.put_separated.ensures) c.put-2.ensures)
+    c.put_separated.ensures) c.put_byte-2.ensures)

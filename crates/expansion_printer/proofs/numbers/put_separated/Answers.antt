@@ -1,4 +1,4 @@
-use Rattle.std.proofs.Common.{◌++◌, ◌==◌, ◌∙◌, ap, cond, map, take}
+use Rattle.std.proofs.Common.{◌++◌, ◌==◌, [], ◌∷◌, ◌∙◌, ap, cond, map, take}
 use Rattle.std.specs.Prelude.{decimal}
 use Rattle.sym_model.specs.TableauText.{separated}
 use Rattle.expansion_printer.proofs.GatheringLaws.{Gathers-then, Gathers-as, Gathers-nothing}
@@ -10,7 +10,7 @@ loop-at-init g c = Gathers-nothing c.args.text.now (g.K.Sink.seen c.args.sink.no
 
 pub loop-at-preserved : goal.loop-at-preserved
 loop-at-preserved g c =
-    let separator = c.args.separator.now in
+    let separator = c.args.separator ∷ [] in
     let item = c.index-numbers-at.result in
     Gathers-as (ap (λ n. separated separator
     (map decimal (map g.N.Numeral.number (take c.loop-at.at c.args.numbers.now)))
@@ -21,5 +21,5 @@ loop-at-preserved g c =
 
 pub returns : goal.returns
 returns g c =
-    Gathers-as (numerals-all c.args.separator.now g.N.Numeral.number c.args.numbers.now c.loop-at.at
+    Gathers-as (numerals-all (c.args.separator ∷ []) g.N.Numeral.number c.args.numbers.now c.loop-at.at
     c.loop-at-test.false) c.loop-at.invariant

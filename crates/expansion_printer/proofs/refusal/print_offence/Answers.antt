@@ -6,7 +6,7 @@ returns g c =
     Gathers-prints c.finish.result c.new-text.ensures
     (Gathers-then c.put.ensures
     (Gathers-then c.put-2.ensures
-    (Gathers-then c.put-3.ensures
+    (Gathers-then c.put_byte.ensures
     (Gathers-then c.put_number.ensures
-    (Gathers-then c.put-4.ensures (Gathers-then c.put_number-2.ensures c.put-5.ensures))))))
+    (Gathers-then c.put_byte-2.ensures (Gathers-then c.put_number-2.ensures c.put_byte-3.ensures))))))
     c.finish.ensures

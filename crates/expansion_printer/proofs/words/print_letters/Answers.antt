@@ -8,5 +8,5 @@ pub returns : goal.returns
 returns g c =
     Gathers-prints c.finish.result c.new-text.ensures
     (Gathers-then (Gathers-as (ap spaced (map_same c.args.w.now)) c.put_separated.ensures)
-    c.put.ensures)
+    c.put_byte.ensures)
     c.finish.ensures

@@ -19,6 +19,6 @@ returns g c =
     let text = label_text c.args.shape.now in
     Gathers-as (sym (cond-false (c.args.at == 0) text (codes " " ++ text)
     (ne_eqb c.args.at 0 c.if-at-eq0.false)))
-    (Gathers-then c.put.ensures
+    (Gathers-then c.put_byte.ensures
     (Gathers-as (ap label_text (map_same c.parts-2.result.now ∙ c.parts-2.ensures.value))
     c.put_label-2.ensures))

@@ -6,6 +6,6 @@ use Rattle.expansion_printer.proofs.named.MonomialNamed.put_name.Goals as goal
 
 pub returns : goal.returns
 returns g c =
-    Gathers-then c.put.ensures
+    Gathers-then c.put_spaces.ensures
     (Gathers-as (ap label_text (map_same c.exponents.result.now ∙ c.exponents.ensures.value))
     c.put_label.ensures)

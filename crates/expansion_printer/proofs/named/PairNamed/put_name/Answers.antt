@@ -9,6 +9,6 @@ pub returns : goal.returns
 returns g c =
     Gathers-then (Gathers-as (ap (λ (p : List ℕ × List ℕ). list_text p.0) c.self.view_is)
     c.put_name.ensures)
-    (Gathers-then c.put.ensures
+    (Gathers-then c.put_byte.ensures
     (Gathers-as (ap label_text (map_same c.parts.result.now ∙ c.parts.ensures.value
     ∙ ap (λ (p : List ℕ × List ℕ). p.1) c.self.view_is)) c.put_label.ensures))

@@ -6,6 +6,6 @@ use Rattle.expansion_printer.proofs.named.PartitionNamed.put_name.Goals as goal
 
 pub returns : goal.returns
 returns g c =
-    Gathers-then c.put.ensures
+    Gathers-then c.put_spaces.ensures
     (Gathers-as (ap label_text (map_same c.parts.result.now ∙ c.parts.ensures.value))
     c.put_label.ensures)
