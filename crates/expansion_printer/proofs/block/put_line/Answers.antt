@@ -1,5 +1,4 @@
 use Rattle.std.proofs.Common.{◌∙◌, ap, sym, ℤ, to_z-of_z}
-use Rattle.sym_model.specs.Expansion.{Fraction}
 use Rattle.sym_model.specs.NumberText.{fraction_text}
 use Rattle.expansion_printer.proofs.GatheringLaws.{Gathers-then, Gathers-as}
 use Rattle.expansion_printer.proofs.block.put_line.Goals as goal

@@ -1,4 +1,4 @@
-use Rattle.std.proofs.Common.{◌≡◌, ◌<◌, ◌+◌, ℕ, Bool, nat_lt, refl, sym, ◌∙◌, ap, ap₂, arith}
+use Rattle.std.proofs.Common.{◌≡◌, ◌+◌, nat_lt, refl, ◌∙◌, ap, ap₂, arith}
 use Rattle.std.specs.Prelude.{slice_index}
 use Rattle.sym_model.specs.Partition.{after, part, rows}
 use Rattle.expansion_printer.specs.ReadingPlaces.{before_in_row}

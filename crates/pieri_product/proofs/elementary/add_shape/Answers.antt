@@ -1,4 +1,4 @@
-use Rattle.std.proofs.Common.{◌≡◌, [], ◌∷◌, ap, subst, pos, ◌*ℤ◌}
+use Rattle.std.proofs.Common.{[], ◌∷◌, ap, subst, pos, ◌*ℤ◌}
 use Rattle.std.specs.Cmp.Lexicographic.{nat_list_eq_equiv}
 use Rattle.std.proofs.lemmas.Bool.{both_ways}
 use Rattle.coeff_rings.specs.Fractions.{whole}
