@@ -1,4 +1,7 @@
-/* The product of two Schur functions, printed: cc example.c $(pkg-config --cflags --libs yorqanish) */
+/* SPDX-FileCopyrightText: the Yorqanish authors
+ * SPDX-License-Identifier: MIT
+ *
+ * The product of two Schur functions, printed: cc example.c $(pkg-config --cflags --libs yorqanish) */
 #include <yorqanish.h>
 #include <stdio.h>
 #include <string.h>

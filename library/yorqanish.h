@@ -1,7 +1,14 @@
-/* The calculator as a C library: one call runs one command and leaves its text in the caller's buffer.
+/* SPDX-FileCopyrightText: the Yorqanish authors
+ * SPDX-License-Identifier: MIT
+ *
+ * The calculator as a C library: one call runs one command and leaves its text in the caller's buffer.
  *
  * It is the program `calc` without its process: the same words, the same texts, the same statuses, proved in the same way. It keeps nothing
- * between calls, starts no thread, opens no file and writes to no stream; several threads may call it at once. */
+ * between calls, starts no thread, opens no file and writes to no stream; several threads may call it at once.
+ *
+ * The library is libyorqanish.so.0, and its one symbol has the version YORQANISH_0. As long as these are the same, so are the arguments of
+ * calc_run, the codes below and what a caller owes; a later release may add commands, raise limits and add calls. Were one of them to change,
+ * the number in both names would. */
 #ifndef YORQANISH_H
 #define YORQANISH_H
 

@@ -63,19 +63,19 @@ def tag_of(binaries):
     return f"py3-none-{OLDEST_TAG if newest == OLDEST else f'manylinux_2_{newest}_x86_64'}"
 
 
-def fields():
-    """The fields of METADATA, of the project's table."""
+def fields(licences):
+    """The fields of METADATA, of the project's table, and the licences of what is in the wheel."""
     project = text_of(f"{HERE}/pyproject.toml")
     said = dict(re.findall(r'^([a-z-]+) = "(.*)"$', project, re.MULTILINE))
     lists = {name: re.findall(r'"(.*?)"', it) for name, it in re.findall(r"^([a-z]+) = \[(.*?)\]$", project, re.MULTILINE | re.DOTALL)}
     return [
-        "Metadata-Version: 2.1",
+        "Metadata-Version: 2.4",
         f"Name: {said['name']}",
         f"Version: {version()}",
         f"Summary: {said['description']}",
         f"Author: {lists['authors'][0]}",
-        "License: MIT",
-        "License-File: LICENSE",
+        f"License-Expression: {'MIT AND LGPL-2.1-or-later' if LICENCES[-1] in licences else 'MIT'}",
+        *(f"License-File: {it}" for it in licences),
         f"Keywords: {','.join(lists['keywords'])}",
         *(f"Classifier: {it}" for it in lists["classifiers"]),
         f"Requires-Python: {said['requires-python']}",
@@ -83,8 +83,8 @@ def fields():
     ]
 
 
-def metadata():
-    return "\n".join(fields()) + "\n\n" + text_of(f"{HERE}/README.md")
+def metadata(licences):
+    return "\n".join(fields(licences)) + "\n\n" + text_of(f"{HERE}/README.md")
 
 
 def contents(program, library, tag):
@@ -97,17 +97,18 @@ def contents(program, library, tag):
     if library:
         files["yorqanish/libyorqanish.so"] = content_of(library)
     about = f"yorqanish-{version()}.dist-info"
-    files[f"{about}/METADATA"] = metadata().encode()
+    # (a program with its C library in it comes with that library's licence, too)
+    licences = LICENCES if program else LICENCES[:1]
+    files[f"{about}/METADATA"] = metadata(licences).encode()
     pure = "true" if tag.endswith("any") else "false"
     tags = [f"py3-none-{it}" for it in tag[len("py3-none-") :].split(".")]
     files[f"{about}/WHEEL"] = "\n".join(
         ["Wheel-Version: 1.0", "Generator: make_wheel", f"Root-Is-Purelib: {pure}", *(f"Tag: {it}" for it in tags), ""]
     ).encode()
-    # (a program with its C library in it comes with that library's licence, too)
-    for licence in LICENCES if program else LICENCES[:1]:
+    for licence in licences:
         path = next((it for it in (f"{TOP}/{licence}", f"{TOP}/release/{licence}", f"{HERE}/{licence}") if os.path.exists(it)), None)
         if path:
-            files[f"{about}/{licence}"] = content_of(path)
+            files[f"{about}/licenses/{licence}"] = content_of(path)
     record = "".join(f"{name},sha256={digest(it)},{len(it)}\n" for name, it in files.items())
     files[f"{about}/RECORD"] = (record + f"{about}/RECORD,,\n").encode()
     return files
@@ -155,7 +156,7 @@ def build_sdist(sdist_directory, config_settings=None):
             archive.add(path, f"{name}/{inside}")
         path = os.path.join(sdist_directory, "PKG-INFO")
         with open(path, "w", encoding="utf-8") as file:
-            file.write(metadata())
+            file.write(metadata(LICENCES[:1]))
         archive.add(path, f"{name}/PKG-INFO")
         os.remove(path)
     return f"{name}.tar.gz"

@@ -33,7 +33,7 @@ def bare_root(of_busybox):
     is_user = os.geteuid() != 0
     missing = [tool for tool in ("ldd", "chroot", *["unshare"] * is_user, *(["busybox"] if of_busybox else TOOLS)) if not path_of(tool)]
     if missing:
-        raise Skipped(f"for want of {', '.join(missing)}")
+        raise Skipped(", ".join(missing))
     with tempfile.TemporaryDirectory() as root:
         alone = [*([path_of("unshare"), "--user", "--map-root-user"] if is_user else []), path_of("chroot"), root]
         if of_busybox:
@@ -47,9 +47,9 @@ def bare_root(of_busybox):
         try:
             done = subprocess.run([*alone, "/bin/sh", "-c", ":"], capture_output=True, text=True)
         except OSError as error:
-            raise Skipped(f"it cannot be entered here: {error}") from None
+            raise Skipped(f"a root that can be entered ({error})") from None
         if done.returncode:
-            raise Skipped(f"it cannot be entered here: {done.stderr.strip()}")
+            raise Skipped(f"a root that can be entered ({done.stderr.strip()})")
         yield root, alone
 
 

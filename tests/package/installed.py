@@ -27,17 +27,41 @@ def bare():
     return {"PATH": "/usr/bin:/bin", "HOME": "/nonexistent", "PIP_NO_INDEX": "1", "PIP_DISABLE_PIP_VERSION_CHECK": "1", "PIP_NO_CACHE_DIR": "1"}
 
 
-def checkout(room):
-    """What a checkout has of the package, with the program and the library where they are built."""
+def files(room):
+    """What a checkout and an archive have of the package."""
     top = os.path.join(room, "checkout")
-    os.makedirs(f"{top}/crates/calc/out")
     shutil.copytree(f"{TOP}/python", f"{top}/python", ignore=shutil.ignore_patterns("__pycache__", "build"))
-    for name in ("VERSION", "LICENSE", "calc"):
+    os.mkdir(f"{top}/release")
+    for name in ("VERSION", "LICENSE", "NOTICE", "release/genuine", "release/LGPL-2.1"):
+        shutil.copy(f"{TOP}/{name}", f"{top}/{name}")
+    return top
+
+
+def checkout(room):
+    """A checkout with one crate, with the program and the library where they are built, and noted as those of its sources."""
+    top = files(room)
+    for name in ("calc", "crates.txt", "HANDLES"):
         shutil.copy(f"{TOP}/{name}", top)
-    shutil.copy(PROGRAM, f"{top}/crates/calc/out/calc")
+    shutil.copytree(f"{TOP}/crates/calc/src", f"{top}/crates/calc/src")
+    os.mkdir(f"{top}/crates/calc/out")
+    made = [shutil.copy(PROGRAM, f"{top}/crates/calc/out/calc")]
     if LIBRARY:
         os.mkdir(f"{top}/build")
-        shutil.copy(LIBRARY, f"{top}/build")
+        made.append(shutil.copy(LIBRARY, f"{top}/build/libyorqanish.so"))
+    run("sh", f"{top}/release/genuine", "--note", run("sh", f"{top}/release/genuine", "--digest").strip(), *made)
+    return top
+
+
+def archive(room):
+    """An archive: the program and the library beside the folder python/, and the sums of all."""
+    top = files(room)
+    shutil.copy(PROGRAM, f"{top}/calc")
+    if LIBRARY:
+        shutil.copy(LIBRARY, f"{top}/libyorqanish.so")
+    names = sorted(it for it in os.listdir(top) if os.path.isfile(f"{top}/{it}"))
+    sums = run("sha256sum", *names, cwd=top)
+    with open(f"{top}/SHA256SUMS", "w", encoding="ascii") as file:
+        file.write(sums)
     return top
 
 
@@ -55,8 +79,9 @@ def installs(room, source):
     if LIBRARY:
         by_library = TRIED.replace("Calculator()", "Calculator(library=True)")
         same(run(sys.executable, "-c", by_library, env=env, cwd=room), f"{version()} libyorqanish.so {{(2,): 1, (1, 1): 1}}\n")
-    said = "from importlib.metadata import metadata as m; it = m('yorqanish'); print(it['Version'], it['Author'], it['License'], sep=', ')"
-    same(run(sys.executable, "-c", said, env=env, cwd=room), f"{version()}, The Yorqanish authors, MIT\n")
+    words = "it['Version'], it['Author'], it['License-Expression']"
+    said = f"from importlib.metadata import metadata as m; it = m('yorqanish'); print({words}, sep=', ')"
+    same(run(sys.executable, "-c", said, env=env, cwd=room), f"{version()}, The Yorqanish authors, MIT AND LGPL-2.1-or-later\n")
 
 
 def test_a_checkout_is_installed():
@@ -67,13 +92,7 @@ def test_a_checkout_is_installed():
 def test_a_released_archive_is_installed():
     """As an archive has it: the program and the library beside the folder python/."""
     with tempfile.TemporaryDirectory() as room:
-        top = checkout(room)
-        shutil.rmtree(f"{top}/crates")
-        os.remove(f"{top}/calc")
-        shutil.copy(PROGRAM, f"{top}/calc")
-        if LIBRARY:
-            shutil.move(f"{top}/build/libyorqanish.so", top)
-        installs(room, f"{top}/python")
+        installs(room, f"{archive(room)}/python")
 
 
 def test_a_wheel_is_installed():
@@ -96,7 +115,7 @@ def test_the_tag_of_the_library_alone():
         raise Skipped("there is no library")
     with tempfile.TemporaryDirectory() as room:
         top = checkout(room)
-        shutil.rmtree(f"{top}/crates")
+        os.remove(f"{top}/crates/calc/out/calc")
         name = os.path.basename(run(sys.executable, f"{top}/python/make_wheel.py", f"{room}/out").strip())
         same(name, f"yorqanish-{version()}-py3-none-manylinux_2_17_x86_64.manylinux2014_x86_64.whl")
 
