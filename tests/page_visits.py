@@ -7,7 +7,7 @@ import urllib.parse
 from browse import Page
 
 HEAVY = "mult 9 8 7 6 5 4 3 2 1 - 9 8 7 6 5 4 3 2 1 - 9 8 7 6 5 4 3 2 1"
-LARGE = "mult 12 10 8 6 5 4 3 2 1 - 8 7 6 5 4 3 2 1"
+LARGE = "mult 8 6 5 4 3 2 1 - 6 5 4 3 2 1"
 TRANSCRIPT = """    $ ./calc mult 2 1 - 2 1
     1  (4,2)
     1  (4,1,1)

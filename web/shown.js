@@ -12,7 +12,7 @@ const MOST_KEPT = 1 << 26;
 
 /** The answers that are kept, the latest last: `{line, text}`. */
 const kept = [];
-let numberOfAnswer = 0;
+let numberOfAnswer = 0, sizeKept = 0;
 
 function button(name, action) {
   const it = element("button", { type: "button" }, name);
@@ -177,7 +177,8 @@ function place(article, line, text) {
   at("given").hidden = false;
   at("answers").prepend(article);
   kept.push({ line, text });
-  for (let size = kept.reduce((sum, it) => sum + it.text.length, 0); size > MOST_KEPT && kept.length > 1; ) size -= kept.shift().text.length;
+  sizeKept += text.length;
+  while (sizeKept > MOST_KEPT && kept.length > 1) sizeKept -= kept.shift().text.length;
   const articles = at("answers").children;
   while (articles.length > MOST_ANSWERS) articles[articles.length - 1].remove();
   at("older").hidden = kept.length <= articles.length;
@@ -187,7 +188,7 @@ function place(article, line, text) {
 /** Takes all answers away. */
 function clearAnswers() {
   at("answers").replaceChildren();
-  kept.length = 0;
+  kept.length = sizeKept = 0;
   at("given").hidden = true;
   at("older").hidden = true;
   say("The answers were cleared.");
