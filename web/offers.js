@@ -68,33 +68,31 @@ function singlesOf(name, lists) {
 
 /** All ways to read the lists of a line, each as the words of a line; some of them are no lines. */
 function* waysOf(name, tokens, typed) {
-  const signs = tokens.filter((it) => it.kind === "sign" || numbersIn(it));
-  const options = tokens.some((it) => it.text === "-m") && GRAMMAR.get(name).words.some((it) => it.optional && it.optional[0].sign === "-m") ? "-m" : "";
-  const groups = groupsOf(tokens), split = (it) => (it.token.isIndex ? digitsOf(it.numbers[0]) : it.numbers);
-  const scalars = groups.some((it) => it.scalar) || (groups[0] && groups[0].isMinus);
-  if (scalars && ["mult", "expand"].includes(name)) {
+  const slots = GRAMMAR.get(name).words, hasOption = slots.some((it) => it.optional && it.optional[0].sign === "-m");
+  const options = hasOption && tokens.some((it) => it.text === "-m") ? "-m" : "";
+  const signs = tokens.filter((it) => it.kind === "sign" || numbersIn(it)), groups = groupsOf(tokens);
+  const joined = [name, ...signs.flatMap((it) => numbersIn(it) || [it.text === "*" ? "-" : it.text === "," ? "" : it.text])].join(" ").replace(/ +/g, " ");
+  if (groups.some((it) => it.scalar) || (groups[0] && groups[0].isMinus)) {
     const factor = (it) => `${it.scalar ? `${it.scalar}*` : ""}s[${it.numbers.join(",")}]`;
-    yield `expand s ${groups[0].isMinus ? "-" : ""}${groups.map(factor).join("*")}`;
+    if (name === "mult") yield `expand s ${groups[0].isMinus ? "-" : ""}${groups.map(factor).join("*")}`;
+    return yield joined;
   }
-  if (groups.some((it) => it.isPrimed)) yield* plainWays(name, groups.map((it) => (it.isPrimed ? conjugate(it.numbers) : it.numbers)), options);
+  if (groups.some((it) => it.isPrimed)) return yield* plainWays(name, groups.map((it) => (it.isPrimed ? conjugate(it.numbers) : it.numbers)), options);
   yield* cycleWays(name, tokens);
-  yield* plainWays(name, groups.map(split), options);
+  yield* plainWays(name, groups.map((it) => (it.token.isIndex ? digitsOf(it.numbers[0]) : it.numbers)), options);
   yield* plainWays(name, groups.map((it) => it.numbers), options);
-  yield* plainWays(name, typed.split(/[-/,;*]\s+|\s+[-/*]\s*/).map((it) => it.match(/\d+/g) || []).filter((it) => it.length > 0), options);
-  if (!scalars) yield [name, ...signs.flatMap((it) => numbersIn(it) || [it.text === "*" ? "-" : it.text === "," ? "" : it.text])].join(" ").replace(/ +/g, " ");
+  if (!tokens.some((it) => it.bracket)) yield* plainWays(name, typed.split(/[-/,;*]\s+|\s+[-/*]\s*/).map((it) => it.match(/\d+/g) || []).filter((it) => it.length > 0), options);
+  return singlesOf(name, []).length > 0 ? undefined : yield joined;
 }
 
-/** The lists side by side or with what is missing put in. */
+/** The lists side by side, with the numbers that are missing before them put in. */
 function* plainWays(name, lists, options) {
-  const missing = singlesOf(name, lists), slots = GRAMMAR.get(name).words;
-  if (missing.length > 0) {
-    const [first, ...rest] = lists;
-    if (first && first.length >= missing.length) {
-      const own = first.slice(missing.length);
-      yield lineOf(name, first.slice(0, missing.length), own.length > 0 ? [own, ...rest] : rest, options);
-    }
-    if (first && first.length === 1) yield lineOf(name, [first[0], ...singlesOf(name, rest).slice(1)], rest, options);
-    yield lineOf(name, missing, lists, options);
+  const missing = singlesOf(name, lists), slots = GRAMMAR.get(name).words, [first, ...rest] = lists;
+  if (missing.length > 0 && first) {
+    const own = first.slice(missing.length), isRest = rest.length > 1 || own.length > 0;
+    if (first.length >= missing.length && isRest) yield lineOf(name, first.slice(0, missing.length), own.length > 0 ? [own, ...rest] : rest, options);
+    else if (first.length === 1 && rest.length > 1) yield lineOf(name, [first[0], ...singlesOf(name, rest).slice(1)], rest, options);
+    else yield lineOf(name, missing, lists, options);
     return;
   }
   if (slots[0] && slots[0].sign === "-r") yield lineOf(name, ["-r", String(Math.max(1, ...lists.map((it) => it.length)))], lists);
