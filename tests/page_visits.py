@@ -211,7 +211,7 @@ def forms(*where):
         const all = [...document.querySelectorAll(".entry")].filter((it) => it.querySelector("button")); for (const it of all) if (!it.querySelector("form")) it.querySelector("button").click();
         return [said, answers()[0], all.length, document.querySelectorAll(".fields").length, document.documentElement.scrollWidth <= WIDTH]"""
         got = visit.ask(script.replace("WIDTH", str(visit.page.width)))
-        return wrong((got, ["quantum 2 2 2 1 - 2 1 σ(2,1) * σ(2,1) in QH*(Gr(2,4))", ["quantum 2 2 2 1 - 2 1", "1  q^0  (2,2)\n1  q^1  ()\n"], 18, 18, True]))
+        return wrong((got, ["quantum 2 2 2 1 - 2 1 σ(2,1) * σ(2,1) in QH*(Gr(2,4))", ["quantum 2 2 2 1 - 2 1", "1  q^1  (2)\n1  q^1  (1,1)\n"], 18, 18, True]))
 
 
 # The characters of S_3, by cycle types (3), (2,1), (1,1,1); and products in Gr(1,3), the projective plane.
@@ -251,7 +251,7 @@ PICTURES = [
     ("rsk 3 1 2", 4, "tableau P with the rows 1 2, 3"),
     ("rect 2 2 / 1 - 1 / 1 2", 2, "tableau with the rows 1 1, 2"),
     ("tab 3 2 1 / 2 1", 3, "partition 3"),
-    ("schubert 1 4 3 2", 5, "pipe dream with crosses in row 1 column 2, row 1 column 1, row 2 column 1"),
+    ("schubert 1 4 3 2", 5, "pipe dream with crosses in row 2 column 2, row 2 column 1, row 3 column 1"),
     ("schubert 3 1 2", 1, None),
     ("schubert 2 3 1", 1, None),
     ("schubert 2 1 4 3", 3, None),
