@@ -205,17 +205,18 @@ def help_asked(*where):
 def forms(*where):
     """The form of a command makes its line, and runs it."""
     with Visit(*where) as visit:
-        script = """const row = document.getElementById("help-quantum"); row.querySelector(".entry button").click();
+        script = """const row = document.getElementById("help-quantum"); row.querySelector(".open-form").click();
         const form = row.querySelector("form"), [k, c, left, right] = form.querySelectorAll("input"); k.value = "2"; c.value = "2"; left.value = "(2,1)"; right.value = "2 1";
         form.dispatchEvent(new Event("input")); const said = form.querySelector(".note").textContent; form.requestSubmit(); await quiet();
-        const all = [...document.querySelectorAll(".entry")].filter((it) => it.querySelector("button")); for (const it of all) if (!it.querySelector("form")) it.querySelector("button").click();
+        const all = [...document.querySelectorAll(".open-form")]; for (const it of all) if (it.getAttribute("aria-expanded") === "false") it.click();
         return [said, answers()[0], all.length, document.querySelectorAll(".fields").length, document.documentElement.scrollWidth <= WIDTH]"""
         got = visit.ask(script.replace("WIDTH", str(visit.page.width)))
         return wrong((got, ["quantum 2 2 2 1 - 2 1 σ(2,1) * σ(2,1) in QH*(Gr(2,4))", ["quantum 2 2 2 1 - 2 1", "1  q^1  (2)\n1  q^1  (1,1)\n"], 18, 18, True]))
 
 
-# The characters of S_3, by cycle types (3), (2,1), (1,1,1); and products in Gr(1,3), the projective plane.
+# The characters of S_3, by cycle types (3), (2,1), (1,1,1); and products in Gr(1,3), the projective plane, without q and with it.
 CHARACTERS = [["1", "1", "1"], ["-1", "0", "2"], ["1", "-1", "1"]]
+QUANTUM_PLANE = [["()", "(1)", "(2)"], ["(1)", "(2)", "q*()"], ["(2)", "q*()", "q*(1)"]]
 PLANE = [["()", "(1)", "(2)"], ["(1)", "(2)", "0"], ["(2)", "0", "0"]]
 
 
@@ -230,9 +231,11 @@ def tables(*where):
         const cells = () => [...document.querySelectorAll(".made tr")].slice(1).map((row) => [...row.querySelectorAll("td")].map((it) => it.textContent.replace("−", "-")));
         const found = [];
         for (const given of [["characters", 3], ["classical", 1, 3]]) { await choose(...given); found.push(cells(), await copied("Copy CSV"), JSON.parse(await copied("Copy JSON"))); }
+        await choose("quantum", 1, 3);
+        found.push(cells(), await copied("Copy CSV"));
         await choose("classical", 4, 2);
         return [...found, document.getElementById("said-of-table").textContent, document.documentElement.scrollWidth]"""
-        first, csv, data, second, csv2, data2, said, width = visit.ask(make)
+        first, csv, data, second, csv2, data2, third, csv3, said, width = visit.ask(make)
         labels = [[3], [2, 1], [1, 1, 1]]
         wanted_csv = ",(3),\"(2,1)\",\"(1,1,1)\"\r\n" + "".join(
             f"{label},{','.join(row)}\r\n" for label, row in zip(['(3)', '"(2,1)"', '"(1,1,1)"'], CHARACTERS)
@@ -242,7 +245,8 @@ def tables(*where):
         return wrong(
             (first, CHARACTERS), (csv, wanted_csv), (data["labels"], labels), (data["entries"], [[int(it) for it in row] for row in CHARACTERS]),
             (second, wanted2), (csv2.splitlines()[1:], [f"{label},{','.join(row)}" for label, row in zip(["()", "(1)", "(2)"], PLANE)]),
-            (data2["entries"], products), (said, "n has to be greater than k."), (width <= visit.page.width, True),
+            (data2["entries"], products), (third, [[f"{'q ' if '*' in it else ''}σ{it.replace('q*', '').replace('()', '∅')}" for it in row] for row in QUANTUM_PLANE]),
+            (csv3.splitlines()[1:], [f"{label},{','.join(row)}" for label, row in zip(["()", "(1)", "(2)"], QUANTUM_PLANE)]), (said, "n has to be greater than k."), (width <= visit.page.width, True),
         )
 
 
@@ -262,7 +266,7 @@ def pictures(*where):
     """The pictures go step by step from the begin to the answer."""
     with Visit(*where) as visit:
         script = """await (async () => { document.getElementById("line").value = %s; document.getElementById("run").click(); await quiet(); })();
-        const it = document.querySelector("article .steps"); if (!it) return null;
+        const it = document.querySelector("article").querySelector(".steps"); if (!it) return null;
         const press = (name) => [...it.querySelectorAll("button")].find((of) => of.textContent === name).click(), range = it.querySelector("input");
         const said = [it.querySelector(".step-caption").textContent]; for (let n = 1; n < Number(range.max); n += 1) press("Next"), said.push(it.querySelector(".step-caption").textContent);
         press("Next"); const names = [...it.querySelectorAll("[role=img]")].map((of) => of.getAttribute("aria-label")); press("Before");

@@ -103,14 +103,15 @@ function addEntries() {
   for (const place of document.querySelectorAll(".entry")) {
     const name = place.dataset.command;
     if (GRAMMAR.get(name).words.length === 0) continue;
-    const open = button("Form", () => {
+    const open = button("Fill in a form", () => {
       const form = place.querySelector("form");
       if (form) form.hidden = !form.hidden;
       else place.append(formOfCommand(name));
       open.setAttribute("aria-expanded", String(!form || !form.hidden));
     });
-    open.setAttribute("aria-label", `Form of ${name}`);
+    open.className = "open-form";
+    open.append(element("span", { class: "unseen" }, ` of ${name}`));
     open.setAttribute("aria-expanded", "false");
-    place.append(open);
+    place.parentElement.querySelector(".examples").append(open);
   }
 }

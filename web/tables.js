@@ -50,12 +50,12 @@ const TABLES = {
   },
   classical: {
     title: "Products in the cohomology of Gr(k,n)", sizes: [["k", 1, 6, 2], ["n", 2, 7, 4]], labels: (k, n) => partitionsInside(k, n - k), by: "entry",
-    line: (left, right, k) => `mult -r ${k} ${left.join(" ")} - ${right.join(" ")}`, letter: "σ",
+    line: (left, right, k) => `mult -r ${k} ${left.join(" ")} - ${right.join(" ")}`, letter: "q",
     counts: (term, k, n) => (term.first[0] || 0) <= n - k, said: (k, n) => `σ_{λ} · σ_{μ} in H*(Gr(${k},${n}))`,
   },
   quantum: {
     title: "Quantum products of Gr(k,n)", sizes: [["k", 1, 6, 2], ["n", 2, 7, 4]], labels: (k, n) => partitionsInside(k, n - k), by: "entry",
-    line: (left, right, k, n) => `quantum ${k} ${n - k} ${left.join(" ")} - ${right.join(" ")}`, letter: "σ",
+    line: (left, right, k, n) => `quantum ${k} ${n - k} ${left.join(" ")} - ${right.join(" ")}`, letter: "q",
     counts: () => true, said: (k, n) => `σ_{λ} * σ_{μ} in QH*(Gr(${k},${n}))`,
   },
   schubert: {
