@@ -1,6 +1,10 @@
 """What tests/page tries on pages of their own: addresses, reloads, lists of commands, and what no address may do. Each visit gives what is wrong,
 if something is. A visit gets the browser, the page's path, and its size."""
+import functools
+import http.server
 import json
+import os
+import threading
 import time
 import urllib.parse
 
@@ -81,18 +85,23 @@ def back(*where):
         return wrong((first, [["coef 2 - 1 - 1", "1\n"]]), (visit.answers(), first))
 
 
+def reloaded(visit):
+    """Loads the page again."""
+    if visit.page.browser == "chromium":
+        visit.page.channel.ask("Page.reload")
+    else:
+        visit.page.channel.ask("browsingContext.reload", context=visit.page.context, wait="complete")
+    time.sleep(0.3)
+    visit.helped()
+
+
 def reload(*where):
     """A page that is loaded again has its answers again, each once, and the arrow keys bring its lines back."""
     with Visit(*where) as visit:
         for line in ("coef 1 - 1 -", "mult (1) - (1)", "coef 2 - 1 - 1; mult 1 2 - 1"):
             visit.run(line)
         before = visit.answers()
-        if visit.page.browser == "chromium":
-            visit.page.channel.ask("Page.reload")
-        else:
-            visit.page.channel.ask("browsingContext.reload", context=visit.page.context, wait="complete")
-        time.sleep(0.3)
-        visit.helped()
+        reloaded(visit)
         after = visit.answers()
         kept = visit.ask("return [document.getElementById('history').hidden, asked.slice(-2)]")
         return wrong((after, before), (len(before), 4), (kept, [False, ["coef 2 - 1 - 1", "mult 1 2 - 1"]]))
@@ -280,4 +289,31 @@ def pictures(*where):
         return ""
 
 
-VISITS = [back, reload, heavy_link, unseen_link, several_readings_link, draft, fresh_field, transcript, show_more, thousands, cleared, help_asked, forms, tables, pictures]
+class Quiet(http.server.SimpleHTTPRequestHandler):
+    """A server of a folder that writes nothing of it."""
+
+    def log_message(self, *_):
+        pass
+
+
+def installed(browser, path, size):
+    """The page of an app, once it was opened from a server, works when that is gone."""
+    folder = os.path.join(os.path.dirname(path), "app")
+    server = http.server.ThreadingHTTPServer(("127.0.0.1", 0), functools.partial(Quiet, directory=folder))
+    threading.Thread(target=server.serve_forever, daemon=True).start()
+    visit = Visit(browser, path, size)
+    visit.page.url = f"http://127.0.0.1:{server.server_address[1]}/"
+    with visit:
+        named = visit.ask("return (await (await fetch('calc.webmanifest').catch(() => ({ json: () => null }))).json())")
+        visit.ask("await navigator.serviceWorker.ready; await until(() => navigator.serviceWorker.controller)")
+        server.shutdown()
+        server.server_close()
+        reloaded(visit)
+        visit.run("coef 2 - 1 - 1")
+        with open(os.path.join(folder, "calc.webmanifest"), encoding="utf-8") as file:
+            manifest = json.load(file)
+        # (the policy lets the script of the page itself ask for nothing)
+        return wrong((visit.answers(), [["coef 2 - 1 - 1", "1\n"]]), (named, None), (manifest["display"], "standalone"))
+
+
+VISITS = [back, reload, heavy_link, unseen_link, several_readings_link, draft, fresh_field, transcript, show_more, thousands, cleared, help_asked, forms, tables, pictures, installed]
