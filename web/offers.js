@@ -1,7 +1,8 @@
 // What a line could mean: lines that the program takes, each shown in mathematics. They are offered, and run only when one is pressed.
 
-/** The most lines that are offered for one. */
+/** The most lines that are offered for one, and the longest line that is looked at for it. */
 const MOST_OFFERED = 4;
+const LONGEST_OFFERED = 2000;
 
 /** A list of numbers as text for a line. */
 const asWords = (numbers) => numbers.join(" ");
@@ -66,22 +67,35 @@ function singlesOf(name, lists) {
   return slots.map((it) => String(it.role === "rows" ? rows : columns));
 }
 
+/** The tokens without the options of the command, wherever they stand, and these as text. */
+function withoutOptions(name, all) {
+  const known = GRAMMAR.get(name).words.flatMap((it) => it.optional || [it]).map((it) => it.sign);
+  const r = known.includes("-r") ? all.findIndex((it, i) => it.text === "-r" && all[i + 1] && all[i + 1].kind === "number") : -1;
+  const hasLine = known.includes("-m") && all.some((it) => it.text === "-m");
+  const tokens = all.filter((it, i) => !(r >= 0 && (i === r || i === r + 1)) && !["-m", "-r"].includes(it.text));
+  return { options: [r >= 0 ? `-r ${all[r + 1].text}` : "", hasLine ? "-m" : ""].filter(Boolean).join(" "), tokens };
+}
+
 /** All ways to read the lists of a line, each as the words of a line; some of them are no lines. */
-function* waysOf(name, tokens, typed) {
-  const slots = GRAMMAR.get(name).words, hasOption = slots.some((it) => it.optional && it.optional[0].sign === "-m");
-  const options = hasOption && tokens.some((it) => it.text === "-m") ? "-m" : "";
+function* waysOf(name, all, typed) {
+  const { options, tokens } = withoutOptions(name, all);
+  if (tokens.some((it) => it.kind === "other" && !"=:".includes(it.text)) || tokens.some((it) => it.kind === "flag")) return;
   const signs = tokens.filter((it) => it.kind === "sign" || numbersIn(it)), groups = groupsOf(tokens);
-  const joined = [name, ...signs.flatMap((it) => numbersIn(it) || [it.text === "*" ? "-" : it.text === "," ? "" : it.text])].join(" ").replace(/ +/g, " ");
+  const joined = [name, options, ...signs.flatMap((it) => numbersIn(it) || [it.text === "*" ? "-" : it.text === "," ? "" : it.text])].join(" ").replace(/ +/g, " ");
   if (groups.some((it) => it.scalar) || (groups[0] && groups[0].isMinus)) {
     const factor = (it) => `${it.scalar ? `${it.scalar}*` : ""}s[${it.numbers.join(",")}]`;
     if (name === "mult") yield `expand s ${groups[0].isMinus ? "-" : ""}${groups.map(factor).join("*")}`;
     return yield joined;
   }
+  if (tokens.some((it) => it.text === "/") && !signsOf(name, 1).includes("/")) {
+    if (groups.length === 2 && tokens.length === 3) yield `skew ${options} ${groups.map((it) => asWords(it.numbers)).join(" / ")}`.replace(/ +/g, " ");
+    return;
+  }
   if (groups.some((it) => it.isPrimed)) return yield* plainWays(name, groups.map((it) => (it.isPrimed ? conjugate(it.numbers) : it.numbers)), options);
-  yield* cycleWays(name, tokens);
+  yield* cycleWays(name, tokens, options);
   yield* plainWays(name, groups.map((it) => (it.token.isIndex ? digitsOf(it.numbers[0]) : it.numbers)), options);
   yield* plainWays(name, groups.map((it) => it.numbers), options);
-  if (!tokens.some((it) => it.bracket)) yield* plainWays(name, typed.split(/[-/,;*]\s+|\s+[-/*]\s*/).map((it) => it.match(/\d+/g) || []).filter((it) => it.length > 0), options);
+  if (tokens.length === all.length && !tokens.some((it) => it.bracket)) yield* plainWays(name, typed.split(/[-/,;*]\s+|\s+[-/*]\s*/).map((it) => it.match(/\d+/g) || []).filter((it) => it.length > 0), options);
   return singlesOf(name, []).length > 0 ? undefined : yield joined;
 }
 
@@ -95,12 +109,12 @@ function* plainWays(name, lists, options) {
     else yield lineOf(name, missing, lists, options);
     return;
   }
-  if (slots[0] && slots[0].sign === "-r") yield lineOf(name, ["-r", String(Math.max(1, ...lists.map((it) => it.length)))], lists);
-  yield lineOf(name, [], lists, options);
+  const front = options || !slots[0] || slots[0].sign !== "-r" ? options : `-r ${Math.max(1, ...lists.map((it) => it.length))}`;
+  yield lineOf(name, [], lists, front);
 }
 
 /** The readings of lists in parentheses as permutations: in one line, and as cycles. */
-function* cycleWays(name, tokens) {
+function* cycleWays(name, tokens, options) {
   const kinds = GRAMMAR.get(name).words.filter(isList).map((it) => it.role);
   if (!["permutation", "letters"].includes(kinds[0])) return;
   const factors = [[]];
@@ -110,10 +124,11 @@ function* cycleWays(name, tokens) {
   }
   const isCut = kinds.length > 1 && factors.length === 1;
   const cut = isCut ? factors[0].map((it) => [it]) : factors;
-  const front = GRAMMAR.get(name).words[0].sign === "-r" ? ["-r", (tokens.find((it) => it.kind === "number") || { text: String(Math.max(1, tokens.length)) }).text] : [];
+  const most = String(Math.max(1, ...tokens.map((it) => (it.numbers || []).length)));
+  const front = options || GRAMMAR.get(name).words[0].sign !== "-r" ? options : `-r ${most}`;
   const cycles = cut.map((factor) => fromCycles(factor.map((it) => it.numbers)));
-  if (cut.every((factor) => factor.length === 1)) yield lineOf(name, front, cut.map(([it]) => it.numbers));
-  if (cycles.every(Boolean)) yield lineOf(name, front, cycles);
+  if (cut.every((factor) => factor.length === 1)) yield lineOf(name, [], cut.map(([it]) => it.numbers), front);
+  if (cycles.every(Boolean)) yield lineOf(name, [], cycles, front);
 }
 
 /** The readings of a line with an expression: blanks as nothing or as times signs, and atoms for lists. */
@@ -131,6 +146,13 @@ function* expressionWays(name, text) {
   }
 }
 
+/** The reading of sums and products of lists as an expression in Schur functions. */
+function* sumWays(name, text) {
+  if (name !== "mult" || !text.includes("+")) return;
+  const atoms = text.replace(/(?:s_?)?[([{](\d+(?:[\s,]+\d+)*)[)\]}]/g, (_, list) => `s[${list.replace(/[\s,]+/g, ",")}]`);
+  yield `expand s ${atoms.replace(/\s+/g, "")}`;
+}
+
 /** The readings of a line that has a name of no command, or none. */
 function* namelessWays(line) {
   const [first] = textsOfWords(line), other = first === undefined ? null : commandLike(first);
@@ -143,14 +165,15 @@ function* namelessWays(line) {
 
 /** The lines that a line which the program refuses could mean. */
 function offersFor(typed) {
-  const isHidden = HIDDEN_INSIDE.test(typed), seen = typed.replace(ALL_UNSEEN, "");
-  const ways = isHidden ? [seen, typed.replace(ALL_UNSEEN, " ")] : [];
+  if (typed.length > LONGEST_OFFERED) return [];
+  const isHidden = HIDDEN_INSIDE.test(typed), seen = withSingleBlanks(typed.replace(ALL_UNSEEN, ""));
+  const ways = isHidden ? [seen, withSingleBlanks(typed.replace(ALL_UNSEEN, " "))] : [];
   let line = seen.replace(/^\s*\$?\s*/, "").replace(PROGRAM, "").replace(/^lrcalc\s+/, "").trim();
   for (const [, from, to] of SAME) line = line.replace(from, to);
   const name = /^[a-z]*/.exec(line)[0], rest = line.slice(name.length);
   if (!GRAMMAR.has(name)) ways.push(...namelessWays(line));
   else if (["expand", "plethysm"].includes(name)) ways.push(...expressionWays(name, rest));
-  else ways.push(...waysOf(name, tokensOf(withoutQuotes(rest)), rest), ...lettersApart(line));
+  else ways.push(...waysOf(name, tokensOf(withoutQuotes(rest)), rest), ...sumWays(name, rest), ...lettersApart(line));
   const lines = ways.map((it) => readTyped(it)).filter((it) => !it.reason).map((it) => it.line);
   return [...new Set(lines)].filter((it) => it !== typed.trim() && isSound(textsOfWords(it))).slice(0, MOST_OFFERED);
 }

@@ -13,7 +13,7 @@ const CHANGES = {
   command: "put the command in front",
   apart: "wrote the separators between the lists",
   lists: "wrote lists as their numbers with blanks between",
-  options: "put the options in front",
+  options: "put the options in front, as words",
   joined: "took the blanks out of the expression",
   atoms: "wrote the atoms of the expression with brackets",
   lrcalc: "wrote the command of lrcalc as the one here",
@@ -30,6 +30,9 @@ const UNCLEAR = {
   factors: "In the expression two factors have no sign between them.",
   coprod: "Without -a, lrcalc prints only one of the pairs μ, ν and ν, μ. Here all are printed.",
 };
+
+/** The longest line of which the page reads more than the program does. */
+const LONGEST = 10000;
 
 /** Unseen characters inside a word. */
 const HIDDEN_INSIDE = new RegExp(`[\\p{L}\\p{N}]${UNSEEN.source}+[\\p{L}\\p{N}]`, "u");
@@ -229,7 +232,8 @@ function plainLine(typed, change) {
   replace("unseen", ALL_UNSEEN, "");
   line = line.trim();
   replace("prompt", /^\$[ \t]*/, "");
-  replace("comment", /(?:^|[ \t]+)#.*$/, "");
+  const comment = line.search(/(?:^|[ \t])#/);
+  if (comment >= 0) change("comment", line, (line = line.slice(0, comment).trimEnd()));
   const outer = Object.hasOwn(QUOTES, line[0]) && endOfQuoted(line, 0) === line.length - 1 ? line.slice(1, -1) : line;
   change("quotes", line, (line = outer));
   replace("name", PROGRAM, "");
@@ -272,7 +276,8 @@ function understood(line, change) {
   const signs = (given) => given.filter((it) => ["-", "/"].includes(it)).length;
   if (signs(words) > signs(tokens.filter((it) => it.kind === "sign").map((it) => it.text))) change("apart", bare, null);
   if (lists.length > 0) change("lists", bare, null);
-  if (["-r", "-m"].some((it) => words[1] === it && !(tokens[0].text === it))) change("options", bare, null);
+  const isMoved = tokens.some((it) => it.kind === "flag") && withSingleBlanks(line) !== words.join(" ");
+  if (isMoved && (lists.length === 0 || tokens[0].kind !== "flag")) change("options", bare, null);
   return words;
 }
 
@@ -299,13 +304,19 @@ function readTyped(typed) {
     if (line === "" || isCommand(textsOfWords(line))) return cleaned;
     const help = helpAsked(line);
     if (help !== undefined) return { line, changes: [], help };
-    const changes = [...cleaned.changes], words = understood(line, noteIn(changes));
+    if (line.length > LONGEST) return cleaned;
+    const changes = [...cleaned.changes], words = understood(withSingleBlanks(line), noteIn(changes));
     return words && isCommand(words) ? { line: words.join(" "), changes } : cleaned;
   } catch (error) {
     if (!(error instanceof Unclear)) throw error;
     if (cleaned.line === asTyped) cleaned.changes = [];
     return { ...cleaned, reason: error.message };
   }
+}
+
+/** A line with one blank between its words. */
+function withSingleBlanks(line) {
+  return line.replace(/[ \t]+/g, " ");
 }
 
 /** Notes a change of a text by its name in CHANGES, once, where the text is another one. */
