@@ -307,7 +307,7 @@
 
     /** How many Tabs lead from the field through the rest of the page; what has the focus on the way is noted. */
     async follow() {
-      await checks.says("Ready.");
+      await until(() => isReady && !running);
       path = stops();
       path.splice(0, path.indexOf(at("line")) + 1);
       count = 0;

@@ -263,7 +263,7 @@ def tables(*where):
 PICTURES = [
     ("rsk 3 1 2", 4, "tableau P with the rows 1 2, 3"),
     ("rect 2 2 / 1 - 1 / 1 2", 2, "tableau with the rows 1 1, 2"),
-    ("tab 3 2 1 / 2 1", 3, "partition 3"),
+    ("tab 3 2 1 / 2 1", 12, "partition 1,1,1"),
     ("schubert 1 4 3 2", 5, "pipe dream with crosses in row 2 column 2, row 2 column 1, row 3 column 1"),
     ("schubert 3 1 2", 1, None),
     ("schubert 2 3 1", 1, None),

@@ -29,8 +29,8 @@ function fieldOf(slot, isOptional) {
   let input;
   if (slot.role === "basis") input = element("select", {}, ..."smehp".split("").map((it) => element("option", {}, it)));
   else if (NUMBERS[slot.role]) {
-    const [least, limit] = NUMBERS[slot.role];
-    input = element("input", { type: "number", min: String(least), max: String(LIMITS[limit]), inputmode: "numeric", ...(isOptional ? {} : { value: String(Math.max(least, 2)), required: "" }) });
+    const [least, limit] = NUMBERS[slot.role], first = isOptional ? {} : { value: String(Math.max(least, 2)), required: "" };
+    input = element("input", { type: "number", min: String(least), max: String(LIMITS[limit]), inputmode: "numeric", ...first });
   } else input = element("input", { autocomplete: "off", autocapitalize: "off", spellcheck: "false", placeholder: hint });
   input.dataset.role = slot.role;
   return element("label", {}, label, " ", input);
@@ -39,7 +39,7 @@ function fieldOf(slot, isOptional) {
 /** The words of what a field has: of a list its numbers, if it has one reading. */
 function wordsOfField(input) {
   const { role } = input.dataset, text = input.value.trim();
-  if (!["partition", "permutation", "letters"].includes(role)) return text;
+  if (!PLAIN_LISTS.includes(role)) return text;
   const tokens = tokensOf(text), isNumbers = tokens.every((it) => it.kind === "number" && it.gap);
   if (isNumbers) return text;
   try {

@@ -43,7 +43,8 @@ function groupsOf(tokens) {
     else if (isFactor) run = null;
     else if (numbers) {
       const before = tokens[i - 1], scalar = before && !token.gap && before.kind === "number" ? before.text : "";
-      groups.push({ numbers: [...numbers], token, scalar, isPrimed: false, isMinus: before !== undefined && before.text === "-" && !token.gap });
+      const isMinus = before !== undefined && before.text === "-" && !token.gap;
+      groups.push({ numbers: [...numbers], token, scalar, isMinus, isPrimed: false });
       run = token.kind === "number" ? groups[groups.length - 1] : null;
     } else {
       run = null;
@@ -81,7 +82,8 @@ function* waysOf(name, all, typed) {
   const { options, tokens } = withoutOptions(name, all);
   if (tokens.some((it) => it.kind === "other" && !"=:".includes(it.text)) || tokens.some((it) => it.kind === "flag")) return;
   const signs = tokens.filter((it) => it.kind === "sign" || numbersIn(it)), groups = groupsOf(tokens);
-  const joined = [name, options, ...signs.flatMap((it) => numbersIn(it) || [it.text === "*" ? "-" : it.text === "," ? "" : it.text])].join(" ").replace(/ +/g, " ");
+  const sign = (it) => ({ "*": "-", ",": "" })[it.text] ?? it.text;
+  const joined = withSingleBlanks([name, options, ...signs.flatMap((it) => numbersIn(it) || [sign(it)])].join(" "));
   if (groups.some((it) => it.scalar) || (groups[0] && groups[0].isMinus)) {
     const factor = (it) => `${it.scalar ? `${it.scalar}*` : ""}s[${it.numbers.join(",")}]`;
     if (name === "mult") yield `expand s ${groups[0].isMinus ? "-" : ""}${groups.map(factor).join("*")}`;
@@ -91,11 +93,13 @@ function* waysOf(name, all, typed) {
     if (groups.length === 2 && tokens.length === 3) yield `skew ${options} ${groups.map((it) => asWords(it.numbers)).join(" / ")}`.replace(/ +/g, " ");
     return;
   }
-  if (groups.some((it) => it.isPrimed)) return yield* plainWays(name, groups.map((it) => (it.isPrimed ? conjugate(it.numbers) : it.numbers)), options);
+  const conjugates = groups.map((it) => (it.isPrimed ? conjugate(it.numbers) : it.numbers));
+  if (groups.some((it) => it.isPrimed)) return yield* plainWays(name, conjugates, options);
   yield* cycleWays(name, tokens, options);
   yield* plainWays(name, groups.map((it) => (it.token.isIndex ? digitsOf(it.numbers[0]) : it.numbers)), options);
   yield* plainWays(name, groups.map((it) => it.numbers), options);
-  if (tokens.length === all.length && !tokens.some((it) => it.bracket)) yield* plainWays(name, typed.split(/[-/,;*]\s+|\s+[-/*]\s*/).map((it) => it.match(/\d+/g) || []).filter((it) => it.length > 0), options);
+  const pieces = typed.split(/[-/,;*]\s+|\s+[-/*]\s*/).map((it) => it.match(/\d+/g) || []);
+  if (tokens.length === all.length && !tokens.some((it) => it.bracket)) yield* plainWays(name, pieces.filter((it) => it.length > 0), options);
   return singlesOf(name, []).length > 0 ? undefined : yield joined;
 }
 
@@ -182,8 +186,7 @@ function offersFor(typed) {
 function lettersApart(line) {
   const words = textsOfWords(line), parts = partsOf(words);
   if (!parts) return [];
-  const roles = ["partition", "permutation", "letters"];
-  const isRun = ({ role, words: [first, ...more] }) => roles.includes(role) && more.length === 0 && first !== undefined && digitsOf(first).length > 1;
+  const isRun = ({ role, words: [first, ...more] }) => PLAIN_LISTS.includes(role) && more.length === 0 && first !== undefined && digitsOf(first).length > 1;
   if (!parts.some(isRun)) return [];
   const other = [words[0], ...parts.flatMap((it) => (it.sign ? [it.sign] : isRun(it) ? digitsOf(it.words[0]) : it.words))];
   return isSound(other) ? [asWords(other)] : [];
@@ -210,7 +213,8 @@ function meantInstead(line) {
     const [rows, columns] = words.slice(1, 3).map(Number), width = columns - rows;
     const other = [words[0], words[1], String(width), ...words.slice(3)], lists = (partsOf(words) || []).filter((it) => it.role === "partition");
     const isFitting = lists.every(({ words: it }) => partition(it).length <= rows && Number(it[0] || 0) <= width);
-    if (width > 0 && isFitting && isSound(other)) found.push({ line: asWords(other), why: `C = ${columns} is the number of columns. In Gr(${rows},${columns}) it is` });
+    const why = `C = ${columns} is the number of columns. In Gr(${rows},${columns}) it is`;
+    if (width > 0 && isFitting && isSound(other)) found.push({ line: asWords(other), why });
   }
   return found;
 }

@@ -132,7 +132,8 @@ function signsOf(name, count) {
 /** Whether all lists are side by side, all between the command's own signs, or all factors between times signs. */
 function areSigns(given, wanted, name) {
   if (given.length !== wanted.length) return false;
-  const isProduct = GRAMMAR.get(name).words.some((slot) => slot.more) || name.endsWith("schubmult") || name === "schubmult";
+  const slots = GRAMMAR.get(name).words, lists = slots.filter(isList);
+  const isProduct = slots.some((slot) => slot.more) || (lists.length > 1 && lists.every((slot) => slot.role === "permutation"));
   const isBare = given.every((it) => it === "" || it === ",");
   return given.every((it, i) => it === wanted[i]) || isBare || (isProduct && given.every((it) => it === "*"));
 }
@@ -151,20 +152,27 @@ function assembled(name, tokens) {
   return [...words, ...listsOf(name, rest.slice(at), lists)];
 }
 
+/** The sign before the tableau that comes after other lists of a command, if one does, and whether it is needed. */
+function signOfTableau(name) {
+  const slots = GRAMMAR.get(name).words, isTableau = (slot) => slot && isList(slot) && !PLAIN_LISTS.includes(slot.role);
+  const own = slots.findIndex(isTableau), option = slots.find((slot) => slot.optional && isTableau(slot.optional[1]));
+  return own > 0 ? [slots[own - 1].sign, true] : [option && option.optional[0].sign, false];
+}
+
 /** The words of the lists of a command: its partitions or permutations, and its tableaux after them. */
 function listsOf(name, tokens, slots) {
-  const plain = slots.filter((it) => ["partition", "permutation", "letters"].includes(it.role));
+  const plain = slots.filter((it) => PLAIN_LISTS.includes(it.role));
   if (plain.length === 0 && slots.length === 0) return tokens.length === 0 ? [] : unclear("lists");
   if (plain.length === 0) {
     const cut = tokens.findIndex((it) => it.text === "-");
     return cut < 0 ? unclear("lists") : [...tableauOf(tokens.slice(0, cut)), "-", ...tableauOf(tokens.slice(cut + 1))];
   }
-  const from = tokens.findIndex((it) => it.kind === "flag"), dash = tokens.findIndex((it) => it.text === "-");
-  const cut = name === "rect" ? dash : name === "tab" && from >= 0 && tokens[from].text === "-from" ? from : tokens.length;
-  if (cut < 0) unclear("lists");
-  const tail = cut < tokens.length ? [tokens[cut].text, ...tableauOf(tokens.slice(cut + 1))] : [];
+  const [sign, isNeeded] = signOfTableau(name), found = tokens.findIndex((it) => it.text === sign);
+  if (found < 0 && isNeeded) unclear("lists");
+  const cut = found < 0 ? tokens.length : found;
+  const tail = found < 0 ? [] : [sign, ...tableauOf(tokens.slice(cut + 1))];
   const { operands, signs } = operandsOf(tokens.slice(0, cut));
-  const wanted = signsOf(name, Math.max(signs.length, 1)).slice(0, name === "rect" || name === "tab" ? 1 : undefined);
+  const wanted = signsOf(name, Math.max(signs.length, 1)).slice(0, sign ? plain.length - 1 : undefined);
   if (!areSigns(signs, wanted, name)) unclear(signs.length > 0 ? "lists" : "");
   const words = operands.flatMap((operand, i) => [...(i > 0 ? [wanted[i - 1]] : []), ...listWords(operand, plain[0].role)]);
   return [...words, ...tail];
