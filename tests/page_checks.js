@@ -271,12 +271,12 @@
       await answer("rsk 3 1 2");
       await answer("mult 2(2,1) - 1");
       all("#commands details").forEach((it) => (it.open = true));
-      all(".entry button").forEach((it) => it.getAttribute("aria-expanded") === "false" && it.click());
+      all(".open-form").forEach((it) => it.getAttribute("aria-expanded") === "false" && it.click());
       const targets = all("button, select, input:not([type=checkbox]):not([type=range]), summary, nav a, #asking input").filter((it) => it.checkVisibility());
       const small = targets.filter((it) => it.getBoundingClientRect().height < 43.9 || it.getBoundingClientRect().width < 43.9);
       const fields = all("input, select").filter((it) => it.checkVisibility() && parseFloat(getComputedStyle(it).fontSize) < 16);
       const found = WIDTH > 600 ? [] : [...small, ...fields].map((it) => `${it.localName} ${it.textContent.slice(0, 20)} ${it.getBoundingClientRect().height}`);
-      all(".entry button").forEach((it) => it.getAttribute("aria-expanded") === "true" && it.click());
+      all(".open-form").forEach((it) => it.getAttribute("aria-expanded") === "true" && it.click());
       all("#commands details").forEach((it) => (it.open = false));
       return [found.slice(0, 5), isWide()];
     },
@@ -307,7 +307,7 @@
 
     /** How many Tabs lead from the field through the rest of the page; what has the focus on the way is noted. */
     async follow() {
-      await checks.says("Ready.");
+      await until(() => isReady && !running);
       path = stops();
       path.splice(0, path.indexOf(at("line")) + 1);
       count = 0;

@@ -1,13 +1,17 @@
 """What tests/page tries on pages of their own: addresses, reloads, lists of commands, and what no address may do. Each visit gives what is wrong,
 if something is. A visit gets the browser, the page's path, and its size."""
+import functools
+import http.server
 import json
+import os
+import threading
 import time
 import urllib.parse
 
 from browse import Page
 
 HEAVY = "mult 9 8 7 6 5 4 3 2 1 - 9 8 7 6 5 4 3 2 1 - 9 8 7 6 5 4 3 2 1"
-LARGE = "mult 12 10 8 6 5 4 3 2 1 - 8 7 6 5 4 3 2 1"
+LARGE = "mult 8 6 5 4 3 2 1 - 6 5 4 3 2 1"
 TRANSCRIPT = """    $ ./calc mult 2 1 - 2 1
     1  (4,2)
     1  (4,1,1)
@@ -81,18 +85,23 @@ def back(*where):
         return wrong((first, [["coef 2 - 1 - 1", "1\n"]]), (visit.answers(), first))
 
 
+def reloaded(visit):
+    """Loads the page again."""
+    if visit.page.browser == "chromium":
+        visit.page.channel.ask("Page.reload")
+    else:
+        visit.page.channel.ask("browsingContext.reload", context=visit.page.context, wait="complete")
+    time.sleep(0.3)
+    visit.helped()
+
+
 def reload(*where):
     """A page that is loaded again has its answers again, each once, and the arrow keys bring its lines back."""
     with Visit(*where) as visit:
         for line in ("coef 1 - 1 -", "mult (1) - (1)", "coef 2 - 1 - 1; mult 1 2 - 1"):
             visit.run(line)
         before = visit.answers()
-        if visit.page.browser == "chromium":
-            visit.page.channel.ask("Page.reload")
-        else:
-            visit.page.channel.ask("browsingContext.reload", context=visit.page.context, wait="complete")
-        time.sleep(0.3)
-        visit.helped()
+        reloaded(visit)
         after = visit.answers()
         kept = visit.ask("return [document.getElementById('history').hidden, asked.slice(-2)]")
         return wrong((after, before), (len(before), 4), (kept, [False, ["coef 2 - 1 - 1", "mult 1 2 - 1"]]))
@@ -205,17 +214,18 @@ def help_asked(*where):
 def forms(*where):
     """The form of a command makes its line, and runs it."""
     with Visit(*where) as visit:
-        script = """const row = document.getElementById("help-quantum"); row.querySelector(".entry button").click();
+        script = """const row = document.getElementById("help-quantum"); row.querySelector(".open-form").click();
         const form = row.querySelector("form"), [k, c, left, right] = form.querySelectorAll("input"); k.value = "2"; c.value = "2"; left.value = "(2,1)"; right.value = "2 1";
         form.dispatchEvent(new Event("input")); const said = form.querySelector(".note").textContent; form.requestSubmit(); await quiet();
-        const all = [...document.querySelectorAll(".entry")].filter((it) => it.querySelector("button")); for (const it of all) if (!it.querySelector("form")) it.querySelector("button").click();
+        const all = [...document.querySelectorAll(".open-form")]; for (const it of all) if (it.getAttribute("aria-expanded") === "false") it.click();
         return [said, answers()[0], all.length, document.querySelectorAll(".fields").length, document.documentElement.scrollWidth <= WIDTH]"""
         got = visit.ask(script.replace("WIDTH", str(visit.page.width)))
-        return wrong((got, ["quantum 2 2 2 1 - 2 1 σ(2,1) * σ(2,1) in QH*(Gr(2,4))", ["quantum 2 2 2 1 - 2 1", "1  q^0  (2,2)\n1  q^1  ()\n"], 18, 18, True]))
+        return wrong((got, ["quantum 2 2 2 1 - 2 1 σ(2,1) * σ(2,1) in QH*(Gr(2,4))", ["quantum 2 2 2 1 - 2 1", "1  q^1  (2)\n1  q^1  (1,1)\n"], 18, 18, True]))
 
 
-# The characters of S_3, by cycle types (3), (2,1), (1,1,1); and products in Gr(1,3), the projective plane.
+# The characters of S_3, by cycle types (3), (2,1), (1,1,1); and products in Gr(1,3), the projective plane, without q and with it.
 CHARACTERS = [["1", "1", "1"], ["-1", "0", "2"], ["1", "-1", "1"]]
+QUANTUM_PLANE = [["()", "(1)", "(2)"], ["(1)", "(2)", "q*()"], ["(2)", "q*()", "q*(1)"]]
 PLANE = [["()", "(1)", "(2)"], ["(1)", "(2)", "0"], ["(2)", "0", "0"]]
 
 
@@ -230,9 +240,11 @@ def tables(*where):
         const cells = () => [...document.querySelectorAll(".made tr")].slice(1).map((row) => [...row.querySelectorAll("td")].map((it) => it.textContent.replace("−", "-")));
         const found = [];
         for (const given of [["characters", 3], ["classical", 1, 3]]) { await choose(...given); found.push(cells(), await copied("Copy CSV"), JSON.parse(await copied("Copy JSON"))); }
+        await choose("quantum", 1, 3);
+        found.push(cells(), await copied("Copy CSV"));
         await choose("classical", 4, 2);
         return [...found, document.getElementById("said-of-table").textContent, document.documentElement.scrollWidth]"""
-        first, csv, data, second, csv2, data2, said, width = visit.ask(make)
+        first, csv, data, second, csv2, data2, third, csv3, said, width = visit.ask(make)
         labels = [[3], [2, 1], [1, 1, 1]]
         wanted_csv = ",(3),\"(2,1)\",\"(1,1,1)\"\r\n" + "".join(
             f"{label},{','.join(row)}\r\n" for label, row in zip(['(3)', '"(2,1)"', '"(1,1,1)"'], CHARACTERS)
@@ -242,7 +254,8 @@ def tables(*where):
         return wrong(
             (first, CHARACTERS), (csv, wanted_csv), (data["labels"], labels), (data["entries"], [[int(it) for it in row] for row in CHARACTERS]),
             (second, wanted2), (csv2.splitlines()[1:], [f"{label},{','.join(row)}" for label, row in zip(["()", "(1)", "(2)"], PLANE)]),
-            (data2["entries"], products), (said, "n has to be greater than k."), (width <= visit.page.width, True),
+            (data2["entries"], products), (third, [[f"{'q ' if '*' in it else ''}σ{it.replace('q*', '').replace('()', '∅')}" for it in row] for row in QUANTUM_PLANE]),
+            (csv3.splitlines()[1:], [f"{label},{','.join(row)}" for label, row in zip(["()", "(1)", "(2)"], QUANTUM_PLANE)]), (said, "n has to be greater than k."), (width <= visit.page.width, True),
         )
 
 
@@ -250,8 +263,8 @@ def tables(*where):
 PICTURES = [
     ("rsk 3 1 2", 4, "tableau P with the rows 1 2, 3"),
     ("rect 2 2 / 1 - 1 / 1 2", 2, "tableau with the rows 1 1, 2"),
-    ("tab 3 2 1 / 2 1", 3, "partition 3"),
-    ("schubert 1 4 3 2", 5, "pipe dream with crosses in row 1 column 2, row 1 column 1, row 2 column 1"),
+    ("tab 3 2 1 / 2 1", 12, "partition 1,1,1"),
+    ("schubert 1 4 3 2", 5, "pipe dream with crosses in row 2 column 2, row 2 column 1, row 3 column 1"),
     ("schubert 3 1 2", 1, None),
     ("schubert 2 3 1", 1, None),
     ("schubert 2 1 4 3", 3, None),
@@ -262,7 +275,7 @@ def pictures(*where):
     """The pictures go step by step from the begin to the answer."""
     with Visit(*where) as visit:
         script = """await (async () => { document.getElementById("line").value = %s; document.getElementById("run").click(); await quiet(); })();
-        const it = document.querySelector("article .steps"); if (!it) return null;
+        const it = document.querySelector("article").querySelector(".steps"); if (!it) return null;
         const press = (name) => [...it.querySelectorAll("button")].find((of) => of.textContent === name).click(), range = it.querySelector("input");
         const said = [it.querySelector(".step-caption").textContent]; for (let n = 1; n < Number(range.max); n += 1) press("Next"), said.push(it.querySelector(".step-caption").textContent);
         press("Next"); const names = [...it.querySelectorAll("[role=img]")].map((of) => of.getAttribute("aria-label")); press("Before");
@@ -276,4 +289,31 @@ def pictures(*where):
         return ""
 
 
-VISITS = [back, reload, heavy_link, unseen_link, several_readings_link, draft, fresh_field, transcript, show_more, thousands, cleared, help_asked, forms, tables, pictures]
+class Quiet(http.server.SimpleHTTPRequestHandler):
+    """A server of a folder that writes nothing of it."""
+
+    def log_message(self, *_):
+        pass
+
+
+def installed(browser, path, size):
+    """The page of an app, once it was opened from a server, works when that is gone."""
+    folder = os.path.join(os.path.dirname(path), "app")
+    server = http.server.ThreadingHTTPServer(("127.0.0.1", 0), functools.partial(Quiet, directory=folder))
+    threading.Thread(target=server.serve_forever, daemon=True).start()
+    visit = Visit(browser, path, size)
+    visit.page.url = f"http://127.0.0.1:{server.server_address[1]}/"
+    with visit:
+        named = visit.ask("return (await (await fetch('calc.webmanifest').catch(() => ({ json: () => null }))).json())")
+        visit.ask("await navigator.serviceWorker.ready; await until(() => navigator.serviceWorker.controller)")
+        server.shutdown()
+        server.server_close()
+        reloaded(visit)
+        visit.run("coef 2 - 1 - 1")
+        with open(os.path.join(folder, "calc.webmanifest"), encoding="utf-8") as file:
+            manifest = json.load(file)
+        # (the policy lets the script of the page itself ask for nothing)
+        return wrong((visit.answers(), [["coef 2 - 1 - 1", "1\n"]]), (named, None), (manifest["display"], "standalone"))
+
+
+VISITS = [back, reload, heavy_link, unseen_link, several_readings_link, draft, fresh_field, transcript, show_more, thousands, cleared, help_asked, forms, tables, pictures, installed]

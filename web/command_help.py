@@ -27,6 +27,7 @@ class Command:
     label: str = ""  # what the manual page calls these labels
     order: tuple = ()  # how the clauses of the manual page on the order of lines begin
     limits: tuple = ()  # the names of its limits there
+    is_exact: bool = False  # whether it is refused as too large only for a coefficient of the answer, and never for a bound
 
     def words(self):
         """The words after the name, in turn (`manual.slots`)."""
@@ -73,19 +74,19 @@ COMMANDS = [
     Command(
         "mult", "Products of Schur functions", "s_{λ} · s_{μ} = Σ c^{ν}_{λμ} s_{ν}",
         ["mult 2 1 - 2 1", "mult -r 2 2 1 - 2 1", "mult -m 1 - 1 - 1"],
-        "s", "a partition", ("Partitions",), FACTORS,
+        "s", "a partition", ("Partitions",), FACTORS, is_exact=True,
     ),
     Command(
         "skew", "Skew Schur functions", "s_{λ/μ} = Σ c^{λ}_{μν} s_{ν}", ["skew 3 2 1 / 2 1", "skew -m 3 2 1 / 2 1"],
-        "s", "a partition", ("Partitions",), (*PARTS, *ROWS),
+        "s", "a partition", ("Partitions",), (*PARTS, *ROWS), is_exact=True,
     ),
     Command(
         "coef", "A Littlewood–Richardson coefficient", "c^{ν}_{λμ}, the coefficient of s_{ν} in s_{λ} · s_{μ}",
-        ["coef 3 2 1 - 2 1 - 2 1"], "", limits=PARTS,
+        ["coef 3 2 1 - 2 1 - 2 1"], "", limits=PARTS, is_exact=True,
     ),
     Command(
         "coprod", "Coproducts of Schur functions", "s_{λ}(x, y) = Σ c^{λ}_{μν} s_{μ}(x) s_{ν}(y)", ["coprod 2 1"],
-        "s", "two partitions", ("Partitions", "A pair"), PARTS,
+        "s", "two partitions", ("Partitions", "A pair"), PARTS, is_exact=True,
     ),
     Command(
         "quantum", "Quantum products of Grassmannians", "σ_{λ} * σ_{μ} = Σ c q^{d} σ_{ν} in QH*(Gr(K, K+C))",
@@ -98,7 +99,7 @@ COMMANDS = [
     ),
     Command(
         "schubert", "Schubert polynomials", "S_{w} = Σ c x^{α}", ["schubert 2 1 4 3"],
-        "x", "the exponents of a monomial", ("monomials",), LETTERS,
+        "x", "the exponents of a monomial", ("monomials",), LETTERS, is_exact=True,
     ),
     Command(
         "schubmult", "Products of Schubert polynomials", "S_{u} · S_{v} = Σ c S_{w}", ["schubmult 1 3 2 - 1 3 2"],
@@ -111,8 +112,9 @@ COMMANDS = [
         ("letters of a permutation of dschubmult",),
     ),
     Command(
-        "stanley", "Stanley symmetric functions", "F_{w}(x_{1}, .., x_{K}) = S_{1^{K} × w}(x_{1}, .., x_{K}) = Σ c s_{ν}", ["stanley -r 2 2 1 4 3"],
-        "s", "a partition", ("Partitions",), (*LETTERS, *ROWS),
+        "stanley", "Stanley symmetric functions", "F_{w}(x_{1}, .., x_{K}) = S_{1^{K} × w}(x_{1}, .., x_{K}) = Σ c s_{ν}",
+        ["stanley -r 2 2 1 4 3"],
+        "s", "a partition", ("Partitions",), (*LETTERS, *ROWS), is_exact=True,
     ),
     Command(
         "expand", "An expression in a basis", "E = Σ c b_{λ}, with b = m, e, h, p or s",
@@ -172,8 +174,8 @@ def limits():
 
 
 def grammar():
-    """What the scripts of the page know of the commands: their words, the letter of their labels, their titles."""
-    return {it.name: {"words": it.words(), "letter": it.letter, "what": it.what, "examples": it.examples} for it in COMMANDS}
+    """What the scripts of the page know of the commands."""
+    return {it.name: {"words": it.words(), "letter": it.letter, "isExact": it.is_exact} for it in COMMANDS}
 
 
 def table():

@@ -139,8 +139,8 @@ function shownTerm(term, letter) {
   if (letter === "x") return monomial("x", term.first);
   if (letter === "S") return permutation(term.first);
   if (letter === "SS") return `${monomial("y", term.second)} ${permutation(term.first)}`.trim();
-  if (letter === "q") return `${power}σ${index(term.first)}`;
-  return term.second ? `s${index(term.first)}(x) s${index(term.second)}(y)` : `${letter}${index(term.first)}`;
+  if (term.second) return `s${index(term.first)}(x) s${index(term.second)}(y)`;
+  return `${power}${letter === "q" ? "σ" : letter}${index(term.first)}`;
 }
 
 /** A sum of terms in this notation. */

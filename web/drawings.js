@@ -55,7 +55,7 @@ function tableauPicture(rows, inner, title, marks) {
 }
 
 function figure(drawing, caption) {
-  return element("figure", {}, drawing, ...(caption === undefined ? [] : [element("figcaption", {}, caption)]));
+  return element("figure", {}, drawing, ...(caption === undefined ? [] : [element("figcaption", {}, ...formula(caption))]));
 }
 
 /** Two drawings of one term. */
@@ -81,7 +81,7 @@ function* figuresOf(answer) {
   }
   const size = (label) => label.reduce((sum, part) => sum + part, 0);
   for (const term of answer.terms) {
-    const caption = term.q ? `${term.c} q^${term.q}` : term.c;
+    const caption = term.q ? `${term.c} q^{${term.q}}` : term.c;
     const drawing = term.second ? pair(diagram(term.first), diagram(term.second)) : diagram(term.first);
     yield { cells: size(term.first) + size(term.second || []), figure: figure(drawing, caption) };
   }

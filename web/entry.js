@@ -29,8 +29,8 @@ function fieldOf(slot, isOptional) {
   let input;
   if (slot.role === "basis") input = element("select", {}, ..."smehp".split("").map((it) => element("option", {}, it)));
   else if (NUMBERS[slot.role]) {
-    const [least, limit] = NUMBERS[slot.role];
-    input = element("input", { type: "number", min: String(least), max: String(LIMITS[limit]), inputmode: "numeric", ...(isOptional ? {} : { value: String(Math.max(least, 2)), required: "" }) });
+    const [least, limit] = NUMBERS[slot.role], first = isOptional ? {} : { value: String(Math.max(least, 2)), required: "" };
+    input = element("input", { type: "number", min: String(least), max: String(LIMITS[limit]), inputmode: "numeric", ...first });
   } else input = element("input", { autocomplete: "off", autocapitalize: "off", spellcheck: "false", placeholder: hint });
   input.dataset.role = slot.role;
   return element("label", {}, label, " ", input);
@@ -39,7 +39,7 @@ function fieldOf(slot, isOptional) {
 /** The words of what a field has: of a list its numbers, if it has one reading. */
 function wordsOfField(input) {
   const { role } = input.dataset, text = input.value.trim();
-  if (!["partition", "permutation", "letters"].includes(role)) return text;
+  if (!PLAIN_LISTS.includes(role)) return text;
   const tokens = tokensOf(text), isNumbers = tokens.every((it) => it.kind === "number" && it.gap);
   if (isNumbers) return text;
   try {
@@ -103,14 +103,15 @@ function addEntries() {
   for (const place of document.querySelectorAll(".entry")) {
     const name = place.dataset.command;
     if (GRAMMAR.get(name).words.length === 0) continue;
-    const open = button("Form", () => {
+    const open = button("Fill in a form", () => {
       const form = place.querySelector("form");
       if (form) form.hidden = !form.hidden;
       else place.append(formOfCommand(name));
       open.setAttribute("aria-expanded", String(!form || !form.hidden));
     });
-    open.setAttribute("aria-label", `Form of ${name}`);
+    open.className = "open-form";
+    open.append(element("span", { class: "unseen" }, ` of ${name}`));
     open.setAttribute("aria-expanded", "false");
-    place.append(open);
+    place.parentElement.querySelector(".examples").append(open);
   }
 }

@@ -63,7 +63,12 @@ function done(job, answer) {
 
 /** Runs the commands of a text as they were typed, after those that wait. */
 function ask(text, most) {
-  const lines = linesOf(text), jobs = lines.map((typed) => ({ typed, most, done, ...readTyped(typed) })).filter((job) => job.line);
+  return askLines(linesOf(text), most);
+}
+
+/** Runs lines as they were typed, each for so many milliseconds at most. */
+function askLines(lines, most) {
+  const jobs = lines.map((typed) => ({ typed, most, done, ...readTyped(typed) })).filter((job) => job.line);
   const helps = jobs.filter((job) => job.help !== undefined), commands = jobs.filter((job) => job.help === undefined);
   if (helps.length > 0) openHelp(helps[helps.length - 1].help);
   else if (commands.length === 0) return say("Nothing to run: type a command, such as mult 2 1 - 2 1.");
@@ -163,14 +168,15 @@ function follow() {
   if (article) return article.scrollIntoView(), article.focus({ preventScroll: true });
   put(inSight(text));
   if (lines.every((it) => readTyped(it).reason === undefined) && isLight(lines)) return ask(text, LIGHT.time);
-  say(`This link has ${lines.length === 1 ? "a command" : `${lines.length} commands`} that can take long. Press Enter to run ${lines.length === 1 ? "it" : "them"}.`);
+  const [what, them] = lines.length === 1 ? ["a command", "it"] : [`${lines.length} commands`, "them"];
+  say(`This link has ${what} that can take long. Press Enter to run ${them}.`);
   return toField();
 }
 
 /** What a page that is opened runs: after a reload what it ran before; else the commands of its address. */
 function begin() {
   const [how] = performance.getEntriesByType("navigation"), before = keptList("sessionStorage", "calc: session");
-  if (how && ["reload", "back_forward"].includes(how.type) && before.length > 0) return ask(before.join("\n"), SHORT * 2);
+  if (how && ["reload", "back_forward"].includes(how.type) && before.length > 0) return askLines(before, SHORT * 2);
   keep("sessionStorage", "calc: session", []);
   return follow();
 }

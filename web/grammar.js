@@ -60,6 +60,8 @@ const LISTS = {
   recording: () => tableauWords("recording"),
   filling: () => tableauWords("filling"),
 };
+/** The roles of those that are numbers alone. */
+const PLAIN_LISTS = ["partition", "permutation", "letters"];
 const isList = (slot) => Object.hasOwn(LISTS, slot.role);
 
 /** The form of a slot of the table. */
@@ -109,7 +111,7 @@ function isCommand(words) {
 
 /** The end of the words from a place on that a list of this role takes. */
 function endOfList(words, from, role) {
-  const isPart = ["partition", "permutation", "letters"].includes(role) ? /^\d+$/ : /^(\d+|\.|\/)$/;
+  const isPart = PLAIN_LISTS.includes(role) ? /^\d+$/ : /^(\d+|\.|\/)$/;
   let end = from;
   while (end < words.length && isPart.test(words[end])) end += 1;
   return end;

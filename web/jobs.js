@@ -13,16 +13,23 @@ function say(text, spoken = "") {
 const LARGE_MEMORY = 1 << 28;
 /** The most waiting commands that are listed. */
 const MOST_LISTED = 100;
+/** From how many waiting commands on a queue is long, and how many of a long one the worker is given beside the one that runs. */
+const LONG_QUEUE = 50;
+const AHEAD = 16;
+
+const COMPILED = "The module is being compiled.";
 
 const waiting = [];
-let worker, isReady = false, running = null, clock;
+/** The commands that the worker was given beside the one that runs. */
+const ahead = [];
+let worker, isReady = false, running = null, clock, later;
 /** What the queue came to since it was empty: how many commands were answered, refused and stopped, and what a single one is said to have come to. */
 let round = { asked: 0, answered: 0, refused: 0, stopped: 0, last: [] };
 
 /** Starts the module anew. */
 function boot() {
   isReady = false;
-  if (!running && waiting.length === 0 && round.asked === 0) say("The module is being compiled.");
+  if (!running && waiting.length === 0 && round.asked === 0 && numberOfAnswer === 0) say(COMPILED);
   try {
     worker = new Worker(URL.createObjectURL(new Blob([WORKER], { type: "text/javascript" })));
     worker.onerror = (error) => fail(error.message || "its worker does not start");
@@ -44,7 +51,7 @@ function end() {
 function fail(message) {
   isReady = false;
   running = null;
-  waiting.length = 0;
+  waiting.length = ahead.length = 0;
   document.body.classList.add("failed");
   at("run").disabled = true;
   update();
@@ -56,14 +63,24 @@ function received(data) {
   if (data.ready) {
     isReady = true;
     at("run").disabled = false;
-    if (waiting.length === 0 && round.asked === 0) say("Ready.");
+    if (at("state").textContent === COMPILED) say("Ready.");
     return next();
   }
   const job = running;
-  running = null;
-  if (data.grown > LARGE_MEMORY) end(), boot();
+  running = ahead.shift() || null;
+  if (running) running.began = performance.now();
+  clearTimeout(job.timer);
+  if (data.grown > LARGE_MEMORY) restart();
   finish(job, data);
   return next();
+}
+
+/** Has the module begin anew; what it was given and has not answered waits again. */
+function restart() {
+  end();
+  waiting.unshift(...(running ? [running] : []), ...ahead.splice(0));
+  running = null;
+  boot();
 }
 
 /** Hands on what a job came to. */
@@ -73,16 +90,20 @@ function finish(job, answer) {
   round.last = job.done(job, answer);
 }
 
+/** Gives the worker what waits: one command, or of a long queue some at once, so that it need not wait for this page. */
 function next() {
-  if (isReady && !running && waiting.length > 0) {
-    running = waiting.shift();
-    running.began = performance.now();
-    if (round.asked === 1) say(`${named(inSight(running.line))} is running.`);
-    worker.postMessage({ line: running.line, input: running.input || "" });
-    if (running.most) running.timer = setTimeout(stop, running.most, `it was stopped after ${running.most / 1000} s, since it came with a link`);
+  while (isReady && waiting.length > 0 && (!running || (waiting.length > LONG_QUEUE && ahead.length < AHEAD))) {
+    const job = waiting.shift();
+    job.began = performance.now();
+    if (running) ahead.push(job);
+    else running = job;
+    worker.postMessage({ line: job.line, input: job.input || "" });
+    if (job.most) job.timer = setTimeout(stop, job.most, `it was stopped after ${job.most / 1000} s, since nobody pressed Run`);
+    if (round.asked === 1) say(`${named(inSight(job.line))} is running.`);
   }
   if (!running && waiting.length === 0 && round.asked > 0) sumUp();
-  update();
+  if (waiting.length <= LONG_QUEUE) update();
+  else later = later || setTimeout(update, 200);
 }
 
 /** Says once what the queue came to. */
@@ -96,12 +117,11 @@ function sumUp() {
 
 function stop(why = "") {
   if (!running) return;
-  end();
   const job = running;
   clearTimeout(job.timer);
   running = null;
+  restart();
   finish(job, { stopped: true, why, time: performance.now() - job.began });
-  boot();
   if (waiting.length === 0 && round.asked > 0) sumUp();
   update();
 }
@@ -125,6 +145,7 @@ function clearQueue() {
 
 /** Shows what runs and what waits. If the button with the focus is gone then, the field has it. */
 function update() {
+  later = clearTimeout(later);
   const focused = document.activeElement;
   at("stop").disabled = !running;
   at("queue").hidden = waiting.length === 0;

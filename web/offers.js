@@ -1,7 +1,8 @@
 // What a line could mean: lines that the program takes, each shown in mathematics. They are offered, and run only when one is pressed.
 
-/** The most lines that are offered for one. */
+/** The most lines that are offered for one, and the longest line that is looked at for it. */
 const MOST_OFFERED = 4;
+const LONGEST_OFFERED = 2000;
 
 /** A list of numbers as text for a line. */
 const asWords = (numbers) => numbers.join(" ");
@@ -42,7 +43,8 @@ function groupsOf(tokens) {
     else if (isFactor) run = null;
     else if (numbers) {
       const before = tokens[i - 1], scalar = before && !token.gap && before.kind === "number" ? before.text : "";
-      groups.push({ numbers: [...numbers], token, scalar, isPrimed: false, isMinus: before !== undefined && before.text === "-" && !token.gap });
+      const isMinus = before !== undefined && before.text === "-" && !token.gap;
+      groups.push({ numbers: [...numbers], token, scalar, isMinus, isPrimed: false });
       run = token.kind === "number" ? groups[groups.length - 1] : null;
     } else {
       run = null;
@@ -66,43 +68,57 @@ function singlesOf(name, lists) {
   return slots.map((it) => String(it.role === "rows" ? rows : columns));
 }
 
-/** All ways to read the lists of a line, each as the words of a line; some of them are no lines. */
-function* waysOf(name, tokens, typed) {
-  const signs = tokens.filter((it) => it.kind === "sign" || numbersIn(it));
-  const options = tokens.some((it) => it.text === "-m") && GRAMMAR.get(name).words.some((it) => it.optional && it.optional[0].sign === "-m") ? "-m" : "";
-  const groups = groupsOf(tokens), split = (it) => (it.token.isIndex ? digitsOf(it.numbers[0]) : it.numbers);
-  const scalars = groups.some((it) => it.scalar) || (groups[0] && groups[0].isMinus);
-  if (scalars && ["mult", "expand"].includes(name)) {
-    const factor = (it) => `${it.scalar ? `${it.scalar}*` : ""}s[${it.numbers.join(",")}]`;
-    yield `expand s ${groups[0].isMinus ? "-" : ""}${groups.map(factor).join("*")}`;
-  }
-  if (groups.some((it) => it.isPrimed)) yield* plainWays(name, groups.map((it) => (it.isPrimed ? conjugate(it.numbers) : it.numbers)), options);
-  yield* cycleWays(name, tokens);
-  yield* plainWays(name, groups.map(split), options);
-  yield* plainWays(name, groups.map((it) => it.numbers), options);
-  yield* plainWays(name, typed.split(/[-/,;*]\s+|\s+[-/*]\s*/).map((it) => it.match(/\d+/g) || []).filter((it) => it.length > 0), options);
-  if (!scalars) yield [name, ...signs.flatMap((it) => numbersIn(it) || [it.text === "*" ? "-" : it.text === "," ? "" : it.text])].join(" ").replace(/ +/g, " ");
+/** The tokens without the options of the command, wherever they stand, and these as text. */
+function withoutOptions(name, all) {
+  const known = GRAMMAR.get(name).words.flatMap((it) => it.optional || [it]).map((it) => it.sign);
+  const r = known.includes("-r") ? all.findIndex((it, i) => it.text === "-r" && all[i + 1] && all[i + 1].kind === "number") : -1;
+  const hasLine = known.includes("-m") && all.some((it) => it.text === "-m");
+  const tokens = all.filter((it, i) => !(r >= 0 && (i === r || i === r + 1)) && !["-m", "-r"].includes(it.text));
+  return { options: [r >= 0 ? `-r ${all[r + 1].text}` : "", hasLine ? "-m" : ""].filter(Boolean).join(" "), tokens };
 }
 
-/** The lists side by side or with what is missing put in. */
-function* plainWays(name, lists, options) {
-  const missing = singlesOf(name, lists), slots = GRAMMAR.get(name).words;
-  if (missing.length > 0) {
-    const [first, ...rest] = lists;
-    if (first && first.length >= missing.length) {
-      const own = first.slice(missing.length);
-      yield lineOf(name, first.slice(0, missing.length), own.length > 0 ? [own, ...rest] : rest, options);
-    }
-    if (first && first.length === 1) yield lineOf(name, [first[0], ...singlesOf(name, rest).slice(1)], rest, options);
-    yield lineOf(name, missing, lists, options);
+/** All ways to read the lists of a line, each as the words of a line; some of them are no lines. */
+function* waysOf(name, all, typed) {
+  const { options, tokens } = withoutOptions(name, all);
+  if (tokens.some((it) => it.kind === "other" && !"=:".includes(it.text)) || tokens.some((it) => it.kind === "flag")) return;
+  const signs = tokens.filter((it) => it.kind === "sign" || numbersIn(it)), groups = groupsOf(tokens);
+  const sign = (it) => ({ "*": "-", ",": "" })[it.text] ?? it.text;
+  const joined = withSingleBlanks([name, options, ...signs.flatMap((it) => numbersIn(it) || [sign(it)])].join(" "));
+  if (groups.some((it) => it.scalar) || (groups[0] && groups[0].isMinus)) {
+    const factor = (it) => `${it.scalar ? `${it.scalar}*` : ""}s[${it.numbers.join(",")}]`;
+    if (name === "mult") yield `expand s ${groups[0].isMinus ? "-" : ""}${groups.map(factor).join("*")}`;
+    return yield joined;
+  }
+  if (tokens.some((it) => it.text === "/") && !signsOf(name, 1).includes("/")) {
+    if (groups.length === 2 && tokens.length === 3) yield `skew ${options} ${groups.map((it) => asWords(it.numbers)).join(" / ")}`.replace(/ +/g, " ");
     return;
   }
-  if (slots[0] && slots[0].sign === "-r") yield lineOf(name, ["-r", String(Math.max(1, ...lists.map((it) => it.length)))], lists);
-  yield lineOf(name, [], lists, options);
+  const conjugates = groups.map((it) => (it.isPrimed ? conjugate(it.numbers) : it.numbers));
+  if (groups.some((it) => it.isPrimed)) return yield* plainWays(name, conjugates, options);
+  yield* cycleWays(name, tokens, options);
+  yield* plainWays(name, groups.map((it) => (it.token.isIndex ? digitsOf(it.numbers[0]) : it.numbers)), options);
+  yield* plainWays(name, groups.map((it) => it.numbers), options);
+  const pieces = typed.split(/[-/,;*]\s+|\s+[-/*]\s*/).map((it) => it.match(/\d+/g) || []);
+  if (tokens.length === all.length && !tokens.some((it) => it.bracket)) yield* plainWays(name, pieces.filter((it) => it.length > 0), options);
+  return singlesOf(name, []).length > 0 ? undefined : yield joined;
+}
+
+/** The lists side by side, with the numbers that are missing before them put in. */
+function* plainWays(name, lists, options) {
+  const missing = singlesOf(name, lists), slots = GRAMMAR.get(name).words, [first, ...rest] = lists;
+  if (missing.length > 0 && first) {
+    const own = first.slice(missing.length), isRest = rest.length > 1 || own.length > 0;
+    if (first.length >= missing.length && isRest) yield lineOf(name, first.slice(0, missing.length), own.length > 0 ? [own, ...rest] : rest, options);
+    else if (first.length === 1 && rest.length > 1) yield lineOf(name, [first[0], ...singlesOf(name, rest).slice(1)], rest, options);
+    else yield lineOf(name, missing, lists, options);
+    return;
+  }
+  const front = options || !slots[0] || slots[0].sign !== "-r" ? options : `-r ${Math.max(1, ...lists.map((it) => it.length))}`;
+  yield lineOf(name, [], lists, front);
 }
 
 /** The readings of lists in parentheses as permutations: in one line, and as cycles. */
-function* cycleWays(name, tokens) {
+function* cycleWays(name, tokens, options) {
   const kinds = GRAMMAR.get(name).words.filter(isList).map((it) => it.role);
   if (!["permutation", "letters"].includes(kinds[0])) return;
   const factors = [[]];
@@ -112,10 +128,11 @@ function* cycleWays(name, tokens) {
   }
   const isCut = kinds.length > 1 && factors.length === 1;
   const cut = isCut ? factors[0].map((it) => [it]) : factors;
-  const front = GRAMMAR.get(name).words[0].sign === "-r" ? ["-r", (tokens.find((it) => it.kind === "number") || { text: String(Math.max(1, tokens.length)) }).text] : [];
+  const most = String(Math.max(1, ...tokens.map((it) => (it.numbers || []).length)));
+  const front = options || GRAMMAR.get(name).words[0].sign !== "-r" ? options : `-r ${most}`;
   const cycles = cut.map((factor) => fromCycles(factor.map((it) => it.numbers)));
-  if (cut.every((factor) => factor.length === 1)) yield lineOf(name, front, cut.map(([it]) => it.numbers));
-  if (cycles.every(Boolean)) yield lineOf(name, front, cycles);
+  if (cut.every((factor) => factor.length === 1)) yield lineOf(name, [], cut.map(([it]) => it.numbers), front);
+  if (cycles.every(Boolean)) yield lineOf(name, [], cycles, front);
 }
 
 /** The readings of a line with an expression: blanks as nothing or as times signs, and atoms for lists. */
@@ -133,6 +150,13 @@ function* expressionWays(name, text) {
   }
 }
 
+/** The reading of sums and products of lists as an expression in Schur functions. */
+function* sumWays(name, text) {
+  if (name !== "mult" || !text.includes("+")) return;
+  const atoms = text.replace(/(?:s_?)?[([{](\d+(?:[\s,]+\d+)*)[)\]}]/g, (_, list) => `s[${list.replace(/[\s,]+/g, ",")}]`);
+  yield `expand s ${atoms.replace(/\s+/g, "")}`;
+}
+
 /** The readings of a line that has a name of no command, or none. */
 function* namelessWays(line) {
   const [first] = textsOfWords(line), other = first === undefined ? null : commandLike(first);
@@ -145,14 +169,15 @@ function* namelessWays(line) {
 
 /** The lines that a line which the program refuses could mean. */
 function offersFor(typed) {
-  const isHidden = HIDDEN_INSIDE.test(typed), seen = typed.replace(ALL_UNSEEN, "");
-  const ways = isHidden ? [seen, typed.replace(ALL_UNSEEN, " ")] : [];
+  if (typed.length > LONGEST_OFFERED) return [];
+  const isHidden = HIDDEN_INSIDE.test(typed), seen = withSingleBlanks(typed.replace(ALL_UNSEEN, ""));
+  const ways = isHidden ? [seen, withSingleBlanks(typed.replace(ALL_UNSEEN, " "))] : [];
   let line = seen.replace(/^\s*\$?\s*/, "").replace(PROGRAM, "").replace(/^lrcalc\s+/, "").trim();
   for (const [, from, to] of SAME) line = line.replace(from, to);
   const name = /^[a-z]*/.exec(line)[0], rest = line.slice(name.length);
   if (!GRAMMAR.has(name)) ways.push(...namelessWays(line));
   else if (["expand", "plethysm"].includes(name)) ways.push(...expressionWays(name, rest));
-  else ways.push(...waysOf(name, tokensOf(withoutQuotes(rest)), rest), ...lettersApart(line));
+  else ways.push(...waysOf(name, tokensOf(withoutQuotes(rest)), rest), ...sumWays(name, rest), ...lettersApart(line));
   const lines = ways.map((it) => readTyped(it)).filter((it) => !it.reason).map((it) => it.line);
   return [...new Set(lines)].filter((it) => it !== typed.trim() && isSound(textsOfWords(it))).slice(0, MOST_OFFERED);
 }
@@ -161,8 +186,7 @@ function offersFor(typed) {
 function lettersApart(line) {
   const words = textsOfWords(line), parts = partsOf(words);
   if (!parts) return [];
-  const roles = ["partition", "permutation", "letters"];
-  const isRun = ({ role, words: [first, ...more] }) => roles.includes(role) && more.length === 0 && first !== undefined && digitsOf(first).length > 1;
+  const isRun = ({ role, words: [first, ...more] }) => PLAIN_LISTS.includes(role) && more.length === 0 && first !== undefined && digitsOf(first).length > 1;
   if (!parts.some(isRun)) return [];
   const other = [words[0], ...parts.flatMap((it) => (it.sign ? [it.sign] : isRun(it) ? digitsOf(it.words[0]) : it.words))];
   return isSound(other) ? [asWords(other)] : [];
@@ -189,7 +213,8 @@ function meantInstead(line) {
     const [rows, columns] = words.slice(1, 3).map(Number), width = columns - rows;
     const other = [words[0], words[1], String(width), ...words.slice(3)], lists = (partsOf(words) || []).filter((it) => it.role === "partition");
     const isFitting = lists.every(({ words: it }) => partition(it).length <= rows && Number(it[0] || 0) <= width);
-    if (width > 0 && isFitting && isSound(other)) found.push({ line: asWords(other), why: `C = ${columns} is the number of columns. In Gr(${rows},${columns}) it is` });
+    const why = `C = ${columns} is the number of columns. In Gr(${rows},${columns}) it is`;
+    if (width > 0 && isFitting && isSound(other)) found.push({ line: asWords(other), why });
   }
   return found;
 }

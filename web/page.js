@@ -45,5 +45,6 @@ window.onhashchange = follow;
 showEarlier();
 addEntries();
 addTables();
+if (document.querySelector("link[rel=manifest]") && navigator.serviceWorker) navigator.serviceWorker.register("offline.js").catch(() => {});
 boot();
 begin();

@@ -2,9 +2,6 @@
 
 const SENTENCES = /*SENTENCES*/ null;
 
-/** The commands that are refused as too large only for a coefficient of the answer, and never for a bound. */
-const LARGE_EXACTLY = ["mult", "skew", "coef", "coprod", "schubert", "stanley"];
-
 /** A word as a sentence names it. */
 function named(text) {
   return text.length > 40 ? `${text.slice(0, 36)}..` : text;
@@ -39,7 +36,7 @@ function distance(left, right) {
 }
 
 /** What some say for a command. */
-const OTHER_NAMES = new Map(Object.entries({ lrcoef: "coef", lrtab: "tab", product: "mult", times: "mult", coproduct: "coprod", plethsm: "plethysm" }));
+const OTHER_NAMES = new Map(Object.entries({ lrcoef: "coef", lrtab: "tab", product: "mult", times: "mult", coproduct: "coprod" }));
 
 /** The command that a word is nearly, if it is: its begin, its begin with more letters, or with one letter of five wrong. */
 function commandLike(text) {
@@ -58,7 +55,7 @@ function commandLike(text) {
 function explained(line, status, text) {
   if (status === 0) return null;
   const placed = wordsOf(line), words = placed.map((it) => it.text);
-  const large = LARGE_EXACTLY.includes(words[0]) ? "large exactly" : "large bound";
+  const large = GRAMMAR.get(words[0])?.isExact ? "large exactly" : "large bound";
   if (text === "! Large\n") return { sentence: sentence(large) };
   const found = /^! (\w+) (\d+):(\d+)\n$/.exec(text);
   if (!found || status < 2 || status > 4) return { sentence: statusSentence(status) };

@@ -12,7 +12,7 @@ const MOST_KEPT = 1 << 26;
 
 /** The answers that are kept, the latest last: `{line, text}`. */
 const kept = [];
-let numberOfAnswer = 0;
+let numberOfAnswer = 0, answersGiven = 0, sizeKept = 0;
 
 function button(name, action) {
   const it = element("button", { type: "button" }, name);
@@ -150,10 +150,11 @@ function show(job, { status, text = "", time, stopped, why, error }) {
   const { line } = job, isDone = status === 0;
   const told = stopped || isDone ? null : explained(line, status, text);
   const answer = isDone ? answerOf(line, frontOf(line, text)) : null, count = countOf(answer, text);
-  const [computed, sum] = isDone || stopped || /^! (Large|Range|Literal|Shape)/.test(text) ? mathematicsOf(line, text, answer) : [[], []];
+  const [computed, sum] = isDone || stopped || text === "! Large\n" ? mathematicsOf(line, text, answer) : [[], []];
   const id = `answer-${(numberOfAnswer += 1)}`, title = element("h3", { id }, element("code", { dir: "ltr" }, ...marked(line, told)));
   const header = element("header", {}, title, element("span", {}, aboutOf(status, count, time, stopped)));
-  const article = element("article", { "aria-labelledby": id, tabindex: "-1", ...(isDone ? {} : { class: "refused" }) }, header, ...computed, ...changesOf(job));
+  const article = element("article", { "aria-labelledby": id, tabindex: "-1" }, header, ...computed, ...changesOf(job));
+  if (!isDone) article.className = "refused";
   article.dataset.of = line;
   if (text) article.append(...textOf(line, text), ...sum);
   if (stopped && why) article.append(note("note", `Press Run for the answer: ${why}.`));
@@ -177,17 +178,21 @@ function place(article, line, text) {
   at("given").hidden = false;
   at("answers").prepend(article);
   kept.push({ line, text });
-  for (let size = kept.reduce((sum, it) => sum + it.text.length, 0); size > MOST_KEPT && kept.length > 1; ) size -= kept.shift().text.length;
+  sizeKept += text.length;
+  answersGiven += 1;
+  while (sizeKept > MOST_KEPT && kept.length > 1) sizeKept -= kept.shift().text.length;
   const articles = at("answers").children;
-  while (articles.length > MOST_ANSWERS) articles[articles.length - 1].remove();
-  at("older").hidden = kept.length <= articles.length;
-  at("older").textContent = `The last ${articles.length} of ${kept.length.toLocaleString("en")} answers are shown. All can be downloaded.`;
+  while (articles.length > Math.min(MOST_ANSWERS, kept.length)) articles[articles.length - 1].remove();
+  const number = (it) => it.toLocaleString("en");
+  at("older").hidden = answersGiven <= articles.length;
+  const shownOf = `${number(articles.length)} of ${number(answersGiven)}`;
+  at("older").textContent = `The last ${shownOf} answers are shown; ${number(kept.length)} can be downloaded.`;
 }
 
 /** Takes all answers away. */
 function clearAnswers() {
   at("answers").replaceChildren();
-  kept.length = 0;
+  kept.length = sizeKept = answersGiven = 0;
   at("given").hidden = true;
   at("older").hidden = true;
   say("The answers were cleared.");

@@ -34,7 +34,8 @@ function steps(line, answer) {
   place.oninput = () => show(Number(place.value) - 1);
   const buttons = [button("Before", () => show(number - 1)), place, button("Next", () => show(number + 1))];
   show(0);
-  return element("div", { class: "steps", role: "group", "aria-label": title }, note("step-title", title), element("div", { class: "tools" }, ...buttons), drawing, caption);
+  const tools = element("div", { class: "tools" }, ...buttons);
+  return element("div", { class: "steps", role: "group", "aria-label": title }, note("step-title", title), tools, drawing, caption);
 }
 
 const textOfRows = (rows) => rows.map((row) => row.join(" ")).join(" / ");
@@ -59,7 +60,8 @@ function insertion(letters, answer) {
   const keep = (path, said) => {
     const [p, q] = [rows, recording].map((it) => it.map((row) => [...row]));
     const last = path.length > 0 ? [path[path.length - 1]] : [];
-    frames.push(() => ({ drawings: [figure(tableauPicture(p, [], "tableau P", path), "P"), figure(tableauPicture(q, [], "tableau Q", last), "Q")], said }));
+    const drawings = () => [figure(tableauPicture(p, [], "tableau P", path), "P"), figure(tableauPicture(q, [], "tableau Q", last), "Q")];
+    frames.push(() => ({ drawings: drawings(), said }));
   };
   keep([], "P and Q are empty.");
   for (const [n, letter] of letters.entries()) {
@@ -83,14 +85,16 @@ function rectification(outer, inner, filling, answer) {
   const begins = partition(inner).map(Number), cells = rowsTyped(filling).map((row, i) => [...Array(begins[i] || 0).fill(null), ...row]);
   const frames = [];
   const keep = (marks, said) => {
-    const rows = cells.map((row) => row.filter((it) => it !== null)), empty_ = cells.map((row) => row.findIndex((it) => it !== null)), at_ = cells.map((row, i) => (empty_[i] < 0 ? row.length : empty_[i]));
-    frames.push(() => ({ drawings: [figure(tableauPicture(rows, at_, "tableau", marks))], said }));
+    const rows = cells.map((row) => row.filter((it) => it !== null)), begin = (row) => row.filter((it) => it === null).length;
+    const left = cells.map(begin);
+    frames.push(() => ({ drawings: [figure(tableauPicture(rows, left, "tableau", marks))], said }));
   };
   keep([], `The tableau of shape ${[outer, inner].map(shown).join("/")}.`);
   for (let i = begins.length - 1; i >= 0; i -= 1) {
     for (let j = begins[i] - 1; j >= 0; j -= 1) {
       const path = slide(cells, i, j);
-      keep(path, `A slide into row ${i + 1}, column ${j + 1}: ${path.length === 1 ? "no entry moves" : `${countOfThings(path.length - 1, "entry moves", "entries move")} to the left or up`}.`);
+      const moves = path.length === 1 ? "no entry moves" : `${countOfThings(path.length - 1, "entry moves", "entries move")} to the left or up`;
+      keep(path, `A slide into row ${i + 1}, column ${j + 1}: ${moves}.`);
     }
   }
   const rows = cells.filter((row) => row.length > 0);
@@ -115,24 +119,37 @@ function slide(cells, i, j) {
 
 // ---- readings of Littlewood–Richardson tableaux
 
-/** The first tableau read along its columns, from right to left, each from top to bottom: the letters so far make a partition. */
+/** The tableaux read along their columns, from right to left, each from top to bottom: the letters so far make a partition. */
 function readings({ tableaux, inner }) {
-  if (tableaux.length === 0 || tableaux[0].every((row) => row.length === 0)) return null;
-  const begin = (i) => inner[i] || 0, [rows] = tableaux, frames = [];
-  const columns = Math.max(...rows.map((row, i) => begin(i) + row.length)), content = [], read = [], marks = [];
+  const frames = [];
+  for (const [i, rows] of tableaux.entries()) {
+    const more = readingOf(rows, inner, `Tableau ${i + 1}`);
+    if (!more) return null;
+    if (frames.length + more.length > MOST_STEPS) break;
+    frames.push(...more);
+  }
+  return { title: "The tableaux, read column by column from the right", frames };
+}
+
+/** The steps of the reading of one tableau; null if its letters so far do not always make a partition. */
+function readingOf(rows, inner, name) {
+  const begin = (i) => inner[i] || 0, frames = [], content = [], read = [], marks = [];
+  const columns = Math.max(0, ...rows.map((row, i) => begin(i) + row.length));
   for (let j = columns - 1; j >= 0; j -= 1) {
     for (const [i, row] of rows.entries()) {
       const entry = row[j - begin(i)];
       if (j < begin(i) || entry === undefined) continue;
       read.push(entry);
       marks.push([i, j]);
-      content[Number(entry) - 1] = (content[Number(entry) - 1] || 0) + 1;
-      const [word, seen, shape] = [[...read], [...marks], [...content].map((it) => it || 0)];
+      for (let letter = content.length; letter < Number(entry); letter += 1) content.push(0);
+      content[Number(entry) - 1] += 1;
+      const [word, seen, shape] = [[...read], [...marks], [...content]];
       if (!isDecreasing(shape)) return null;
-      frames.push(() => ({ drawings: [figure(tableauPicture(rows, inner, "tableau", seen)), figure(diagram(shape), "content")], said: `Read so far: ${word.join(" ")}. The content ${shown(shape.map(String))} is a partition.` }));
+      const said = `${name}. Read so far: ${word.join(" ")}. The content ${shown(shape.map(String))} is a partition.`;
+      frames.push(() => ({ drawings: [figure(tableauPicture(rows, inner, "tableau", seen)), figure(diagram(shape), "content")], said }));
     }
   }
-  return { title: "The first tableau, read column by column from the right", frames };
+  return frames;
 }
 
 // ---- pipe dreams

@@ -31,36 +31,68 @@ function coefficientOf(terms, label) {
   return found ? found.c : "0";
 }
 
+/** The sizes of a table: the name of each, its least, greatest and first value. */
+const SIZE = [["n", 1, 9, 4]];
+const GRASSMANNIAN = [["k", 1, 6, 2], ["n", 2, 7, 4]];
+
 /**
- * The tables: their sizes, each with its least, greatest and first value; the labels of rows and columns; the line for each entry or, of a table of
- * numbers, for each row or column; which terms count.
+ * The tables: their sizes and the labels of their rows and columns; the line for each entry or, of a table of numbers, for each row or column;
+ * of a table of sums the letter of their labels, and which of their terms count.
  */
 const TABLES = {
   characters: {
-    title: "Characters of the symmetric group S_n", sizes: [["n", 1, 9, 4]], labels: (n) => partitionsOf(n), by: "column",
-    line: (label) => `expand s ${atom("p", label)}`, said: (n) => `χ^{λ}(μ) for S_{${n}}: a row for each λ, a column for each cycle type μ`,
+    title: "Characters of the symmetric group S_n",
+    said: (n) => `χ^{λ}(μ) for S_{${n}}: a row for each λ, a column for each cycle type μ`,
+    sizes: SIZE,
+    labels: (n) => partitionsOf(n),
+    by: "column",
+    line: (label) => `expand s ${atom("p", label)}`,
   },
   kostka: {
-    title: "Kostka numbers of size n", sizes: [["n", 1, 9, 4]], labels: (n) => partitionsOf(n), by: "row",
-    line: (label) => `expand m ${atom("s", label)}`, said: (n) => `K_{λμ} for partitions of ${n}: a row for each λ, a column for each μ`,
+    title: "Kostka numbers of size n",
+    said: (n) => `K_{λμ} for partitions of ${n}: a row for each λ, a column for each μ`,
+    sizes: SIZE,
+    labels: (n) => partitionsOf(n),
+    by: "row",
+    line: (label) => `expand m ${atom("s", label)}`,
   },
   inverse: {
-    title: "Inverse Kostka numbers of size n", sizes: [["n", 1, 9, 4]], labels: (n) => partitionsOf(n), by: "row",
-    line: (label) => `expand s ${atom("m", label)}`, said: (n) => `the coefficient of s_{μ} in m_{λ} for partitions of ${n}: a row for each λ, a column for each μ`,
+    title: "Inverse Kostka numbers of size n",
+    said: (n) => `the coefficient of s_{μ} in m_{λ} for partitions of ${n}: a row for each λ, a column for each μ`,
+    sizes: SIZE,
+    labels: (n) => partitionsOf(n),
+    by: "row",
+    line: (label) => `expand s ${atom("m", label)}`,
   },
   classical: {
-    title: "Products in the cohomology of Gr(k,n)", sizes: [["k", 1, 6, 2], ["n", 2, 7, 4]], labels: (k, n) => partitionsInside(k, n - k), by: "entry",
-    line: (left, right, k) => `mult -r ${k} ${left.join(" ")} - ${right.join(" ")}`, letter: "σ",
-    counts: (term, k, n) => (term.first[0] || 0) <= n - k, said: (k, n) => `σ_{λ} · σ_{μ} in H*(Gr(${k},${n}))`,
+    title: "Products in the cohomology of Gr(k,n)",
+    said: (k, n) => `σ_{λ} · σ_{μ} in H*(Gr(${k},${n}))`,
+    sizes: GRASSMANNIAN,
+    labels: (k, n) => partitionsInside(k, n - k),
+    by: "entry",
+    line: (left, right, k) => `mult -r ${k} ${left.join(" ")} - ${right.join(" ")}`,
+    letter: "q",
+    counts: (term, k, n) => (term.first[0] || 0) <= n - k,
   },
   quantum: {
-    title: "Quantum products of Gr(k,n)", sizes: [["k", 1, 6, 2], ["n", 2, 7, 4]], labels: (k, n) => partitionsInside(k, n - k), by: "entry",
-    line: (left, right, k, n) => `quantum ${k} ${n - k} ${left.join(" ")} - ${right.join(" ")}`, letter: "σ",
-    counts: () => true, said: (k, n) => `σ_{λ} * σ_{μ} in QH*(Gr(${k},${n}))`,
+    title: "Quantum products of Gr(k,n)",
+    said: (k, n) => `σ_{λ} * σ_{μ} in QH*(Gr(${k},${n}))`,
+    sizes: GRASSMANNIAN,
+    labels: (k, n) => partitionsInside(k, n - k),
+    by: "entry",
+    line: (left, right, k, n) => `quantum ${k} ${n - k} ${left.join(" ")} - ${right.join(" ")}`,
+    letter: "q",
+    counts: () => true,
   },
   schubert: {
-    title: "Products of Schubert polynomials of n letters", sizes: [["n", 1, 4, 3]], labels: (n) => permutationsOf(n), by: "entry",
-    line: (left, right) => `schubmult ${left.join(" ")} - ${right.join(" ")}`, letter: "S", counts: () => true, said: (n) => `S_{u} · S_{v} for permutations of ${n} letters`,
+    title: "Products of Schubert polynomials of n letters",
+    said: (n) => `S_{u} · S_{v} for permutations of ${n} letters`,
+    sizes: [["n", 1, 4, 3]],
+    labels: (n) => permutationsOf(n),
+    by: "entry",
+    line: (left, right) => `schubmult ${left.join(" ")} - ${right.join(" ")}`,
+    letter: "S",
+    counts: () => true,
   },
 };
 
@@ -76,8 +108,9 @@ function blocksOf(text) {
 
 /** The entries of a table by the terms of its lines' answers, row by row: numbers as texts, or lists of terms. */
 function entriesOf(kind, labels, answers, sizes) {
-  if (kind.by === "entry") return labels.map((_, i) => labels.map((__, j) => answers[i * labels.length + j].filter((it) => kind.counts(it, ...sizes))));
-  return labels.map((row, i) => labels.map((column, j) => (kind.by === "row" ? coefficientOf(answers[i], column) : coefficientOf(answers[j], row))));
+  const sum = (i, j) => answers[i * labels.length + j].filter((it) => kind.counts(it, ...sizes));
+  const number = (i, j) => (kind.by === "row" ? coefficientOf(answers[i], labels[j]) : coefficientOf(answers[j], labels[i]));
+  return labels.map((_, i) => labels.map((__, j) => (kind.by === "entry" ? sum(i, j) : number(i, j))));
 }
 
 function linesOfTable(kind, labels, sizes) {
@@ -88,7 +121,8 @@ function linesOfTable(kind, labels, sizes) {
 /** An entry as text: a number, or a sum such as `(2,2)+q*()`. */
 function plainEntry(entry) {
   if (typeof entry === "string") return entry;
-  const term = ({ c, q, first }) => [c === "1" ? "" : c, q === undefined || q === "0" ? "" : q === "1" ? "q" : `q^${q}`, key(first)].filter(Boolean).join("*");
+  const power = (q) => (q === undefined || q === "0" ? "" : q === "1" ? "q" : `q^${q}`);
+  const term = ({ c, q, first }) => [c === "1" ? "" : c, power(q), key(first)].filter(Boolean).join("*");
   return entry.map(term).join("+").replace(/\+-/g, "-") || "0";
 }
 
@@ -108,34 +142,45 @@ function jsonOf({ title, labels, lines, entries }) {
   return `${JSON.stringify({ title, program: at("citation").textContent, labels, lines, entries: rows })}\n`;
 }
 
-/** The table on the page, and how to have it. */
-function showTable(table, kind, said) {
-  const head = (label) => element("th", { scope: "col" }, kind.letter === "S" ? label.join("") : key(label));
+/** The table on the page. */
+function tableShown({ labels, entries }, kind, said) {
+  const name = (label) => (kind.letter === "S" ? permutationIndex(label.map(String)) : key(label));
+  const head = (label, scope) => element("th", { scope }, name(label));
   const cell = (entry) => element("td", {}, ...(typeof entry === "string" ? [entry.replace("-", "−")] : formula(shownSum(entry, kind.letter))));
-  const row = (entries, i) => element("tr", {}, element("th", { scope: "row" }, kind.letter === "S" ? table.labels[i].join("") : key(table.labels[i])), ...entries.map(cell));
-  const body = element("table", { class: "made" }, element("caption", {}, ...formula(said)), element("tr", {}, element("td", {}), ...table.labels.map(head)), ...table.entries.map(row));
+  const row = (it, i) => element("tr", {}, head(labels[i], "row"), ...it.map(cell));
+  const top = element("tr", {}, element("td", {}), ...labels.map((it) => head(it, "col")));
+  return element("table", { class: "made" }, element("caption", {}, ...formula(said)), top, ...entries.map(row));
+}
+
+/** Shows a table, how to have it, and the lines that made it. */
+function showTable(table, kind, said) {
   const name = table.title.replace(/\W+/g, "_"), tools = element("div", { class: "tools" });
-  tools.append(button("Copy CSV", () => copy(csvOf(table), "CSV")), button("Copy JSON", () => copy(jsonOf(table), "JSON")));
-  tools.append(button("Download CSV", () => download(`${name}.csv`, [csvOf(table)])), button("Download JSON", () => download(`${name}.json`, [jsonOf(table)])));
-  const lines = element("details", {}, element("summary", {}, countOfThings(table.lines.length, "command", "commands")), element("pre", { tabindex: "0", "aria-label": "The commands of the table" }, table.lines.join("\n")));
-  at("made").replaceChildren(tools, element("div", { class: "wide", tabindex: "0", role: "group", "aria-label": table.title }, body), lines);
+  for (const [what, end, text] of [["CSV", "csv", csvOf], ["JSON", "json", jsonOf]]) {
+    tools.append(button(`Copy ${what}`, () => copy(text(table), what)));
+    tools.append(button(`Download ${what}`, () => download(`${name}.${end}`, [text(table)])));
+  }
+  const summary = element("summary", {}, countOfThings(table.lines.length, "command", "commands"));
+  const lines = element("pre", { tabindex: "0", "aria-label": "The commands of the table" }, table.lines.join("\n"));
+  const wide = element("div", { class: "wide", tabindex: "0", role: "group", "aria-label": table.title }, tableShown(table, kind, said));
+  at("made").replaceChildren(tools, wide, element("details", {}, summary, lines));
 }
 
 /** Makes a table: its lines are one batch. */
 function makeTable(name, sizes) {
-  const kind = TABLES[name], [k, n] = sizes, labels = kind.sizes.length === 2 && n <= k ? [] : kind.labels(...sizes), lines = linesOfTable(kind, labels, sizes);
+  const kind = TABLES[name], [k, n] = sizes, isEmpty = sizes.length === 2 && n <= k;
+  const labels = isEmpty ? [] : kind.labels(...sizes), count = labels.length ** 2;
   const tell = (text) => at("said-of-table").replaceChildren(text);
-  if (labels.length === 0) return tell("n has to be greater than k.");
-  if (labels.length ** 2 > MOST_ENTRIES) return tell(`This table would have ${(labels.length ** 2).toLocaleString("en")} entries. At most ${MOST_ENTRIES.toLocaleString("en")} are made.`);
-  const title = `${kind.title.replace("S_n", `S_${n ?? k}`)}, ${kind.sizes.map(([letter], i) => `${letter} = ${sizes[i]}`).join(", ")}`;
-  const made = (_, { status, text, stopped }) => {
+  if (isEmpty) return tell("n has to be greater than k.");
+  if (count > MOST_ENTRIES) return tell(`This table would have ${count.toLocaleString("en")} entries. At most ${MOST_ENTRIES.toLocaleString("en")} are made.`);
+  const title = `${kind.title}, ${kind.sizes.map(([letter], i) => `${letter} = ${sizes[i]}`).join(", ")}`, lines = linesOfTable(kind, labels, sizes);
+  const done = (_, { status, text, stopped }) => {
     const answers = status === 0 ? blocksOf(text).map(termsOf) : [];
     const isWhole = answers.length === lines.length && answers.every(Boolean);
     if (isWhole) showTable({ title, labels, lines, entries: entriesOf(kind, labels, answers, sizes) }, kind, kind.said(...sizes));
     tell(isWhole ? "" : stopped ? "The table was stopped." : "Some line of the table has no answer, so it is not made.");
     return [isWhole ? `${title}: made.` : `${title}: not made.`];
   };
-  return enqueue([{ line: "batch", input: `${lines.join("\n")}\n`, done: made }]);
+  return enqueue([{ line: "batch", input: `${lines.join("\n")}\n`, done }]);
 }
 
 /** Sets up the form for tables. */
@@ -143,7 +188,8 @@ function addTables() {
   const select = at("kind");
   select.append(...Object.entries(TABLES).map(([name, { title }]) => element("option", { value: name }, title)));
   const sizes = () => {
-    const field = ([letter, least, most, value]) => element("label", {}, `${letter} `, element("input", { type: "number", min: String(least), max: String(most), value: String(value), inputmode: "numeric", required: "" }), " ");
+    const input = (least, most, value) => element("input", { type: "number", min: least, max: most, value, inputmode: "numeric", required: "" });
+    const field = ([letter, ...bounds]) => element("label", {}, `${letter} `, input(...bounds.map(String)), " ");
     at("sizes").replaceChildren(...TABLES[select.value].sizes.map(field));
   };
   select.onchange = sizes;

@@ -16,15 +16,15 @@ function inSight(text) {
   return text.replace(ALL_UNSEEN, (c) => `⟨U+${c.codePointAt(0).toString(16).toUpperCase().padStart(4, "0")}⟩`);
 }
 
-const INSIDE = "\\s*(?:\\d+(?:[\\s,]+\\d+)*)?[\\s,]*";
+const INSIDE = "\\s*(?:\\d+(?:[\\s,]+\\d+)*[\\s,]*)?";
 const LETTER = "(?:\\\\sigma|\\\\mathfrak\\{S\\}|\\\\mathfrak S|[sσS𝔖])";
 const BRACKETS = [`\\(${INSIDE}\\)`, `\\[${INSIDE}\\]`, `\\{${INSIDE}\\}`, `\\{\\(${INSIDE}\\)\\}`].join("|");
 const QUOTES = { "'": "'", '"': '"', "‘": "’", "“": "”" };
 
 /** What a token can be, the first that fits. */
 const KINDS = [
-  ["flag", /-(?:from|r|m)(?![a-zA-Z[_])/y],
-  ["tableau", /[[(]\s*(?:[[(][\d\s,]*[\])]\s*,?\s*)+[\])]/y],
+  ["flag", /-(?:from|m)(?=[ \t]|$)|-r(?=[ \t\d]|$)/y],
+  ["tableau", /[[(]\s*(?:[[(][\d\s,]*[\])][\s,]*)+[\])]/y],
   ["list", new RegExp(`(?:${LETTER}_?)?(?:${BRACKETS})`, "y")],
   ["list", new RegExp(`${LETTER}_\\d+`, "y")],
   ["list", /∅|\\emptyset(?![a-z])|\\varnothing(?![a-z])/y],
@@ -47,7 +47,7 @@ function tokenOf(kind, text, gap) {
   if (kind !== "list") return token;
   const numbers = text.replace(/\\mathfrak ?/, "").match(/\d+/g) || [], begins = text.search(/[([{]/);
   const commas = text.match(/,\s*(?=\d)/g) || [], isLoose = (it) => it.length > 1;
-  const isMixed = commas.some(isLoose) && !commas.every(isLoose);
+  const isMixed = (commas.some(isLoose) && !commas.every(isLoose)) || numbers.some((it) => /^0\d/.test(it));
   const hasLetter = /^[\\sσS𝔖]/u.test(text), isIndex = hasLetter && !/[[(,]/.test(text) && numbers.length === 1 && numbers[0].length > 1;
   return { ...token, numbers, bracket: text.includes("(") ? "(" : begins < 0 ? "" : text[begins], isBlank: commas.length === 0, isMixed, isIndex };
 }

@@ -13,7 +13,7 @@ const CHANGES = {
   command: "put the command in front",
   apart: "wrote the separators between the lists",
   lists: "wrote lists as their numbers with blanks between",
-  options: "put the options in front",
+  options: "put the options in front, as words",
   joined: "took the blanks out of the expression",
   atoms: "wrote the atoms of the expression with brackets",
   lrcalc: "wrote the command of lrcalc as the one here",
@@ -30,6 +30,9 @@ const UNCLEAR = {
   factors: "In the expression two factors have no sign between them.",
   coprod: "Without -a, lrcalc prints only one of the pairs μ, ν and ν, μ. Here all are printed.",
 };
+
+/** The longest line of which the page reads more than the program does. */
+const LONGEST = 10000;
 
 /** Unseen characters inside a word. */
 const HIDDEN_INSIDE = new RegExp(`[\\p{L}\\p{N}]${UNSEEN.source}+[\\p{L}\\p{N}]`, "u");
@@ -129,7 +132,8 @@ function signsOf(name, count) {
 /** Whether all lists are side by side, all between the command's own signs, or all factors between times signs. */
 function areSigns(given, wanted, name) {
   if (given.length !== wanted.length) return false;
-  const isProduct = GRAMMAR.get(name).words.some((slot) => slot.more) || name.endsWith("schubmult") || name === "schubmult";
+  const slots = GRAMMAR.get(name).words, lists = slots.filter(isList);
+  const isProduct = slots.some((slot) => slot.more) || (lists.length > 1 && lists.every((slot) => slot.role === "permutation"));
   const isBare = given.every((it) => it === "" || it === ",");
   return given.every((it, i) => it === wanted[i]) || isBare || (isProduct && given.every((it) => it === "*"));
 }
@@ -148,20 +152,27 @@ function assembled(name, tokens) {
   return [...words, ...listsOf(name, rest.slice(at), lists)];
 }
 
+/** The sign before the tableau that comes after other lists of a command, if one does, and whether it is needed. */
+function signOfTableau(name) {
+  const slots = GRAMMAR.get(name).words, isTableau = (slot) => slot && isList(slot) && !PLAIN_LISTS.includes(slot.role);
+  const own = slots.findIndex(isTableau), option = slots.find((slot) => slot.optional && isTableau(slot.optional[1]));
+  return own > 0 ? [slots[own - 1].sign, true] : [option && option.optional[0].sign, false];
+}
+
 /** The words of the lists of a command: its partitions or permutations, and its tableaux after them. */
 function listsOf(name, tokens, slots) {
-  const plain = slots.filter((it) => ["partition", "permutation", "letters"].includes(it.role));
+  const plain = slots.filter((it) => PLAIN_LISTS.includes(it.role));
   if (plain.length === 0 && slots.length === 0) return tokens.length === 0 ? [] : unclear("lists");
   if (plain.length === 0) {
     const cut = tokens.findIndex((it) => it.text === "-");
     return cut < 0 ? unclear("lists") : [...tableauOf(tokens.slice(0, cut)), "-", ...tableauOf(tokens.slice(cut + 1))];
   }
-  const from = tokens.findIndex((it) => it.kind === "flag"), dash = tokens.findIndex((it) => it.text === "-");
-  const cut = name === "rect" ? dash : name === "tab" && from >= 0 && tokens[from].text === "-from" ? from : tokens.length;
-  if (cut < 0) unclear("lists");
-  const tail = cut < tokens.length ? [tokens[cut].text, ...tableauOf(tokens.slice(cut + 1))] : [];
+  const [sign, isNeeded] = signOfTableau(name), found = tokens.findIndex((it) => it.text === sign);
+  if (found < 0 && isNeeded) unclear("lists");
+  const cut = found < 0 ? tokens.length : found;
+  const tail = found < 0 ? [] : [sign, ...tableauOf(tokens.slice(cut + 1))];
   const { operands, signs } = operandsOf(tokens.slice(0, cut));
-  const wanted = signsOf(name, Math.max(signs.length, 1)).slice(0, name === "rect" || name === "tab" ? 1 : undefined);
+  const wanted = signsOf(name, Math.max(signs.length, 1)).slice(0, sign ? plain.length - 1 : undefined);
   if (!areSigns(signs, wanted, name)) unclear(signs.length > 0 ? "lists" : "");
   const words = operands.flatMap((operand, i) => [...(i > 0 ? [wanted[i - 1]] : []), ...listWords(operand, plain[0].role)]);
   return [...words, ...tail];
@@ -229,7 +240,8 @@ function plainLine(typed, change) {
   replace("unseen", ALL_UNSEEN, "");
   line = line.trim();
   replace("prompt", /^\$[ \t]*/, "");
-  replace("comment", /(?:^|[ \t]+)#.*$/, "");
+  const comment = line.search(/(?:^|[ \t])#/);
+  if (comment >= 0) change("comment", line, (line = line.slice(0, comment).trimEnd()));
   const outer = Object.hasOwn(QUOTES, line[0]) && endOfQuoted(line, 0) === line.length - 1 ? line.slice(1, -1) : line;
   change("quotes", line, (line = outer));
   replace("name", PROGRAM, "");
@@ -272,7 +284,8 @@ function understood(line, change) {
   const signs = (given) => given.filter((it) => ["-", "/"].includes(it)).length;
   if (signs(words) > signs(tokens.filter((it) => it.kind === "sign").map((it) => it.text))) change("apart", bare, null);
   if (lists.length > 0) change("lists", bare, null);
-  if (["-r", "-m"].some((it) => words[1] === it && !(tokens[0].text === it))) change("options", bare, null);
+  const isMoved = tokens.some((it) => it.kind === "flag") && withSingleBlanks(line) !== words.join(" ");
+  if (isMoved && (lists.length === 0 || tokens[0].kind !== "flag")) change("options", bare, null);
   return words;
 }
 
@@ -299,13 +312,19 @@ function readTyped(typed) {
     if (line === "" || isCommand(textsOfWords(line))) return cleaned;
     const help = helpAsked(line);
     if (help !== undefined) return { line, changes: [], help };
-    const changes = [...cleaned.changes], words = understood(line, noteIn(changes));
+    if (line.length > LONGEST) return cleaned;
+    const changes = [...cleaned.changes], words = understood(withSingleBlanks(line), noteIn(changes));
     return words && isCommand(words) ? { line: words.join(" "), changes } : cleaned;
   } catch (error) {
     if (!(error instanceof Unclear)) throw error;
     if (cleaned.line === asTyped) cleaned.changes = [];
     return { ...cleaned, reason: error.message };
   }
+}
+
+/** A line with one blank between its words. */
+function withSingleBlanks(line) {
+  return line.replace(/[ \t]+/g, " ");
 }
 
 /** Notes a change of a text by its name in CHANGES, once, where the text is another one. */
