@@ -322,6 +322,73 @@ class Expansion(Mapping[Label, Coefficient], Generic[Label, Coefficient]):
         first, last = self._latex_of(terms[: MOST_SHOWN - SHOWN_AT_END]), self._latex_of(terms[-SHOWN_AT_END:])
         return f"${first}+\\cdots{'' if last.startswith('-') else '+'}{last}$ ({len(self):,} terms)"
 
+    def parts(self, most: int) -> "Iterator[str]":
+        """The one-line forms of expansions whose sum this is, each of at most so many bytes, or of one term; one if there are no terms."""
+        text = ""
+        for label, c in self._terms.items():
+            term = self._joined([(label, c)], KINDS[self.kind].plain, str, "*")
+            if text and len(text) + 1 + len(term) > most:
+                yield text
+                text = ""
+            text += term if not text or c < 0 else f"+{term}"
+        yield text or "0"
+
+    # ---- terms
+
+    def filter(self, keep: "Callable[[Label, Coefficient], object]") -> "Expansion[Label, Coefficient]":
+        """The terms for which a function of label and coefficient says yes.
+
+        >>> print(Expansion({(2,): 1, (1, 1): 3}).filter(lambda label, c: len(label) < 2))
+        s[2]
+        """
+        return Expansion._made({label: c for label, c in self._terms.items() if keep(label, c)}, self.kind, self.basis)
+
+    def map(self, change: "Callable[[Label, Coefficient], Tuple[Any, Any]]") -> "Expansion[Any, Any]":
+        """The sum of the terms that a function of label and coefficient makes of the terms: pairs of a label and a coefficient.
+
+        >>> print(Expansion({(2,): 1, (1, 1): 3}).map(lambda label, c: (label[:1], c)))
+        s[2]+3*s[1]
+        """
+        table: Dict[Any, Number] = {}
+        for label, c in self._terms.items():
+            new, size = change(label, c)
+            new = KINDS[self.kind].find(new)
+            table[new] = exact(table.get(new, 0) + exact(size))
+        return self._with(table)
+
+    def degree(self) -> int:
+        """The largest degree of the terms of symmetric functions and polynomials; of 0 there is none.
+
+        >>> Expansion({(2,): 1, (1, 1, 1): 3}).degree()
+        3
+        """
+        if self.kind not in ("symmetric", "monomials") or not self._terms:
+            raise ValueError(f"{self if not self._terms else self._said()} has no degree here")
+        return max(map(sum, self._terms))
+
+    def omega(self) -> "Expansion[Label, Coefficient]":
+        """The image of a symmetric function in s under the involution that takes s of a partition to s of its conjugate.
+
+        >>> print(Expansion({(3, 1): 2}).omega())
+        2*s[2,1,1]
+        """
+        self._be_in_s()
+        return self._with({tuple(sum(it > i for it in label) for i in range(sum(label[:1]))): c for label, c in self._terms.items()})
+
+    def scalar(self, other: "Expansion[Any, Any]") -> Number:
+        """The scalar product of two symmetric functions in s, for which the Schur functions are orthonormal.
+
+        >>> Expansion({(2,): 3, (1, 1): 1}).scalar(Expansion({(2,): 2, (3,): 5}))
+        6
+        """
+        self._be_in_s()
+        other._be_in_s()
+        return exact(sum(c * other._terms.get(label, 0) for label, c in self._terms.items()))
+
+    def _be_in_s(self) -> None:
+        if (self.kind, self.basis) != ("symmetric", "s"):
+            raise ValueError(f"{self._said()}: expand it in s first")
+
     # ---- other forms
 
     def to_sage(self, ring: Any = None) -> Any:

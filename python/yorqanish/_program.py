@@ -9,7 +9,7 @@ import subprocess
 import sys
 import time
 import weakref
-from typing import Any, Dict, Iterator, List, Optional, Sequence, Tuple
+from typing import Any, Dict, Iterator, List, NoReturn, Optional, Sequence, Tuple
 
 from ._ways import BREAK, END, LAST, LONGEST, NO_MEMORY, PATIENCE, QUESTIONS, Ended, NoCalculator, closed, is_of_batch, no_memory
 
@@ -366,6 +366,13 @@ class Program:
             return text.decode("ascii").splitlines()
         finally:
             one.end()
+
+    def become(self, words: List[str]) -> NoReturn:
+        """The program takes the place of this process."""
+        if self._file:
+            self._file.check()
+            os.set_inheritable(self._file.number, True)
+        os.execv(self._file.place if self._file else self.path, [self.path, *words])
 
     def close(self) -> None:
         self._is_closed = True

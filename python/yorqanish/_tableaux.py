@@ -4,6 +4,7 @@ from __future__ import annotations
 from typing import Any, NamedTuple, NoReturn, Tuple
 
 from ._arguments import Numbers, Rows, Shape, partition, tableau
+from ._pictures import filled
 
 
 def rows_of(line: str) -> "Tuple[Numbers, ...]":
@@ -99,6 +100,9 @@ class Tableau(Tuple[Numbers, ...]):
 
     def _repr_latex_(self) -> str:
         return f"${self._array()}$"
+
+    def _repr_svg_(self) -> str:
+        return filled(self, self.inner).svg
 
     def _latex_(self) -> str:
         """The tableau as LaTeX, for Sage's `latex` and `view`."""
