@@ -1,14 +1,17 @@
 """The program: `calc batch` in processes of its own, one for each call that runs at a time."""
 from __future__ import annotations
 
+import atexit
 import hashlib
 import os
 import select
 import signal
 import subprocess
 import sys
+import threading
 import time
 import weakref
+from queue import SimpleQueue
 from typing import Any, Dict, Iterator, List, NoReturn, Optional, Sequence, Tuple
 
 from ._ways import BREAK, END, LAST, LONGEST, NO_MEMORY, PATIENCE, QUESTIONS, Ended, NoCalculator, closed, is_of_batch, no_memory
@@ -16,6 +19,10 @@ from ._ways import BREAK, END, LAST, LONGEST, NO_MEMORY, PATIENCE, QUESTIONS, En
 # The processes that this one has started, each with the writing end of the pipe that ties it to this one, and with whoever reads from it. A
 # process made by fork closes its copies of their pipes and forgets them.
 STARTED: "Dict[subprocess.Popen[bytes], Tuple[Any, weakref.ref[Running]]]" = {}
+# What is to be ended: processes, and references to readers that are gone. A thread ends them, since no signal disturbs it; what asks for it is
+# one step, wherever the collector or an interrupted call does that.
+ENDING: "SimpleQueue[Any]" = SimpleQueue()
+ENDERS: "List[threading.Thread]" = []
 NOTHING = memoryview(b"")
 # A group of its own; before Python 3.11 that takes a session of its own.
 GROUP: "Dict[str, Any]" = {"process_group": 0} if sys.version_info >= (3, 11) else {"start_new_session": True}
@@ -73,7 +80,10 @@ def tie(process: "subprocess.Popen[bytes]", watched: int) -> None:
 
 def start(path: str, words: List[str], file: Optional[File], reader: "Running") -> "subprocess.Popen[bytes]":
     """Starts the program, out of reach of the terminal's Ctrl-C: who is interrupted ends it."""
-    end_abandoned()
+    if not ENDERS:
+        thread = threading.Thread(target=end_each, daemon=True)
+        thread.start()
+        ENDERS.append(thread)
     try:
         if file:
             file.check()
@@ -86,7 +96,7 @@ def start(path: str, words: List[str], file: Optional[File], reader: "Running") 
             where = file.place if file else path
             pipes: "Dict[str, Any]" = {"stdin": subprocess.PIPE, "stdout": subprocess.PIPE, "stderr": subprocess.DEVNULL}
             process = subprocess.Popen([path, *words], executable=where, bufsize=0, pass_fds=passed, **pipes, **GROUP)
-            STARTED[process] = kept, weakref.ref(reader)
+            STARTED[process] = kept, weakref.ref(reader, ENDING.put)
             tie(process, watched.fileno())
     except OSError as error:
         raise NoCalculator(f"{path} cannot be started: {error.strerror}") from None
@@ -94,35 +104,45 @@ def start(path: str, words: List[str], file: Optional[File], reader: "Running") 
 
 
 def end(process: "subprocess.Popen[bytes]") -> None:
-    """Ends a process, waits until it has gone, and closes this process's ends of the pipes. If this is interrupted, the next start does it."""
+    """Ends a process, waits until it has gone, and closes this process's ends of the pipes."""
     process.kill()
     process.wait()
     let_go(process)
 
 
 def let_go(process: "subprocess.Popen[bytes]") -> None:
-    kept = STARTED.get(process)
-    for pipe in (process.stdin, process.stdout, kept and kept[0]):
+    kept, _ = STARTED.pop(process, (None, None))
+    for pipe in (process.stdin, process.stdout, kept):
         if pipe:
             pipe.close()
-    STARTED.pop(process, None)
 
 
-def end_abandoned() -> None:
-    """Ends the processes from which nobody reads any more, whose end was interrupted."""
-    for process, (_, reader) in list(STARTED.items()):
-        running = reader()
-        if running is None or running.is_ended:
-            end(process)
+def end_each() -> None:
+    """Ends what is to be ended, one after the other."""
+    while True:
+        asked = ENDING.get()
+        for process, (_, reader) in list(STARTED.items()):
+            if process is asked or reader is asked:
+                end(process)
+
+
+def end_all() -> None:
+    """Ends all processes, at the end of Python."""
+    for process in list(STARTED):
+        end(process)
 
 
 def forget_all() -> None:
     """Closes what a fork has copied. The processes are their parent's: they are neither ended nor waited for."""
+    global ENDING
+    ENDING = SimpleQueue()
+    ENDERS.clear()
     for process in list(STARTED):
         process.returncode = 0
         let_go(process)
 
 
+atexit.register(end_all)
 os.register_at_fork(after_in_child=forget_all)
 
 
@@ -130,10 +150,9 @@ class Running:
     """A process of the program, whose answers are read as they come, by the process that has started it."""
 
     def __init__(self, path: str, words: List[str], file: Optional[File]) -> None:
-        self.path, self.is_ended, self._is_stopped, self._owner = path, False, False, os.getpid()
+        self.path, self._is_stopped, self._owner = path, False, os.getpid()
+        # (it ends with the last reference to this, and at the end of Python)
         self.process = start(path, words, file, self)
-        # (it ends with the last reference, and at the end of Python)
-        self._end = weakref.finalize(self, end, self.process)
         assert self.process.stdin and self.process.stdout
         self.into, self.out = self.process.stdin.fileno(), self.process.stdout.fileno()
         os.set_blocking(self.into, False)
@@ -141,8 +160,8 @@ class Running:
         self._poll.register(self.out, select.POLLIN)
 
     def end(self) -> None:
-        self.is_ended = True
-        self._end()
+        """Asks for the end of the process, for which nobody waits."""
+        ENDING.put(self.process)
 
     def _written(self, data: memoryview) -> memoryview:
         """Writes what the pipe takes; what is left. Of a process that has gone nothing is left: its output says so."""

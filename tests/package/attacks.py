@@ -20,6 +20,7 @@ from fractions import Fraction
 from common import LIBRARY, PROGRAM, Skipped, main, need, printed, raises, same, terms, within
 
 from yorqanish import Calculator, Expansion, NoCalculator, Tableau
+from yorqanish._program import end_all
 
 CALC = Calculator(program=PROGRAM)
 
@@ -438,10 +439,12 @@ def test_a_program_that_is_written_over():
     with tempfile.TemporaryDirectory() as room:
         path = copied(room)
         calc = Calculator(program=path)
-        calc._way._idle.pop().end()
+        end_all()
         os.utime(path)
+        calc._way._idle.clear()
         same(calc.coef([2], [1], [1]), 1)
-        calc._way._idle.pop().end()
+        calc._way._idle.clear()
+        end_all()
         with open(path, "r+b") as file:
             file.seek(5000)
             file.write(b"other")
