@@ -12,17 +12,18 @@ import threading
 import time
 import weakref
 from queue import SimpleQueue
-from typing import Any, Dict, Iterator, List, NoReturn, Optional, Sequence, Tuple
+from typing import Any, Dict, Iterator, List, NoReturn, Optional, Sequence, Tuple, cast
 
 from ._ways import BREAK, END, LAST, LONGEST, NO_MEMORY, PATIENCE, QUESTIONS, Ended, NoCalculator, closed, is_of_batch, no_memory
 
 # The processes that this one has started, each with the writing end of the pipe that ties it to this one, and with whoever reads from it. A
 # process made by fork closes its copies of their pipes and forgets them.
 STARTED: "Dict[subprocess.Popen[bytes], Tuple[Any, weakref.ref[Running]]]" = {}
-# What is to be ended: processes, and references to readers that are gone. A thread ends them, since no signal disturbs it; what asks for it is
-# one step, wherever the collector or an interrupted call does that.
+# What is to be started, and what is to be ended: processes, and references to readers that are gone. Threads do it, since no signal disturbs
+# them; what asks for it is one step, wherever the collector or an interrupted call does that.
+STARTING: "SimpleQueue[Any]" = SimpleQueue()
 ENDING: "SimpleQueue[Any]" = SimpleQueue()
-ENDERS: "List[threading.Thread]" = []
+SERVANTS: "List[threading.Thread]" = []
 NOTHING = memoryview(b"")
 # A group of its own; before Python 3.11 that takes a session of its own.
 GROUP: "Dict[str, Any]" = {"process_group": 0} if sys.version_info >= (3, 11) else {"start_new_session": True}
@@ -78,16 +79,11 @@ def tie(process: "subprocess.Popen[bytes]", watched: int) -> None:
             pass
 
 
-def start(path: str, words: List[str], file: Optional[File], reader: "Running") -> "subprocess.Popen[bytes]":
+def start(path: str, words: List[str], file: Optional[File], reader: "weakref.ref[Running]") -> "subprocess.Popen[bytes]":
     """Starts the program, out of reach of the terminal's Ctrl-C: who is interrupted ends it."""
-    if not ENDERS:
-        thread = threading.Thread(target=end_each, daemon=True)
-        thread.start()
-        ENDERS.append(thread)
     try:
         if file:
             file.check()
-        # (files that are closed with their last reference, wherever this is interrupted)
         ends = os.pipe()
         watched, kept = open(ends[0], "rb", buffering=0), open(ends[1], "wb", buffering=0)
         with watched:
@@ -96,11 +92,37 @@ def start(path: str, words: List[str], file: Optional[File], reader: "Running") 
             where = file.place if file else path
             pipes: "Dict[str, Any]" = {"stdin": subprocess.PIPE, "stdout": subprocess.PIPE, "stderr": subprocess.DEVNULL}
             process = subprocess.Popen([path, *words], executable=where, bufsize=0, pass_fds=passed, **pipes, **GROUP)
-            STARTED[process] = kept, weakref.ref(reader, ENDING.put)
+            STARTED[process] = kept, reader
             tie(process, watched.fileno())
     except OSError as error:
         raise NoCalculator(f"{path} cannot be started: {error.strerror}") from None
+    if reader() is None:
+        ENDING.put(process)
     return process
+
+
+def started(path: str, words: List[str], file: Optional[File], reader: "Running") -> "subprocess.Popen[bytes]":
+    """Has the program started, and waits for that."""
+    for task in (start_each, end_each)[len(SERVANTS) :]:
+        thread = threading.Thread(target=task, daemon=True)
+        thread.start()
+        SERVANTS.append(thread)
+    answer: "SimpleQueue[Any]" = SimpleQueue()
+    STARTING.put((answer, path, words, file, weakref.ref(reader, ENDING.put)))
+    process = answer.get()
+    if isinstance(process, BaseException):
+        raise process
+    return cast("subprocess.Popen[bytes]", process)
+
+
+def start_each() -> None:
+    """Starts what is to be started, one after the other."""
+    while True:
+        answer, *asked = STARTING.get()
+        try:
+            answer.put(start(*asked))
+        except BaseException as error:
+            answer.put(error)
 
 
 def end(process: "subprocess.Popen[bytes]") -> None:
@@ -123,7 +145,10 @@ def end_each() -> None:
         asked = ENDING.get()
         for process, (_, reader) in list(STARTED.items()):
             if process is asked or reader is asked:
-                end(process)
+                try:
+                    end(process)
+                except OSError:
+                    pass
 
 
 def end_all() -> None:
@@ -134,9 +159,9 @@ def end_all() -> None:
 
 def forget_all() -> None:
     """Closes what a fork has copied. The processes are their parent's: they are neither ended nor waited for."""
-    global ENDING
-    ENDING = SimpleQueue()
-    ENDERS.clear()
+    global STARTING, ENDING
+    STARTING, ENDING = SimpleQueue(), SimpleQueue()
+    SERVANTS.clear()
     for process in list(STARTED):
         process.returncode = 0
         let_go(process)
@@ -152,7 +177,7 @@ class Running:
     def __init__(self, path: str, words: List[str], file: Optional[File]) -> None:
         self.path, self._is_stopped, self._owner = path, False, os.getpid()
         # (it ends with the last reference to this, and at the end of Python)
-        self.process = start(path, words, file, self)
+        self.process = started(path, words, file, self)
         assert self.process.stdin and self.process.stdout
         self.into, self.out = self.process.stdin.fileno(), self.process.stdout.fileno()
         os.set_blocking(self.into, False)

@@ -192,26 +192,31 @@ def test_ctrl_c_while_processes_are_ended():
     """Neither processes nor descriptors are left, whenever it comes."""
     gc.collect()
     before, mine, hits = descriptors(), len(children()), 0
-    signal.signal(signal.SIGALRM, signal.default_int_handler)
+    is_armed = [False]
+
+    def interrupt(*_):
+        if is_armed[0]:
+            is_armed[0] = False
+            raise KeyboardInterrupt
+
+    signal.signal(signal.SIGALRM, interrupt)
     until = time.monotonic() + 8
     while time.monotonic() < until:
         try:
-            signal.setitimer(signal.ITIMER_REAL, 0.0001 + (hits % 97) * 0.0005)
-            while True:
+            is_armed[0] = True
+            signal.setitimer(signal.ITIMER_REAL, 0.0001 + hits % 97 * 0.0005)
+            while is_armed[0]:
                 with Calculator(program=PROGRAM) as calc:
                     listed = calc.tab((9, 8, 7, 6), (8, 7, 6))
                     next(listed)
-                    del listed
+                    listed.close()
         except KeyboardInterrupt:
             hits += 1
-        finally:
-            signal.setitimer(signal.ITIMER_REAL, 0)
     calc = listed = None
     gc.collect()
     with Calculator(program=PROGRAM) as last:
         same(last.coef([2], [1], [1]), 1)
     assert hits > 50, (hits, calc, listed)
-    import subprocess as sp; print(children(), [(k.pid, v[1]()) for k,v in _program.STARTED.items()], sp._active, descriptors(), before, hits, [os.readlink(f'/proc/self/fd/{i}') for i in os.listdir('/proc/self/fd') if os.path.exists(f'/proc/self/fd/{i}')])
     comes(lambda: len(children()) <= mine + 1)
     assert descriptors() <= before + 8, (before, descriptors(), hits)
 
