@@ -10,7 +10,8 @@ from typing import Any, Callable, Iterable, Iterator, List, Optional, SupportsFl
 
 from . import _arguments, _batch
 from ._answers import Grid, grid_of, letters_of
-from ._arguments import Exponents, Numbers, Partition, Permutation, Rows, Shape, factors, limit, numbers, partition, spoken, text_of, whole, without_zeros, words
+from ._arguments import Exponents, Numbers, Partition, Permutation, Rows, Shape
+from ._arguments import factors, limit, numbers, partition, spoken, text_of, whole, without_zeros, words
 from ._batch import Block
 from ._expansion import BASES, Expansion, Number
 from ._refusals import Refusal, SyntaxRefusal
@@ -77,8 +78,6 @@ class Calculator:
         if self._is_closed:
             raise closed()
 
-    # ---- one line
-
     def _limit(self, timeout: Optional[SupportsFloat]) -> Optional[float]:
         """The seconds that a command may take."""
         seconds = self._seconds if timeout is None else _arguments.seconds(timeout)
@@ -127,8 +126,6 @@ class Calculator:
         """
         return self._text(words(*(_word(it) for it in parts)), timeout)
 
-    # ---- products of Schur functions
-
     def mult(self, *shapes: Shape, rows: Optional[SupportsIndex] = None, timeout: Optional[SupportsFloat] = None) -> "Expansion[Partition, int]":
         """The product of two to eight Schur functions, in Schur functions; with `rows=K`, in K variables.
 
@@ -145,7 +142,7 @@ class Calculator:
         >>> Calculator().skew([2, 1], [1])
         Expansion({(2,): 1, (1, 1): 1}, basis='s')
         """
-        return Expansion.of(self._text(words("skew", limit(rows), *_over(outer, inner)), timeout))
+        return Expansion.of(self._text(words("skew", limit(rows), partition(outer, "outer"), "/", partition(inner, "inner")), timeout))
 
     def coef(self, outer: Shape, left: Shape, right: Shape, timeout: Optional[SupportsFloat] = None) -> int:
         """A Littlewood-Richardson coefficient: that of the Schur function of `outer` in the product of those of `left` and `right`.
@@ -187,8 +184,6 @@ class Calculator:
         line = words("fusion", whole(rows, "rows"), whole(level, "level"), *factors(shapes))
         return Expansion.of(self._text(line, timeout))
 
-    # ---- Schubert polynomials
-
     def schubert(self, perm: Shape, timeout: Optional[SupportsFloat] = None) -> "Expansion[Exponents, int]":
         """The Schubert polynomial of a permutation. Labels are the exponents of monomials.
 
@@ -203,7 +198,7 @@ class Calculator:
         >>> Calculator().schubmult([2, 1], [2, 1])
         Expansion({(3, 1, 2): 1}, kind='permutations')
         """
-        return Expansion.of(self._text(words("schubmult", *_two(left, right)), timeout), "permutations")
+        return Expansion.of(self._text(words("schubmult", numbers(left, "left"), "-", numbers(right, "right")), timeout), "permutations")
 
     def dschubmult(self, left: Shape, right: Shape, timeout: Optional[SupportsFloat] = None) -> "Expansion[Tuple[Permutation, Exponents], int]":
         """The product of two double Schubert polynomials, in double Schubert polynomials. Labels are pairs of a permutation and the
@@ -212,7 +207,7 @@ class Calculator:
         >>> Calculator().dschubmult([1], [2, 1])
         Expansion({((2, 1), ()): 1}, kind='shifts')
         """
-        return Expansion.of(self._text(words("dschubmult", *_two(left, right)), timeout), "shifts")
+        return Expansion.of(self._text(words("dschubmult", numbers(left, "left"), "-", numbers(right, "right")), timeout), "shifts")
 
     def stanley(self, perm: Shape, rows: SupportsIndex, timeout: Optional[SupportsFloat] = None) -> "Expansion[Partition, int]":
         """The Stanley symmetric function of a permutation in K variables, where K is `rows`, in Schur functions.
@@ -221,8 +216,6 @@ class Calculator:
         Expansion({(2,): 1, (1, 1): 1}, basis='s')
         """
         return Expansion.of(self._text(words("stanley", limit(rows), numbers(perm, "perm")), timeout))
-
-    # ---- changes of basis
 
     def expand(self, target: str, expression: Expression, timeout: Optional[SupportsFloat] = None) -> "Expansion[Partition, Number]":
         """An expression in the basis `target`: m, e, h, p or s. The expression is a string without blanks, or an Expansion or a symmetric
@@ -257,41 +250,21 @@ class Calculator:
         return reduce(add, answers)
 
     def kostka(self, shape: Shape, content: Shape, timeout: Optional[SupportsFloat] = None) -> int:
-        """The number of semistandard tableaux of a shape with this content: the coefficient of s_shape in h_content.
-
-        >>> Calculator().kostka([3, 1], [2, 1, 1])
-        2
-        """
+        """The number of semistandard tableaux of a shape with this content: the coefficient of s_shape in h_content."""
         atom = ",".join(map(str, sorted(without_zeros(numbers(content, "content")), reverse=True)))
         return cast(int, self.expand("s", f"h[{atom}]", timeout)[partition(shape, "shape")])
 
     def dimension(self, shape: Shape, timeout: Optional[SupportsFloat] = None) -> int:
-        """The number of standard tableaux of a shape: the dimension of the representation of the symmetric group that belongs to it.
-
-        >>> Calculator().dimension([3, 2])
-        5
-        """
+        """The number of standard tableaux of a shape: the dimension of the representation of the symmetric group that belongs to it."""
         parts = partition(shape, "shape")
         return self.kostka(parts, [1] * sum(parts), timeout)
 
     def same_function(self, left: Expression, right: Expression, timeout: Optional[SupportsFloat] = None) -> bool:
-        """Whether two expressions are the same symmetric function: both are expanded in s.
-
-        >>> calc = Calculator()
-        >>> calc.same_function(calc.expand("p", "s[2,1]"), "h[2,1]-h[3]")
-        True
-        """
+        """Whether two expressions are the same symmetric function: both are expanded in s."""
         return self.expand("s", left, timeout) == self.expand("s", right, timeout)
 
-    # ---- rings
-
     def schur_ring(self) -> Ring:
-        """Symmetric functions in s, with the products of `mult`.
-
-        >>> s = Calculator().schur_ring()
-        >>> print((s([1]) + 1) ** 2)
-        s[2]+s[1,1]+2*s[1]+s[]
-        """
+        """Symmetric functions in s, with the products of `mult`."""
         return Ring(self, "symmetric functions in s", ("mult",), "symmetric")
 
     def quantum_ring(self, rows: SupportsIndex, cols: SupportsIndex) -> Ring:
@@ -305,17 +278,9 @@ class Calculator:
         return Ring(self, f"the fusion ring of su({k}) at level {at}", ("fusion", k, at), "symmetric")
 
     def schubert_ring(self, double: bool = False) -> Ring:
-        """Schubert polynomials with the products of `schubmult`, or double ones with those of `dschubmult`.
-
-        >>> X = Calculator().schubert_ring()
-        >>> print(X([2, 1]) * (X([1, 3, 2]) - X([2, 1])))
-        X[2,3,1]
-        """
-        if double:
-            return Ring(self, "double Schubert polynomials", ("dschubmult",), "shifts")
-        return Ring(self, "Schubert polynomials", ("schubmult",), "permutations")
-
-    # ---- tableaux
+        """Schubert polynomials with the products of `schubmult`, or double ones with those of `dschubmult`."""
+        name = "double Schubert polynomials" if double else "Schubert polynomials"
+        return Ring(self, name, ("dschubmult" if double else "schubmult",), "shifts" if double else "permutations")
 
     def tab(self, outer: Shape, inner: Shape, after: Optional[Rows] = None, timeout: Optional[SupportsFloat] = None) -> Iterator[Tableau]:
         """The Littlewood-Richardson tableaux of a skew shape, each as soon as it is listed; with `after`, those after this one. `timeout`
@@ -365,8 +330,8 @@ class Calculator:
         >>> Calculator().rect([2, 2], [1], ((1,), (1, 2)))
         Tableau(((1, 1), (2,)))
         """
-        text = self._text(words("rect", *_over(outer, inner), "-", spoken(tableau, "tableau")), timeout)
-        return tableau_of(text.rstrip("\n"))
+        shapes = partition(outer, "outer"), "/", partition(inner, "inner")
+        return tableau_of(self._text(words("rect", *shapes, "-", spoken(tableau, "tableau")), timeout).rstrip("\n"))
 
     def growth(self, perm: Shape, timeout: Optional[SupportsFloat] = None) -> Grid:
         """The growth diagram of a permutation of n letters: a tuple of rows 0 to n, where row i has the partitions at (i, 0) to (i, n).
@@ -375,8 +340,6 @@ class Calculator:
         (((), ()), ((), (1,)))
         """
         return grid_of(self._text(words("growth", numbers(perm, "perm")), timeout))
-
-    # ---- many commands
 
     def batch(
         self,
@@ -431,14 +394,6 @@ def _word(part: Words) -> Union[str, int, Numbers]:
         return text_of(part)
     number = _arguments.integer(part)
     return numbers(part, "a word") if number is None else whole(number, "a word")  # type: ignore[arg-type]
-
-
-def _over(outer: Shape, inner: Shape) -> "Tuple[Union[str, Numbers], ...]":
-    return partition(outer, "outer"), "/", partition(inner, "inner")
-
-
-def _two(left: Shape, right: Shape) -> "Tuple[Union[str, Numbers], ...]":
-    return numbers(left, "left"), "-", numbers(right, "right")
 
 
 def _basis(target: str) -> str:

@@ -5,9 +5,9 @@ import json
 from collections.abc import ItemsView, Iterator as AnyIterator, Mapping as AnyMapping
 from fractions import Fraction
 from numbers import Rational
-from typing import Any, Callable, Dict, Generic, Iterable, Iterator, List, Mapping, NoReturn, Optional, SupportsIndex, Tuple, TypeVar, Union, cast
+from typing import Any, Callable, Dict, Generic, Iterable, Iterator, List, Mapping, Optional, SupportsIndex, Tuple, TypeVar, Union, cast
 
-from ._arguments import integer, ratio
+from ._arguments import Fixed, integer, ratio
 from ._kinds import KINDS
 
 Number = Union[int, Fraction]
@@ -52,13 +52,13 @@ def latex_number(size: Number) -> str:
     return f"\\frac{{{size.numerator}}}{{{size.denominator}}}" if size.denominator > 1 else str(size)
 
 
-class Expansion(Mapping[Label, Coefficient], Generic[Label, Coefficient]):
+class Expansion(Fixed, Mapping[Label, Coefficient], Generic[Label, Coefficient]):
     """A list of terms: labels and their coefficients, in the order in which `calc` prints them. It does not change.
 
     A label is a tuple of numbers: a partition, a permutation, or the exponents of a monomial. In a coproduct it is a pair of partitions, in
     a quantum product the exponent of q and a partition, in a product of double Schubert polynomials a permutation and the exponents of y.
-    A label that is not in the list has coefficient 0; anything that is not a label of the expansion's kind raises an error. An expansion is made
-    of a mapping or of pairs; a label that is given twice is an error, and one with the coefficient 0 is left out.
+    A label that is not in the list has coefficient 0; anything that is not a label of the expansion's kind raises an error. It is made of a
+    mapping or of pairs; a label that is given twice is an error, and one with the coefficient 0 is left out.
 
     >>> a = Expansion({(2,): 1, (1, 1): 1})
     >>> a
@@ -124,12 +124,6 @@ class Expansion(Mapping[Label, Coefficient], Generic[Label, Coefficient]):
             object.__setattr__(made, name, value)
         return made
 
-    def __setattr__(self, name: str, value: object) -> NoReturn:
-        raise AttributeError(f"an expansion does not change: {name} cannot be set")
-
-    def __delattr__(self, name: str) -> NoReturn:
-        raise AttributeError(f"an expansion does not change: {name} cannot be deleted")
-
     @staticmethod
     def of(text: str, kind: str = "symmetric", basis: str = "s") -> "Expansion[Any, Any]":
         """Parses a list of terms that `calc` has printed.
@@ -150,8 +144,6 @@ class Expansion(Mapping[Label, Coefficient], Generic[Label, Coefficient]):
     def _with(self, terms: "Dict[Any, Any]") -> "Expansion[Any, Any]":
         """An expansion of the same kind and basis, of terms in any order."""
         return Expansion._made(in_order({label: c for label, c in terms.items() if c}, self.kind), self.kind, self.basis)
-
-    # ---- a mapping in which what is missing is 0
 
     def __getitem__(self, label: Any) -> Coefficient:
         return cast(Coefficient, self._terms.get(KINDS[self.kind].find(label), 0))
@@ -202,12 +194,6 @@ class Expansion(Mapping[Label, Coefficient], Generic[Label, Coefficient]):
         """The expansion itself, since it does not change."""
         return self
 
-    def __copy__(self) -> "Expansion[Label, Coefficient]":
-        return self
-
-    def __deepcopy__(self, memo: Any) -> "Expansion[Label, Coefficient]":
-        return self
-
     def __or__(self, other: "Mapping[Label, Coefficient]") -> "Expansion[Label, Coefficient]":
         """The terms of both; a label that is in both has the coefficient of the second."""
         if isinstance(other, Expansion):
@@ -216,8 +202,6 @@ class Expansion(Mapping[Label, Coefficient], Generic[Label, Coefficient]):
             return NotImplemented
         zeros = {KINDS[self.kind].find(label): 0 for label in other}
         return self._with({**self._terms, **zeros, **given(other, self.kind)})
-
-    # ---- sums and multiples
 
     def _said(self) -> str:
         return f"{self.kind} in {self.basis}"
@@ -277,8 +261,6 @@ class Expansion(Mapping[Label, Coefficient], Generic[Label, Coefficient]):
             raise ZeroDivisionError("an expansion is divided by 0")
         return self._with({label: exact(c / by) for label, c in self._terms.items()})
 
-    # ---- written forms
-
     def _joined(
         self, terms: "Iterable[Tuple[Any, Number]]", label_of: Callable[[str, Any], str], of_size: Callable[[Number], str], sign: str
     ) -> str:
@@ -311,7 +293,6 @@ class Expansion(Mapping[Label, Coefficient], Generic[Label, Coefficient]):
         return self._joined(terms, KINDS[self.kind].latex, latex_number, "")
 
     def _latex_(self) -> str:
-        """The expansion as LaTeX, for Sage's `latex` and `view`."""
         return self.latex()
 
     def _repr_latex_(self) -> str:
@@ -333,22 +314,12 @@ class Expansion(Mapping[Label, Coefficient], Generic[Label, Coefficient]):
             text += term if not text or c < 0 else f"+{term}"
         yield text or "0"
 
-    # ---- terms
-
     def filter(self, keep: "Callable[[Label, Coefficient], object]") -> "Expansion[Label, Coefficient]":
-        """The terms for which a function of label and coefficient says yes.
-
-        >>> print(Expansion({(2,): 1, (1, 1): 3}).filter(lambda label, c: len(label) < 2))
-        s[2]
-        """
+        """The terms for which a function of label and coefficient says yes."""
         return Expansion._made({label: c for label, c in self._terms.items() if keep(label, c)}, self.kind, self.basis)
 
     def map(self, change: "Callable[[Label, Coefficient], Tuple[Any, Any]]") -> "Expansion[Any, Any]":
-        """The sum of the terms that a function of label and coefficient makes of the terms: pairs of a label and a coefficient.
-
-        >>> print(Expansion({(2,): 1, (1, 1): 3}).map(lambda label, c: (label[:1], c)))
-        s[2]+3*s[1]
-        """
+        """The sum of the terms that a function of label and coefficient makes of the terms: pairs of a label and a coefficient."""
         table: Dict[Any, Number] = {}
         for label, c in self._terms.items():
             new, size = change(label, c)
@@ -357,30 +328,18 @@ class Expansion(Mapping[Label, Coefficient], Generic[Label, Coefficient]):
         return self._with(table)
 
     def degree(self) -> int:
-        """The largest degree of the terms of symmetric functions and polynomials; of 0 there is none.
-
-        >>> Expansion({(2,): 1, (1, 1, 1): 3}).degree()
-        3
-        """
+        """The largest degree of the terms of symmetric functions and polynomials; of 0 there is none."""
         if self.kind not in ("symmetric", "monomials") or not self._terms:
             raise ValueError(f"{self if not self._terms else self._said()} has no degree here")
         return max(map(sum, self._terms))
 
     def omega(self) -> "Expansion[Label, Coefficient]":
-        """The image of a symmetric function in s under the involution that takes s of a partition to s of its conjugate.
-
-        >>> print(Expansion({(3, 1): 2}).omega())
-        2*s[2,1,1]
-        """
+        """The image of a symmetric function in s under the involution that takes s of a partition to s of its conjugate."""
         self._be_in_s()
         return self._with({tuple(sum(it > i for it in label) for i in range(sum(label[:1]))): c for label, c in self._terms.items()})
 
     def scalar(self, other: "Expansion[Any, Any]") -> Number:
-        """The scalar product of two symmetric functions in s, for which the Schur functions are orthonormal.
-
-        >>> Expansion({(2,): 3, (1, 1): 1}).scalar(Expansion({(2,): 2, (3,): 5}))
-        6
-        """
+        """The scalar product of two symmetric functions in s, for which the Schur functions are orthonormal."""
         self._be_in_s()
         other._be_in_s()
         return exact(sum(c * other._terms.get(label, 0) for label, c in self._terms.items()))
@@ -389,16 +348,13 @@ class Expansion(Mapping[Label, Coefficient], Generic[Label, Coefficient]):
         if (self.kind, self.basis) != ("symmetric", "s"):
             raise ValueError(f"{self._said()}: expand it in s first")
 
-    # ---- other forms
-
     def to_sage(self, ring: Any = None) -> Any:
         """The expansion as an element of Sage: of `SymmetricFunctions(QQ)`, of its tensor square for a coproduct, of
         `SymmetricFunctions` over QQ[q] for a quantum product, of a polynomial ring in x0, x1, .. for monomials, of
         `SchubertPolynomialRing(ZZ)` for permutations.
 
-        This needs Sage. `ring` is the ring of coefficients if it is not QQ; it is an error if a coefficient is not in it. For a product of
-        double Schubert polynomials Sage has no ring, and it is a TypeError.
-        """
+        `ring` is the ring of coefficients if it is not QQ; it is an error if a coefficient is not in it. For a product of double Schubert
+        polynomials Sage has no ring, and it is a TypeError."""
         from ._sage import element
 
         return element(self, ring)
@@ -430,12 +386,7 @@ class Expansion(Mapping[Label, Coefficient], Generic[Label, Coefficient]):
         return Expansion([(label, Fraction(c)) for label, c in read["terms"]], read["kind"], read["basis"])
 
     def to_csv(self) -> str:
-        """The expansion as a table of comma-separated values: a line for each term, after one with the names of the columns.
-
-        >>> print(Expansion({(2, 1): 1}).to_csv(), end="")
-        coefficient,label
-        1,"(2, 1)"
-        """
+        """The expansion as a table of comma-separated values: the line `coefficient,label`, and one for each term."""
         return "coefficient,label\n" + "".join(f'{c},"{label}"\n' for label, c in self._terms.items())
 
 

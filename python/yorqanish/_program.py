@@ -40,27 +40,22 @@ class File:
         self._file = open(place, "rb", buffering=0)
         self.number = self._file.fileno()
         self.place = f"/proc/self/fd/{self.number}"
-        self.is_program = os.pread(self.number, 4, 0) == b"\x7fELF" and os.path.exists(self.place)
-        self._stamp, self.digest = self._times(), self._content()
+        self._times, self.digest = self._seen()
 
-    def _times(self) -> "Tuple[int, ...]":
+    def _seen(self) -> "Tuple[Tuple[int, ...], str]":
+        """When the file was written, and its content."""
         it = os.fstat(self.number)
-        return it.st_mtime_ns, it.st_ctime_ns, it.st_size
-
-    def _content(self) -> str:
-        digest, at = hashlib.sha256(), 0
-        while piece := os.pread(self.number, 1 << 20, at):
-            digest.update(piece)
-            at += len(piece)
-        return digest.hexdigest()
+        content = os.pread(self.number, it.st_size, 0)
+        return (it.st_mtime_ns, it.st_ctime_ns, it.st_size), hashlib.sha256(content).hexdigest()
 
     def check(self) -> None:
         """The file has the content that was tried."""
-        times = self._times()
-        if times != self._stamp:
-            if self._content() != self.digest:
+        it = os.fstat(self.number)
+        if (it.st_mtime_ns, it.st_ctime_ns, it.st_size) != self._times:
+            times, digest = self._seen()
+            if digest != self.digest:
                 raise NoCalculator(f"{self.path} was changed while it was in use")
-            self._stamp = times
+            self._times = times
 
 
 def tie(process: "subprocess.Popen[bytes]", watched: int) -> None:
@@ -302,20 +297,14 @@ class Batch(Running):
             raise NoCalculator(f"{self.path} does not answer as calc does")
 
 
-def behind(first: Batch) -> Optional[File]:
-    """The program that has taken the place of a script that was started: if `calc batch` is what the process is, and not a shell or another
-    program that runs it."""
+def tried(first: Batch) -> Optional[File]:
+    """The file of a process that was tried: of the program, also where a script was started whose place it has taken. There is none if the
+    process is a shell, or something else that runs the program."""
     place = f"/proc/{first.process.pid}"
     try:
         with open(f"{place}/cmdline", "rb") as words:
-            if words.read().split(b"\0")[1:] != [b"batch", b""]:
-                return None
-        file = File(first.path, f"{place}/exe")
-        if not file.is_program:
-            return None
-        Batch(first.path, file).end()
-        return file
-    except (OSError, NoCalculator):
+            return File(first.path, f"{place}/exe") if words.read().split(b"\0")[1:] == [b"batch", b""] else None
+    except OSError:
         return None
 
 
@@ -328,13 +317,8 @@ class Program:
     def __init__(self, path: str) -> None:
         self.path = os.path.abspath(path)
         self._owner, self._is_closed = os.getpid(), False
-        try:
-            file: Optional[File] = File(self.path, self.path)
-        except OSError:
-            file = None
-        is_program = file is not None and file.is_program
-        first = Batch(self.path, file if is_program else None)
-        self._file = file if is_program else behind(first)
+        first = Batch(self.path, None)
+        self._file = tried(first)
         self._idle: List[Batch] = [first]
         self._open: "weakref.WeakSet[Running]" = weakref.WeakSet(self._idle)
 

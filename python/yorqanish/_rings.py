@@ -2,9 +2,9 @@
 from __future__ import annotations
 
 from itertools import zip_longest
-from typing import Any, Callable, Dict, NamedTuple, NoReturn, Tuple, Union
+from typing import Any, Callable, Dict, NamedTuple, Tuple, Union
 
-from ._arguments import Numbers, integer, ratio, without_zeros, words
+from ._arguments import Fixed, Numbers, integer, ratio, without_zeros, words
 from ._expansion import Expansion, Scalar, exact
 
 
@@ -85,7 +85,7 @@ class Ring:
         return Expansion(((label, exact(c)) for label, c in table.items()), self.kind)
 
 
-class Element:
+class Element(Fixed):
     """An element of a ring, which does not change. `expansion` is its list of terms. Elements of one ring are added, multiplied, raised to powers
     and compared; a number stands for its multiple of 1."""
 
@@ -101,12 +101,6 @@ class Element:
         object.__setattr__(self, "ring", ring)
         object.__setattr__(self, "expansion", expansion)
 
-    def __setattr__(self, name: str, value: object) -> NoReturn:
-        raise AttributeError(f"an element does not change: {name} cannot be set")
-
-    def __delattr__(self, name: str) -> NoReturn:
-        raise AttributeError(f"an element does not change: {name} cannot be deleted")
-
     def __repr__(self) -> str:
         return f"<{self} in {self.ring}>"
 
@@ -115,10 +109,6 @@ class Element:
 
     def _repr_latex_(self) -> str:
         return self.expansion._repr_latex_()
-
-    def __getitem__(self, label: Any) -> Any:
-        """The coefficient of a label, as of the expansion."""
-        return self.expansion[label]
 
     def _other(self, value: Any) -> "Union[Element, Any]":
         return self.ring(value) if isinstance(value, Element) or ratio(value) else NotImplemented
