@@ -4,9 +4,10 @@ import sys
 from ._search import program
 from ._ways import NoCalculator
 
-try:
-    found = program(None)
-except NoCalculator as error:
-    sys.exit(f"yorqanish: {error}")
-found.close()
-found.become(sys.argv[1:])
+if __name__ == "__main__":
+    try:
+        found = program(None)
+    except NoCalculator as error:
+        sys.exit(f"yorqanish: {error}")
+    found.close()
+    found.become(sys.argv[1:])

@@ -153,13 +153,20 @@ def end_all() -> None:
 
 
 def forget_all() -> None:
-    """Closes what a fork has copied. The processes are their parent's: they are neither ended nor waited for."""
+    """Lets go of what a fork has copied. The processes are their parent's: they are neither ended nor waited for. A call that was interrupted by
+    the fork goes on to read: in place of its pipes there is nothing, and no other file gets their numbers before it has ended."""
     global STARTING, ENDING
     STARTING, ENDING = SimpleQueue(), SimpleQueue()
     SERVANTS.clear()
-    for process in list(STARTED):
+    nothing = os.open(os.devnull, os.O_RDWR) if STARTED else 0
+    for process, (kept, _) in STARTED.items():
         process.returncode = 0
-        let_go(process)
+        for pipe in (process.stdin, process.stdout, kept):
+            if pipe and not pipe.closed:
+                os.dup2(nothing, pipe.fileno(), inheritable=False)
+    if STARTED:
+        os.close(nothing)
+    STARTED.clear()
 
 
 atexit.register(end_all)
@@ -195,8 +202,6 @@ class Running:
     def read(self, data: memoryview, deadline: Optional[float]) -> "Tuple[bytes, memoryview]":
         """What has come, and what is left to be written; nothing comes from a process that has ended. It waits until something comes, and
         until the deadline at most."""
-        if self._owner != os.getpid():
-            raise NoCalculator("this answer is read by the process that was forked, and not by its copy")
         data = self._written(data) if data else data
         if data:
             self._poll.register(self.into, select.POLLOUT)
@@ -215,7 +220,10 @@ class Running:
         finally:
             if data:
                 self._poll.unregister(self.into)
-        return os.read(self.out, 1 << 18), data
+        came = os.read(self.out, 1 << 18)
+        if self._owner != os.getpid():
+            raise NoCalculator("this answer is read by the process that was forked, and not by its copy")
+        return came, data
 
     def stop(self) -> None:
         """Ends the process from another thread than the one that reads, which closes the pipes."""
