@@ -119,7 +119,7 @@ def items_of(values: Any, name: str, what: str, names: Set[str], dimensions: int
     # (Sage's tableaux and permutations have a method of this name)
     shape = getattr(values, "shape", None)
     is_other = isinstance(shape, tuple) and (len(shape) != dimensions or dimensions > 1 and 0 in shape)
-    if is_list and len(values) > MOST_NUMBERS:
+    if is_list and not is_other and len(values) > MOST_NUMBERS:
         raise ValueError(f"{name}: a list of more than {MOST_NUMBERS} items is too long to be sent")
     items = tuple(values) if is_list and not is_other else ()
     if not is_list or is_other or len(items) != len(values):

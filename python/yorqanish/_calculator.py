@@ -40,10 +40,6 @@ class Calculator:
     >>> calc = Calculator()
     >>> calc.mult([1], [1])
     Expansion({(2,): 1, (1, 1): 1}, basis='s')
-    >>> calc.mult([1, 2], [1])
-    Traceback (most recent call last):
-        ...
-    yorqanish._refusals.ShapeRefusal: part 2 of factor 1 is greater than part 1, in mult 1 [2] - 1
     """
 
     def __init__(

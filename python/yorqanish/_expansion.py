@@ -65,10 +65,6 @@ class Expansion(Fixed, Mapping[Label, Coefficient], Generic[Label, Coefficient])
     Expansion({(2,): 1, (1, 1): 1}, basis='s')
     >>> a[2], a[[1, 1]], a[1, 1, 0], a[3]
     (1, 1, 1, 0)
-    >>> a["spam"]
-    Traceback (most recent call last):
-        ...
-    TypeError: the label: 'spam' is not a list of numbers
     >>> print(2 * a - Expansion({(2,): 2}) / 3)
     4/3*s[2]+2*s[1,1]
 
@@ -280,12 +276,8 @@ class Expansion(Fixed, Mapping[Label, Coefficient], Generic[Label, Coefficient])
     def latex(self) -> str:
         r"""The expansion as LaTeX.
 
-        >>> Expansion({(2,): 1, (1, 1): -1}).latex()
-        's_{2}-s_{1,1}'
         >>> Expansion({(2,): Fraction(1, 2), (): 3}, basis="p").latex()
         '\\frac{1}{2}p_{2}+3p_{\\emptyset}'
-        >>> Expansion({(2, 1): 1, (): 2}, "monomials").latex()
-        'x_{1}^{2} x_{2}+2'
         """
         return self._latex_of(self._terms.items())
 

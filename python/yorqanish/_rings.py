@@ -32,16 +32,7 @@ FORMS: Dict[str, Form] = {
 
 class Ring:
     """A ring with a product of `calc`. It is called with the list of a basis element, with an expansion, or with a number, and gives an element,
-    which `calc` has written in the ring's basis.
-
-    >>> from yorqanish import Calculator
-    >>> ring = Calculator().quantum_ring(2, 3)
-    >>> a, b, c = ring([2, 1]), ring([3, 1]), ring([3, 3])
-    >>> (a * b) * c == a * (b * c)
-    True
-    >>> print(ring([1]) ** 5, ring([1]) ** 5 - 4, 2 * a * a)
-    5*s[3,2]+3*q*s[] 5*s[3,2]-4*s[]+3*q*s[] 2*s[3,3]+2*q*s[1]
-    """
+    which `calc` has written in the ring's basis."""
 
     def __init__(self, calculator: Any, name: str, command: "Tuple[Union[str, int], ...]", kind: str) -> None:
         self._calculator, self._name, self._command, self.kind, self._form = calculator, name, command, kind, FORMS[kind]

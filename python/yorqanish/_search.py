@@ -9,6 +9,8 @@ from ._program import Program
 from ._ways import NoCalculator, Way
 
 BESIDE = os.path.dirname(os.path.abspath(__file__))
+# Where a checkout or an archive has the program, if the package is used in it and not installed.
+ABOVE = os.path.join(BESIDE, "../../calc") if os.path.isfile(os.path.join(BESIDE, "../pyproject.toml")) else ""
 LIBRARY = "libyorqanish.so"
 
 
@@ -33,8 +35,8 @@ def program(given: Optional[str]) -> Program:
     path = named(given, "YORQANISH_CALC")
     if path:
         return Program(path)
-    beside = os.path.join(BESIDE, "calc")
-    if os.path.exists(beside):
+    beside = next((it for it in (os.path.join(BESIDE, "calc"), ABOVE) if it and os.path.exists(it)), None)
+    if beside:
         return Program(beside)
     refused: List[str] = []
     for path in on_path("calc"):

@@ -11,7 +11,7 @@ TOP = os.path.abspath(os.path.join(os.path.dirname(os.path.abspath(__file__)), "
 PROGRAM = os.environ["YORQANISH_CALC"]
 LIBRARY = os.environ.get("YORQANISH_LIBRARY", "")
 # Whether times are held to their goals, as in tests/transcripts.py; what takes longer than this hangs, on however busy a machine.
-CLOCKS, HANGS = os.environ.get("YORQANISH_CLOCKS") == "1", 10
+CLOCKS, HANGS = os.environ.get("YORQANISH_CLOCKS") == "1", 120
 
 
 class Skipped(Exception):
