@@ -323,7 +323,7 @@ def test_a_foreign_program_that_is_named():
 def test_a_foreign_program_on_the_path():
     """It is found out, and one behind it on the PATH is taken."""
     del os.environ["YORQANISH_CALC"]
-    _search.ABOVE = ""
+    _search.GENUINE = ""
     with tempfile.TemporaryDirectory() as room:
         path = foreign_program(room, "while read line; do echo 0; done")
         os.environ["PATH"] = f"{room}:/usr/bin:/bin"

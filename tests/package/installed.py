@@ -12,7 +12,7 @@ TRIED = """
 import os, yorqanish
 from yorqanish import Calculator
 calc = Calculator()
-print(yorqanish.__version__, os.path.basename(calc._way.path), repr(calc.mult([1], [1])))
+print(yorqanish.__version__, os.path.basename(calc._way.path), dict(calc.mult([1], [1])))
 """
 
 
@@ -28,16 +28,34 @@ def bare():
 
 
 def checkout(room):
-    """What a checkout has of the package, with the program and the library where they are built."""
+    """What a checkout has of the package, with the program and the library where they are built, and noted as made of its sources."""
     top = os.path.join(room, "checkout")
-    os.makedirs(f"{top}/crates/calc/out")
+    for folder in ("crates/calc/src", "crates/calc/out", "release", "build"):
+        os.makedirs(f"{top}/{folder}")
     shutil.copytree(f"{TOP}/python", f"{top}/python", ignore=shutil.ignore_patterns("__pycache__", "build"))
-    for name in ("VERSION", "LICENSE", "calc"):
-        shutil.copy(f"{TOP}/{name}", top)
-    shutil.copy(PROGRAM, f"{top}/crates/calc/out/calc")
+    for name in ("VERSION", "LICENSE", "crates.txt", "HANDLES", "release/genuine"):
+        shutil.copy(f"{TOP}/{name}", f"{top}/{name}")
+    with open(f"{top}/crates/calc/src/main", "w", encoding="ascii") as source:
+        source.write("the source\n")
+    built = {f"{top}/crates/calc/out/calc": PROGRAM, **({f"{top}/build/libyorqanish.so": LIBRARY} if LIBRARY else {})}
+    for path, made in built.items():
+        shutil.copy(made, path)
+    digest = run("sh", f"{top}/release/genuine", "--digest").strip()
+    run("sh", f"{top}/release/genuine", "--note", digest, *(os.path.relpath(it, top) for it in built), cwd=top)
+    return top
+
+
+def archive(room):
+    """As an archive has it: the program and the library beside the folder python/, with their sums."""
+    top = checkout(room)
+    shutil.move(f"{top}/crates/calc/out/calc", top)
     if LIBRARY:
-        os.mkdir(f"{top}/build")
-        shutil.copy(LIBRARY, f"{top}/build")
+        shutil.move(f"{top}/build/libyorqanish.so", top)
+    for folder in ("crates", "build"):
+        shutil.rmtree(f"{top}/{folder}")
+    os.remove(f"{top}/crates.txt")
+    with open(f"{top}/SHA256SUMS", "w", encoding="ascii") as sums:
+        sums.write(run("sha256sum", "calc", *(["libyorqanish.so"] if LIBRARY else []), cwd=top))
     return top
 
 
@@ -65,15 +83,23 @@ def test_a_checkout_is_installed():
 
 
 def test_a_released_archive_is_installed():
-    """As an archive has it: the program and the library beside the folder python/."""
+    with tempfile.TemporaryDirectory() as room:
+        installs(room, f"{archive(room)}/python")
+
+
+def test_a_checkout_is_linked():
+    """By `pip install -e`; the package is that of the checkout, and so is its program, as long as it is of the checkout's sources."""
     with tempfile.TemporaryDirectory() as room:
         top = checkout(room)
-        shutil.rmtree(f"{top}/crates")
-        os.remove(f"{top}/calc")
-        shutil.copy(PROGRAM, f"{top}/calc")
-        if LIBRARY:
-            shutil.move(f"{top}/build/libyorqanish.so", top)
-        installs(room, f"{top}/python")
+        run(sys.executable, "-m", "venv", "--system-site-packages", f"{room}/own")
+        run(f"{room}/own/bin/python", "-m", "pip", "install", "--no-build-isolation", "-e", f"{top}/python", env=bare(), cwd=room)
+        told = TRIED + "print(os.path.dirname(yorqanish.__file__), calc._way.path)\n"
+        wanted = f"{version()} calc {{(2,): 1, (1, 1): 1}}\n{top}/python/yorqanish {top}/crates/calc/out/calc\n"
+        same(run(f"{room}/own/bin/python", "-c", told, env=bare(), cwd=room), wanted)
+        with open(f"{top}/crates/calc/src/main", "a", encoding="ascii") as source:
+            source.write("another line\n")
+        done = subprocess.run([f"{room}/own/bin/python", "-c", told], capture_output=True, text=True, env=bare(), cwd=room)
+        assert done.returncode and "sources changed" in done.stderr, done.stderr
 
 
 def test_a_wheel_is_installed():
@@ -96,7 +122,7 @@ def test_the_tag_of_the_library_alone():
         raise Skipped("there is no library")
     with tempfile.TemporaryDirectory() as room:
         top = checkout(room)
-        shutil.rmtree(f"{top}/crates")
+        os.remove(f"{top}/crates/calc/out/calc")
         name = os.path.basename(run(sys.executable, f"{top}/python/make_wheel.py", f"{room}/out").strip())
         same(name, f"yorqanish-{version()}-py3-none-manylinux_2_17_x86_64.manylinux2014_x86_64.whl")
 
@@ -106,8 +132,10 @@ def test_a_source_archive_has_what_a_wheel_needs():
         top = checkout(room)
         run(sys.executable, "-c", f"import make_wheel; make_wheel.build_sdist({room!r})", cwd=f"{top}/python")
         run("tar", "xf", f"{room}/yorqanish-{version()}.tar.gz", cwd=room)
-        name = run(sys.executable, "-c", f"import make_wheel; print(make_wheel.build_wheel({room!r}))", cwd=f"{room}/yorqanish-{version()}")
-        same(name.strip(), f"yorqanish-{version()}-py3-none-any.whl")
+        for settings, said in (("{}", "has no program"), ("{'without-program': 'yes'}", f"yorqanish-{version()}-py3-none-any.whl\n")):
+            script = f"import make_wheel; print(make_wheel.build_wheel({room!r}, {settings}))"
+            done = subprocess.run([sys.executable, "-c", script], capture_output=True, text=True, cwd=f"{room}/yorqanish-{version()}")
+            assert said in done.stdout + done.stderr, (settings, done)
 
 
 if __name__ == "__main__":
