@@ -141,7 +141,25 @@ def make(out, program=None, library=None):
 # ---- what pip calls
 
 def build_wheel(wheel_directory, config_settings=None, metadata_directory=None):
+    # (pip shows what is said here only if it fails)
+    if os.path.exists(f"{HERE}/PKG-INFO") and not (config_settings or {}).get("without-program"):
+        raise SystemExit(
+            "A source archive of yorqanish has no program calc in it, which the package needs: install a wheel, a checkout or a release. "
+            "With --config-settings without-program=yes pip installs the package alone, for a calc that is elsewhere."
+        )
     return make(wheel_directory)
+
+
+def build_editable(wheel_directory, config_settings=None, metadata_directory=None):
+    """A wheel that links to this folder, whose package takes the program of the checkout."""
+    name, about = f"yorqanish-{version()}-py3-none-any.whl", f"yorqanish-{version()}.dist-info/"
+    files = {file: it for file, it in contents(None, None, "py3-none-any").items() if file.startswith(about) and not file.endswith("RECORD")}
+    files["yorqanish.pth"] = f"{HERE}\n".encode()
+    files[f"{about}RECORD"] = "".join(f"{file},,\n" for file in (*files, f"{about}RECORD")).encode()
+    with zipfile.ZipFile(os.path.join(wheel_directory, name), "w") as wheel:
+        for file, content in files.items():
+            wheel.writestr(file, content)
+    return name
 
 
 def build_sdist(sdist_directory, config_settings=None):

@@ -6,15 +6,22 @@ from typing import Any, Callable, Dict, List, Tuple
 from ._arguments import Numbers
 from ._expansion import Expansion
 from ._kinds import listed
+from ._pictures import grid
 from ._reasons import words_of
 from ._tableaux import pair_of, tableau_of
 
-# A growth grid: the shapes at (i, 0) to (i, n), for i = 0 to n.
-Grid = Tuple[Tuple[Numbers, ...], ...]
+
+class Grid(Tuple[Tuple[Numbers, ...], ...]):
+    """A growth grid: a tuple of rows 0 to n, of which row i has the shapes at (i, 0) to (i, n)."""
+
+    __slots__ = ()
+
+    def _repr_svg_(self) -> str:
+        return grid(self).svg
 
 
 def grid_of(text: str) -> Grid:
-    return tuple(tuple(map(listed, line.split(" "))) for line in text.splitlines())
+    return Grid(tuple(map(listed, line.split(" "))) for line in text.splitlines())
 
 
 def letters_of(text: str) -> Numbers:

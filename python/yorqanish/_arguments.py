@@ -7,7 +7,7 @@ from collections import UserString
 from collections.abc import Sequence as AnySequence
 from numbers import Integral, Rational
 from operator import index
-from typing import Any, Collection, Iterable, List, Optional, Set, SupportsFloat, SupportsIndex, Tuple, Union
+from typing import Any, Collection, Iterable, List, NoReturn, Optional, Set, SupportsFloat, SupportsIndex, Tuple, Union
 
 Numbers = Tuple[int, ...]
 Partition = Numbers
@@ -39,6 +39,18 @@ TEXTS = (str, bytes, bytearray, memoryview, UserString)
 
 # More numbers or digits than a line of `calc` holds.
 MOST_NUMBERS, MOST_BITS = 4096, 12000
+
+
+class Fixed:
+    """What does not change once it is made."""
+
+    __slots__ = ()
+
+    def __setattr__(self, name: str, value: object) -> NoReturn:
+        raise AttributeError(f"{type(self).__name__} does not change: {name} cannot be set")
+
+    def __delattr__(self, name: str) -> NoReturn:
+        raise AttributeError(f"{type(self).__name__} does not change: {name} cannot be deleted")
 
 
 def integer(value: object) -> Optional[int]:
@@ -99,25 +111,19 @@ def are_plain(values: Iterable[object]) -> bool:
     return True
 
 
-def is_one_of(value: object, names: Set[str]) -> bool:
-    """Whether a value is of one of these types, or of a type that is derived from one."""
-    return any(f"{it.__module__}.{it.__qualname__}" in names for it in type(value).__mro__)
-
-
-def items_of(values: Any, what: str, names: Set[str], dimensions: int) -> "Tuple[Any, ...]":
-    """The items of a sequence, or of one of the named types. What can be gone through once only, or has no order or another number of
-    dimensions, is none of them."""
-    is_list = isinstance(values, AnySequence) and not isinstance(values, TEXTS) or is_one_of(values, names)
+def items_of(values: Any, name: str, what: str, names: Set[str], dimensions: int) -> "Tuple[Any, ...]":
+    """The items of a sequence, or of a value of one of the named types or a type derived from one. What can be gone through once only, or has no
+    order or another number of dimensions, is none of them."""
+    is_named = any(f"{it.__module__}.{it.__qualname__}" in names for it in type(values).__mro__)
+    is_list = isinstance(values, AnySequence) and not isinstance(values, TEXTS) or is_named
     # (Sage's tableaux and permutations have a method of this name)
     shape = getattr(values, "shape", None)
     is_other = isinstance(shape, tuple) and (len(shape) != dimensions or dimensions > 1 and 0 in shape)
-    if not is_list or is_other:
-        raise TypeError(f"{values!r} is not {what}")
-    if len(values) > MOST_NUMBERS:
-        raise ValueError(f"a list of more than {MOST_NUMBERS} items is too long to be sent")
-    items = tuple(values)
-    if len(items) != len(values):
-        raise TypeError(f"{values!r} is not {what}")
+    if is_list and not is_other and len(values) > MOST_NUMBERS:
+        raise ValueError(f"{name}: a list of more than {MOST_NUMBERS} items is too long to be sent")
+    items = tuple(values) if is_list and not is_other else ()
+    if not is_list or is_other or len(items) != len(values):
+        raise TypeError(f"{name}: {values!r} is not {what}")
     return items
 
 
@@ -127,11 +133,7 @@ def numbers(values: Shape, name: str) -> Numbers:
         plain: Tuple[Any, ...] = tuple(values)
         if are_plain(plain) and len(plain) <= MOST_NUMBERS:
             return plain
-    try:
-        items = items_of(values, "a list of numbers", LISTS, 1)
-    except (TypeError, ValueError) as error:
-        raise type(error)(f"{name}: {error}") from None
-    return tuple(whole(it, name) for it in items)
+    return tuple(whole(it, name) for it in items_of(values, name, "a list of numbers", LISTS, 1))
 
 
 def without_zeros(values: Numbers) -> Numbers:
@@ -149,11 +151,7 @@ def partition(values: Shape, name: str) -> Numbers:
 
 def tableau(rows: Rows, name: str) -> Tuple[Numbers, ...]:
     """The rows of a tableau."""
-    try:
-        items = items_of(rows, "a list of rows", TABLES, 2)
-    except (TypeError, ValueError) as error:
-        raise type(error)(f"{name}: {error}") from None
-    return tuple(numbers(row, f"row {i} of {name}") for i, row in enumerate(items, 1))
+    return tuple(numbers(row, f"row {i} of {name}") for i, row in enumerate(items_of(rows, name, "a list of rows", TABLES, 2), 1))
 
 
 def spoken(rows: Rows, name: str = "the tableau") -> str:
@@ -174,17 +172,12 @@ def words(*parts: Union[str, int, Numbers]) -> str:
     return " ".join(texts)
 
 
-def between(sign: str, shapes: Iterable[Numbers]) -> "List[Union[str, Numbers]]":
-    """Lists with a word between them."""
-    parts: "List[Union[str, Numbers]]" = []
-    for shape in shapes:
-        parts += [sign, shape] if parts else [shape]
-    return parts
-
-
 def factors(shapes: Iterable[Shape]) -> "List[Union[str, Numbers]]":
     """The factors of a product with `-` between them."""
-    return between("-", [partition(it, f"factor {i}") for i, it in enumerate(shapes, 1)])
+    parts: "List[Union[str, Numbers]]" = []
+    for i, shape in enumerate(shapes, 1):
+        parts += ["-"] * (i > 1) + [partition(shape, f"factor {i}")]
+    return parts
 
 
 def limit(rows: Optional[SupportsIndex]) -> str:

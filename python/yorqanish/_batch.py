@@ -113,8 +113,9 @@ def windows(way: Way, lines: Source, seconds: Optional[float], count: int = 1) -
     """The outcomes of lines that are sent at once: of `count` lines at first, and of more while they are quick."""
     while window := lines.take(count):
         began = time.monotonic()
-        yield outcomes(way, window, seconds)
+        done = outcomes(way, window, seconds)
         took = time.monotonic() - began
+        yield done
         count = min(2 * count, MOST_IN_WINDOW) if took < WINDOW else max(1, count // 4) if took > 5 * WINDOW else count
     lines.end()
 
@@ -254,8 +255,6 @@ class Spread:
                     slot.future.cancel()
 
 
-# ---- over an executor of the user's
-
 CALCULATORS: Dict[Any, Any] = {}
 
 
@@ -274,8 +273,6 @@ def over_executor(executor: Executor, arguments: Any, lines: Source, workers: Op
     count = workers or getattr(executor, "_max_workers", None) or os.cpu_count() or 1
     return Spread(lambda it: executor.submit(remote, arguments, it, seconds), lines, 2 * count, count).outcomes()
 
-
-# ---- over processes of its own
 
 class Threads:
     """At most so many threads that wait for processes. Python ends without them, in the middle of whatever they wait for: those of a

@@ -2,22 +2,31 @@
 from __future__ import annotations
 
 import os
+import time
 from concurrent.futures import Executor
-from typing import Any, Callable, Iterable, Iterator, Optional, SupportsFloat, SupportsIndex, Tuple, Union
+from functools import reduce
+from operator import add
+from typing import Any, Callable, Iterable, Iterator, List, Optional, SupportsFloat, SupportsIndex, Tuple, Union, cast
 
 from . import _arguments, _batch
 from ._answers import Grid, grid_of, letters_of
-from ._arguments import Exponents, Numbers, Partition, Permutation, Rows, Shape, factors, limit, numbers, partition, spoken, text_of, whole, words
+from ._arguments import Exponents, Numbers, Partition, Permutation, Rows, Shape
+from ._arguments import factors, limit, numbers, partition, spoken, text_of, whole, without_zeros, words
 from ._batch import Block
 from ._expansion import BASES, Expansion, Number
 from ._refusals import Refusal, SyntaxRefusal
+from ._rings import Ring
 from ._search import way
 from ._tableaux import Pair, Tableau, pair_of, tableau_of
-from ._ways import closed, sent
+from ._ways import LONGEST, closed, sent
 
 Words = Union[str, SupportsIndex, Shape]
 # An expression: its text, an answer of this package, or an element of a basis of Sage's symmetric functions.
 Expression = Union[str, "Expansion[Partition, Any]"]
+
+
+# A part of a long expression has at most so many bytes, so that a line has room for the other words.
+MOST_OF_EXPRESSION = 4000
 
 
 class Calculator:
@@ -31,10 +40,6 @@ class Calculator:
     >>> calc = Calculator()
     >>> calc.mult([1], [1])
     Expansion({(2,): 1, (1, 1): 1}, basis='s')
-    >>> calc.mult([1, 2], [1])
-    Traceback (most recent call last):
-        ...
-    yorqanish._refusals.ShapeRefusal: part 2 of factor 1 is greater than part 1, in mult 1 [2] - 1
     """
 
     def __init__(
@@ -69,8 +74,6 @@ class Calculator:
         if self._is_closed:
             raise closed()
 
-    # ---- one line
-
     def _limit(self, timeout: Optional[SupportsFloat]) -> Optional[float]:
         """The seconds that a command may take."""
         seconds = self._seconds if timeout is None else _arguments.seconds(timeout)
@@ -92,6 +95,25 @@ class Calculator:
             raise Refusal.of(text, line)
         return text
 
+    def _texts(self, lines: "List[str]", timeout: Optional[SupportsFloat]) -> "List[str]":
+        """The texts of lines. What is refused is raised."""
+        if len(lines) < 2 or max(map(len, lines)) > LONGEST:
+            return [self._text(it, timeout) for it in lines]
+        self._check()
+        seconds, texts = self._limit(timeout), []
+        until = None if seconds is None else time.monotonic() + seconds
+        for at in range(0, len(lines), _batch.MOST_IN_WINDOW):
+            some = lines[at : at + _batch.MOST_IN_WINDOW]
+            try:
+                left = None if until is None else max(0.0, until - time.monotonic())
+                texts += self._way.blocks([it.encode() for it in some], left)
+            except TimeoutError:
+                raise _batch.late(some[0], seconds) from None
+        for line, text in zip(lines, texts):
+            if text.startswith("! "):
+                raise Refusal.of(text, line)
+        return texts
+
     def text(self, *parts: Words, timeout: Optional[SupportsFloat] = None) -> str:
         """The text that `calc` prints for these arguments: strings, numbers and shapes. An error of `calc` is raised.
 
@@ -100,13 +122,11 @@ class Calculator:
         """
         return self._text(words(*(_word(it) for it in parts)), timeout)
 
-    # ---- products of Schur functions
-
     def mult(self, *shapes: Shape, rows: Optional[SupportsIndex] = None, timeout: Optional[SupportsFloat] = None) -> "Expansion[Partition, int]":
         """The product of two to eight Schur functions, in Schur functions; with `rows=K`, in K variables.
 
         >>> Calculator().mult([2, 1], [2, 1], rows=2)
-        {(4, 2): 1, (3, 3): 1}
+        Expansion({(4, 2): 1, (3, 3): 1}, basis='s')
         """
         return Expansion.of(self._text(words("mult", limit(rows), *factors(shapes)), timeout))
 
@@ -116,9 +136,9 @@ class Calculator:
         """The skew Schur function of outer/inner, in Schur functions; with `rows=K`, in K variables.
 
         >>> Calculator().skew([2, 1], [1])
-        {(2,): 1, (1, 1): 1}
+        Expansion({(2,): 1, (1, 1): 1}, basis='s')
         """
-        return Expansion.of(self._text(words("skew", limit(rows), *_over(outer, inner)), timeout))
+        return Expansion.of(self._text(words("skew", limit(rows), partition(outer, "outer"), "/", partition(inner, "inner")), timeout))
 
     def coef(self, outer: Shape, left: Shape, right: Shape, timeout: Optional[SupportsFloat] = None) -> int:
         """A Littlewood-Richardson coefficient: that of the Schur function of `outer` in the product of those of `left` and `right`.
@@ -133,7 +153,7 @@ class Calculator:
         """The coproduct of a Schur function. Labels are pairs of partitions.
 
         >>> Calculator().coprod([1])
-        {((1,), ()): 1, ((), (1,)): 1}
+        Expansion({((1,), ()): 1, ((), (1,)): 1}, kind='pairs')
         """
         return Expansion.of(self._text(words("coprod", partition(shape, "shape")), timeout), "pairs")
 
@@ -144,7 +164,7 @@ class Calculator:
         pairs of the exponent of q and a partition.
 
         >>> Calculator().quantum(2, 2, [1], [2, 1])
-        {(0, (2, 2)): 1, (1, ()): 1}
+        Expansion({(0, (2, 2)): 1, (1, ()): 1}, kind='powers')
         """
         line = words("quantum", whole(rows, "rows"), whole(cols, "cols"), *factors(shapes))
         return Expansion.of(self._text(line, timeout), "powers")
@@ -155,18 +175,16 @@ class Calculator:
         """The fusion product of two to eight factors for su(rows) at this level. Columns of length `rows` are not removed.
 
         >>> Calculator().fusion(2, 1, [1], [1])
-        {(1, 1): 1}
+        Expansion({(1, 1): 1}, basis='s')
         """
         line = words("fusion", whole(rows, "rows"), whole(level, "level"), *factors(shapes))
         return Expansion.of(self._text(line, timeout))
-
-    # ---- Schubert polynomials
 
     def schubert(self, perm: Shape, timeout: Optional[SupportsFloat] = None) -> "Expansion[Exponents, int]":
         """The Schubert polynomial of a permutation. Labels are the exponents of monomials.
 
         >>> Calculator().schubert([1, 3, 2])
-        {(1,): 1, (0, 1): 1}
+        Expansion({(1,): 1, (0, 1): 1}, kind='monomials')
         """
         return Expansion.of(self._text(words("schubert", numbers(perm, "perm")), timeout), "monomials")
 
@@ -174,28 +192,26 @@ class Calculator:
         """The product of two Schubert polynomials, in Schubert polynomials.
 
         >>> Calculator().schubmult([2, 1], [2, 1])
-        {(3, 1, 2): 1}
+        Expansion({(3, 1, 2): 1}, kind='permutations')
         """
-        return Expansion.of(self._text(words("schubmult", *_two(left, right)), timeout), "permutations")
+        return Expansion.of(self._text(words("schubmult", numbers(left, "left"), "-", numbers(right, "right")), timeout), "permutations")
 
     def dschubmult(self, left: Shape, right: Shape, timeout: Optional[SupportsFloat] = None) -> "Expansion[Tuple[Permutation, Exponents], int]":
         """The product of two double Schubert polynomials, in double Schubert polynomials. Labels are pairs of a permutation and the
         exponents of a monomial in y.
 
         >>> Calculator().dschubmult([1], [2, 1])
-        {((2, 1), ()): 1}
+        Expansion({((2, 1), ()): 1}, kind='shifts')
         """
-        return Expansion.of(self._text(words("dschubmult", *_two(left, right)), timeout), "shifts")
+        return Expansion.of(self._text(words("dschubmult", numbers(left, "left"), "-", numbers(right, "right")), timeout), "shifts")
 
-    def stanley(self, rows: SupportsIndex, perm: Shape, timeout: Optional[SupportsFloat] = None) -> "Expansion[Partition, int]":
+    def stanley(self, perm: Shape, rows: SupportsIndex, timeout: Optional[SupportsFloat] = None) -> "Expansion[Partition, int]":
         """The Stanley symmetric function of a permutation in K variables, where K is `rows`, in Schur functions.
 
-        >>> Calculator().stanley(2, [2, 1, 4, 3])
-        {(2,): 1, (1, 1): 1}
+        >>> Calculator().stanley([2, 1, 4, 3], rows=2)
+        Expansion({(2,): 1, (1, 1): 1}, basis='s')
         """
         return Expansion.of(self._text(words("stanley", limit(rows), numbers(perm, "perm")), timeout))
-
-    # ---- changes of basis
 
     def expand(self, target: str, expression: Expression, timeout: Optional[SupportsFloat] = None) -> "Expansion[Partition, Number]":
         """An expression in the basis `target`: m, e, h, p or s. The expression is a string without blanks, or an Expansion or a symmetric
@@ -203,11 +219,11 @@ class Calculator:
 
         >>> calc = Calculator()
         >>> calc.expand("p", "s[2,1]")
-        {(3,): Fraction(-1, 3), (1, 1, 1): Fraction(1, 3)}
+        Expansion({(3,): Fraction(-1, 3), (1, 1, 1): Fraction(1, 3)}, basis='p')
         >>> calc.expand("h", calc.mult([1], [1]))
-        {(1, 1): 1}
+        Expansion({(1, 1): 1}, basis='h')
         """
-        return Expansion.of(self._text(words("expand", _basis(target), _expression(expression, "expression")), timeout), basis=target)
+        return self._sum(("expand", _basis(target)), expression, "expression", "", target, timeout)
 
     def plethysm(
         self, target: str, outer: Expression, inner: Expression, timeout: Optional[SupportsFloat] = None
@@ -216,28 +232,58 @@ class Calculator:
         of `outer`.
 
         >>> Calculator().plethysm("s", "h[2]", "h[2]")
-        {(4,): 1, (2, 2): 1}
+        Expansion({(4,): 1, (2, 2): 1}, basis='s')
         """
-        line = words("plethysm", _basis(target), _expression(outer, "outer"), _expression(inner, "inner"))
-        return Expansion.of(self._text(line, timeout), basis=target)
+        rest = " ".join(_expressions(inner, "inner", None))
+        return self._sum(("plethysm", _basis(target)), outer, "outer", rest, target, timeout)
+
+    def _sum(
+        self, command: "Tuple[str, str]", expression: Expression, name: str, rest: str, target: str, timeout: Any
+    ) -> "Expansion[Partition, Number]":
+        """The answer of a command that is linear in an expression: if that is too long for a line, the sum of those to its parts."""
+        parts = _expressions(expression, name, MOST_OF_EXPRESSION)
+        answers = (Expansion.of(it, basis=target) for it in self._texts([words(*command, it, rest) for it in parts], timeout))
+        return reduce(add, answers)
+
+    def kostka(self, shape: Shape, content: Shape, timeout: Optional[SupportsFloat] = None) -> int:
+        """The number of semistandard tableaux of a shape with this content: the coefficient of s_shape in h_content."""
+        atom = ",".join(map(str, sorted(without_zeros(numbers(content, "content")), reverse=True)))
+        return cast(int, self.expand("s", f"h[{atom}]", timeout)[partition(shape, "shape")])
+
+    def dimension(self, shape: Shape, timeout: Optional[SupportsFloat] = None) -> int:
+        """The number of standard tableaux of a shape: the dimension of the representation of the symmetric group that belongs to it."""
+        parts = partition(shape, "shape")
+        return self.kostka(parts, [1] * sum(parts), timeout)
 
     def same_function(self, left: Expression, right: Expression, timeout: Optional[SupportsFloat] = None) -> bool:
-        """Whether two expressions are the same symmetric function: both are expanded in s.
-
-        >>> calc = Calculator()
-        >>> calc.same_function(calc.expand("p", "s[2,1]"), "h[2,1]-h[3]")
-        True
-        """
+        """Whether two expressions are the same symmetric function: both are expanded in s."""
         return self.expand("s", left, timeout) == self.expand("s", right, timeout)
 
-    # ---- tableaux
+    def schur_ring(self) -> Ring:
+        """Symmetric functions in s, with the products of `mult`."""
+        return Ring(self, "symmetric functions in s", ("mult",), "symmetric")
+
+    def quantum_ring(self, rows: SupportsIndex, cols: SupportsIndex) -> Ring:
+        """The quantum cohomology of the Grassmannian Gr(rows, rows + cols), with the products of `quantum`."""
+        k, c = whole(rows, "rows"), whole(cols, "cols")
+        return Ring(self, f"the quantum cohomology of Gr({k}, {k + c})", ("quantum", k, c), "powers")
+
+    def fusion_ring(self, rows: SupportsIndex, level: SupportsIndex) -> Ring:
+        """The fusion ring of su(rows) at this level, with the products of `fusion`. Columns of length `rows` are not removed."""
+        k, at = whole(rows, "rows"), whole(level, "level")
+        return Ring(self, f"the fusion ring of su({k}) at level {at}", ("fusion", k, at), "symmetric")
+
+    def schubert_ring(self, double: bool = False) -> Ring:
+        """Schubert polynomials with the products of `schubmult`, or double ones with those of `dschubmult`."""
+        name = "double Schubert polynomials" if double else "Schubert polynomials"
+        return Ring(self, name, ("dschubmult" if double else "schubmult",), "shifts" if double else "permutations")
 
     def tab(self, outer: Shape, inner: Shape, after: Optional[Rows] = None, timeout: Optional[SupportsFloat] = None) -> Iterator[Tableau]:
         """The Littlewood-Richardson tableaux of a skew shape, each as soon as it is listed; with `after`, those after this one. `timeout`
         is the time for each. They come from the program also with `library=True`.
 
         >>> list(Calculator().tab([2, 1], [1]))
-        [((1,), (1,)), ((1,), (2,))]
+        [Tableau(((1,), (1,)), inner=(1,)), Tableau(((1,), (2,)), inner=(1,))]
         """
         after_words = () if after is None else ("-from", spoken(after, "after"))
         shape = partition(inner, "inner")
@@ -262,7 +308,7 @@ class Calculator:
         """The insertion tableau and the recording tableau of a word, by RSK row insertion.
 
         >>> Calculator().rsk([3, 1, 2])
-        Pair(insertion=((1, 2), (3,)), recording=((1, 3), (2,)))
+        Pair(insertion=Tableau(((1, 2), (3,))), recording=Tableau(((1, 3), (2,))))
         """
         return pair_of(self._text(words("rsk", numbers(letters, "letters")), timeout))
 
@@ -278,10 +324,10 @@ class Calculator:
         """The rectification of a skew tableau by jeu de taquin. The tableau is given by its shape and its rows.
 
         >>> Calculator().rect([2, 2], [1], ((1,), (1, 2)))
-        ((1, 1), (2,))
+        Tableau(((1, 1), (2,)))
         """
-        text = self._text(words("rect", *_over(outer, inner), "-", spoken(tableau, "tableau")), timeout)
-        return tableau_of(text.rstrip("\n"))
+        shapes = partition(outer, "outer"), "/", partition(inner, "inner")
+        return tableau_of(self._text(words("rect", *shapes, "-", spoken(tableau, "tableau")), timeout).rstrip("\n"))
 
     def growth(self, perm: Shape, timeout: Optional[SupportsFloat] = None) -> Grid:
         """The growth diagram of a permutation of n letters: a tuple of rows 0 to n, where row i has the partitions at (i, 0) to (i, n).
@@ -290,8 +336,6 @@ class Calculator:
         (((), ()), ((), (1,)))
         """
         return grid_of(self._text(words("growth", numbers(perm, "perm")), timeout))
-
-    # ---- many commands
 
     def batch(
         self,
@@ -348,30 +392,22 @@ def _word(part: Words) -> Union[str, int, Numbers]:
     return numbers(part, "a word") if number is None else whole(number, "a word")  # type: ignore[arg-type]
 
 
-def _over(outer: Shape, inner: Shape) -> "Tuple[Union[str, Numbers], ...]":
-    return partition(outer, "outer"), "/", partition(inner, "inner")
-
-
-def _two(left: Shape, right: Shape) -> "Tuple[Union[str, Numbers], ...]":
-    return numbers(left, "left"), "-", numbers(right, "right")
-
-
 def _basis(target: str) -> str:
     if not isinstance(target, str) or target not in BASES:
         raise ValueError(f"target: {target!r} is not m, e, h, p or s")
     return text_of(target)
 
 
-def _expression(value: Any, name: str) -> str:
-    """The text of an expression."""
+def _expressions(value: Any, name: str, most: Optional[int]) -> "List[str]":
+    """The texts of an expression: one, or of a long expansion those of parts that have at most so many bytes, as far as its terms let them."""
     if isinstance(value, str):
         if not value.strip():
             raise ValueError(f"{name}: a text without a word is not an expression")
-        return text_of(value)
+        return [text_of(value)]
     if not isinstance(value, Expansion):
         from ._sage import expansion_of
 
         value = expansion_of(value)
     if value is None or value.kind != "symmetric":
         raise TypeError(f"{name}: it is neither a string nor a symmetric function")
-    return str(value)
+    return [str(value)] if most is None else list(value.parts(most))

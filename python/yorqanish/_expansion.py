@@ -5,9 +5,9 @@ import json
 from collections.abc import ItemsView, Iterator as AnyIterator, Mapping as AnyMapping
 from fractions import Fraction
 from numbers import Rational
-from typing import Any, Callable, Dict, Generic, Iterable, Iterator, List, Mapping, NoReturn, Optional, SupportsIndex, Tuple, TypeVar, Union, cast
+from typing import Any, Callable, Dict, Generic, Iterable, Iterator, List, Mapping, Optional, SupportsIndex, Tuple, TypeVar, Union, cast
 
-from ._arguments import integer, ratio
+from ._arguments import Fixed, integer, ratio
 from ._kinds import KINDS
 
 Number = Union[int, Fraction]
@@ -52,23 +52,19 @@ def latex_number(size: Number) -> str:
     return f"\\frac{{{size.numerator}}}{{{size.denominator}}}" if size.denominator > 1 else str(size)
 
 
-class Expansion(Mapping[Label, Coefficient], Generic[Label, Coefficient]):
+class Expansion(Fixed, Mapping[Label, Coefficient], Generic[Label, Coefficient]):
     """A list of terms: labels and their coefficients, in the order in which `calc` prints them. It does not change.
 
     A label is a tuple of numbers: a partition, a permutation, or the exponents of a monomial. In a coproduct it is a pair of partitions, in
     a quantum product the exponent of q and a partition, in a product of double Schubert polynomials a permutation and the exponents of y.
-    A label that is not in the list has coefficient 0; anything that is not a label of the expansion's kind raises an error. An expansion is made
-    of a mapping or of pairs; a label that is given twice is an error, and one with the coefficient 0 is left out.
+    A label that is not in the list has coefficient 0; anything that is not a label of the expansion's kind raises an error. It is made of a
+    mapping or of pairs; a label that is given twice is an error, and one with the coefficient 0 is left out.
 
     >>> a = Expansion({(2,): 1, (1, 1): 1})
     >>> a
     Expansion({(2,): 1, (1, 1): 1}, basis='s')
     >>> a[2], a[[1, 1]], a[1, 1, 0], a[3]
     (1, 1, 1, 0)
-    >>> a["spam"]
-    Traceback (most recent call last):
-        ...
-    TypeError: the label: 'spam' is not a list of numbers
     >>> print(2 * a - Expansion({(2,): 2}) / 3)
     4/3*s[2]+2*s[1,1]
 
@@ -124,12 +120,6 @@ class Expansion(Mapping[Label, Coefficient], Generic[Label, Coefficient]):
             object.__setattr__(made, name, value)
         return made
 
-    def __setattr__(self, name: str, value: object) -> NoReturn:
-        raise AttributeError(f"an expansion does not change: {name} cannot be set")
-
-    def __delattr__(self, name: str) -> NoReturn:
-        raise AttributeError(f"an expansion does not change: {name} cannot be deleted")
-
     @staticmethod
     def of(text: str, kind: str = "symmetric", basis: str = "s") -> "Expansion[Any, Any]":
         """Parses a list of terms that `calc` has printed.
@@ -150,8 +140,6 @@ class Expansion(Mapping[Label, Coefficient], Generic[Label, Coefficient]):
     def _with(self, terms: "Dict[Any, Any]") -> "Expansion[Any, Any]":
         """An expansion of the same kind and basis, of terms in any order."""
         return Expansion._made(in_order({label: c for label, c in terms.items() if c}, self.kind), self.kind, self.basis)
-
-    # ---- a mapping in which what is missing is 0
 
     def __getitem__(self, label: Any) -> Coefficient:
         return cast(Coefficient, self._terms.get(KINDS[self.kind].find(label), 0))
@@ -202,12 +190,6 @@ class Expansion(Mapping[Label, Coefficient], Generic[Label, Coefficient]):
         """The expansion itself, since it does not change."""
         return self
 
-    def __copy__(self) -> "Expansion[Label, Coefficient]":
-        return self
-
-    def __deepcopy__(self, memo: Any) -> "Expansion[Label, Coefficient]":
-        return self
-
     def __or__(self, other: "Mapping[Label, Coefficient]") -> "Expansion[Label, Coefficient]":
         """The terms of both; a label that is in both has the coefficient of the second."""
         if isinstance(other, Expansion):
@@ -216,8 +198,6 @@ class Expansion(Mapping[Label, Coefficient], Generic[Label, Coefficient]):
             return NotImplemented
         zeros = {KINDS[self.kind].find(label): 0 for label in other}
         return self._with({**self._terms, **zeros, **given(other, self.kind)})
-
-    # ---- sums and multiples
 
     def _said(self) -> str:
         return f"{self.kind} in {self.basis}"
@@ -277,8 +257,6 @@ class Expansion(Mapping[Label, Coefficient], Generic[Label, Coefficient]):
             raise ZeroDivisionError("an expansion is divided by 0")
         return self._with({label: exact(c / by) for label, c in self._terms.items()})
 
-    # ---- written forms
-
     def _joined(
         self, terms: "Iterable[Tuple[Any, Number]]", label_of: Callable[[str, Any], str], of_size: Callable[[Number], str], sign: str
     ) -> str:
@@ -298,12 +276,8 @@ class Expansion(Mapping[Label, Coefficient], Generic[Label, Coefficient]):
     def latex(self) -> str:
         r"""The expansion as LaTeX.
 
-        >>> Expansion({(2,): 1, (1, 1): -1}).latex()
-        's_{2}-s_{1,1}'
         >>> Expansion({(2,): Fraction(1, 2), (): 3}, basis="p").latex()
         '\\frac{1}{2}p_{2}+3p_{\\emptyset}'
-        >>> Expansion({(2, 1): 1, (): 2}, "monomials").latex()
-        'x_{1}^{2} x_{2}+2'
         """
         return self._latex_of(self._terms.items())
 
@@ -311,7 +285,6 @@ class Expansion(Mapping[Label, Coefficient], Generic[Label, Coefficient]):
         return self._joined(terms, KINDS[self.kind].latex, latex_number, "")
 
     def _latex_(self) -> str:
-        """The expansion as LaTeX, for Sage's `latex` and `view`."""
         return self.latex()
 
     def _repr_latex_(self) -> str:
@@ -322,16 +295,58 @@ class Expansion(Mapping[Label, Coefficient], Generic[Label, Coefficient]):
         first, last = self._latex_of(terms[: MOST_SHOWN - SHOWN_AT_END]), self._latex_of(terms[-SHOWN_AT_END:])
         return f"${first}+\\cdots{'' if last.startswith('-') else '+'}{last}$ ({len(self):,} terms)"
 
-    # ---- other forms
+    def parts(self, most: int) -> "Iterator[str]":
+        """The one-line forms of expansions whose sum this is, each of at most so many bytes, or of one term; one if there are no terms."""
+        text = ""
+        for label, c in self._terms.items():
+            term = self._joined([(label, c)], KINDS[self.kind].plain, str, "*")
+            if text and len(text) + 1 + len(term) > most:
+                yield text
+                text = ""
+            text += term if not text or c < 0 else f"+{term}"
+        yield text or "0"
+
+    def filter(self, keep: "Callable[[Label, Coefficient], object]") -> "Expansion[Label, Coefficient]":
+        """The terms for which a function of label and coefficient says yes."""
+        return Expansion._made({label: c for label, c in self._terms.items() if keep(label, c)}, self.kind, self.basis)
+
+    def map(self, change: "Callable[[Label, Coefficient], Tuple[Any, Any]]") -> "Expansion[Any, Any]":
+        """The sum of the terms that a function of label and coefficient makes of the terms: pairs of a label and a coefficient."""
+        table: Dict[Any, Number] = {}
+        for label, c in self._terms.items():
+            new, size = change(label, c)
+            new = KINDS[self.kind].find(new)
+            table[new] = exact(table.get(new, 0) + exact(size))
+        return self._with(table)
+
+    def degree(self) -> int:
+        """The largest degree of the terms of symmetric functions and polynomials; of 0 there is none."""
+        if self.kind not in ("symmetric", "monomials") or not self._terms:
+            raise ValueError(f"{self if not self._terms else self._said()} has no degree here")
+        return max(map(sum, self._terms))
+
+    def omega(self) -> "Expansion[Label, Coefficient]":
+        """The image of a symmetric function in s under the involution that takes s of a partition to s of its conjugate."""
+        self._be_in_s()
+        return self._with({tuple(sum(it > i for it in label) for i in range(sum(label[:1]))): c for label, c in self._terms.items()})
+
+    def scalar(self, other: "Expansion[Any, Any]") -> Number:
+        """The scalar product of two symmetric functions in s, for which the Schur functions are orthonormal."""
+        self._be_in_s()
+        other._be_in_s()
+        return exact(sum(c * other._terms.get(label, 0) for label, c in self._terms.items()))
+
+    def _be_in_s(self) -> None:
+        if (self.kind, self.basis) != ("symmetric", "s"):
+            raise ValueError(f"{self._said()}: expand it in s first")
 
     def to_sage(self, ring: Any = None) -> Any:
         """The expansion as an element of Sage: of `SymmetricFunctions(QQ)`, of its tensor square for a coproduct, of
         `SymmetricFunctions` over QQ[q] for a quantum product, of a polynomial ring in x0, x1, .. for monomials, of
         `SchubertPolynomialRing(ZZ)` for permutations.
 
-        This needs Sage. `ring` is the ring of coefficients if it is not QQ; it is an error if a coefficient is not in it. For a product of
-        double Schubert polynomials Sage has no ring, and it is a TypeError.
-        """
+        `ring` is the ring of coefficients if it is not QQ; it is an error if a coefficient is not in it. For a product of double Schubert
+        polynomials Sage has no ring, and it is a TypeError."""
         from ._sage import element
 
         return element(self, ring)
@@ -363,12 +378,7 @@ class Expansion(Mapping[Label, Coefficient], Generic[Label, Coefficient]):
         return Expansion([(label, Fraction(c)) for label, c in read["terms"]], read["kind"], read["basis"])
 
     def to_csv(self) -> str:
-        """The expansion as a table of comma-separated values: a line for each term, after one with the names of the columns.
-
-        >>> print(Expansion({(2, 1): 1}).to_csv(), end="")
-        coefficient,label
-        1,"(2, 1)"
-        """
+        """The expansion as a table of comma-separated values: the line `coefficient,label`, and one for each term."""
         return "coefficient,label\n" + "".join(f'{c},"{label}"\n' for label, c in self._terms.items())
 
 

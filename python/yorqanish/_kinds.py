@@ -18,8 +18,6 @@ class Kind(NamedTuple):
     latex: Callable[[str, Any], str]
 
 
-# ---- reading what is printed (labels recur from answer to answer)
-
 @lru_cache(1 << 16)
 def listed(label: str) -> Numbers:
     """The numbers of a label: `(2,1)` is (2, 1)."""
@@ -40,8 +38,6 @@ def power(label: str) -> "Tuple[int, Numbers]":
         raise ValueError(f"{label!r} is not a label")
     return int(first[2:]), listed(second)
 
-
-# ---- looking labels up
 
 def one_list(label: Any) -> Any:
     """A label of one number may be asked for by the number: a[2] is a[(2,)]."""
@@ -82,8 +78,6 @@ def both(first: Callable[[Any], Any], second: Callable[[Any], Any]) -> Callable[
     return find
 
 
-# ---- the order of the terms, by increasing keys
-
 def by_degree(label: Numbers) -> Any:
     """By decreasing size, then in decreasing lexicographic order."""
     return -sum(label), tuple(-it for it in label)
@@ -97,8 +91,6 @@ def by_inversions(label: Numbers) -> Any:
     """By increasing number of inversions, then in increasing lexicographic order."""
     return inversions(label), label
 
-
-# ---- one-line forms
 
 def atom(letter: str, label: Numbers) -> str:
     return f"{letter}[{','.join(map(str, label))}]"
@@ -116,8 +108,6 @@ def after(front: str, label: str) -> str:
 def power_of_q(exponent: int) -> str:
     return "" if exponent == 0 else "q" if exponent == 1 else f"q^{exponent}"
 
-
-# ---- LaTeX
 
 def indexed(letter: str, label: Numbers) -> str:
     return f"{letter}_{{{','.join(map(str, label)) or chr(92) + 'emptyset'}}}"

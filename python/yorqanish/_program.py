@@ -1,21 +1,29 @@
 """The program: `calc batch` in processes of its own, one for each call that runs at a time."""
 from __future__ import annotations
 
+import atexit
 import hashlib
 import os
 import select
 import signal
 import subprocess
 import sys
+import threading
 import time
 import weakref
-from typing import Any, Dict, Iterator, List, Optional, Sequence, Tuple
+from queue import SimpleQueue
+from typing import Any, Dict, Iterator, List, NoReturn, Optional, Sequence, Tuple, cast
 
 from ._ways import BREAK, END, LAST, LONGEST, NO_MEMORY, PATIENCE, QUESTIONS, Ended, NoCalculator, closed, is_of_batch, no_memory
 
 # The processes that this one has started, each with the writing end of the pipe that ties it to this one, and with whoever reads from it. A
 # process made by fork closes its copies of their pipes and forgets them.
 STARTED: "Dict[subprocess.Popen[bytes], Tuple[Any, weakref.ref[Running]]]" = {}
+# What is to be started, and what is to be ended: processes, and references to readers that are gone. Threads do it, since no signal disturbs
+# them; what asks for it is one step, wherever the collector or an interrupted call does that.
+STARTING: "SimpleQueue[Any]" = SimpleQueue()
+ENDING: "SimpleQueue[Any]" = SimpleQueue()
+SERVANTS: "List[threading.Thread]" = []
 NOTHING = memoryview(b"")
 # A group of its own; before Python 3.11 that takes a session of its own.
 GROUP: "Dict[str, Any]" = {"process_group": 0} if sys.version_info >= (3, 11) else {"start_new_session": True}
@@ -32,27 +40,22 @@ class File:
         self._file = open(place, "rb", buffering=0)
         self.number = self._file.fileno()
         self.place = f"/proc/self/fd/{self.number}"
-        self.is_program = os.pread(self.number, 4, 0) == b"\x7fELF" and os.path.exists(self.place)
-        self._stamp, self.digest = self._times(), self._content()
+        self._times, self.digest = self._seen()
 
-    def _times(self) -> "Tuple[int, ...]":
+    def _seen(self) -> "Tuple[Tuple[int, ...], str]":
+        """When the file was written, and its content."""
         it = os.fstat(self.number)
-        return it.st_mtime_ns, it.st_ctime_ns, it.st_size
-
-    def _content(self) -> str:
-        digest, at = hashlib.sha256(), 0
-        while piece := os.pread(self.number, 1 << 20, at):
-            digest.update(piece)
-            at += len(piece)
-        return digest.hexdigest()
+        content = os.pread(self.number, it.st_size, 0)
+        return (it.st_mtime_ns, it.st_ctime_ns, it.st_size), hashlib.sha256(content).hexdigest()
 
     def check(self) -> None:
         """The file has the content that was tried."""
-        times = self._times()
-        if times != self._stamp:
-            if self._content() != self.digest:
+        it = os.fstat(self.number)
+        if (it.st_mtime_ns, it.st_ctime_ns, it.st_size) != self._times:
+            times, digest = self._seen()
+            if digest != self.digest:
                 raise NoCalculator(f"{self.path} was changed while it was in use")
-            self._stamp = times
+            self._times = times
 
 
 def tie(process: "subprocess.Popen[bytes]", watched: int) -> None:
@@ -71,13 +74,11 @@ def tie(process: "subprocess.Popen[bytes]", watched: int) -> None:
             pass
 
 
-def start(path: str, words: List[str], file: Optional[File], reader: "Running") -> "subprocess.Popen[bytes]":
+def start(path: str, words: List[str], file: Optional[File], reader: "weakref.ref[Running]") -> "subprocess.Popen[bytes]":
     """Starts the program, out of reach of the terminal's Ctrl-C: who is interrupted ends it."""
-    end_abandoned()
     try:
         if file:
             file.check()
-        # (files that are closed with their last reference, wherever this is interrupted)
         ends = os.pipe()
         watched, kept = open(ends[0], "rb", buffering=0), open(ends[1], "wb", buffering=0)
         with watched:
@@ -86,43 +87,89 @@ def start(path: str, words: List[str], file: Optional[File], reader: "Running") 
             where = file.place if file else path
             pipes: "Dict[str, Any]" = {"stdin": subprocess.PIPE, "stdout": subprocess.PIPE, "stderr": subprocess.DEVNULL}
             process = subprocess.Popen([path, *words], executable=where, bufsize=0, pass_fds=passed, **pipes, **GROUP)
-            STARTED[process] = kept, weakref.ref(reader)
+            STARTED[process] = kept, reader
             tie(process, watched.fileno())
     except OSError as error:
         raise NoCalculator(f"{path} cannot be started: {error.strerror}") from None
+    if reader() is None:
+        ENDING.put(process)
     return process
 
 
+def started(path: str, words: List[str], file: Optional[File], reader: "Running") -> "subprocess.Popen[bytes]":
+    """Has the program started, and waits for that."""
+    for task in (start_each, end_each)[len(SERVANTS) :]:
+        thread = threading.Thread(target=task, daemon=True)
+        thread.start()
+        SERVANTS.append(thread)
+    answer: "SimpleQueue[Any]" = SimpleQueue()
+    STARTING.put((answer, path, words, file, weakref.ref(reader, ENDING.put)))
+    process = answer.get()
+    if isinstance(process, BaseException):
+        raise process
+    return cast("subprocess.Popen[bytes]", process)
+
+
+def start_each() -> None:
+    """Starts what is to be started, one after the other."""
+    while True:
+        answer, *asked = STARTING.get()
+        try:
+            answer.put(start(*asked))
+        except BaseException as error:
+            answer.put(error)
+
+
 def end(process: "subprocess.Popen[bytes]") -> None:
-    """Ends a process, waits until it has gone, and closes this process's ends of the pipes. If this is interrupted, the next start does it."""
+    """Ends a process, waits until it has gone, and closes this process's ends of the pipes."""
     process.kill()
     process.wait()
     let_go(process)
 
 
 def let_go(process: "subprocess.Popen[bytes]") -> None:
-    kept = STARTED.get(process)
-    for pipe in (process.stdin, process.stdout, kept and kept[0]):
+    kept, _ = STARTED.pop(process, (None, None))
+    for pipe in (process.stdin, process.stdout, kept):
         if pipe:
             pipe.close()
-    STARTED.pop(process, None)
 
 
-def end_abandoned() -> None:
-    """Ends the processes from which nobody reads any more, whose end was interrupted."""
-    for process, (_, reader) in list(STARTED.items()):
-        running = reader()
-        if running is None or running.is_ended:
-            end(process)
+def end_each() -> None:
+    """Ends what is to be ended, one after the other."""
+    while True:
+        asked = ENDING.get()
+        for process, (_, reader) in list(STARTED.items()):
+            if process is asked or reader is asked:
+                try:
+                    end(process)
+                except OSError:
+                    pass
+
+
+def end_all() -> None:
+    """Ends all processes, at the end of Python."""
+    for process in list(STARTED):
+        end(process)
 
 
 def forget_all() -> None:
-    """Closes what a fork has copied. The processes are their parent's: they are neither ended nor waited for."""
-    for process in list(STARTED):
+    """Lets go of what a fork has copied. The processes are their parent's: they are neither ended nor waited for. A call that was interrupted by
+    the fork goes on to read: in place of its pipes there is nothing, and no other file gets their numbers before it has ended."""
+    global STARTING, ENDING
+    STARTING, ENDING = SimpleQueue(), SimpleQueue()
+    SERVANTS.clear()
+    nothing = os.open(os.devnull, os.O_RDWR) if STARTED else 0
+    for process, (kept, _) in STARTED.items():
         process.returncode = 0
-        let_go(process)
+        for pipe in (process.stdin, process.stdout, kept):
+            if pipe and not pipe.closed:
+                os.dup2(nothing, pipe.fileno(), inheritable=False)
+    if STARTED:
+        os.close(nothing)
+    STARTED.clear()
 
 
+atexit.register(end_all)
 os.register_at_fork(after_in_child=forget_all)
 
 
@@ -130,10 +177,9 @@ class Running:
     """A process of the program, whose answers are read as they come, by the process that has started it."""
 
     def __init__(self, path: str, words: List[str], file: Optional[File]) -> None:
-        self.path, self.is_ended, self._is_stopped, self._owner = path, False, False, os.getpid()
-        self.process = start(path, words, file, self)
-        # (it ends with the last reference, and at the end of Python)
-        self._end = weakref.finalize(self, end, self.process)
+        self.path, self._is_stopped, self._owner = path, False, os.getpid()
+        # (it ends with the last reference to this, and at the end of Python)
+        self.process = started(path, words, file, self)
         assert self.process.stdin and self.process.stdout
         self.into, self.out = self.process.stdin.fileno(), self.process.stdout.fileno()
         os.set_blocking(self.into, False)
@@ -141,8 +187,8 @@ class Running:
         self._poll.register(self.out, select.POLLIN)
 
     def end(self) -> None:
-        self.is_ended = True
-        self._end()
+        """Asks for the end of the process, for which nobody waits."""
+        ENDING.put(self.process)
 
     def _written(self, data: memoryview) -> memoryview:
         """Writes what the pipe takes; what is left. Of a process that has gone nothing is left: its output says so."""
@@ -156,8 +202,6 @@ class Running:
     def read(self, data: memoryview, deadline: Optional[float]) -> "Tuple[bytes, memoryview]":
         """What has come, and what is left to be written; nothing comes from a process that has ended. It waits until something comes, and
         until the deadline at most."""
-        if self._owner != os.getpid():
-            raise NoCalculator("this answer is read by the process that was forked, and not by its copy")
         data = self._written(data) if data else data
         if data:
             self._poll.register(self.into, select.POLLOUT)
@@ -176,7 +220,10 @@ class Running:
         finally:
             if data:
                 self._poll.unregister(self.into)
-        return os.read(self.out, 1 << 18), data
+        came = os.read(self.out, 1 << 18)
+        if self._owner != os.getpid():
+            raise NoCalculator("this answer is read by the process that was forked, and not by its copy")
+        return came, data
 
     def stop(self) -> None:
         """Ends the process from another thread than the one that reads, which closes the pipes."""
@@ -258,20 +305,14 @@ class Batch(Running):
             raise NoCalculator(f"{self.path} does not answer as calc does")
 
 
-def behind(first: Batch) -> Optional[File]:
-    """The program that has taken the place of a script that was started: if `calc batch` is what the process is, and not a shell or another
-    program that runs it."""
+def tried(first: Batch) -> Optional[File]:
+    """The file of a process that was tried: of the program, also where a script was started whose place it has taken. There is none if the
+    process is a shell, or something else that runs the program."""
     place = f"/proc/{first.process.pid}"
     try:
         with open(f"{place}/cmdline", "rb") as words:
-            if words.read().split(b"\0")[1:] != [b"batch", b""]:
-                return None
-        file = File(first.path, f"{place}/exe")
-        if not file.is_program:
-            return None
-        Batch(first.path, file).end()
-        return file
-    except (OSError, NoCalculator):
+            return File(first.path, f"{place}/exe") if words.read().split(b"\0")[1:] == [b"batch", b""] else None
+    except OSError:
         return None
 
 
@@ -284,13 +325,8 @@ class Program:
     def __init__(self, path: str) -> None:
         self.path = os.path.abspath(path)
         self._owner, self._is_closed = os.getpid(), False
-        try:
-            file: Optional[File] = File(self.path, self.path)
-        except OSError:
-            file = None
-        is_program = file is not None and file.is_program
-        first = Batch(self.path, file if is_program else None)
-        self._file = file if is_program else behind(first)
+        first = Batch(self.path, None)
+        self._file = tried(first)
         self._idle: List[Batch] = [first]
         self._open: "weakref.WeakSet[Running]" = weakref.WeakSet(self._idle)
 
@@ -366,6 +402,13 @@ class Program:
             return text.decode("ascii").splitlines()
         finally:
             one.end()
+
+    def become(self, words: List[str]) -> NoReturn:
+        """The program takes the place of this process."""
+        if self._file:
+            self._file.check()
+            os.set_inheritable(self._file.number, True)
+        os.execv(self._file.place if self._file else self.path, [self.path, *words])
 
     def close(self) -> None:
         self._is_closed = True

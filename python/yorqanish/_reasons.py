@@ -100,7 +100,7 @@ def in_list(kind: str, words: List[str], word: int, place: Place) -> str:
         most = 8 if command == "dschubmult" else 16
         if kind == "Range":
             return f"at most {most} letters"
-        if value.strip("0") and value in words[place.start : word]:
+        if value.strip("0") and value.lstrip("0") in [it.lstrip("0") for it in words[place.start : word]]:
             return f"letter {number} of {place.argument} occurs twice"
         return f"letter {number} of {place.argument} is not between 1 and the number of letters"
     if place.sort == LETTERS:
@@ -130,6 +130,8 @@ def why(kind: str, words: List[str], word: int, byte: int) -> str:
     if place and place.sort == EXPRESSION and text and place.argument != "target":
         return in_expression(kind, text, byte, words[0], place.argument)
     if kind == "Syntax":
+        if word == len(words) and words[0] in ("mult", "quantum", "fusion") and place and place.sort == PARTITION and "-" not in words:
+            return "a product has two to eight factors"
         return "the command ends too early" if word == len(words) else "this word is not allowed here"
     if place is None:
         return "a limit is exceeded" if kind == "Range" else "this list is not allowed here"

@@ -2,6 +2,7 @@
 from __future__ import annotations
 
 import os
+import subprocess
 from typing import Iterator, List, Optional, Union
 
 from ._library import Library
@@ -9,6 +10,8 @@ from ._program import Program
 from ._ways import NoCalculator, Way
 
 BESIDE = os.path.dirname(os.path.abspath(__file__))
+# In a checkout or an archive, if the package is used there and not installed: the script that says which files are those of its sources.
+GENUINE = os.path.join(BESIDE, "../../release/genuine") if os.path.isfile(os.path.join(BESIDE, "../pyproject.toml")) else ""
 LIBRARY = "libyorqanish.so"
 
 
@@ -28,13 +31,26 @@ def named(given: Optional[str], variable: str) -> Optional[str]:
     return path
 
 
+def near(name: str) -> Optional[str]:
+    """The file of this name in this package, or in the checkout or the archive that it is used in."""
+    beside = os.path.join(BESIDE, name)
+    if os.path.exists(beside):
+        return beside
+    if not os.path.isfile(GENUINE):
+        return None
+    done = subprocess.run(["sh", GENUINE, name], stdout=subprocess.PIPE, stderr=subprocess.DEVNULL, universal_newlines=True)
+    if done.returncode not in (0, 4):
+        raise NoCalculator(done.stdout.strip())
+    return done.stdout.strip() if done.returncode == 0 else None
+
+
 def program(given: Optional[str]) -> Program:
     """The program at the path that is given; else that of YORQANISH_CALC; else in this package; else the first on the PATH that answers."""
     path = named(given, "YORQANISH_CALC")
     if path:
         return Program(path)
-    beside = os.path.join(BESIDE, "calc")
-    if os.path.exists(beside):
+    beside = near("calc")
+    if beside:
         return Program(beside)
     refused: List[str] = []
     for path in on_path("calc"):
@@ -50,8 +66,7 @@ def library(given: Optional[str]) -> Library:
     path = named(given, "YORQANISH_LIBRARY")
     if path:
         return Library(os.path.abspath(path))
-    beside = os.path.join(BESIDE, LIBRARY)
-    return Library(beside if os.path.exists(beside) else LIBRARY)
+    return Library(near(LIBRARY) or LIBRARY)
 
 
 def way(library_given: Union[bool, str, None], program_given: Optional[str], digest: Optional[str] = None) -> Way:

@@ -1,9 +1,10 @@
 """Tableaux, and pairs of them."""
 from __future__ import annotations
 
-from typing import Any, NamedTuple, NoReturn, Tuple
+from typing import Any, NamedTuple, Tuple
 
-from ._arguments import Numbers, Rows, Shape, partition, tableau
+from ._arguments import Fixed, Numbers, Rows, Shape, partition, tableau
+from ._pictures import filled
 
 
 def rows_of(line: str) -> "Tuple[Numbers, ...]":
@@ -13,7 +14,7 @@ def rows_of(line: str) -> "Tuple[Numbers, ...]":
     return tuple(() if row == "." else tuple(map(int, row.split(" "))) for row in line.split(" / "))
 
 
-class Tableau(Tuple[Numbers, ...]):
+class Tableau(Fixed, Tuple[Numbers, ...]):
     """A tableau: the tuple of its rows from the top. For a skew tableau `inner` is the inner partition, and the rows have the entries
     to the right of it. It does not change.
 
@@ -23,8 +24,6 @@ class Tableau(Tuple[Numbers, ...]):
     >>> t = Tableau(((1, 1), (2,)))
     >>> t == ((1, 1), (2,)), t[0], str(t)
     (True, (1, 1), '1 1 / 2')
-    >>> print(t.latex())
-    \\begin{ytableau} 1 & 1 \\\\ 2 \\end{ytableau}
     >>> skew = Tableau(((1,), (12,)), inner=(1,))
     >>> skew, skew == ((1,), (12,)), skew == Tableau(((1,), (12,)))
     (Tableau(((1,), (12,)), inner=(1,)), False, False)
@@ -43,12 +42,6 @@ class Tableau(Tuple[Numbers, ...]):
         made = tuple.__new__(cls, rows)
         made.__dict__["inner"] = inner
         return made
-
-    def __setattr__(self, name: str, value: object) -> NoReturn:
-        raise AttributeError(f"a tableau does not change: {name} cannot be set")
-
-    def __delattr__(self, name: str) -> NoReturn:
-        raise AttributeError(f"a tableau does not change: {name} cannot be deleted")
 
     def __eq__(self, other: object) -> bool:
         if not isinstance(other, tuple):
@@ -100,8 +93,10 @@ class Tableau(Tuple[Numbers, ...]):
     def _repr_latex_(self) -> str:
         return f"${self._array()}$"
 
+    def _repr_svg_(self) -> str:
+        return filled(self, self.inner).svg
+
     def _latex_(self) -> str:
-        """The tableau as LaTeX, for Sage's `latex` and `view`."""
         return self._array()
 
 
@@ -128,7 +123,6 @@ class Pair(NamedTuple):
         return f"${self.latex('array')}$"
 
     def _latex_(self) -> str:
-        """The pair as LaTeX, for Sage's `latex` and `view`."""
         return self.latex("array")
 
 

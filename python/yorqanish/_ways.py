@@ -54,19 +54,15 @@ class Way(Protocol):
 
     def answer(self, line: bytes, seconds: Optional[float]) -> str:
         """The text of one line, of whatever length."""
-        ...
 
     def blocks(self, lines: Sequence[bytes], seconds: Optional[float]) -> List[str]:
         """The texts of the lines of a batch, none of which it passes over."""
-        ...
 
     def listed(self, line: bytes, seconds: Optional[float]) -> Iterator[str]:
         """The lines of an answer as they are listed."""
-        ...
 
     def close(self) -> None:
         """Lets go of what is held, and ends what still runs. Whoever asks later is refused."""
-        ...
 
 
 def sent(line: str) -> Optional[bytes]:

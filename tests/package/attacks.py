@@ -20,6 +20,7 @@ from fractions import Fraction
 from common import LIBRARY, PROGRAM, Skipped, main, need, printed, raises, same, terms, within
 
 from yorqanish import Calculator, Expansion, NoCalculator, Tableau
+from yorqanish._program import end_all
 
 CALC = Calculator(program=PROGRAM)
 
@@ -32,7 +33,7 @@ def of_library():
 
 # ---- state that a call shares with another one
 
-def asked_inside(calc, begin, end):
+def asked_inside(calc, begin, end, count=10000):
     """Of many calls, in the midst of which others are made, none has the answer of another one."""
     inner = []
 
@@ -41,7 +42,7 @@ def asked_inside(calc, begin, end):
 
     begin(ask)
     try:
-        got = [calc.coef([3, 2, 1], [2, 1], [2, 1]) for _ in range(10000)]
+        got = [calc.coef([3, 2, 1], [2, 1], [2, 1]) for _ in range(count)]
     finally:
         end()
     same((got.count(2), set(inner) <= {1}), (len(got), True))
@@ -111,7 +112,7 @@ def test_a_finalizer_asks():
             gc.set_threshold(700)
 
         is_asking, counts = [False], iter((1, 2, 3, 4, 5))
-        assert sum(asked_inside(calc, begin, end) for _ in range(5)) > 100
+        assert sum(asked_inside(calc, begin, end, 1500) for _ in range(5)) > 100
 
 
 # ---- what is no list of numbers
@@ -438,10 +439,12 @@ def test_a_program_that_is_written_over():
     with tempfile.TemporaryDirectory() as room:
         path = copied(room)
         calc = Calculator(program=path)
-        calc._way._idle.pop().end()
+        end_all()
         os.utime(path)
+        calc._way._idle.clear()
         same(calc.coef([2], [1], [1]), 1)
-        calc._way._idle.pop().end()
+        calc._way._idle.clear()
+        end_all()
         with open(path, "r+b") as file:
             file.seek(5000)
             file.write(b"other")

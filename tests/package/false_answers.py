@@ -13,7 +13,7 @@ from fractions import Fraction
 from common import LIBRARY, PROGRAM, Skipped, main, printed, raises, same, terms, within
 
 import yorqanish
-from yorqanish import Calculator, NoCalculator, Refusal
+from yorqanish import Calculator, NoCalculator, Refusal, _search
 
 SHAPES = [((1 + i % 5, 1 + i % 2), (1 + i % 7,)) for i in range(2000)]
 # (a Calculator that processes made by `fork` find as it was left)
@@ -323,6 +323,7 @@ def test_a_foreign_program_that_is_named():
 def test_a_foreign_program_on_the_path():
     """It is found out, and one behind it on the PATH is taken."""
     del os.environ["YORQANISH_CALC"]
+    _search.GENUINE = ""
     with tempfile.TemporaryDirectory() as room:
         path = foreign_program(room, "while read line; do echo 0; done")
         os.environ["PATH"] = f"{room}:/usr/bin:/bin"

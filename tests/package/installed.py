@@ -12,7 +12,7 @@ TRIED = """
 import os, yorqanish
 from yorqanish import Calculator
 calc = Calculator()
-print(yorqanish.__version__, os.path.basename(calc._way.path), repr(calc.mult([1], [1])))
+print(yorqanish.__version__, os.path.basename(calc._way.path), dict(calc.mult([1], [1])))
 """
 
 
@@ -90,9 +90,23 @@ def test_a_checkout_is_installed():
 
 
 def test_a_released_archive_is_installed():
-    """As an archive has it: the program and the library beside the folder python/."""
     with tempfile.TemporaryDirectory() as room:
         installs(room, f"{archive(room)}/python")
+
+
+def test_a_checkout_is_linked():
+    """By `pip install -e`; the package is that of the checkout, and so is its program, as long as it is of the checkout's sources."""
+    with tempfile.TemporaryDirectory() as room:
+        top = checkout(room)
+        run(sys.executable, "-m", "venv", "--system-site-packages", f"{room}/own")
+        run(f"{room}/own/bin/python", "-m", "pip", "install", "--no-build-isolation", "-e", f"{top}/python", env=bare(), cwd=room)
+        told = TRIED + "print(os.path.dirname(yorqanish.__file__), calc._way.path)\n"
+        wanted = f"{version()} calc {{(2,): 1, (1, 1): 1}}\n{top}/python/yorqanish {top}/crates/calc/out/calc\n"
+        same(run(f"{room}/own/bin/python", "-c", told, env=bare(), cwd=room), wanted)
+        with open(f"{top}/crates/calc/src/main.rt", "a", encoding="ascii") as source:
+            source.write("another line\n")
+        done = subprocess.run([f"{room}/own/bin/python", "-c", told], capture_output=True, text=True, env=bare(), cwd=room)
+        assert done.returncode and "sources changed" in done.stderr, done.stderr
 
 
 def test_a_wheel_is_installed():
@@ -125,8 +139,10 @@ def test_a_source_archive_has_what_a_wheel_needs():
         top = checkout(room)
         run(sys.executable, "-c", f"import make_wheel; make_wheel.build_sdist({room!r})", cwd=f"{top}/python")
         run("tar", "xf", f"{room}/yorqanish-{version()}.tar.gz", cwd=room)
-        name = run(sys.executable, "-c", f"import make_wheel; print(make_wheel.build_wheel({room!r}))", cwd=f"{room}/yorqanish-{version()}")
-        same(name.strip(), f"yorqanish-{version()}-py3-none-any.whl")
+        for settings, said in (("{}", "has no program"), ("{'without-program': 'yes'}", f"yorqanish-{version()}-py3-none-any.whl\n")):
+            script = f"import make_wheel; print(make_wheel.build_wheel({room!r}, {settings}))"
+            done = subprocess.run([sys.executable, "-c", script], capture_output=True, text=True, cwd=f"{room}/yorqanish-{version()}")
+            assert said in done.stdout + done.stderr, (settings, done)
 
 
 if __name__ == "__main__":

@@ -21,7 +21,7 @@ def test_integers_are_numbers():
     same(dict(CALC.mult([2, 1], [2, 1], rows=np.int64(2))), {(4, 2): 1, (3, 3): 1})
     same(dict(CALC.quantum(np.int64(3), np.int8(3), [2, 1], [2, 1])), dict(CALC.quantum(3, 3, [2, 1], [2, 1])))
     same(dict(CALC.fusion(np.uint8(2), np.int32(1), [1], [1])), {(1, 1): 1})
-    same(dict(CALC.stanley(np.int64(2), [2, 1, 4, 3])), {(2,): 1, (1, 1): 1})
+    same(dict(CALC.stanley([2, 1, 4, 3], rows=np.int64(2))), {(2,): 1, (1, 1): 1})
 
 
 def test_what_is_no_shape():

@@ -85,7 +85,7 @@ def test_a_residue_is_no_number():
         with raises(TypeError, "exact"):
             CALC.expand("e", -SymmetricFunctions(ring).s()[3])
     with raises(TypeError, "rows"):
-        CALC.stanley(GF(2)(3), [2, 1])
+        CALC.stanley([2, 1], GF(2)(3))
 
 
 def test_a_set_is_no_list():

@@ -207,7 +207,7 @@ def test_answers():
              "rsk 3 1 2", "unrsk 1 2 / 3 - 1 3 / 2", "rect 2 2 / 1 - 1 / 1 2", "growth 2 1", "expand -m p s[2,1]"]
     c = CALC
     wanted = [c.mult([2, 1], [2, 1]), c.skew([2, 1], [1]), 2, c.coprod([1]), c.quantum(2, 2, [1], [2, 1]), c.fusion(2, 1, [1], [1]),
-              c.schubert([1, 3, 2]), c.schubmult([2, 1], [2, 1]), c.dschubmult([1], [2, 1]), c.stanley(2, [2, 1, 4, 3]), c.expand("p", "s[2,1]"),
+              c.schubert([1, 3, 2]), c.schubmult([2, 1], [2, 1]), c.dschubmult([1], [2, 1]), c.stanley([2, 1, 4, 3], 2), c.expand("p", "s[2,1]"),
               c.plethysm("s", "h[2]", "h[2]"), list(c.tab([2, 1], [1])), c.rsk([3, 1, 2]), (3, 1, 2), ((1, 1), (2,)), c.growth([2, 1]),
               "-1/3*p[3]+1/3*p[1,1,1]"]
     same([it.answer for it in c.batch(lines)], wanted)

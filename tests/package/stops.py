@@ -42,10 +42,10 @@ def running():
 def ended(seconds):
     """The processes that run are ended in the body, and not by themselves at the end of their commands."""
     before = set(running())
+    assert before
     with within(seconds):
         yield
-    left = before & set(running())
-    assert before and not left, (before, left)
+        comes(lambda: not before & set(running()))
 
 
 def once_busy(action):

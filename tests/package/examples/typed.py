@@ -28,6 +28,12 @@ def main() -> None:
             print(len(tableau), tableau.latex())
         pair = calc.rsk([3, 1, 2])
         print(sum(calc.unrsk(pair.insertion, pair.recording)))
+        ring = calc.quantum_ring(2, 3)
+        print(ring([1]) * ring([2, 1]) + 1, sum([twice, twice]), +twice, twice + 0)
+        # (an expansion is multiplied by numbers alone, and text and iterators are no shapes)
+        print(twice * twice)  # type: ignore[operator]
+        print(calc.mult("21", [1]))  # type: ignore[arg-type]
+        print(calc.mult(map(int, ["2"]), [1]))  # type: ignore[arg-type]
 
 
 if __name__ == "__main__":
