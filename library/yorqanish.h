@@ -7,8 +7,8 @@
  * between calls, starts no thread, opens no file and writes to no stream; several threads may call it at once.
  *
  * The library is libyorqanish.so.0, and its one symbol has the version YORQANISH_0. As long as these are the same, so are the arguments of
- * calc_run, the codes below and what a caller owes; a later release may add commands, raise limits and add calls. Were one of them to change,
- * the number in both names would. */
+ * calc_run, the codes below and the requirements; a later release may add commands, raise limits and add calls. If one of them changes, so
+ * does the number in both names. */
 #ifndef YORQANISH_H
 #define YORQANISH_H
 
