@@ -251,6 +251,13 @@
       return found;
     },
 
+    /** What stands right above the text of an answer: what was computed, and not what could have been. */
+    async above(lines) {
+      const found = [];
+      for (const line of lines) found.push((await answer(line)).querySelector("pre").previousElementSibling.textContent);
+      return found;
+    },
+
     /** The order of headings, what the articles are named by, and how often the sentence of a refusal is seen. */
     async order() {
       const { names, ok } = failing();

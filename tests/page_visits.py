@@ -223,8 +223,10 @@ def forms(*where):
         return wrong((got, ["quantum 2 2 2 1 - 2 1 σ(2,1) * σ(2,1) in QH*(Gr(2,4))", ["quantum 2 2 2 1 - 2 1", "1  q^1  (2)\n1  q^1  (1,1)\n"], 18, 18, True]))
 
 
-# The characters of S_3, by cycle types (3), (2,1), (1,1,1); and products in Gr(1,3), the projective plane, without q and with it.
+# The characters of S_3, by cycle types (3), (2,1), (1,1,1); Kostka numbers of size 3 and their inverse; and products in Gr(1,3), the projective plane, without q and with it.
 CHARACTERS = [["1", "1", "1"], ["-1", "0", "2"], ["1", "-1", "1"]]
+KOSTKA = [["1", "1", "1"], ["0", "1", "2"], ["0", "0", "1"]]
+INVERSE = [["1", "-1", "1"], ["0", "1", "-2"], ["0", "0", "1"]]
 QUANTUM_PLANE = [["()", "(1)", "(2)"], ["(1)", "(2)", "q*()"], ["(2)", "q*()", "q*(1)"]]
 PLANE = [["()", "(1)", "(2)"], ["(1)", "(2)", "0"], ["(2)", "0", "0"]]
 
@@ -242,9 +244,12 @@ def tables(*where):
         for (const given of [["characters", 3], ["classical", 1, 3]]) { await choose(...given); found.push(cells(), await copied("Copy CSV"), JSON.parse(await copied("Copy JSON"))); }
         await choose("quantum", 1, 3);
         found.push(cells(), await copied("Copy CSV"));
+        for (const kind of ["kostka", "inverse"]) { await choose(kind, 3); found.push(cells()); }
+        await choose("schubert", 2);
+        found.push(cells());
         await choose("classical", 4, 2);
         return [...found, document.getElementById("said-of-table").textContent, document.documentElement.scrollWidth]"""
-        first, csv, data, second, csv2, data2, third, csv3, said, width = visit.ask(make)
+        first, csv, data, second, csv2, data2, third, csv3, kostka, inverse, products_of_two, said, width = visit.ask(make)
         labels = [[3], [2, 1], [1, 1, 1]]
         wanted_csv = ",(3),\"(2,1)\",\"(1,1,1)\"\r\n" + "".join(
             f"{label},{','.join(row)}\r\n" for label, row in zip(['(3)', '"(2,1)"', '"(1,1,1)"'], CHARACTERS)
@@ -255,6 +260,7 @@ def tables(*where):
             (first, CHARACTERS), (csv, wanted_csv), (data["labels"], labels), (data["entries"], [[int(it) for it in row] for row in CHARACTERS]),
             (second, wanted2), (csv2.splitlines()[1:], [f"{label},{','.join(row)}" for label, row in zip(["()", "(1)", "(2)"], PLANE)]),
             (data2["entries"], products), (third, [[f"{'q ' if '*' in it else ''}σ{it.replace('q*', '').replace('()', '∅')}" for it in row] for row in QUANTUM_PLANE]),
+            (kostka, KOSTKA), (inverse, INVERSE), (products_of_two, [["S1", "S21"], ["S21", "S312"]]),
             (csv3.splitlines()[1:], [f"{label},{','.join(row)}" for label, row in zip(["()", "(1)", "(2)"], QUANTUM_PLANE)]), (said, "n has to be greater than k."), (width <= visit.page.width, True),
         )
 

@@ -94,7 +94,7 @@ COMMANDS = [
         "q", "a power of q and a partition", ("Partitions", "powers of q"), FACTORS,
     ),
     Command(
-        "fusion", "Fusion products", "λ ⊗ μ = Σ c ν for su(K) at level L", ["fusion 3 2 2 1 - 2 1"],
+        "fusion", "Fusion products", "s_{λ} ⊗ s_{μ} = Σ c s_{ν} for su(K) at level L", ["fusion 3 2 2 1 - 2 1"],
         "s", "a partition", ("Partitions",), FACTORS,
     ),
     Command(

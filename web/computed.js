@@ -65,7 +65,7 @@ const COMPUTED = {
   },
   fusion: (of) => {
     const [rows, level] = [of("rows"), of("level")].map(([it]) => Number(it[0]));
-    return `${of("partition").map(shown).join(" ⊗ ")} for su(${rows}) at level ${level}`;
+    return `${of("partition").map(schur).join(" ⊗ ")} for su(${rows}) at level ${level}`;
   },
   schubert: (of) => `the Schubert polynomial ${schubert(of("permutation")[0])}`,
   schubmult: (of) => of("permutation").map(schubert).join(" · "),

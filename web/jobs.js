@@ -10,7 +10,7 @@ function say(text, spoken = "") {
 }
 
 /** A memory after which the worker is ended, which gives it back at once; the next line has a fresh one. */
-const LARGE_MEMORY = 1 << 28;
+const LARGE_MEMORY = 1 << 26;
 /** The most waiting commands that are listed. */
 const MOST_LISTED = 100;
 /** From how many waiting commands on a queue is long, and how many of a long one the worker is given beside the one that runs. */

@@ -200,14 +200,14 @@ function atomsApart(words) {
     if (other.join() !== words.join() && isCommand(other)) others.push({ line: asWords(other), why });
   };
   if (at < 0) return others;
-  put("Its digits apart are", /\[([1-9]{2,})\]/g, (all, digits) => (isDecreasing([...digits]) ? `[${[...digits].join(",")}]` : all));
+  put("With its digits apart it is", /\[([1-9]{2,})\]/g, (all, digits) => (isDecreasing([...digits]) ? `[${[...digits].join(",")}]` : all));
   put("A number in parentheses is a number. With Schur functions it is", /(^|[-+*(])\((\d+)\)/g, "$1s[$2]");
   return others;
 }
 
 /** What a line that was answered could have been meant as: digits of one number as a list, or Gr(K, C) for Gr(K, K+C). */
 function meantInstead(line) {
-  const words = textsOfWords(line), found = lettersApart(line).map((it) => ({ line: it, why: "Its digits apart are" }));
+  const words = textsOfWords(line), found = lettersApart(line).map((it) => ({ line: it, why: "With its digits apart it is" }));
   if (["expand", "plethysm"].includes(words[0])) return atomsApart(words);
   if (words[0] === "quantum") {
     const [rows, columns] = words.slice(1, 3).map(Number), width = columns - rows;

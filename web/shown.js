@@ -121,9 +121,13 @@ function offer(line) {
   return [element("button", { type: "button", "data-line": line }, line), " ", element("span", { class: "math" }, ...formula(computedBy(line)))];
 }
 
-/** What a line could mean that was refused, or that was answered and can be meant otherwise. */
-function offersOf({ typed, line, reason }, isDone) {
-  if (isDone) return meantInstead(line).map((it) => note("offer", `${it.why}: `, ...offer(it.line)));
+/** What a line that was answered can be meant as, too. (What that would compute is not said: right above the text stands what was computed.) */
+function insteadOf(line) {
+  return meantInstead(line).map((it) => note("offer note", `${it.why}: `, offer(it.line)[0]));
+}
+
+/** What a line could mean that was refused. */
+function offersOf({ typed, reason }) {
   const lines = offersFor(typed);
   const items = lines.map((it) => element("li", {}, ...offer(it)));
   const said = [UNCLEAR[reason], lines.length > 0 ? "It could mean:" : ""].filter(Boolean).join(" ");
@@ -153,12 +157,12 @@ function show(job, { status, text = "", time, stopped, why, error }) {
   const [computed, sum] = isDone || stopped || text === "! Large\n" ? mathematicsOf(line, text, answer) : [[], []];
   const id = `answer-${(numberOfAnswer += 1)}`, title = element("h3", { id }, element("code", { dir: "ltr" }, ...marked(line, told)));
   const header = element("header", {}, title, element("span", {}, aboutOf(status, count, time, stopped)));
-  const article = element("article", { "aria-labelledby": id, tabindex: "-1" }, header, ...computed, ...changesOf(job));
+  const article = element("article", { "aria-labelledby": id, tabindex: "-1" }, header, ...changesOf(job), ...(isDone ? insteadOf(line) : []), ...computed);
   if (!isDone) article.className = "refused";
   article.dataset.of = line;
   if (text) article.append(...textOf(line, text), ...sum);
   if (stopped && why) article.append(note("note", `Press Run for the answer: ${why}.`));
-  article.append(...notesOf(job, isDone, told, error), ...(stopped ? [] : offersOf(job, isDone)), toolsOf(line, text, answer));
+  article.append(...notesOf(job, isDone, told, error), ...(told ? offersOf(job) : []), toolsOf(line, text, answer));
   article.append(...picturesOf(line, answer, text));
   place(article, line, text);
   performance.mark("answer");

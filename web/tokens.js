@@ -8,8 +8,8 @@ const SAME = [
 ];
 
 /** Characters that are not seen: they have no width, or they turn the direction of a text. */
-const UNSEEN = /[\u0000-\u0008\u000b\u000c\u000e-\u001f\u007f-\u009f\u00ad\u061c\u180e\u200b-\u200f\u2028-\u202e\u2060-\u206f\ufeff\ufff9-\ufffb]/;
-const ALL_UNSEEN = new RegExp(UNSEEN, "g");
+const UNSEEN = /[\p{Default_Ignorable_Code_Point}\p{Zl}\p{Zp}\ufff9-\ufffb]|(?!\t)\p{Cc}/u;
+const ALL_UNSEEN = new RegExp(UNSEEN, "gu");
 
 /** A text with its unseen characters in sight, such as ⟨U+202E⟩. */
 function inSight(text) {

@@ -35,7 +35,7 @@ const UNCLEAR = {
 const LONGEST = 10000;
 
 /** Unseen characters inside a word. */
-const HIDDEN_INSIDE = new RegExp(`[\\p{L}\\p{N}]${UNSEEN.source}+[\\p{L}\\p{N}]`, "u");
+const HIDDEN_INSIDE = new RegExp(`[\\p{L}\\p{N}](?:${UNSEEN.source})+[\\p{L}\\p{N}]`, "u");
 
 /** The programs whose commands are typed after their names. */
 const PROGRAM = /^(?:\S*\/)?calc(?:-static|-glibc)?(?=[ \t]|$)[ \t]*/;
