@@ -353,8 +353,6 @@ class Calculator:
 
         >>> [it.text or it.refusal.kind for it in Calculator().batch(["mult 1 - 1", "# a comment", "mult 1 2 - 1"])]
         ['1  (2)\\n1  (1,1)\\n', 'Shape']
-        >>> [it.answer[2, 1] for it in Calculator().batch(["mult 2 - 1", "mult 1 - 1 - 1"], workers=2)]
-        [1, 2]
         """
         if isinstance(lines, (str, bytes)):
             raise TypeError("lines: a string is not a list of lines; use splitlines()")
