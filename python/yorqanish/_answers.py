@@ -3,7 +3,7 @@ from __future__ import annotations
 
 from typing import Any, Callable, Dict, List, Tuple
 
-from ._arguments import Numbers
+from ._arguments import Numbers, without_zeros
 from ._expansion import Expansion
 from ._kinds import listed
 from ._pictures import grid
@@ -31,30 +31,15 @@ def letters_of(text: str) -> Numbers:
 def tableaux_of(text: str, words: List[str]) -> Any:
     inner = words[words.index("/") + 1 :]
     cut = inner.index("-from") if "-from" in inner else len(inner)
-    return [] if text == "0\n" else [tableau_of(line, tuple(map(int, inner[:cut]))) for line in text.splitlines()]
+    shape = without_zeros(tuple(map(int, inner[:cut])))
+    return [] if text == "0\n" else [tableau_of(line, shape) for line in text.splitlines()]
 
 
-def of_kind(kind: str) -> Callable[[str, List[str]], Any]:
-    return lambda text, words: Expansion.of(text, kind)
-
-
-def in_basis(text: str, words: List[str]) -> Any:
-    return Expansion.of(text, "symmetric", words[1])
-
-
-ANSWERS: Dict[str, Callable[[str, List[str]], Any]] = {
-    "mult": of_kind("symmetric"),
-    "skew": of_kind("symmetric"),
-    "fusion": of_kind("symmetric"),
-    "stanley": of_kind("symmetric"),
+# The kinds of the lists of terms; the other answers.
+LISTS = {"coprod": "pairs", "quantum": "powers", "schubert": "monomials", "schubmult": "permutations", "dschubmult": "shifts"}
+LISTS.update(dict.fromkeys(("mult", "skew", "fusion", "stanley", "expand", "plethysm"), "symmetric"))
+OTHERS: Dict[str, Callable[[str, List[str]], Any]] = {
     "coef": lambda text, words: int(text),
-    "coprod": of_kind("pairs"),
-    "quantum": of_kind("powers"),
-    "schubert": of_kind("monomials"),
-    "schubmult": of_kind("permutations"),
-    "dschubmult": of_kind("shifts"),
-    "expand": in_basis,
-    "plethysm": in_basis,
     "tab": tableaux_of,
     "rsk": lambda text, words: pair_of(text),
     "unrsk": lambda text, words: letters_of(text),
@@ -66,4 +51,8 @@ ANSWERS: Dict[str, Callable[[str, List[str]], Any]] = {
 def answer_of(line: str, text: str) -> Any:
     """The answer to a line: what the command's method answers, a list for `tab`, and the printed text for `-m`."""
     words = words_of(line)
-    return text.rstrip("\n") if "-m" in words[1:4] else ANSWERS[words[0]](text, words)
+    if "-m" in words[1:4]:
+        return text.rstrip("\n")
+    if words[0] in LISTS:
+        return Expansion.of(text, LISTS[words[0]], words[1] if words[0] in ("expand", "plethysm") else "s")
+    return OTHERS[words[0]](text, words)

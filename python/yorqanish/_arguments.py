@@ -7,7 +7,7 @@ from collections import UserString
 from collections.abc import Sequence as AnySequence
 from numbers import Integral, Rational
 from operator import index
-from typing import Any, Collection, Iterable, List, NoReturn, Optional, Set, SupportsFloat, SupportsIndex, Tuple, Union
+from typing import Any, Collection, Iterable, List, NoReturn, Optional, Set, SupportsFloat, SupportsIndex, Tuple, TypeVar, Union
 
 Numbers = Tuple[int, ...]
 Partition = Numbers
@@ -18,6 +18,7 @@ Shape = Collection[SupportsIndex]
 # What is taken for a tableau: a sequence of its rows from the top, or one of the types of TABLES.
 Rows = Collection[Collection[SupportsIndex]]
 
+Self = TypeVar("Self")
 # The types of other packages that are lists of numbers, beside sequences. They are known by their names, so that no package is imported.
 LISTS = {
     "array.array",
@@ -42,9 +43,17 @@ MOST_NUMBERS, MOST_BITS = 4096, 12000
 
 
 class Fixed:
-    """What does not change once it is made."""
+    """What does not change once it is made, and is its own copy."""
 
     __slots__ = ()
+
+    def copy(self: Self) -> Self:
+        return self
+
+    def __deepcopy__(self: Self, memo: Any) -> Self:
+        return self
+
+    __copy__ = copy
 
     def __setattr__(self, name: str, value: object) -> NoReturn:
         raise AttributeError(f"{type(self).__name__} does not change: {name} cannot be set")
@@ -117,8 +126,8 @@ def items_of(values: Any, name: str, what: str, names: Set[str], dimensions: int
     is_named = any(f"{it.__module__}.{it.__qualname__}" in names for it in type(values).__mro__)
     is_list = isinstance(values, AnySequence) and not isinstance(values, TEXTS) or is_named
     # (Sage's tableaux and permutations have a method of this name)
-    shape = getattr(values, "shape", None)
-    is_other = isinstance(shape, tuple) and (len(shape) != dimensions or dimensions > 1 and 0 in shape)
+    shape: Any = getattr(values, "shape", None)
+    is_other = hasattr(shape, "__len__") and (len(shape) != dimensions or dimensions > 1 and 0 in shape)
     if is_list and not is_other and len(values) > MOST_NUMBERS:
         raise ValueError(f"{name}: a list of more than {MOST_NUMBERS} items is too long to be sent")
     items = tuple(values) if is_list and not is_other else ()
@@ -154,8 +163,10 @@ def tableau(rows: Rows, name: str) -> Tuple[Numbers, ...]:
     return tuple(numbers(row, f"row {i} of {name}") for i, row in enumerate(items_of(rows, name, "a list of rows", TABLES, 2), 1))
 
 
-def spoken(rows: Rows, name: str = "the tableau") -> str:
-    """A tableau as it is typed: `1 1 / 2`."""
+def spoken(rows: Rows, name: str, inner: Numbers = ()) -> str:
+    """A tableau with this inner partition as it is typed: `1 1 / 2`."""
+    if getattr(rows, "inner", inner) != inner:
+        raise ValueError(f"{name}: {rows!r} is not a tableau with the inner partition {inner!r}")
     return " / ".join(" ".join(map(str, row)) or "." for row in tableau(rows, name)) or "."
 
 

@@ -285,8 +285,8 @@ class Calculator:
         >>> list(Calculator().tab([2, 1], [1]))
         [Tableau(((1,), (1,)), inner=(1,)), Tableau(((1,), (2,)), inner=(1,))]
         """
-        after_words = () if after is None else ("-from", spoken(after, "after"))
         shape = partition(inner, "inner")
+        after_words = () if after is None else ("-from", spoken(after, "after", shape))
         line = words("tab", partition(outer, "outer"), "/", shape, *after_words)
         return self._listed(line, shape, self._seconds if timeout is None else _arguments.seconds(timeout))
 
@@ -327,7 +327,7 @@ class Calculator:
         Tableau(((1, 1), (2,)))
         """
         shapes = partition(outer, "outer"), "/", partition(inner, "inner")
-        return tableau_of(self._text(words("rect", *shapes, "-", spoken(tableau, "tableau")), timeout).rstrip("\n"))
+        return tableau_of(self._text(words("rect", *shapes, "-", spoken(tableau, "tableau", shapes[2])), timeout).rstrip("\n"))
 
     def growth(self, perm: Shape, timeout: Optional[SupportsFloat] = None) -> Grid:
         """The growth diagram of a permutation of n letters: a tuple of rows 0 to n, where row i has the partitions at (i, 0) to (i, n).
@@ -353,8 +353,6 @@ class Calculator:
 
         >>> [it.text or it.refusal.kind for it in Calculator().batch(["mult 1 - 1", "# a comment", "mult 1 2 - 1"])]
         ['1  (2)\\n1  (1,1)\\n', 'Shape']
-        >>> [it.answer[2, 1] for it in Calculator().batch(["mult 2 - 1", "mult 1 - 1 - 1"], workers=2)]
-        [1, 2]
         """
         if isinstance(lines, (str, bytes)):
             raise TypeError("lines: a string is not a list of lines; use splitlines()")

@@ -116,8 +116,9 @@ class Expansion(Fixed, Mapping[Label, Coefficient], Generic[Label, Coefficient])
     def _made(cls, terms: "Dict[Any, Any]", kind: str, basis: str) -> "Expansion[Any, Any]":
         """An expansion of terms that are known to be of this kind and in its order."""
         made = object.__new__(cls)
-        for name, value in (("_terms", terms), ("kind", kind), ("basis", basis)):
-            object.__setattr__(made, name, value)
+        object.__setattr__(made, "_terms", terms)
+        object.__setattr__(made, "kind", kind)
+        object.__setattr__(made, "basis", basis)
         return made
 
     @staticmethod
@@ -185,10 +186,6 @@ class Expansion(Fixed, Mapping[Label, Coefficient], Generic[Label, Coefficient])
 
     def __reduce__(self) -> "Tuple[Any, ...]":
         return Expansion, (dict(self._terms), self.kind, self.basis)
-
-    def copy(self) -> "Expansion[Label, Coefficient]":
-        """The expansion itself, since it does not change."""
-        return self
 
     def __or__(self, other: "Mapping[Label, Coefficient]") -> "Expansion[Label, Coefficient]":
         """The terms of both; a label that is in both has the coefficient of the second."""
@@ -274,11 +271,7 @@ class Expansion(Fixed, Mapping[Label, Coefficient], Generic[Label, Coefficient])
         return self._joined(self._terms.items(), KINDS[self.kind].plain, str, "*")
 
     def latex(self) -> str:
-        r"""The expansion as LaTeX.
-
-        >>> Expansion({(2,): Fraction(1, 2), (): 3}, basis="p").latex()
-        '\\frac{1}{2}p_{2}+3p_{\\emptyset}'
-        """
+        """The expansion as LaTeX."""
         return self._latex_of(self._terms.items())
 
     def _latex_of(self, terms: "Iterable[Tuple[Any, Number]]") -> str:
@@ -333,12 +326,13 @@ class Expansion(Fixed, Mapping[Label, Coefficient], Generic[Label, Coefficient])
     def scalar(self, other: "Expansion[Any, Any]") -> Number:
         """The scalar product of two symmetric functions in s, for which the Schur functions are orthonormal."""
         self._be_in_s()
-        other._be_in_s()
-        return exact(sum(c * other._terms.get(label, 0) for label, c in self._terms.items()))
+        terms = Expansion(other)._be_in_s()._terms
+        return exact(sum(c * terms.get(label, 0) for label, c in self._terms.items()))
 
-    def _be_in_s(self) -> None:
+    def _be_in_s(self) -> "Expansion[Any, Any]":
         if (self.kind, self.basis) != ("symmetric", "s"):
             raise ValueError(f"{self._said()}: expand it in s first")
+        return self
 
     def to_sage(self, ring: Any = None) -> Any:
         """The expansion as an element of Sage: of `SymmetricFunctions(QQ)`, of its tensor square for a coproduct, of
@@ -364,18 +358,14 @@ class Expansion(Fixed, Mapping[Label, Coefficient], Generic[Label, Coefficient])
         return table
 
     def to_json(self) -> str:
-        """The expansion as JSON, which `from_json` reads. Coefficients are texts, since a number of JSON may be rounded by who reads it.
-
-        >>> Expansion({(2,): Fraction(1, 2)}, basis="p").to_json()
-        '{"kind": "symmetric", "basis": "p", "terms": [[[2], "1/2"]]}'
-        """
+        """The expansion as JSON, which `from_json` reads. Coefficients are texts, since a number of JSON may be rounded by who reads it."""
         return json.dumps({"kind": self.kind, "basis": self.basis, "terms": [(label, str(c)) for label, c in self._terms.items()]})
 
     @staticmethod
     def from_json(text: str) -> "Expansion[Any, Any]":
         """The expansion that `to_json` has written."""
         read = json.loads(text)
-        return Expansion([(label, Fraction(c)) for label, c in read["terms"]], read["kind"], read["basis"])
+        return Expansion([(label, Fraction(c) if isinstance(c, str) else c) for label, c in read["terms"]], read["kind"], read["basis"])
 
     def to_csv(self) -> str:
         """The expansion as a table of comma-separated values: the line `coefficient,label`, and one for each term."""

@@ -41,12 +41,12 @@ def power(label: str) -> "Tuple[int, Numbers]":
 
 def one_list(label: Any) -> Any:
     """A label of one number may be asked for by the number: a[2] is a[(2,)]."""
-    return label if integer(label) is None else (label,)
+    return label if type(label) is tuple or integer(label) is None else (label,)
 
 
 def a_partition(label: Any) -> Numbers:
     parts = partition(one_list(label), "the label")
-    if any(a < b for a, b in zip(parts, parts[1:])):
+    if list(parts) != sorted(parts, reverse=True):
         raise ValueError(f"the label: {label!r} is not a partition")
     return parts
 

@@ -35,7 +35,6 @@ def boxes(cells: "Sequence[Tuple[int, int, str]]") -> Picture:
 
 
 def filled(rows: Sequence[Numbers], inner: Numbers) -> Picture:
-    """A tableau."""
     offsets = (*inner, *[0] * len(rows))
     return boxes([(i, offsets[i] + j, str(it)) for i, row in enumerate(rows) for j, it in enumerate(row)])
 
@@ -60,7 +59,6 @@ def rothe_diagram(perm: Shape) -> Picture:
 
 
 def grid(rows: "Sequence[Sequence[Numbers]]") -> Picture:
-    """A growth grid: a table of small shapes."""
     side, parts = SMALL * (2 + max((max(len(it), *it) for row in rows for it in row if it), default=0)), []
     for i, row in enumerate(rows):
         for j, shape in enumerate(row):

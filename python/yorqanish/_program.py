@@ -24,6 +24,7 @@ STARTED: "Dict[subprocess.Popen[bytes], Tuple[Any, weakref.ref[Running]]]" = {}
 STARTING: "SimpleQueue[Any]" = SimpleQueue()
 ENDING: "SimpleQueue[Any]" = SimpleQueue()
 SERVANTS: "List[threading.Thread]" = []
+IS_ENDING = False
 NOTHING = memoryview(b"")
 # A group of its own; before Python 3.11 that takes a session of its own.
 GROUP: "Dict[str, Any]" = {"process_group": 0} if sys.version_info >= (3, 11) else {"start_new_session": True}
@@ -98,6 +99,8 @@ def start(path: str, words: List[str], file: Optional[File], reader: "weakref.re
 
 def started(path: str, words: List[str], file: Optional[File], reader: "Running") -> "subprocess.Popen[bytes]":
     """Has the program started, and waits for that."""
+    if IS_ENDING:
+        return start(path, words, file, weakref.ref(reader))
     for task in (start_each, end_each)[len(SERVANTS) :]:
         thread = threading.Thread(target=task, daemon=True)
         thread.start()
@@ -147,9 +150,16 @@ def end_each() -> None:
 
 
 def end_all() -> None:
-    """Ends all processes, at the end of Python."""
+    """Ends all processes."""
     for process in list(STARTED):
         end(process)
+
+
+def end_with_python() -> None:
+    """At the end of Python, after which a `__del__` may still ask, but no thread answers."""
+    global IS_ENDING
+    IS_ENDING = True
+    end_all()
 
 
 def forget_all() -> None:
@@ -169,7 +179,7 @@ def forget_all() -> None:
     STARTED.clear()
 
 
-atexit.register(end_all)
+atexit.register(end_with_python)
 os.register_at_fork(after_in_child=forget_all)
 
 
@@ -317,10 +327,8 @@ def tried(first: Batch) -> Optional[File]:
 
 
 class Program:
-    """The program. Each call has a process to itself, which later calls go on with; one that is interrupted, or out of time, is ended.
-
-    All processes are of the file that was tried first. Where that is not to be had (of a script that runs the program elsewhere), each
-    process is tried when it is started."""
+    """The program. Each call has a process to itself, of the file that was tried first, which later calls go on with; one that is interrupted, or
+    out of time, is ended."""
 
     def __init__(self, path: str) -> None:
         self.path = os.path.abspath(path)
@@ -345,12 +353,16 @@ class Program:
     def _taken(self) -> Batch:
         """A process that is not in use."""
         self._own()
-        try:
-            return self._idle.pop()
-        except IndexError:
-            batch = Batch(self.path, self._file)
-            self._open.add(batch)
-            return batch
+        while True:
+            try:
+                batch = self._idle.pop()
+            except IndexError:
+                batch = Batch(self.path, self._file)
+                self._open.add(batch)
+            # (one that somebody has killed while nobody needed it is missed by nobody)
+            if batch.process.poll() is None:
+                return batch
+            batch.end()
 
     def _given_back(self, batch: Batch) -> None:
         self._idle.append(batch)

@@ -11,14 +11,7 @@ class Refusal(ValueError):
     """Raised for a command that `calc` refuses. The message says why, and at which word of the line.
 
     `kind` is the name that `calc` prints (`Syntax`, `Literal`, `Range`, `Shape` or `Large`), `line` is the command, and `word` and `byte`
-    are the place in it, both counted from 0. For `Large` they are None.
-
-    >>> refusal = Refusal.of("! Shape 2:0\\n", "mult 1 2 - 1")
-    >>> print(refusal)
-    part 2 of factor 1 is greater than part 1, in mult 1 [2] - 1
-    >>> refusal.kind, refusal.word, refusal.byte
-    ('Shape', 2, 0)
-    """
+    are the place in it, both counted from 0. For `Large` they are None."""
 
     kind = ""
 

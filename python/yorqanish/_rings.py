@@ -37,6 +37,9 @@ class Ring:
     def __init__(self, calculator: Any, name: str, command: "Tuple[Union[str, int], ...]", kind: str) -> None:
         self._calculator, self._name, self._command, self.kind, self._form = calculator, name, command, kind, FORMS[kind]
 
+    def __reduce__(self) -> "Tuple[Any, ...]":
+        return Ring, (self._calculator, self._name, self._command, self.kind)
+
     def __repr__(self) -> str:
         return self._name
 
@@ -91,6 +94,12 @@ class Element(Fixed):
             raise AttributeError("an element does not change")
         object.__setattr__(self, "ring", ring)
         object.__setattr__(self, "expansion", expansion)
+
+    def __reduce__(self) -> "Tuple[Any, ...]":
+        return Element, (self.ring, self.expansion)
+
+    def __bool__(self) -> bool:
+        return bool(self.expansion)
 
     def __repr__(self) -> str:
         return f"<{self} in {self.ring}>"

@@ -101,12 +101,7 @@ class Tableau(Fixed, Tuple[Numbers, ...]):
 
 
 class Pair(NamedTuple):
-    """The insertion tableau and the recording tableau of a word.
-
-    >>> print(Pair(Tableau(((1, 2), (3,))), Tableau(((1, 3), (2,)))))
-    P 1 2 / 3
-    Q 1 3 / 2
-    """
+    """The insertion tableau and the recording tableau of a word."""
 
     insertion: Tableau
     recording: Tableau

@@ -154,7 +154,7 @@ def test_shapes_of_sympy():
     from sympy.combinatorics import Permutation
     from sympy.combinatorics.partitions import IntegerPartition
 
-    wrong = [sympy.Dict({2: 1}), sympy.Matrix(0, 3, []), sympy.Matrix([[2, 1]]), Permutation([2, 1, 0]), sympy.FiniteSet(2, 1),
+    wrong = [sympy.Array(2), sympy.Array([[2], [1]]), sympy.Dict({2: 1}), sympy.Matrix(0, 3, []), sympy.Matrix([[2, 1]]), Permutation([2, 1, 0]), sympy.FiniteSet(2, 1),
              IntegerPartition([2, 1]), sympy.Range(2), sympy.Interval(1, 2), [sympy.Rational(1, 2)], [sympy.true]]
     for it in wrong:
         with raises(TypeError, "factor 1"):
@@ -278,6 +278,18 @@ def test_a_tableau_does_not_change():
     for change in (lambda: setattr(made, "inner", ()), lambda: setattr(made, "x", 1), lambda: delattr(made, "inner")):
         with raises(AttributeError):
             change()
+
+
+def test_a_tableau_of_another_inner_shape():
+    """Its rows could be those of a tableau of the shape that is asked for."""
+    skew = Tableau([[1], [2]], inner=[1])
+    same((CALC.rect([2, 1], [1], skew), list(CALC.tab([2, 1], [1], after=Tableau([[1], [1]], [1, 0])))), (((1,), (2,)), [Tableau([[1], [2]], [1])]))
+    for wrong in (lambda: CALC.unrsk(skew, ((1,), (2,))), lambda: CALC.rect([2, 2], [1, 1], skew), lambda: CALC.rect([3, 1], [1], Tableau([[1, 1], [2]])),
+                  lambda: CALC.tab([2, 1], [1], after=Tableau([[1], [1]]))):
+        with raises(ValueError, "inner partition"):
+            wrong()
+    for line, inner in (("tab 2 1 / 0", ()), ("tab 2 1 / 1 0", (1,))):
+        same({it.inner for it in next(CALC.batch([line])).answer}, {inner})
 
 
 # ---- equality

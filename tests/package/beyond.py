@@ -1,4 +1,5 @@
 """What the package makes of the answers: rings, sums over terms, pictures, tables; and other ways to call the program."""
+import copy
 import itertools
 import json
 import math
@@ -82,6 +83,8 @@ def test_elements_of_rings():
     for wrong in (lambda: a * a.expansion, lambda: a + a.expansion, lambda: a == a.expansion, lambda: a.expansion * a.expansion, lambda: a * 0.5):
         with raises(TypeError):
             wrong()
+    for again in (pickle.loads(pickle.dumps(a)), copy.copy(a), copy.deepcopy(a)):
+        same((again, again * a, bool(again), bool(again - a)), (a, a * a, True, False))
     with raises(AttributeError):
         a.expansion = Expansion()
     with raises(AttributeError):
@@ -127,6 +130,13 @@ def test_texts_and_back():
         same(json.loads(it.to_json())["basis"], it.basis)
         same((pickle.loads(pickle.dumps(it)), len(it.to_csv().splitlines())), (it, len(it) + 1))
     same(CALC.mult([1], [1]).to_csv(), 'coefficient,label\n1,"(2,)"\n1,"(1, 1)"\n')
+
+
+def test_what_is_no_text_of_an_expansion():
+    form = '{"kind": "symmetric", "basis": "s", "terms": [%s]}'
+    for wrong in ('[[1], 0.1]', '[[1], null]', '[[1, 2], "1"]', '["1", "1"]', '[[1], "1"], [[1, 0], "2"]', '[[1], true]'):
+        with raises((TypeError, ValueError)):
+            Expansion.from_json(form % wrong)
 
 
 def test_pictures():

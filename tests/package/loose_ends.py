@@ -53,6 +53,17 @@ def test_a_batch_that_is_abandoned():
     same((done.stdout, done.stderr, done.returncode), ("1  (2)\n1  (1,1)\n", "", 0))
 
 
+def test_calls_while_python_ends():
+    """They are answered, or refused, and Python ends."""
+    for when in ("import atexit\natexit.register(ask)", "class Cycle:\n    def __init__(self):\n        self.itself = self\n"
+                 "    def __del__(self):\n        ask()\ncycle = Cycle()", "import threading\nthreading.Thread(target=lambda: [ask() for _ in range(50)]).start()"):
+        for first in ("", "calc.coef([2], [1], [1])\n"):
+            script = f"def ask():\n    said.add(calc.coef([2], [1], [1]))\nsaid = set()\n{when}\nfrom yorqanish import Calculator\ncalc = Calculator()\n{first}"
+            with within(60):
+                done = subprocess.run([sys.executable, "-c", script], capture_output=True, text=True, timeout=60)
+            same((done.returncode, done.stdout), (0, ""))
+
+
 def test_times_of_any_type():
     numbers = [2, 2.5, Fraction(5, 2), Decimal("2.5"), math.inf, 1e300, 40 * 86400, None]
     try:

@@ -152,6 +152,12 @@ def test_a_coefficient_0_is_no_term():
     same((a | {(2,): 0}, a | Expansion({(3,): 0})), ({(1, 1): 1}, a))
 
 
+def test_latex():
+    same(Expansion({(2,): 1, (1, 1): -1}).latex(), "s_{2}-s_{1,1}")
+    same(Expansion({(2,): Fraction(1, 2), (): 3}, basis="p").latex(), "\\frac{1}{2}p_{2}+3p_{\\emptyset}")
+    same(Expansion({(2, 1): 1, (): 2}, "monomials").latex(), "x_{1}^{2} x_{2}+2")
+
+
 def test_a_long_list_in_a_notebook():
     small, large = CALC.mult([1], [1]), CALC.mult([4, 3, 2, 1], [4, 3, 2, 1])
     same(small._repr_latex_(), "$s_{2}+s_{1,1}$")

@@ -139,6 +139,14 @@ def test_a_program_that_is_killed():
     same([type(it.refusal).__name__ for it in got], ["NoneType", "Ended", "NoneType"])
 
 
+def test_a_program_that_is_killed_when_it_is_idle():
+    works_on()
+    kill()
+    comes(lambda: not running())
+    for _ in range(3):
+        works_on()
+
+
 def test_closing_ends_what_other_threads_run():
     calc = Calculator(program=PROGRAM)
     once_busy(calc.close)
