@@ -32,12 +32,10 @@ def named(given: Optional[str], variable: str) -> Optional[str]:
 
 
 def near(name: str) -> Optional[str]:
-    """The file of this name in this package, or in the checkout or the archive that it is used in."""
-    beside = os.path.join(BESIDE, name)
-    if os.path.exists(beside):
-        return beside
+    """The file of this name in the checkout or the archive that this package is used in, and else in this package."""
     if not os.path.isfile(GENUINE):
-        return None
+        beside = os.path.join(BESIDE, name)
+        return beside if os.path.exists(beside) else None
     done = subprocess.run(["sh", GENUINE, name], stdout=subprocess.PIPE, stderr=subprocess.DEVNULL, universal_newlines=True)
     if done.returncode not in (0, 4):
         raise NoCalculator(done.stdout.strip())
