@@ -104,7 +104,7 @@ def seconds(value: Optional[SupportsFloat], name: str = "timeout") -> Optional[f
     """A time in seconds; nothing, and what is infinite, is no limit."""
     if value is None:
         return None
-    if isinstance(value, TEXTS) or type(value).__name__ in ("bool", "bool_") or not hasattr(value, "__float__"):
+    if isinstance(value, TEXTS) or type(value).__name__ in ("bool", "bool_", "complex") or not hasattr(value, "__float__"):
         raise TypeError(f"{name}: {value!r} is not a number of seconds")
     number = float(value)
     if not number >= 0:
