@@ -140,7 +140,7 @@ def numbers(values: Shape, name: str) -> Numbers:
     """The numbers of a list in their order."""
     if type(values) in (tuple, list):
         plain: Tuple[Any, ...] = tuple(values)
-        if are_plain(plain) and len(plain) <= MOST_NUMBERS:
+        if len(plain) <= MOST_NUMBERS and are_plain(plain):
             return plain
     return tuple(whole(it, name) for it in items_of(values, name, "a list of numbers", LISTS, 1))
 

@@ -106,7 +106,7 @@ class Calculator:
             some = lines[at : at + _batch.MOST_IN_WINDOW]
             try:
                 left = None if until is None else max(0.0, until - time.monotonic())
-                texts += self._way.blocks([it.encode() for it in some], left)
+                texts += self._way.blocks([sent(it) or b"" for it in some], left)
             except TimeoutError:
                 raise _batch.late(some[0], seconds) from None
         for line, text in zip(lines, texts):
@@ -253,7 +253,7 @@ class Calculator:
     def dimension(self, shape: Shape, timeout: Optional[SupportsFloat] = None) -> int:
         """The number of standard tableaux of a shape: the dimension of the representation of the symmetric group that belongs to it."""
         parts = partition(shape, "shape")
-        return self.kostka(parts, [1] * sum(parts), timeout)
+        return self.kostka(parts, [1] * min(sum(parts), _arguments.MOST_NUMBERS + 1), timeout)
 
     def same_function(self, left: Expression, right: Expression, timeout: Optional[SupportsFloat] = None) -> bool:
         """Whether two expressions are the same symmetric function: both are expanded in s."""

@@ -60,14 +60,14 @@ class File:
 
 
 def tie(process: "subprocess.Popen[bytes]", watched: int) -> None:
-    """Makes the system kill the process as soon as the writing end of this pipe is closed, which only this process has: when this process
+    """Makes the system kill the group of the process as soon as the writing end of this pipe is closed, which only this process has: when this process
     ends, even by SIGKILL. Nothing is ever written there. (The signal that Linux sends at a parent's death comes at the death of the thread
     that started the process, which may end before the Calculator.)"""
     if sys.platform == "linux":
         import fcntl
 
         try:
-            fcntl.fcntl(watched, fcntl.F_SETOWN, process.pid)
+            fcntl.fcntl(watched, fcntl.F_SETOWN, -process.pid)
             fcntl.fcntl(watched, fcntl.F_SETSIG, signal.SIGKILL)
             fcntl.fcntl(watched, fcntl.F_SETFL, fcntl.fcntl(watched, fcntl.F_GETFL) | os.O_ASYNC)
         except OSError:
@@ -123,14 +123,19 @@ def start_each() -> None:
             answer.put(error)
 
 
+def kill(process: "subprocess.Popen[bytes]") -> None:
+    """Ends a process, with those that it has started if it is a script."""
+    try:
+        if process.poll() is None:
+            os.killpg(process.pid, signal.SIGKILL)
+    except OSError:
+        process.kill()
+
+
 def end(process: "subprocess.Popen[bytes]") -> None:
     """Ends a process, waits until it has gone, and closes this process's ends of the pipes."""
-    process.kill()
+    kill(process)
     process.wait()
-    let_go(process)
-
-
-def let_go(process: "subprocess.Popen[bytes]") -> None:
     kept, _ = STARTED.pop(process, (None, None))
     for pipe in (process.stdin, process.stdout, kept):
         if pipe:
@@ -149,17 +154,12 @@ def end_each() -> None:
                     pass
 
 
-def end_all() -> None:
-    """Ends all processes."""
+def end_all(is_ending: bool = False) -> None:
+    """Ends all processes. At the end of Python a `__del__` may still ask after it, but no thread answers."""
+    global IS_ENDING
+    IS_ENDING = is_ending
     for process in list(STARTED):
         end(process)
-
-
-def end_with_python() -> None:
-    """At the end of Python, after which a `__del__` may still ask, but no thread answers."""
-    global IS_ENDING
-    IS_ENDING = True
-    end_all()
 
 
 def forget_all() -> None:
@@ -168,18 +168,20 @@ def forget_all() -> None:
     global STARTING, ENDING
     STARTING, ENDING = SimpleQueue(), SimpleQueue()
     SERVANTS.clear()
-    nothing = os.open(os.devnull, os.O_RDWR) if STARTED else 0
-    for process, (kept, _) in STARTED.items():
+    pipes = [it for process, (kept, _) in STARTED.items() for it in (process.stdin, process.stdout, kept) if it and not it.closed]
+    for process in STARTED:
         process.returncode = 0
-        for pipe in (process.stdin, process.stdout, kept):
-            if pipe and not pipe.closed:
-                os.dup2(nothing, pipe.fileno(), inheritable=False)
-    if STARTED:
-        os.close(nothing)
     STARTED.clear()
+    for pipe in pipes:
+        # (one after the other, since there may be no other free number)
+        os.close(pipe.fileno())
+        nothing = os.open(os.devnull, os.O_RDWR)
+        if nothing != pipe.fileno():
+            os.dup2(nothing, pipe.fileno(), inheritable=False)
+            os.close(nothing)
 
 
-atexit.register(end_with_python)
+atexit.register(end_all, True)
 os.register_at_fork(after_in_child=forget_all)
 
 
@@ -238,7 +240,7 @@ class Running:
     def stop(self) -> None:
         """Ends the process from another thread than the one that reads, which closes the pipes."""
         self._is_stopped = True
-        self.process.kill()
+        kill(self.process)
 
     def gone(self) -> Exception:
         """Why there is no more to be read."""
@@ -398,7 +400,8 @@ class Program:
         self._own()
         if not self._file:
             raise NoCalculator(f"{self.path} is no program, but runs one: it cannot be asked a line of more than {LONGEST:,} bytes")
-        words = line.decode("utf-8", "surrogateescape").replace("\t", " ").split(" ")
+        # (what is not ASCII is in no word of a command: another byte, which is none either, can be in an argument in any locale)
+        words = line.translate(bytes(range(128)) + b"\1" * 128).decode().replace("\t", " ").split(" ")
         one = Running(self.path, [it for it in words if it], self._file)
         self._open.add(one)
         text, came = bytearray(), b"\n"

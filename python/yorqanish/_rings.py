@@ -126,7 +126,9 @@ class Element(Fixed):
         return NotImplemented
 
     def __hash__(self) -> int:
-        return hash((self.ring, self.expansion))
+        # (one that equals a number has its hash)
+        one = self.ring._form.one
+        return hash(self.expansion[one] if set(self.expansion) <= {one} else (self.ring, self.expansion))
 
     def __add__(self, other: "Union[Element, Scalar]") -> "Element":
         value = self._other(other)

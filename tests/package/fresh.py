@@ -1,0 +1,125 @@
+"""Attacks on the package by somebody who did not write it: what went wrong in the first round."""
+import os
+import re
+import resource
+import signal
+import stat
+import subprocess
+import sys
+import tempfile
+import time
+
+from common import HANGS, LIBRARY, PROGRAM, main, raises, same
+from yorqanish import Calculator, Expansion, SyntaxRefusal
+
+CALC = Calculator()
+WAYS = [CALC, *([Calculator(library=True)] if LIBRARY else [])]
+
+
+def partitions(size, most):
+    if size == 0:
+        yield ()
+    for part in range(min(size, most), 0, -1):
+        yield from ((part, *rest) for rest in partitions(size - part, part))
+
+
+def test_a_line_feed_beside_a_long_expression():
+    """The parts of a long expression are sent as single lines are: a comment behind a line feed is no end of the inner expression."""
+    long = Expansion({label: 10**18 + i for size in range(11) for i, label in enumerate(partitions(size, size))})
+    assert len(str(long)) > 4096
+    for calc in WAYS:
+        same(calc.plethysm("s", long, "h[1]"), long)
+        for wrong in ("h[1]\n#", "h[1]\nrsk", "\nh[1]", "\udc80"):
+            for outer in (long, Expansion({(2,): 1})):
+                with raises(SyntaxRefusal):
+                    calc.plethysm("s", outer, wrong)
+
+
+def test_bytes_of_a_long_line():
+    """Words that are no UTF-8 are refused at their place, as in a short line, and whatever the locale."""
+    for calc in WAYS:
+        for word in ("\udcff", "2\xe9", "\u2028"):
+            short, long = f"mult 2 {word} - 1", f"mult {' ' * 4100}2 {word} - 1"
+            places = []
+            for line in (short, long):
+                try:
+                    calc.text(line)
+                except SyntaxRefusal as error:
+                    places.append((error.word, error.byte))
+            same((len(places), len(set(places))), (2, 1))
+    script = "from yorqanish import *\ntry: Calculator().text('mult 1 \\xe9' + ' ' * 5000)\nexcept SyntaxRefusal as error: print(error.word, error.byte)"
+    said = {**os.environ, "LC_ALL": "C", "PYTHONCOERCECLOCALE": "0", "PYTHONUTF8": "0"}
+    done = subprocess.run([sys.executable, "-c", script], capture_output=True, text=True, env=said)
+    same((done.stdout, done.stderr), ("2 0\n", ""))
+
+
+def test_an_element_that_equals_a_number_has_its_hash():
+    for ring in (CALC.quantum_ring(2, 2), CALC.fusion_ring(2, 1), CALC.schubert_ring(), CALC.schur_ring()):
+        for number in (0, 1, -3):
+            same((ring(number) == number, hash(ring(number)) == hash(number), {number: "found"}.get(ring(number))), (True, True, "found"))
+    a = CALC.quantum_ring(2, 2)([1])
+    same(({a * a - a * a: "found"}.get(0), len({a, a + 0, a * 1})), ("found", 1))
+
+
+def test_a_shape_that_is_too_large_for_its_tableaux():
+    """Its size is refused before a list of it is made."""
+    held = resource.getrlimit(resource.RLIMIT_AS)
+    CALC.mult([1], [1])
+    resource.setrlimit(resource.RLIMIT_AS, (4 << 30, held[1]))
+    for size in (5000, 10**9, 10**12, 2**70):
+        with raises(ValueError, "too long to be sent"):
+            CALC.dimension([size])
+    resource.setrlimit(resource.RLIMIT_AS, held)
+
+
+def test_a_fork_without_a_free_descriptor():
+    """The child has nothing in place of its parent's pipes, so that what a fork interrupted takes no answer of the parent's."""
+    calc = Calculator()
+    calc.mult([1], [1])
+    own = calc._way._idle[0].process
+    held = resource.getrlimit(resource.RLIMIT_NOFILE)
+    resource.setrlimit(resource.RLIMIT_NOFILE, (64, held[1]))
+    full = []
+    try:
+        while True:
+            full.append(os.open(os.devnull, os.O_RDONLY))
+    except OSError:
+        pass
+    child = os.fork()
+    if not child:
+        os._exit(0 if all(stat.S_ISCHR(os.fstat(it.fileno()).st_mode) for it in (own.stdin, own.stdout)) else 1)
+    same((os.waitpid(child, 0)[1], calc.coef([2], [1], [1]), calc._way._idle[0].process), (0, 1, own))
+
+
+def test_a_script_that_runs_the_program():
+    """What it has started ends with it: at a timeout, and when Python is killed."""
+    with tempfile.TemporaryDirectory() as room:
+        path = os.path.join(room, "script")
+        with open(path, "w", encoding="ascii") as file:
+            file.write(f'#!/bin/sh\necho $$ >> {room}/groups\n{PROGRAM} "$@"\n:\n')
+        os.chmod(path, 0o755)
+        script = (
+            "import os, signal, sys\nfrom yorqanish import Calculator\ncalc = Calculator(program=sys.argv[1])\n"
+            "try: calc.mult(*[[8, 7, 6, 5, 4, 3, 2, 1]] * 6, timeout=1)\nexcept TimeoutError: print('late', flush=True)\n"
+            "calc.mult([1], [1])\nos.kill(os.getpid(), signal.SIGKILL)"
+        )
+        same(subprocess.run([sys.executable, "-c", script, path], capture_output=True, text=True).stdout, "late\n")
+        with open(f"{room}/groups", encoding="ascii") as file:
+            groups = [int(it) for it in file.read().split()]
+        until = time.monotonic() + HANGS
+        while any(map(is_running, groups)) and time.monotonic() < until:
+            time.sleep(0.1)
+        left = [it for it in groups if is_running(it)]
+        for it in left:
+            os.killpg(it, signal.SIGKILL)
+        same((len(groups), left), (2, []))
+
+
+def is_running(group):
+    """Whether a process of this group is more than a zombie."""
+    listed = subprocess.run(["ps", "-eo", "pgid=,stat="], capture_output=True, text=True).stdout
+    return re.search(rf"^ *{group} [^Z]", listed, re.MULTILINE) is not None
+
+
+if __name__ == "__main__":
+    main(globals())
