@@ -126,9 +126,9 @@ function step(by) {
 /** Puts what is pasted into the field, if it has several lines: the commands of it, with `;` between them. */
 function paste(event) {
   const pasted = event.clipboardData.getData("text");
-  if (!/[\n\r]/.test(pasted.trim())) return;
+  if (!LINE_ENDS.test(pasted.trim())) return;
   event.preventDefault();
-  const field = at("line"), lines = linesOf(pasted), left = pasted.split(/[\n\r]+/).filter((it) => it.trim()).length - lines.length;
+  const field = at("line"), lines = linesOf(pasted), left = pasted.split(LINE_ENDS).filter((it) => it.trim()).length - lines.length;
   field.setRangeText(lines.join("; "), field.selectionStart, field.selectionEnd, "end");
   preview();
   const others = left > 0 ? ` ${countOfThings(left, "line that is", "lines that are")} no command ${left === 1 ? "was" : "were"} left out.` : "";

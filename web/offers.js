@@ -96,11 +96,20 @@ function* waysOf(name, all, typed) {
   const conjugates = groups.map((it) => (it.isPrimed ? conjugate(it.numbers) : it.numbers));
   if (groups.some((it) => it.isPrimed)) return yield* plainWays(name, conjugates, options);
   yield* cycleWays(name, tokens, options);
+  if (name === "mult") yield* numberWays(groups, signs, options);
   yield* plainWays(name, groups.map((it) => (it.token.isIndex ? digitsOf(it.numbers[0]) : it.numbers)), options);
   yield* plainWays(name, groups.map((it) => it.numbers), options);
   const pieces = typed.split(/[-/,;*]\s+|\s+[-/*]\s*/).map((it) => it.match(/\d+/g) || []);
   if (tokens.length === all.length && !tokens.some((it) => it.bracket)) yield* plainWays(name, pieces.filter((it) => it.length > 0), options);
   return singlesOf(name, []).length > 0 ? undefined : yield joined;
+}
+
+/** The readings of a number among factors: as a coefficient, and at the end as the number of variables. */
+function* numberWays(groups, signs, options) {
+  const isNumber = (it) => it.token.kind === "number" && it.numbers.length === 1, last = groups[groups.length - 1];
+  if (!groups.some(isNumber) || groups.every(isNumber)) return;
+  if (signs.some((it) => it.text === "*")) yield `expand s ${groups.map((it) => (isNumber(it) ? it.numbers[0] : `s[${it.numbers.join(",")}]`)).join("*")}`;
+  if (isNumber(last) && !options && signs.some((it) => it.text === ",")) yield lineOf("mult", [], groups.slice(0, -1).map((it) => it.numbers), `-r ${last.numbers[0]}`);
 }
 
 /** The lists side by side, with the numbers that are missing before them put in. */
@@ -162,7 +171,7 @@ function* namelessWays(line) {
   const [first] = textsOfWords(line), other = first === undefined ? null : commandLike(first);
   if (other) yield line.replace(first, other);
   const tight = line.replace(/\s+/g, "");
-  if (/[mehps]\[/.test(tight)) for (const basis of ["s", "m", "p"]) yield `expand ${basis} ${tight}`;
+  if (/[mehps][[_]/.test(tight)) for (const basis of ["s", "m", "p"]) yield `expand ${basis} ${tight}`;
   const lists = tokensOf(line).filter((it) => it.kind === "list").map((it) => it.numbers);
   if (/^[\s\d()[\]{},*]+$/.test(line) && lists.length > 1 && /[([{]/.test(line)) yield lineOf("mult", [], lists);
 }
@@ -170,8 +179,8 @@ function* namelessWays(line) {
 /** The lines that a line which the program refuses could mean. */
 function offersFor(typed) {
   if (typed.length > LONGEST_OFFERED) return [];
-  const isHidden = HIDDEN_INSIDE.test(typed), seen = withSingleBlanks(typed.replace(ALL_UNSEEN, ""));
-  const ways = isHidden ? [seen, withSingleBlanks(typed.replace(ALL_UNSEEN, " "))] : [];
+  const isHidden = HIDDEN_INSIDE.test(typed) || UNSEEN_SIGN.test(typed), seen = withSingleBlanks(typed.replace(ALL_UNSEEN, ""));
+  const ways = isHidden ? [typed.replace(/\u00ad/g, "-"), seen, withSingleBlanks(typed.replace(ALL_UNSEEN, " "))] : [];
   let line = seen.replace(/^\s*\$?\s*/, "").replace(PROGRAM, "").replace(/^lrcalc\s+/, "").trim();
   for (const [, from, to] of SAME) line = line.replace(from, to);
   const name = /^[a-z]*/.exec(line)[0], rest = line.slice(name.length);
