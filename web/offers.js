@@ -27,8 +27,9 @@ function fromCycles(cycles) {
 /** The digits of a number as numbers of their own. */
 const digitsOf = (number) => (/^[1-9]{2,}$/.test(number) ? [...number] : [number]);
 
-/** Whether a token has numbers, and which. */
+/** Whether a token has numbers, and which: those of a list, also one in two brackets. */
 function numbersIn(token) {
+  if (token.kind === "tableau") return token.rows.length === 1 ? token.rows[0] : null;
   return token.kind === "number" ? [token.text] : token.kind === "list" ? token.numbers : null;
 }
 
@@ -80,7 +81,7 @@ function withoutOptions(name, all) {
 /** All ways to read the lists of a line, each as the words of a line; some of them are no lines. */
 function* waysOf(name, all, typed) {
   const { options, tokens } = withoutOptions(name, all);
-  if (tokens.some((it) => it.kind === "other" && !"=:".includes(it.text)) || tokens.some((it) => it.kind === "flag")) return;
+  if (tokens.some((it) => it.kind === "other" && !"=:".includes(it.text)) || tokens.some((it) => it.kind === "flag" || (it.kind === "tableau" && !numbersIn(it)))) return;
   const signs = tokens.filter((it) => it.kind === "sign" || numbersIn(it)), groups = groupsOf(tokens);
   const sign = (it) => ({ "*": "-", ",": "" })[it.text] ?? it.text;
   const joined = withSingleBlanks([name, options, ...signs.flatMap((it) => numbersIn(it) || [sign(it)])].join(" "));
