@@ -116,6 +116,13 @@ def heavy_link(*where):
         return wrong((shown, wanted), (is_run, True))
 
 
+def lines_link(*where):
+    """A link with several lines shows them as they can be run."""
+    with Visit(*where, fragment(f"coef 1 - 1 -\n{HEAVY}")) as visit:
+        shown = visit.ask("await pause(300); return [document.getElementById('line').value, answers().length, document.getElementById('state').textContent]")
+        return wrong((shown, [f"coef 1 - 1 -; {HEAVY}", 0, "This link has 2 commands that can take long. Press Enter to run them."]))
+
+
 def unseen_link(*where):
     """Characters of a link that turn the direction of a text, or are not seen, are put in sight."""
     with Visit(*where, fragment("mult 2 1 - \u202e1 2")) as visit:
@@ -126,8 +133,8 @@ def unseen_link(*where):
 def several_readings_link(*where):
     """A link whose line has several readings computes none of them."""
     with Visit(*where, fragment("mult 2(2,1) - 1")) as visit:
-        got = visit.ask("await pause(200); await quiet(); return [answers().length, document.getElementById('line').value]")
-        return wrong((got, [0, "mult 2(2,1) - 1"]))
+        got = visit.ask("await pause(200); await quiet(); return [answers().length, document.getElementById('line').value, document.getElementById('state').textContent]")
+        return wrong((got, [0, "mult 2(2,1) - 1", "This link has a command that can be read in several ways. Press Enter to run it."]))
 
 
 def draft(*where):
@@ -231,6 +238,11 @@ QUANTUM_PLANE = [["()", "(1)", "(2)"], ["(1)", "(2)", "q*()"], ["(2)", "q*()", "
 PLANE = [["()", "(1)", "(2)"], ["(1)", "(2)", "0"], ["(2)", "0", "0"]]
 
 
+def in_csv(rows):
+    """The lines of a table of the projective plane in CSV: labels in brackets, since a spreadsheet reads (1) as -1."""
+    return [",".join(["[]" if i == 0 else f"[{i}]", *row]).replace("(", "[").replace(")", "]") for i, row in enumerate(rows)]
+
+
 def tables(*where):
     """A table has the right entries, on the page, in CSV and in JSON."""
     with Visit(*where) as visit:
@@ -251,17 +263,17 @@ def tables(*where):
         return [...found, document.getElementById("said-of-table").textContent, document.documentElement.scrollWidth]"""
         first, csv, data, second, csv2, data2, third, csv3, kostka, inverse, products_of_two, said, width = visit.ask(make)
         labels = [[3], [2, 1], [1, 1, 1]]
-        wanted_csv = ",(3),\"(2,1)\",\"(1,1,1)\"\r\n" + "".join(
-            f"{label},{','.join(row)}\r\n" for label, row in zip(['(3)', '"(2,1)"', '"(1,1,1)"'], CHARACTERS)
+        wanted_csv = ",[3],\"[2,1]\",\"[1,1,1]\"\r\n" + "".join(
+            f"{label},{','.join(row)}\r\n" for label, row in zip(['[3]', '"[2,1]"', '"[1,1,1]"'], CHARACTERS)
         )
         wanted2 = [[f"σ{it}".replace("()", "∅") if it != "0" else "0" for it in row] for row in PLANE]
         products = [[[{"coefficient": 1, "label": [int(it[1])] if len(it) > 2 else []}] if it != "0" else [] for it in row] for row in PLANE]
         return wrong(
             (first, CHARACTERS), (csv, wanted_csv), (data["labels"], labels), (data["entries"], [[int(it) for it in row] for row in CHARACTERS]),
-            (second, wanted2), (csv2.splitlines()[1:], [f"{label},{','.join(row)}" for label, row in zip(["()", "(1)", "(2)"], PLANE)]),
+            (second, wanted2), (csv2.splitlines()[1:], in_csv(PLANE)),
             (data2["entries"], products), (third, [[f"{'q ' if '*' in it else ''}σ{it.replace('q*', '').replace('()', '∅')}" for it in row] for row in QUANTUM_PLANE]),
             (kostka, KOSTKA), (inverse, INVERSE), (products_of_two, [["S1", "S21"], ["S21", "S312"]]),
-            (csv3.splitlines()[1:], [f"{label},{','.join(row)}" for label, row in zip(["()", "(1)", "(2)"], QUANTUM_PLANE)]), (said, "n has to be greater than k."), (width <= visit.page.width, True),
+            (csv3.splitlines()[1:], in_csv(QUANTUM_PLANE)), (said, "n has to be greater than k."), (width <= visit.page.width, True),
         )
 
 
@@ -322,4 +334,4 @@ def installed(browser, path, size):
         return wrong((visit.answers(), [["coef 2 - 1 - 1", "1\n"]]), (named, None), (manifest["display"], "standalone"))
 
 
-VISITS = [back, reload, heavy_link, unseen_link, several_readings_link, draft, fresh_field, transcript, show_more, thousands, cleared, help_asked, forms, tables, pictures, installed]
+VISITS = [back, reload, heavy_link, lines_link, unseen_link, several_readings_link, draft, fresh_field, transcript, show_more, thousands, cleared, help_asked, forms, tables, pictures, installed]

@@ -86,7 +86,7 @@ function formOfCommand(name) {
   const parts = partsOfForm(GRAMMAR.get(name).words), line = () => [name, ...parts.map((it) => it.words())].filter(Boolean).join(" ");
   const shown_ = element("p", { class: "note" });
   const form = element("form", { class: "fields", "aria-label": `Form of ${name}` }, ...parts.flatMap((it) => it.nodes), element("button", {}, "Run"), shown_);
-  const show = () => shown_.replaceChildren(element("code", {}, line()), " ", element("span", { class: "math" }, ...formula(computedBy(line()))));
+  const show = () => shown_.replaceChildren(element("code", {}, line()), " ", element("span", { class: "math" }, ...formula(computedBy(readTyped(line()).line))));
   form.oninput = show;
   form.onsubmit = (event) => {
     event.preventDefault();

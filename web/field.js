@@ -126,9 +126,9 @@ function step(by) {
 /** Puts what is pasted into the field, if it has several lines: the commands of it, with `;` between them. */
 function paste(event) {
   const pasted = event.clipboardData.getData("text");
-  if (!/[\n\r]/.test(pasted.trim())) return;
+  if (!LINE_ENDS.test(pasted.trim())) return;
   event.preventDefault();
-  const field = at("line"), lines = linesOf(pasted), left = pasted.split(/[\n\r]+/).filter((it) => it.trim()).length - lines.length;
+  const field = at("line"), lines = linesOf(pasted), left = pasted.split(LINE_ENDS).filter((it) => it.trim()).length - lines.length;
   field.setRangeText(lines.join("; "), field.selectionStart, field.selectionEnd, "end");
   preview();
   const others = left > 0 ? ` ${countOfThings(left, "line that is", "lines that are")} no command ${left === 1 ? "was" : "were"} left out.` : "";
@@ -160,16 +160,17 @@ function answeredAlready(text) {
   return [...at("answers").children].find((it) => it.dataset.of === lines[0]);
 }
 
-/** Shows the answers to the commands of the page's address: runs them if they are not there, and waits for Enter if they can be heavy. */
+/** Shows the answers to the commands of the page's address: runs them if they are not there, and waits for Enter if they can be heavy or have several readings. */
 function follow() {
   const text = textOfAddress(), lines = linesOf(text);
   if (lines.length === 0) return;
   const article = answeredAlready(text);
   if (article) return article.scrollIntoView(), article.focus({ preventScroll: true });
-  put(inSight(text));
-  if (lines.every((it) => readTyped(it).reason === undefined) && isLight(lines)) return ask(text, LIGHT.time);
+  put(lines.map(inSight).join("; "));
+  const isClear = lines.every((it) => readTyped(it).reason === undefined);
+  if (isClear && isLight(lines)) return ask(text, LIGHT.time);
   const [what, them] = lines.length === 1 ? ["a command", "it"] : [`${lines.length} commands`, "them"];
-  say(`This link has ${what} that can take long. Press Enter to run ${them}.`);
+  say(`This link has ${what} that can ${isClear ? "take long" : "be read in several ways"}. Press Enter to run ${them}.`);
   return toField();
 }
 

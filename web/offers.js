@@ -27,8 +27,9 @@ function fromCycles(cycles) {
 /** The digits of a number as numbers of their own. */
 const digitsOf = (number) => (/^[1-9]{2,}$/.test(number) ? [...number] : [number]);
 
-/** Whether a token has numbers, and which. */
+/** Whether a token has numbers, and which: those of a list, also one in two brackets. */
 function numbersIn(token) {
+  if (token.kind === "tableau") return token.rows.length === 1 ? token.rows[0] : null;
   return token.kind === "number" ? [token.text] : token.kind === "list" ? token.numbers : null;
 }
 
@@ -80,7 +81,7 @@ function withoutOptions(name, all) {
 /** All ways to read the lists of a line, each as the words of a line; some of them are no lines. */
 function* waysOf(name, all, typed) {
   const { options, tokens } = withoutOptions(name, all);
-  if (tokens.some((it) => it.kind === "other" && !"=:".includes(it.text)) || tokens.some((it) => it.kind === "flag")) return;
+  if (tokens.some((it) => it.kind === "other" && !"=:".includes(it.text)) || tokens.some((it) => it.kind === "flag" || (it.kind === "tableau" && !numbersIn(it)))) return;
   const signs = tokens.filter((it) => it.kind === "sign" || numbersIn(it)), groups = groupsOf(tokens);
   const sign = (it) => ({ "*": "-", ",": "" })[it.text] ?? it.text;
   const joined = withSingleBlanks([name, options, ...signs.flatMap((it) => numbersIn(it) || [sign(it)])].join(" "));
@@ -96,11 +97,20 @@ function* waysOf(name, all, typed) {
   const conjugates = groups.map((it) => (it.isPrimed ? conjugate(it.numbers) : it.numbers));
   if (groups.some((it) => it.isPrimed)) return yield* plainWays(name, conjugates, options);
   yield* cycleWays(name, tokens, options);
+  if (name === "mult") yield* numberWays(groups, signs, options);
   yield* plainWays(name, groups.map((it) => (it.token.isIndex ? digitsOf(it.numbers[0]) : it.numbers)), options);
   yield* plainWays(name, groups.map((it) => it.numbers), options);
   const pieces = typed.split(/[-/,;*]\s+|\s+[-/*]\s*/).map((it) => it.match(/\d+/g) || []);
   if (tokens.length === all.length && !tokens.some((it) => it.bracket)) yield* plainWays(name, pieces.filter((it) => it.length > 0), options);
   return singlesOf(name, []).length > 0 ? undefined : yield joined;
+}
+
+/** The readings of a number among factors: as a coefficient, and at the end as the number of variables. */
+function* numberWays(groups, signs, options) {
+  const isNumber = (it) => it.token.kind === "number" && it.numbers.length === 1, last = groups[groups.length - 1];
+  if (!groups.some(isNumber) || groups.every(isNumber)) return;
+  if (signs.some((it) => it.text === "*")) yield `expand s ${groups.map((it) => (isNumber(it) ? it.numbers[0] : `s[${it.numbers.join(",")}]`)).join("*")}`;
+  if (isNumber(last) && !options && signs.some((it) => it.text === ",")) yield lineOf("mult", [], groups.slice(0, -1).map((it) => it.numbers), `-r ${last.numbers[0]}`);
 }
 
 /** The lists side by side, with the numbers that are missing before them put in. */
@@ -162,7 +172,7 @@ function* namelessWays(line) {
   const [first] = textsOfWords(line), other = first === undefined ? null : commandLike(first);
   if (other) yield line.replace(first, other);
   const tight = line.replace(/\s+/g, "");
-  if (/[mehps]\[/.test(tight)) for (const basis of ["s", "m", "p"]) yield `expand ${basis} ${tight}`;
+  if (/[mehps][[_]/.test(tight)) for (const basis of ["s", "m", "p"]) yield `expand ${basis} ${tight}`;
   const lists = tokensOf(line).filter((it) => it.kind === "list").map((it) => it.numbers);
   if (/^[\s\d()[\]{},*]+$/.test(line) && lists.length > 1 && /[([{]/.test(line)) yield lineOf("mult", [], lists);
 }
@@ -170,8 +180,8 @@ function* namelessWays(line) {
 /** The lines that a line which the program refuses could mean. */
 function offersFor(typed) {
   if (typed.length > LONGEST_OFFERED) return [];
-  const isHidden = HIDDEN_INSIDE.test(typed), seen = withSingleBlanks(typed.replace(ALL_UNSEEN, ""));
-  const ways = isHidden ? [seen, withSingleBlanks(typed.replace(ALL_UNSEEN, " "))] : [];
+  const isHidden = HIDDEN_INSIDE.test(typed) || UNSEEN_SIGN.test(typed), seen = withSingleBlanks(typed.replace(ALL_UNSEEN, ""));
+  const ways = isHidden ? [typed.replace(/\u00ad/g, "-"), seen, withSingleBlanks(typed.replace(ALL_UNSEEN, " "))] : [];
   let line = seen.replace(/^\s*\$?\s*/, "").replace(PROGRAM, "").replace(/^lrcalc\s+/, "").trim();
   for (const [, from, to] of SAME) line = line.replace(from, to);
   const name = /^[a-z]*/.exec(line)[0], rest = line.slice(name.length);

@@ -25,6 +25,9 @@ function permutationsOf(n) {
 const key = (label) => `(${label.join(",")})`;
 const atom = (basis, label) => `${basis}[${label.join(",")}]`;
 
+/** A label as text of a table in CSV. (A spreadsheet reads (1) as -1.) */
+const plainKey = (label) => `[${label.join(",")}]`;
+
 /** The coefficient of a label in terms. */
 function coefficientOf(terms, label) {
   const found = terms.find((it) => key(it.first) === key(label));
@@ -118,18 +121,18 @@ function linesOfTable(kind, labels, sizes) {
   return kind.by === "entry" ? labels.flatMap((left) => labels.map((right) => line(left, right, ...sizes))) : labels.map((it) => line(it, ...sizes));
 }
 
-/** An entry as text: a number, or a sum such as `(2,2)+q*()`. */
+/** An entry as text: a number, or a sum such as `[2,2]+q*[]`. */
 function plainEntry(entry) {
   if (typeof entry === "string") return entry;
   const power = (q) => (q === undefined || q === "0" ? "" : q === "1" ? "q" : `q^${q}`);
-  const term = ({ c, q, first }) => [c === "1" ? "" : c, power(q), key(first)].filter(Boolean).join("*");
+  const term = ({ c, q, first }) => [c === "1" ? "" : c, power(q), plainKey(first)].filter(Boolean).join("*");
   return entry.map(term).join("+").replace(/\+-/g, "-") || "0";
 }
 
 /** A table in CSV: labels of columns first, each row with its label. */
 function csvOf({ labels, entries }) {
   const cell = (text) => (/[",\n]/.test(text) ? `"${text.replace(/"/g, '""')}"` : text);
-  const rows = [["", ...labels.map(key)], ...entries.map((row, i) => [key(labels[i]), ...row.map(plainEntry)])];
+  const rows = [["", ...labels.map(plainKey)], ...entries.map((row, i) => [plainKey(labels[i]), ...row.map(plainEntry)])];
   return `${rows.map((row) => row.map(cell).join(",")).join("\r\n")}\r\n`;
 }
 

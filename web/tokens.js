@@ -11,12 +11,15 @@ const SAME = [
 const UNSEEN = /[\p{Default_Ignorable_Code_Point}\p{Zl}\p{Zp}\ufff9-\ufffb]|(?!\t)\p{Cc}/u;
 const ALL_UNSEEN = new RegExp(UNSEEN, "gu");
 
+/** Characters that are not seen everywhere and stand for a sign: the soft hyphen, and the signs of MathML for times, a comma and plus. */
+const UNSEEN_SIGN = /[\u00ad\u2062-\u2064]/;
+
 /** A text with its unseen characters in sight, such as ⟨U+202E⟩. */
 function inSight(text) {
   return text.replace(ALL_UNSEEN, (c) => `⟨U+${c.codePointAt(0).toString(16).toUpperCase().padStart(4, "0")}⟩`);
 }
 
-const INSIDE = "\\s*(?:\\d+(?:[\\s,]+\\d+)*[\\s,]*)?";
+const INSIDE = "\\s*(?:\\d+(?:(?:\\s*,\\s*|\\s+)\\d+)*\\s*,?\\s*)?";
 const LETTER = "(?:\\\\sigma|\\\\mathfrak\\{S\\}|\\\\mathfrak S|[sσS𝔖])";
 const BRACKETS = [`\\(${INSIDE}\\)`, `\\[${INSIDE}\\]`, `\\{${INSIDE}\\}`, `\\{\\(${INSIDE}\\)\\}`].join("|");
 const QUOTES = { "'": "'", '"': '"', "‘": "’", "“": "”" };
@@ -24,7 +27,7 @@ const QUOTES = { "'": "'", '"': '"', "‘": "’", "“": "”" };
 /** What a token can be, the first that fits. */
 const KINDS = [
   ["flag", /-(?:from|m)(?=[ \t]|$)|-r(?=[ \t\d]|$)/y],
-  ["tableau", /[[(]\s*(?:[[(][\d\s,]*[\])][\s,]*)+[\])]/y],
+  ["tableau", new RegExp(`[[(]\\s*(?:[[(]${INSIDE}[\\])]\\s*,?\\s*)+[\\])]`, "y")],
   ["list", new RegExp(`(?:${LETTER}_?)?(?:${BRACKETS})`, "y")],
   ["list", new RegExp(`${LETTER}_\\d+`, "y")],
   ["list", /∅|\\emptyset(?![a-z])|\\varnothing(?![a-z])/y],
@@ -48,8 +51,8 @@ function tokenOf(kind, text, gap) {
   const numbers = text.replace(/\\mathfrak ?/, "").match(/\d+/g) || [], begins = text.search(/[([{]/);
   const commas = text.match(/,\s*(?=\d)/g) || [], isLoose = (it) => it.length > 1;
   const isMixed = (commas.some(isLoose) && !commas.every(isLoose)) || numbers.some((it) => /^0\d/.test(it));
-  const hasLetter = /^[\\sσS𝔖]/u.test(text), isIndex = hasLetter && !/[[(,]/.test(text) && numbers.length === 1 && numbers[0].length > 1;
-  return { ...token, numbers, bracket: text.includes("(") ? "(" : begins < 0 ? "" : text[begins], isBlank: commas.length === 0, isMixed, isIndex };
+  const hasLetter = /^(?:\\[sm]|[sσS𝔖])/u.test(text), isIndex = hasLetter && !/[[(,]/.test(text) && numbers.length === 1 && numbers[0].length > 1;
+  return { ...token, numbers, bracket: text.includes("(") ? "(" : begins < 0 ? "" : text[begins], isBlank: commas.length === 0, hasLetter, isMixed, isIndex };
 }
 
 /** The end of the word in quotes that begins here, if quotes are around whole words. */

@@ -21,9 +21,10 @@ const CHANGES = {
 
 /** Why a line has no single reading, in words. */
 const UNCLEAR = {
-  unseen: "A character that is not seen is inside a number.",
+  unseen: "A character that is not seen is inside a number, or stands for a sign.",
   lists: "It is not clear which lists and numbers belong together.",
   scalar: "A number or a sign is right before a list, and a list here has no coefficient.",
+  number: "A number among lists can be a list, a coefficient or an option.",
   prime: "A prime is after a list. The conjugate of a partition is typed by its parts.",
   cycles: "A permutation in parentheses can be its letters in turn, or a cycle.",
   index: "An index of several digits can be one number, or one number for each digit.",
@@ -36,6 +37,9 @@ const LONGEST = 10000;
 
 /** Unseen characters inside a word. */
 const HIDDEN_INSIDE = new RegExp(`[\\p{L}\\p{N}](?:${UNSEEN.source})+[\\p{L}\\p{N}]`, "u");
+
+/** What ends a line. */
+const LINE_ENDS = /[\n\r\v\f\u0085\u2028\u2029]+/;
 
 /** The programs whose commands are typed after their names. */
 const PROGRAM = /^(?:\S*\/)?calc(?:-static|-glibc)?(?=[ \t]|$)[ \t]*/;
@@ -92,11 +96,16 @@ function operandsOf(tokens) {
       const operand = operands[operands.length - 1], isNumbers = operand[0].kind === "number";
       if (!token.gap && (isNumbers || token.kind === "number")) unclear("scalar");
       if (isNumbers && token.kind === "number") operand.push(token);
-      else if (isNumbers || token.kind === "number") unclear("lists");
+      else if (isNumbers || token.kind === "number" || (!token.gap && operand[0].hasLetter && !token.hasLetter)) unclear("lists");
       else operands.push([token]), signs.push("");
     }
   }
   return operands.length > 0 && !isOpen ? unclear("lists") : { operands, signs };
+}
+
+/** Whether a number alone is among lists. */
+function isNumberAmongLists(operands) {
+  return operands.some((it) => it.length === 1 && it[0].kind === "number") && operands.some(([it]) => it.kind === "list");
 }
 
 /** The words of a list of this role that an operand is. */
@@ -174,6 +183,7 @@ function listsOf(name, tokens, slots) {
   const { operands, signs } = operandsOf(tokens.slice(0, cut));
   const wanted = signsOf(name, Math.max(signs.length, 1)).slice(0, sign ? plain.length - 1 : undefined);
   if (!areSigns(signs, wanted, name)) unclear(signs.length > 0 ? "lists" : "");
+  if (isNumberAmongLists(operands) && !signs.every((it, i) => it === wanted[i])) unclear("number");
   const words = operands.flatMap((operand, i) => [...(i > 0 ? [wanted[i - 1]] : []), ...listWords(operand, plain[0].role)]);
   return [...words, ...tail];
 }
@@ -183,9 +193,10 @@ function listsOf(name, tokens, slots) {
 /** An expression with its atoms as the program has them. */
 function withAtoms(text) {
   if (/[mehps]_\{?\d{2,}/.test(text.replace(/[mehps]_\{\d+,[^}]*\}/g, ""))) unclear("index");
+  if (/[\d}]\\frac|\\frac\{\d+\}\{\d+\}\d/.test(text)) unclear("factors");
   return text
     .replace(/\\frac\{(\d+)\}\{(\d+)\}/g, "$1/$2")
-    .replace(/([mehps])_?(?:\{\(([\d,\s]*)\)\}|\{([\d,\s]*)\}|\(([\d,\s]*)\))/g, (_, b, x, y, z) => `${b}[${(x ?? y ?? z).trim().replace(/[\s,]+/g, ",")}]`)
+    .replace(/([mehps])_?(?:\{\(([\d,\s]*)\)\}|\{([\d,\s]*)\}|\(([\d,\s]*)\))/g, (_, b, x, y, z) => `${b}[${(x ?? y ?? z).trim().replace(/\s*,\s*|\s+/g, ",")}]`)
     .replace(/([mehps])_(\d)(?!\d)/g, "$1[$2]");
 }
 
@@ -236,7 +247,7 @@ function plainLine(typed, change) {
   let line = typed;
   const replace = (name, from, to) => change(name, line, (line = line.replace(from, to)));
   for (const [name, from, to] of SAME) replace(name, from, to);
-  if (HIDDEN_INSIDE.test(line)) unclear("unseen");
+  if (HIDDEN_INSIDE.test(line) || UNSEEN_SIGN.test(line)) unclear("unseen");
   replace("unseen", ALL_UNSEEN, "");
   line = line.trim();
   replace("prompt", /^\$[ \t]*/, "");
@@ -254,7 +265,9 @@ function nameless(line) {
   if (readExpression(line).isWhole) return null;
   const isList = (it) => it.kind === "list" && !it.isIndex && !it.isMixed && /^(?:s_?)?[({]|^s_\d$|^s\[/.test(it.text);
   const tokens = tokensOf(line), isFactor = (it, i) => (i % 2 === 0 ? isList(it) : it.text === "*");
+  const isNumber = (it) => it.kind === "list" && !it.hasLetter && it.numbers.length === 1;
   if (tokens.length < 3 || tokens.length % 2 === 0 || !tokens.every(isFactor)) return null;
+  if (tokens.some(isNumber) && tokens.some((it) => it.hasLetter)) return unclear("number");
   return ["mult", ...tokens.flatMap((it) => (it.kind === "list" ? it.numbers : ["-"]))];
 }
 
@@ -337,7 +350,7 @@ function noteIn(changes) {
  * that begin with the name of a command are commands.
  */
 function linesOf(text) {
-  const lines = text.split(/[\n\r]+/), isPrompted = (it) => /^\s*\$ /.test(it);
+  const lines = text.split(LINE_ENDS), isPrompted = (it) => /^\s*\$ /.test(it);
   const isAsked = (it) => isPrompted(it) || GRAMMAR.has(/^\s*([a-z]*)/.exec(it)[1]);
   const asked = lines.some(isPrompted) ? lines.filter(isAsked) : lines;
   const cut = (line) => line.replace(/(^|[ \t])#.*$/, "$1").split(";");
