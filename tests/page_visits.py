@@ -194,6 +194,9 @@ def thousands(*where):
         visit.run("; ".join(lines))
         got = visit.ask("await pause(50); return [answers().length, kept.length, transcript().slice(0, 2), [...new Set(said)]]")
         said = ["2,000 commands are running.", "2,000 commands: 2,000 answered."]
+        half = visit.ask("ask(%s.join('; ')); await until(() => kept.length > 2200); clearQueue(); await quiet(); return answers().length" % json.dumps(lines))
+        if half != 100:
+            return f"{half} answers are shown of a list that is cleared"
         return wrong((got, [100, 2000, ["$ calc coef 1 1 - 1 - 1\n1\n", "$ calc coef 2 1 - 2 - 1\n1\n"], said]))
 
 

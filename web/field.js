@@ -56,9 +56,14 @@ function forget() {
 
 /** Notes what a job came to, for a reload, and shows it. */
 function done(job, answer) {
-  if (answer.stopped || answer.time > SHORT) session = session.filter((it) => it !== job.typed);
-  keep("sessionStorage", "calc: session", session.slice(-MOST_AGAIN));
+  if (answer.stopped || answer.time > SHORT) keepSession(session.filter((it) => it !== job.typed));
   return show(job, answer);
+}
+
+/** Notes the latest lines of this tab. */
+function keepSession(lines) {
+  session = lines.slice(-MOST_AGAIN);
+  keep("sessionStorage", "calc: session", session);
 }
 
 /** Runs the commands of a text as they were typed, after those that wait. */
@@ -74,7 +79,7 @@ function askLines(lines, most) {
   else if (commands.length === 0) return say("Nothing to run: type a command, such as mult 2 1 - 2 1.");
   if (commands.length === 0) return remember(lines);
   remember(lines);
-  session.push(...commands.map((job) => job.typed));
+  keepSession([...session, ...commands.map((job) => job.typed)]);
   putInAddress(commands.map((job) => job.line).join("; "));
   return enqueue(commands);
 }

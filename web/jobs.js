@@ -139,6 +139,7 @@ function enqueue(jobs) {
 function clearQueue() {
   round.asked -= waiting.length;
   waiting.length = 0;
+  showUnshown();
   update();
   say("The queue was cleared.");
 }

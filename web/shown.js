@@ -149,8 +149,29 @@ function mathematicsOf(line, text, answer) {
   return [computed ? [element("p", { class: "computed math" }, ...formula(computed))] : [], line.startsWith("coef") ? [] : sum];
 }
 
+/** The latest answers that are not shown, since a hundred others will come: each its job and answer. */
+let unshown = [];
+
+/** Keeps an answer and shows it above the others, if fewer wait than are shown; says what it came to. */
+function show(job, answer) {
+  const { line } = job, { text = "" } = answer;
+  keepText(line, text);
+  if (waiting.length < MOST_ANSWERS) {
+    unshown = [];
+    return shownArticle(job, answer);
+  }
+  unshown = [...unshown.slice(1 - MOST_ANSWERS), [job, answer]];
+  return [`${named(inSight(line))}: done.`];
+}
+
+/** Shows the latest answers that were not shown, where no others come. */
+function showUnshown() {
+  for (const it of unshown) shownArticle(...it);
+  unshown = [];
+}
+
 /** Shows an answer above the others, and says what it came to. */
-function show(job, { status, text = "", time, stopped, why, error }) {
+function shownArticle(job, { status, text = "", time, stopped, why, error }) {
   const { line } = job, isDone = status === 0;
   const told = stopped || isDone ? null : explained(line, status, text);
   const answer = isDone ? answerOf(line, frontOf(line, text)) : null, count = countOf(answer, text);
@@ -164,7 +185,7 @@ function show(job, { status, text = "", time, stopped, why, error }) {
   if (stopped && why) article.append(note("note", `Press Run for the answer: ${why}.`));
   article.append(...notesOf(job, isDone, told, error), ...(told ? offersOf(job) : []), toolsOf(line, text, answer));
   article.append(...picturesOf(line, answer, text));
-  place(article, line, text);
+  place(article);
   performance.mark("answer");
   const outcome = stopped ? "stopped" : told ? "refused" : count || "done";
   return [`${named(inSight(line))}: ${outcome}.`, told ? told.sentence : ""];
@@ -177,14 +198,18 @@ function picturesOf(line, answer, text) {
   return answer && drawn(answer, text) ? [button("Draw", (event) => event.target.replaceWith(...made()))] : [];
 }
 
-/** Puts an article above the others, keeps its text, and takes the oldest ones away. */
-function place(article, line, text) {
-  at("given").hidden = false;
-  at("answers").prepend(article);
+/** Keeps the text of an answer; the oldest ones go where they are too many. */
+function keepText(line, text) {
   kept.push({ line, text });
   sizeKept += text.length;
   answersGiven += 1;
   while (sizeKept > MOST_KEPT && kept.length > 1) sizeKept -= kept.shift().text.length;
+}
+
+/** Puts an article above the others, and takes the oldest ones away. */
+function place(article) {
+  at("given").hidden = false;
+  at("answers").prepend(article);
   const articles = at("answers").children;
   while (articles.length > Math.min(MOST_ANSWERS, kept.length)) articles[articles.length - 1].remove();
   const number = (it) => it.toLocaleString("en");
@@ -197,6 +222,7 @@ function place(article, line, text) {
 function clearAnswers() {
   at("answers").replaceChildren();
   kept.length = sizeKept = answersGiven = 0;
+  unshown = [];
   at("given").hidden = true;
   at("older").hidden = true;
   say("The answers were cleared.");
