@@ -11,7 +11,7 @@ use Rattle.sym_model.proofs.Polynomials.{pair_ext, pair_in, pair_factor, pair_to
 use Rattle.alternant_laws.proofs.OrderSums.{pair_orders, rearranged-join}
 use Rattle.alternant_laws.proofs.Symmetry.{pair_rearranged}
 
--- both sides as a sum over orders of sign times the pairing of f with φ of the rearranged sums of exponents
+-- both sides are the sum over the orders of the sign times the pairing of f with φ at the rearranged sums of exponents
 pub pair_alternant_times : (n : ℕ) (β : List ℕ) (f : Poly) (φ : List ℕ → ℤ) → length β ≡ n → In n f → Symmetric f
     → pair (times (alternant β) f) φ ≡ total (λ (w : List ℕ). sign w *ℤ pair f (λ α. φ (rearranged w (join β α)))) (orders (places n))
 pair_alternant_times n β f φ e i s =

@@ -1,6 +1,6 @@
 -- Alternating sums by insertion: the form of an alternant that proofs use.
---     inserting x φ l         the sum over the places of l of ± φ of l with x put there, the sign falling with each step
---     alternating β φ         the sum over the orders of β of sign times φ, by inserting the entries one at a time
+--     inserting x φ l         the sum over the places of l of ± φ of l with x inserted there, the sign changing with each step
+--     alternating β φ         the sum over the orders of β of sign times φ, with the entries inserted one at a time
 --     alternating_exchange    exchanging two entries of β changes the sign
 use Rattle.std.proofs.Common.{◌≡◌, ℕ, List, [], ◌∷◌, ◌++◌, map, ◌∙◌, ap, ap₂, refl, arith, ℤ, ◌-ℤ◌, neg_ℤ}
 use Rattle.std.proofs.lemmas.Int.{ints}
@@ -13,7 +13,7 @@ abbrev pub alternating : List ℕ → (List ℕ → ℤ) → ℤ
 alternating [] φ = φ []
 alternating (x ∷ xs) φ = alternating xs (inserting x φ)
 
--- ---- what the sums do to test functions
+-- ---- sums over the orders of a list, for test functions
 
 pub inserting_ext : (x : ℕ) (φ ψ : List ℕ → ℤ) → ((l : List ℕ) → φ l ≡ ψ l) → (l : List ℕ) → inserting x φ l ≡ inserting x ψ l
 inserting_ext x φ ψ e [] = e (x ∷ [])
@@ -40,14 +40,14 @@ pub inserting_map : (f : ℕ → ℕ) (x : ℕ) (φ : List ℕ → ℤ) (l : Lis
 inserting_map f x φ [] = refl
 inserting_map f x φ (y ∷ ys) = ap (λ z. φ (f x ∷ f y ∷ map f ys) -ℤ z) (inserting_map f x (λ l. φ (f y ∷ l)) ys)
 
--- an alternating sum of values of f
+-- the alternating sum over the values of f at the entries of xs is that over xs, with φ taken at the values of f
 pub alternating_map : (f : ℕ → ℕ) (xs : List ℕ) (φ : List ℕ → ℤ) → alternating (map f xs) φ ≡ alternating xs (λ w. φ (map f w))
 alternating_map f [] φ = refl
 alternating_map f (x ∷ xs) φ =
     alternating_map f xs (inserting (f x) φ)
     ∙ alternating_ext xs (λ w. inserting (f x) φ (map f w)) (inserting x (λ w. φ (map f w))) (inserting_map f x φ)
 
--- ---- exchanges
+-- ---- exchanging two entries of β changes the sign of an alternating sum
 
 pub inserting_swap : (x y : ℕ) (φ : List ℕ → ℤ) (l : List ℕ) → inserting y (inserting x φ) l ≡ neg_ℤ (inserting x (inserting y φ) l)
 inserting_swap x y φ [] = omega (arith, ints)

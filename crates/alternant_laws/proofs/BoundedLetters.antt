@@ -20,9 +20,9 @@ use Rattle.alternant_laws.proofs.LeftColumns.{AreLong, falls_last, falls-transpo
 use Rattle.alternant_laws.proofs.FailingColumns.{none_below}
 use Rattle.alternant_laws.proofs.StraightShapes.{falls_places, EndsAt, at_content, past_content, at_resize, long_last, long_anyway}
 
--- ---- one column
+-- ---- the letters of one column of a good tableau are bounded
 
--- the first letter is at most d + 1, the second at most d + 2, and so on
+-- the first letter of the column is at most d + 1, its second at most d + 2, and so on
 AreBounded : ℕ → List ℕ → Type 0
 AreBounded d [] = Unit {0}
 AreBounded d (v ∷ w) = (v ≤ d + 1) × AreBounded (d + 1) w
@@ -98,9 +98,9 @@ next_ends_at n b ν right c ends l bound i g =
     none (inl h) = at_content n i c h ∙ bounded_none b (suc i) c bound (omega arith)
     none (inr h) = past_content n i c h
 
--- ---- all columns
+-- ---- the letters of all columns of a good tableau are bounded
 
--- lines from the rightmost on that grow in length, from m places to at most k
+-- the lengths of the lines, from the rightmost line on, are weakly increasing; the first is at least m and the last at most k
 AreGrowing : ℕ → ℕ → List (List Bool) → Type 0
 AreGrowing k m [] = m ≤ k
 AreGrowing k m (line ∷ back) = (m ≤ length line) × AreGrowing k (length line) back
@@ -127,7 +127,7 @@ over_bounded n b k g (line ∷ back) ν right z ends bound grow =
         ∙ later (next_ends_at n b ν right c ends (omega arith) bc) bc (subst (λ i. AreGrowing k i back) (sym l) grow.1)
     by c f (inr e) later = ap (λ (t : Bool). cond t (over_columns n (reverse back) (λ s d. g s) (join ν (content n c)) c) (pos 0)) e
 
--- ---- the columns of a shape
+-- ---- the lengths of the columns of a shape
 
 -- no line has more than k places
 AreShort : ℕ → List (List Bool) → Type 0
@@ -176,7 +176,7 @@ over_shape n b g outer inner ν z ends =
     (subst (λ (ls : List (List Bool)). AreShort (length outer) ls) (sym (reverse-reverse (column_lines outer inner)))
     (subst (λ i. AreShort i (column_lines outer inner)) (length_pattern outer inner) (short_transposed (pattern_of outer inner)))))
 
--- ---- a sum with more rows is reached by no good tableau
+-- ---- no good tableau T leads to a start + content(T) with more rows than start and outer together
 
 rows_at : (m : ℕ) (s : List ℕ) → EndsAt m s → rows (without_last_zeros s) ≤ m
 rows_at m [] e = omega arith

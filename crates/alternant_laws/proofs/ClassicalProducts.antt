@@ -14,7 +14,7 @@ use Rattle.sym_model.proofs.PartitionLists.{partitions_of-tells, Among-partition
 use Rattle.alternant_laws.proofs.Degrees.{OfDegree, coefficient-other_degree, times-of_degree, alternant-of_degree, schur_product-of_degree}
 use lib.IntN.{+ℤ_idl}
 
--- terms with the coefficient 0 add nothing
+-- terms with the coefficient 0 change no coefficient
 coefficient-nonzero : (terms : WholeTerms) (α : List ℕ) → coefficient (nonzero terms) α ≡ coefficient terms α
 coefficient-nonzero [] α = refl
 coefficient-nonzero (t ∷ terms) α = by (ltb 0 (nat_abs t.1)) refl (coefficient-nonzero terms α)
@@ -41,14 +41,14 @@ candidates-once k factors =
     let d = size (map size factors) in
     Once-select (λ parts. leb (rows parts) k) (partitions_of d) (Once-FallsLexicographically _ (FallsLexicographically-partitions_within d d d))
 
--- a polynomial has no Schur coefficient of another degree
+-- a homogeneous polynomial has the Schur coefficient 0 at partitions of another size
 schur_coefficient-other : (k d : ℕ) (parts : List ℕ) (f : Poly) → OfDegree d f → (size parts ≡ d → ⊥) → schur_coefficient k parts f ≡ pos 0
 schur_coefficient-other k d parts f h other =
     coefficient-other_degree (size (staircase k) + d) (times (alternant (staircase k)) f) (join parts (staircase k))
     (times-of_degree (size (staircase k)) d (alternant (staircase k)) f (alternant-of_degree (staircase k)) h)
     (λ e. other (let s = size-join parts (staircase k) in omega arith))
 
--- the coefficient of a partition with at most k rows
+-- at a partition with at most k rows, the classical product has the Schur coefficient of the product
 pub classical_product-coefficient : (k : ℕ) (factors : List (List ℕ)) (parts : List ℕ) → IsPartition parts → rows parts ≤ k → coefficient (classical_product k factors) parts ≡ schur_coefficient k parts (schur_product factors k)
 classical_product-coefficient k factors parts p few =
     coefficient-nonzero (map (λ (shape : List ℕ). (shape, c shape)) (candidates k factors)) parts
@@ -74,17 +74,17 @@ classical_product-coefficient k factors parts p few =
         (λ shape m. cond-false (same shape parts) (c shape) (pos 0) (same_apart shape parts (differs shape m)))
         ∙ sym (schur_coefficient-other k d parts (schur_product factors k) (schur_product-of_degree factors k) other)
 
--- a term of the list: its label is a partition with at most k rows, and its coefficient is not 0
+-- the label of a term is a partition with at most k rows, and its coefficient is not 0
 pub record IsClassicalTerm (k : ℕ) (t : List ℕ × ℤ) : Type 0 where
   pub partition : IsPartition t.0
   pub few : rows t.0 ≤ k
   pub counts : t.1 ≡ pos 0 → ⊥
 
--- the term of a label
+-- the term of the classical product with the label `shape`
 abbrev term_of : ℕ → List (List ℕ) → List ℕ → List ℕ × ℤ
 term_of k factors shape = (shape, schur_coefficient k shape (schur_product factors k))
 
--- a term of the list is that of a candidate
+-- each term of the classical product is the term of some candidate
 member : (k : ℕ) (factors : List (List ℕ)) (t : List ℕ × ℤ) → Among t (classical_product k factors)
     → (shape : List ℕ) × Among shape (candidates k factors) × (t ≡ term_of k factors shape)
 member k factors t m =

@@ -64,7 +64,7 @@ good_is_partition n start outer inner T f m = IsPartition-without_last_zeros (jo
 coefficient_good_terms : (n : ℕ) (start outer inner ν : List ℕ) → coefficient (good_terms n start outer inner) ν ≡ total (λ (T : List (List ℕ)). cond (same (start_plus_content n start T) ν) (pos 1) (pos 0)) (good_tableaux n start outer inner)
 coefficient_good_terms n start outer inner ν = total_map (λ (t : Term). cond (same t.0 ν) t.1 (pos 0)) (λ (T : List (List ℕ)). (start_plus_content n start T, pos 1)) (good_tableaux n start outer inner)
 
--- in n ≤ m variables the labels of the good tableaux with entries up to m stand for the product
+-- in n ≤ m variables the product is the sum of the terms of good tableaux with entries up to m
 restrict_each : {A : Type 0} (n : ℕ) (h g : A → Poly) (xs : List A) → ((x : A) → Same (restrict n (h x)) (g x)) → Same (restrict n (flat_map h xs)) (flat_map g xs)
 restrict_each {A} n h g xs e =
     same_from_pair (restrict n (flat_map h xs)) (flat_map g xs) (λ φ.
@@ -99,7 +99,7 @@ combined_good_terms n m start outer inner h p o i =
     ∙ sym (pair_each (λ (T : List (List ℕ)). schur (start_plus_content m start T) n) (good_tableaux m start outer inner) φ)))
     (product_of_labels n m start outer inner h p o i)
 
--- the Schur coefficients of the product, in n ≤ m variables
+-- the Schur coefficients of the product in n ≤ m variables are the counts with entries up to m
 pub coefficient_counts : (n m : ℕ) (start outer inner ν : List ℕ) → n ≤ m → IsPartition start → IsPartition outer → IsPartition inner → IsPartition ν → rows ν ≤ n
     → schur_coefficient n ν (times (schur start n) (skew_schur outer inner n)) ≡ coefficient (good_terms m start outer inner) ν
 coefficient_counts n m start outer inner ν h p o i q l =
@@ -112,13 +112,13 @@ coefficient_counts n m start outer inner ν h p o i q l =
     ∙ schur_coefficient_of_schur n (start_plus_content m start T) ν (good_is_partition m start outer inner T o.falls k) q l)
     ∙ sym (coefficient_good_terms m start outer inner ν)
 
--- the number of letters does not count
+-- the count does not depend on the number of letters, if the label has at most that number of rows
 pub stable_counts : (n m : ℕ) (start outer inner ν : List ℕ) → n ≤ m → IsPartition start → IsPartition outer → IsPartition inner → IsPartition ν → rows ν ≤ n
     → coefficient (good_terms m start outer inner) ν ≡ coefficient (good_terms n start outer inner) ν
 stable_counts n m start outer inner ν h p o i q l =
     sym (coefficient_counts n m start outer inner ν h p o i q l) ∙ coefficient_counts n n start outer inner ν (omega arith) p o i q l
 
--- labels have no more rows than start and shape together, and than there are letters
+-- the label of a good tableau has no more rows than start and shape together, and no more than there are letters
 pub no_long_labels : (m : ℕ) (start outer inner ν : List ℕ) → IsPartition start → IsPartition outer → IsPartition inner → contains outer inner ≡ true → rows start ≤ m → rows start + rows outer < rows ν
     → coefficient (good_terms m start outer inner) ν ≡ pos 0
 no_long_labels m start outer inner ν p o i holds h l =
@@ -126,7 +126,7 @@ no_long_labels m start outer inner ν p o i holds h l =
     ∙ good_sums m (λ κ. cond (same (without_last_zeros κ) ν) (pos 1) (pos 0)) start outer inner p h o.falls i.falls holds
     ∙ too_many_rows m start outer inner ν l
 
--- ---- counts of the definitions
+-- ---- the counts of the definitions are coefficients of the list of good tableaux
 
 product_count-terms : (n : ℕ) (left right ν : List ℕ) → IsPartition right → pos (product_count n left right ν) ≡ coefficient (good_terms n left right []) ν
 product_count-terms n left right ν q =
@@ -145,20 +145,20 @@ pub product_coefficients : (n : ℕ) (left right ν : List ℕ) → IsPartition 
 product_coefficients n left right ν p q r l =
     coefficient_counts n n left right [] ν (omega arith) p q IsPartition-none r l ∙ sym (product_count-terms n left right ν q)
 
--- with more letters than rows of the label, or than both factors have rows, the count stays
+-- if n ≤ m, the count of a product is the same with n and with m letters, if n is at least the number of rows of the label or of both factors
 pub product_counts_stable : (n m : ℕ) (left right ν : List ℕ) → n ≤ m → IsPartition left → IsPartition right → IsPartition ν → rows ν ≤ n
     → product_count m left right ν ≡ product_count n left right ν
 product_counts_stable n m left right ν h p q r l =
     let e = product_count-terms m left right ν q ∙ stable_counts n m left right [] ν h p q IsPartition-none r l ∙ sym (product_count-terms n left right ν q) in
     omega (arith, ints)
 
--- s_() is 1
+-- the product of s_() and a skew Schur polynomial is the skew Schur polynomial, as s_() is 1
 pub nothing_times : (n : ℕ) (outer inner : List ℕ) → IsPartition outer → IsPartition inner → Same (times (schur [] n) (skew_schur outer inner n)) (skew_schur outer inner n)
 nothing_times n outer inner o i =
     Same_trans (times (schur [] n) (skew_schur outer inner n)) (good_schurs n [] outer inner) (skew_schur outer inner n) (product-good_schurs n [] outer inner IsPartition-none o i)
     (Same_sym (skew_schur outer inner n) (good_schurs n [] outer inner) (skew-good_schurs n outer inner o i))
 
--- the counts of skews, by the good tableaux in any number of letters
+-- the counts of skew shapes, by the good tableaux in any number of letters
 skew_terms : (n : ℕ) (outer inner κ : List ℕ) → IsPartition outer → IsPartition inner → contains outer inner ≡ true → IsPartition κ → rows κ ≤ n
     → coefficient (good_terms n [] outer inner) κ ≡ pos (skew_count outer inner κ)
 skew_terms n outer inner κ o i holds p l =
@@ -180,15 +180,15 @@ skew_coefficients n outer inner κ o i holds p l =
     ∙ coefficient_counts n n [] outer inner κ (omega arith) IsPartition-none o i p l
     ∙ skew_terms n outer inner κ o i holds p l
 
--- ---- lists of counts
+-- ---- lists that have the counts of good tableaux as their coefficients
 
--- no term has this label
+-- the list has the coefficient 0 at ν if no term has the label ν
 pub no_label : (terms : Terms (List ℕ)) (ν : List ℕ) → ((t : List ℕ × Fraction) → Among t terms → t.0 ≡ ν → ⊥) → coefficient (numerators terms) ν ≡ pos 0
 no_label terms ν h =
     total_map (λ (t : Term). cond (same t.0 ν) t.1 (pos 0)) (λ (t : List ℕ × Fraction). (t.0, t.1.0)) terms
     ∙ total_none (λ (t : List ℕ × Fraction). cond (same t.0 ν) t.1.0 (pos 0)) terms (λ t m. ap (λ (b : Bool). cond b t.1.0 (pos 0)) (same_apart t.0 ν (h t m)))
 
--- a list with the counts of the good tableaux is the list of their labels
+-- a list with the counts of the good tableaux as its coefficients is the same as the list of their labels
 pub terms_same : (k m : ℕ) (count : List ℕ → ℕ) (terms : Terms (List ℕ)) (start outer inner : List ℕ) → Falls outer → ListsCounts k count terms
     → ((ν : List ℕ) → IsPartition ν → rows ν ≤ k → coefficient (good_terms m start outer inner) ν ≡ pos (count ν))
     → ((ν : List ℕ) → IsPartition ν → k < rows ν → coefficient (good_terms m start outer inner) ν ≡ pos 0)
@@ -206,7 +206,7 @@ terms_same k m count terms start outer inner f c few many α = by (cases_Bool (i
         (λ T n. ap (λ (b : Bool). cond b (pos 1) (pos 0)) (same_apart (start_plus_content m start T) α
         (λ d. both_ways (is_partition α) e (is_partition-from α (subst IsPartition d (good_is_partition m start outer inner T f n)))))))
 
--- in every number of variables
+-- a list with the counts is the product in every number of variables
 combined_always : (n : ℕ) (count : List ℕ → ℕ) (terms : Terms (List ℕ)) (start outer inner : List ℕ) → IsPartition start → IsPartition outer → IsPartition inner → contains outer inner ≡ true
     → ListsCounts (rows start + rows outer) count terms
     → ((ν : List ℕ) → IsPartition ν → rows ν ≤ rows start + rows outer → coefficient (good_terms (rows start + rows outer) start outer inner) ν ≡ pos (count ν))
@@ -220,7 +220,7 @@ combined_always n count terms start outer inner p o i holds c e =
     (λ ν q l. no_long_labels (n + k) start outer inner ν p o i holds (omega arith) l)))
     (combined_good_terms n (n + k) start outer inner (omega arith) p o i)
 
--- no label of a good tableau has more rows than there are letters
+-- the label of a good tableau has at most n rows, n the number of letters
 few_rows : (n : ℕ) (start outer inner : List ℕ) (T : List (List ℕ)) → Among T (good_tableaux n start outer inner) → rows (start_plus_content n start T) ≤ n
 few_rows n start outer inner T m = by (cases_lt n (rows start))
   where
@@ -236,7 +236,7 @@ few_rows n start outer inner T m = by (cases_lt n (rows start))
         let c = length_content n (letters_of T) in
         omega arith
 
--- in as many variables as the labels may have rows
+-- a list with the counts is the product in n variables, if n is the greatest number of rows of a label
 combined_once : (n : ℕ) (count : List ℕ → ℕ) (terms : Terms (List ℕ)) (start outer inner : List ℕ) → IsPartition start → IsPartition outer → IsPartition inner
     → ListsCounts n count terms → ((ν : List ℕ) → IsPartition ν → rows ν ≤ n → coefficient (good_terms n start outer inner) ν ≡ pos (count ν))
     → Same (combined (λ label. schur label n) (numerators terms)) (times (schur start n) (skew_schur outer inner n))
@@ -249,7 +249,7 @@ combined_once n count terms start outer inner p o i c e =
     (λ T m. ap (λ (b : Bool). cond b (pos 1) (pos 0)) (same_apart (start_plus_content n start T) ν (λ d. let r = few_rows n start outer inner T m in let g = ap length d in absurd (omega arith)))))))
     (combined_good_terms n n start outer inner (omega arith) p o i)
 
--- ---- what the answers must be
+-- ---- lists with the counts meet the definitions of the commands
 
 pub mult_meets : (variables : Option ℕ) (left right : List ℕ) (terms : Terms (List ℕ)) → IsPartition left → IsPartition right
     → ListsCounts (variables_or variables (rows left + rows right)) (product_count (variables_or variables (rows left + rows right)) left right) terms

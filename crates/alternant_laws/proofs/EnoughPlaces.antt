@@ -1,5 +1,5 @@
--- A place more than there are cells, or than there are variables, adds nothing: the arrangements with a part in the last place
--- straighten to 0, or to a Schur polynomial that is 0.
+-- One more place than there are cells, or than there are variables, adds nothing: the arrangements with a part in the
+-- last place straighten to 0, or to a Schur polynomial that is 0.
 use Rattle.std.proofs.Common.{◌≡◌, ◌⊎◌, ℕ, zero, suc, ◌+◌, ◌-◌, ◌<◌, ◌≤◌, Bool, true, false, ◌||◌, ◌==◌, cond, nat_le, nat_lt, List, [], ◌∷◌, ◌++◌, map, length, refl, sym, ◌∙◌, ap, ap₂, inl, inr, arith, ℤ, pos, ◌+ℤ◌, ◌*ℤ◌}
 use Rattle.std.specs.Prelude.{Some, None}
 use Rattle.std.proofs.lemmas.Bool.{cases_lt}
@@ -33,7 +33,7 @@ use Rattle.monomial_laws.proofs.Arrangements.{down_from-below}
 use Rattle.alternant_laws.specs.StraightenedTerms.{straightened_term, straightened_terms}
 use Rattle.alternant_laws.proofs.StraightenedMonomials.{straightens}
 
--- ---- a zero in a place more
+-- ---- a list in one more place: each entry is increased by 1, and 0 is appended
 
 abbrev raised : List ℕ → List ℕ
 raised s = map suc s ++ 0 ∷ []
@@ -122,9 +122,9 @@ straightened-pushed α =
     ∙ ap₂ (λ t o. cond t None o) (equal-raised (shifted α))
     (ap₂ (λ k l. Some (minus_one_to k, l)) (rising-raised (shifted α)) (ap from_beta (sorted-raised (shifted α)) ∙ from_beta-raised (sorted_falling (shifted α))))
 
--- ---- a part in the last place
+-- ---- a list of exponents with a part in the last place straightens to 0 or to a partition with as many rows as places
 
--- all entries are positive
+-- if 0 is not among the entries, all of them are positive
 positive_entries : (b : List ℕ) → has 0 b ≡ false → ArePositive b
 positive_entries [] h = tt
 positive_entries (zero ∷ b) h = absurd (cc)
@@ -133,7 +133,7 @@ positive_entries (suc a ∷ b) h = (omega arith, positive_entries b (sym (ap (λ
     apart_zero : (a : ℕ) → (suc a == 0) ≡ false
     apart_zero a = grind (arith, nat_tests)
 
--- a strictly falling list of positive numbers is of a partition with as many rows
+-- a strictly decreasing list of n positive numbers is ρ plus a partition with n rows
 full_rows : (b : List ℕ) → FallsStrictly b → ArePositive b → ArePositive (less_the_rest b)
 full_rows [] f p = tt
 full_rows (a ∷ b) f p = (let h = above a b f p in omega arith, full_rows b (strict_tail a b f) p.1)
@@ -145,7 +145,7 @@ full_rows (a ∷ b) f p = (let h = above a b f p in omega arith, full_rows b (st
 pub rows-full : (b : List ℕ) → FallsStrictly b → ArePositive b → rows (from_beta b) ≡ length b
 rows-full b f p = ap length (without_last_zeros-positive (less_the_rest b) (full_rows b f p)) ∙ length-less b
 
--- the entries of α + ρ, where a part stands in the last place
+-- the entries of α + ρ are positive, if α has a part in the last place
 no_zero : (α : List ℕ) (x : ℕ) → has 0 (shifted (α ++ suc x ∷ [])) ≡ false
 no_zero [] x = ap (λ b. b || false) (alone x)
   where
@@ -163,7 +163,7 @@ no_zero (a ∷ α) x = ap (λ b. b || has 0 (shifted (α ++ suc x ∷ []))) (fir
     first : (a k : ℕ) → 0 < k → (a + k == 0) ≡ false
     first a k h = grind (arith, nat_tests)
 
--- the terms of one list of exponents, in n variables
+-- the pairing of the straightened list of exponents, in n variables
 abbrev straight_value : ℕ → (List ℕ → ℤ) → List ℕ → ℤ
 straight_value n φ α = pair (combined (λ label. schur label n) (straightened_term (straightened α))) φ
 
@@ -200,7 +200,7 @@ last_part n k φ β e zero_free few = by (has_equal_entries (shifted β)) refl
             let v = ap (λ j. size (staircase j)) u in
             omega arith)
 
--- ---- sums over the arrangements in a place more
+-- ---- sums over the arrangements in n + 1 places, by the number in the last place
 
 last_zero : (F : List ℕ → ℤ) (k s : ℕ) → ((α : List ℕ) (x : ℕ) → length α ≡ k → size (α ++ suc x ∷ []) ≡ s → F (α ++ suc x ∷ []) ≡ pos 0)
     → total F (exponent_lists (suc k) s) ≡ total (λ α. F (α ++ 0 ∷ [])) (exponent_lists k s)
@@ -241,7 +241,7 @@ arrangements-more parts k g h =
     by true e = e
     by false e = refl
 
--- ---- the law
+-- ---- one more place than needed adds nothing to the straightened terms
 
 terms-value : (n : ℕ) (φ : List ℕ → ℤ) (lists : List (List ℕ)) → pair (combined (λ label. schur label n) (straightened_terms lists)) φ ≡ total (straight_value n φ) lists
 terms-value n φ lists =

@@ -8,14 +8,15 @@ use Rattle.sym_model.proofs.AfterLists.{length_after, after_among}
 use Rattle.sym_model.proofs.Restrictions.{and_middle}
 use Rattle.sym_model.proofs.Lists.{map-among}
 
--- the list with the entries at the places k and k + 1, counted from 0, exchanged; itself where there are none
+-- the list with the entries at the places k and k + 1, counted from 0, exchanged; unchanged if there are no such
+-- entries
 abbrev pub exchanged : ℕ → List ℕ → List ℕ
 exchanged k [] = []
 exchanged zero (a ∷ []) = a ∷ []
 exchanged zero (a ∷ b ∷ α) = b ∷ a ∷ α
 exchanged (suc k) (a ∷ α) = a ∷ exchanged k α
 
--- an exchange in one list is an exchange in the other
+-- one list exchanged equals the other if and only if the other exchanged equals the first
 pub same_exchanged : (k : ℕ) (α β : List ℕ) → same (exchanged k α) β ≡ same α (exchanged k β)
 same_exchanged k [] [] = refl
 same_exchanged zero [] (b ∷ []) = refl
@@ -56,7 +57,7 @@ exchanged-join zero (a ∷ c ∷ α) (b ∷ []) e = absurd (omega arith)
 exchanged-join zero (a ∷ c ∷ α) (b ∷ d ∷ β) e = refl
 exchanged-join (suc k) (a ∷ α) (b ∷ β) e = ap (λ γ. (a + b) ∷ γ) (exchanged-join k α β (omega arith))
 
--- ---- values at rising numbers
+-- ---- the lists of the values of two functions that exchange two neighbouring values
 
 map_exchanged : (f g : ℕ → ℕ) (a n i k : ℕ) → k ≡ a + suc i → suc i < n → f k ≡ g (suc k) → f (suc k) ≡ g k
     → ((j : ℕ) → (j ≡ k → ⊥) → (j ≡ suc k → ⊥) → f j ≡ g j) → map f (after a n) ≡ exchanged i (map g (after a n))
@@ -70,7 +71,8 @@ map_exchanged f g a (suc (suc n)) zero k e h p q o =
 map_exchanged f g a (suc (suc n)) (suc i) k e h p q o =
     ap₂ ◌∷◌ (o (a + 1) (λ d. omega arith) (λ d. omega arith)) (map_exchanged f g (a + 1) (suc n) i k (omega arith) (omega arith) p q o)
 
--- the numbers of two neighbouring letters are exchanged
+-- if two words differ by exchanging the numbers of two neighbouring letters, their contents differ by exchanging these
+-- places
 pub content_exchanged : (n i : ℕ) (v w : List ℕ) → suc i < n → times_in (suc i) v ≡ times_in (suc (suc i)) w → times_in (suc (suc i)) v ≡ times_in (suc i) w
     → ((j : ℕ) → (j ≡ suc i → ⊥) → (j ≡ suc (suc i) → ⊥) → times_in j v ≡ times_in j w) → content n v ≡ exchanged i (content n w)
 content_exchanged n i v w h p q o =

@@ -1,5 +1,5 @@
--- A column after which the sum reached falls no more: two neighbouring sums are x and x + 1, and the column misses the lower
--- letter. There the sum over all tableaux left of it of the alternants vanishes.
+-- A column after which the sum reached is no longer decreasing: two neighbouring sums are x and x + 1, and the column
+-- does not have the lower letter. Then the sum of the alternants over all tableaux left of the column is 0.
 use Rattle.std.proofs.Common.{◌≡◌, ℕ, zero, suc, ◌+◌, ◌-◌, ◌<◌, ◌≤◌, ◌⊎◌, ◌==◌, Bool, true, false, cond, List, [], ◌∷◌, map, length, get_or, nat_le, nat_lt, sym, ◌∙◌, ap, ap₂, subst, refl, inl, inr, arith, ℤ, pos, neg_ℤ}
 use Rattle.std.proofs.lemmas.Bool.{and_parts, and_cases, leb-true, leb-false, ltb-true, eq-eqb, ne_eqb, cases_eq}
 use Rattle.sym_model.specs.Sum.{total}
@@ -67,7 +67,7 @@ at_most_ones f a (suc n) zero h = h 0
 at_most_ones f a (suc n) (suc i) h =
     at_most_ones f (a + 1) n i (λ j. let e : a + suc (suc j) ≡ a + 1 + suc j = omega arith in subst (λ k. f k ≤ 1) e (h (suc j)))
 
--- ---- where the sum fails to fall
+-- ---- the place where the sum reached is not decreasing
 
 pub record FailsAt (ν κ : List ℕ) : Type 0 where
   pub place : ℕ
@@ -99,7 +99,7 @@ fails (a ∷ b ∷ ν) (x ∷ y ∷ κ) l o f e =
         let w = r.within in
         record { place = suc r.place; within = omega arith; rises = r.rises; lacks = r.lacks }
 
--- the column misses the letter at whose place the sum fails
+-- the column does not have the letter of the place where the sum is not decreasing
 pub column_fails : (n : ℕ) (ν c : List ℕ) → length ν ≡ n → is_chain may_stand_above c ≡ true → is_falling ν ≡ true → is_falling (join ν (content n c)) ≡ false
     → FailsAt ν (content n c)
 column_fails n ν c l e f g =
@@ -110,7 +110,7 @@ column_misses n i c h e =
     let k : 0 + suc i ≡ suc i = omega arith in
     misses (suc i) c (ap (λ j. times_in j c) (sym k) ∙ sym (at_letter (λ j. times_in j c) 0 n i h) ∙ e)
 
--- ---- exchanged exponents of an alternant
+-- ---- alternants with two neighbouring exponents exchanged
 
 exchanged_same : (i : ℕ) (β : List ℕ) → get_or β i 0 ≡ get_or β (suc i) 0 → exchanged i β ≡ β
 exchanged_same i [] e = refl
@@ -137,7 +137,8 @@ at_sum n φ ν = pair (alternant (join ν (staircase n))) φ
 pub join_right_comm : (α β γ : List ℕ) → join (join α β) γ ≡ join (join α γ) β
 join_right_comm α β γ = join_assoc α β γ ∙ ap (join α) (join_comm β γ) ∙ sym (join_assoc α γ β)
 
--- the sums rise by one at the place, so an exchange of the exponents that are added there turns the sign
+-- the sums at the places i and i + 1 are x and x + 1, so exchanging the exponents added there changes the sign of the
+-- alternant
 turned : (n i : ℕ) (ν κ : List ℕ) (φ : List ℕ → ℤ) → length ν ≡ n → length κ ≡ n → suc i < n → get_or ν (suc i) 0 ≡ suc (get_or ν i 0)
     → at_sum n φ (join ν (exchanged i κ)) ≡ neg_ℤ (at_sum n φ (join ν κ))
 turned n i ν κ φ l m h r =
@@ -164,7 +165,7 @@ turned n i ν κ φ l m h r =
         ∙ sym (exchanged-join i (join ν (staircase n)) κ (length-join_same n ν (staircase n) l (length-staircase n) ∙ sym m))
         ∙ ap (exchanged i) (join_right_comm ν (staircase n) κ)
 
--- the sum over all tableaux left of the column vanishes
+-- if the sum fails to be decreasing, the sum of the alternants over all tableaux left of the column is 0
 pub vanishes : (n i : ℕ) (lines : List (List Bool)) (right ν : List ℕ) (φ : List ℕ → ℤ) → Falls (map length lines) → AreLong (length right) lines
     → length ν ≡ n → suc i < n → get_or ν (suc i) 0 ≡ suc (get_or ν i 0) → Lacks (suc i) right
     → over_all n lines (λ s c. at_sum n φ s) ν right ≡ pos 0

@@ -1,5 +1,5 @@
--- An alternant of exponents that are strictly decreasing has at lists that are strictly decreasing one coefficient that is not 0, at its own
--- exponents; and lists of falling numbers against partitions, zeros at the end being left out.
+-- An alternant of strictly decreasing exponents has exactly one coefficient other than 0 at a strictly decreasing list,
+-- at its own exponents; and decreasing lists compared with partitions, without zeros at the end.
 use Rattle.std.proofs.Common.{◌≡◌, ℕ, zero, suc, ◌+◌, ◌<◌, ◌≤◌, true, cond, List, [], ◌∷◌, length, nat_le, sym, ◌∙◌, ap, ap₂, subst, refl, inl, inr, arith, ℤ, pos, ◌-ℤ◌}
 use Rattle.std.proofs.lemmas.Int.{ints}
 use Rattle.std.proofs.lemmas.Bool.{and_parts, leb-true}
@@ -16,7 +16,7 @@ use Rattle.alternant_laws.proofs.OrderSums.{pair_alternant}
 use Rattle.alternant_laws.proofs.Staircase.{alternating_below, below_weaken}
 use Rattle.sym_model.specs.Bounded.{AreAtMost, AreBelow}
 
--- ---- strictly falling exponents
+-- ---- lists of strictly decreasing exponents, and test functions that are 0 at all others
 
 abbrev pub Descends : List ℕ → Type 0
 Descends [] = Unit {0}
@@ -53,7 +53,7 @@ coefficient_descending α β d e =
     ∙ pair_alternant β (at_only α)
     ∙ alternating_descending β (at_only α) e (λ l n. ap (λ b. cond b (pos 1) (pos 0)) (same_apart l α (λ i. n (subst Descends (sym i) d))))
 
--- ---- falling numbers plus the staircase
+-- ---- decreasing numbers plus the staircase
 
 up_to_first : (a : ℕ) (α : List ℕ) → is_falling (a ∷ α) ≡ true → AreAtMost a α
 up_to_first a [] e = tt
@@ -91,7 +91,7 @@ join_padded n [] h = ap (λ z. join z (staircase n)) (resize-nil n) ∙ join_zer
 join_padded zero (a ∷ parts) h = absurd (omega arith)
 join_padded (suc n) (a ∷ parts) h = ap (λ l. (a + n) ∷ l) (join_padded n parts (omega arith))
 
--- ---- zeros at the end
+-- ---- lists with zeros appended up to n entries
 
 resize-in_front : (n a : ℕ) (l : List ℕ) → resize (suc n) (in_front a l) ≡ a ∷ resize n l
 resize-in_front n zero [] = refl
@@ -116,7 +116,7 @@ falls_from_test [] e = tt
 falls_from_test (a ∷ []) e = tt
 falls_from_test (a ∷ b ∷ α) e = let p = and_parts (nat_le b a) (is_falling (b ∷ α)) e in (leb-true b a p.0, falls_from_test (b ∷ α) p.1)
 
--- the exponents agree where the partitions do
+-- α and the partition are equal up to zeros at the end if and only if their sums with the staircase are equal
 same_sums : (n : ℕ) (α parts : List ℕ) → length α ≡ n → IsPartition parts → length parts ≤ n
     → same (join α (staircase n)) (join parts (staircase n)) ≡ same (without_last_zeros α) parts
 same_sums n α parts l p h =
@@ -129,7 +129,7 @@ same_sums n α parts l p h =
     ap (λ β. join β (staircase n)) (sym (resize-without_last_zeros n α l) ∙ ap (resize n) (same_true (without_last_zeros α) parts e))
     ∙ join_padded n parts h))
 
--- the coefficient of a_(α + ρ) at x^(ν + ρ), for falling numbers α and a partition ν
+-- for a decreasing list α and a partition ν, the coefficient of a_(α + ρ) at x^(ν + ρ) is 1 if ν is α without zeros at its end, and 0 otherwise
 pub coefficient_at_partition : (n : ℕ) (α parts : List ℕ) → length α ≡ n → is_falling α ≡ true → IsPartition parts → length parts ≤ n → is_falling (resize n parts) ≡ true
     → coefficient (alternant (join α (staircase n))) (join parts (staircase n)) ≡ cond (same (without_last_zeros α) parts) (pos 1) (pos 0)
 coefficient_at_partition n α parts l f p h g =

@@ -29,9 +29,9 @@ use Rattle.alternant_laws.proofs.AlternantProducts.{alternant_times, pair_altern
 use Rattle.alternant_laws.proofs.LeftColumns.{over_all, over_all-last, fit_left, total_fit_left, fit_left-nothing, AreLong, falls-transposed, falls_last}
 use Rattle.alternant_laws.proofs.FailingColumns.{join_right_comm, at_sum, column_fails, column_misses, vanishes}
 
--- ---- the condition on the sums may be dropped
+-- ---- the condition that each sum reached is decreasing can be dropped
 
--- one column more: where the sum fails to fall, all that stands left of the column adds up to nothing
+-- one more column: if the sum is not decreasing after it, the terms of the tableaux left of it add up to 0
 one_column : (n : ℕ) (φ : List ℕ → ℤ) (lines : List (List Bool)) (line : List Bool) (ν right c : List ℕ) → length ν ≡ n → is_falling ν ≡ true
     → Falls (map length lines) → AreLong (length line) lines → length c ≡ length line
     → (is_falling (join ν (content n c)) ≡ true
@@ -74,7 +74,7 @@ folds_equal n φ (line ∷ back) ν right l f falls =
     ∙ sym (over_columns-last n (reverse back) line (λ s d. at_sum n φ s) ν right)
     ∙ ap (λ (ls : List (List Bool)). over_columns n ls (λ s d. at_sum n φ s) ν right) (sym e)
 
--- ---- over all tableaux and over the good ones
+-- ---- sums over all tableaux, and over the good ones
 
 -- the pairing at start plus the content of a filling
 abbrev pub at_filling : ℕ → (List ℕ → ℤ) → List ℕ → List (List ℕ) → ℤ
@@ -92,7 +92,7 @@ all_tableaux n φ start outer inner h falls inner_falls holds =
     ∙ total_fit_left n [] (column_lines outer inner) (λ s d. at_sum n φ s) start
     ∙ ap (λ s. over_all n (column_lines outer inner) (λ s' d. at_sum n φ s') s []) (sum_at_start n start h)
 
--- any numbers of start plus the content
+-- the sum over the good tableaux of a function of start plus the content is the sum over all ways to add columns
 pub good_sums : (n : ℕ) (g : List ℕ → ℤ) (start outer inner : List ℕ) → IsPartition start → rows start ≤ n → Falls outer → Falls inner → contains outer inner ≡ true
     → total (λ (T : List (List ℕ)). g (join start (content n (letters_of T)))) (good_tableaux n start outer inner) ≡ over_columns n (column_lines outer inner) (λ s d. g s) (resize n start) []
 good_sums n g start outer inner s h falls inner_falls holds =
@@ -127,7 +127,7 @@ good_enough n φ start outer inner s h falls inner_falls = by (cases_Bool (conta
     by (inl e) = all_tableaux n φ start outer inner h falls inner_falls e ∙ equal ∙ sym (good_sums n (at_sum n φ) start outer inner s h falls inner_falls e)
     by (inr e) = no_tableaux n start outer inner (at_filling n φ start) e
 
--- ---- the identity
+-- ---- Stembridge's identity, with its two sides paired with a test function
 
 pub In-skew_schur : (n : ℕ) (outer inner : List ℕ) → In n (skew_schur outer inner n)
 In-skew_schur n outer inner =

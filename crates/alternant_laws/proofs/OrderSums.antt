@@ -1,6 +1,6 @@
 -- Sums over all orders of the places, with signs.
---     orders_reach        what neighbouring exchanges keep true of a list holds of each of its orders
---     orders_sum          the signed sum over the orders of a rising list is its alternating sum
+--     orders_reach        a property of lists that neighbouring exchanges keep holds of each order of the list
+--     orders_sum          the signed sum over the orders of an increasing list is its alternating sum
 --     pair_alternant      pairing an alternant with a test function, as a sum over orders and as an alternating sum
 use Rattle.std.proofs.Common.{◌≡◌, ℕ, zero, suc, ◌+◌, ◌-◌, ◌<◌, ◌≤◌, cond, nat_lt, List, [], ◌∷◌, ◌++◌, map, length, get_or, sym, ◌∙◌, ap, ap₂, subst, refl, inl, inr, arith, ℤ, ◌+ℤ◌, ◌*ℤ◌, neg_ℤ, append_assoc}
 use Rattle.std.proofs.lemmas.Int.{ints}
@@ -17,7 +17,7 @@ use Rattle.sym_model.proofs.Exponents.{get_or-join}
 use Rattle.alternant_laws.proofs.Alternating.{inserting, alternating, alternating_map}
 use Rattle.beta_list_laws.proofs.NeighbourExchanges.{KeptByExchanges}
 
--- ---- neighbouring exchanges
+-- ---- each order of a list is reached by exchanges of neighbours
 
 insertions_reach : (P : List ℕ → Type 0) → KeptByExchanges P → (l : List ℕ) (x : ℕ) (v w : List ℕ) → P (l ++ (x ∷ v)) → Among w (insertions x v) → P (l ++ w)
 insertions_reach P k l x [] w p (inl e) = subst (λ z. P (l ++ z)) (sym e) p
@@ -41,7 +41,7 @@ orders_reach_after P k l (x ∷ xs) w p m =
 pub orders_reach : (P : List ℕ → Type 0) → KeptByExchanges P → (xs w : List ℕ) → P xs → Among w (orders xs) → P w
 orders_reach P k xs w p m = orders_reach_after P k [] xs w p m
 
--- ---- rising lists
+-- ---- lists that are strictly increasing
 
 -- x is smaller than each entry
 abbrev pub AreAbove : ℕ → List ℕ → Type 0
@@ -68,7 +68,7 @@ pub after_rises : (a k : ℕ) → Rises (after a k)
 after_rises a zero = tt
 after_rises a (suc k) = (after_above (a + 1) (a + 1) k (omega arith), after_rises (a + 1) k)
 
--- ---- signs
+-- ---- the sign of a list with a smallest number inserted
 
 smaller_above : (x : ℕ) (v : List ℕ) → AreAbove x v → smaller x v ≡ 0
 smaller_above x [] h = refl
@@ -83,7 +83,7 @@ smaller_put x y (z ∷ v) w h (inr m) =
     let e = smaller_put x y v r.0 h r.1 in
     ap (smaller y) r.2 ∙ ap (λ n. cond (nat_lt z y) 1 0 + n) e ∙ omega arith
 
--- ---- signed sums over orders
+-- ---- signed sums over orders are alternating sums
 
 insertions_sum : (x : ℕ) (v : List ℕ) (φ : List ℕ → ℤ) → AreAbove x v → total (λ (w : List ℕ). sign w *ℤ φ w) (insertions x v) ≡ sign v *ℤ inserting x φ v
 insertions_sum x [] φ h = omega (arith, ints)
@@ -123,7 +123,7 @@ orders_sum (x ∷ xs) φ h =
     (λ v m. insertions_sum x v φ (orders_above x xs v h.0 m))
     ∙ orders_sum xs (inserting x φ) h.1
 
--- ---- rearranged lists
+-- ---- a list rearranged by an order of its places
 
 rearranged_after : (γ β : List ℕ) (a : ℕ) → ((i : ℕ) → get_or γ (a + i) 0 ≡ get_or β i 0) → map (part γ) (after a (length β)) ≡ β
 rearranged_after γ [] a h = refl
@@ -131,7 +131,7 @@ rearranged_after γ (b ∷ β) a h =
     let e : a + 1 - 1 ≡ a + 0 = omega arith in
     ap₂ ◌∷◌ (ap (λ k. get_or γ k 0) e ∙ h 0) (rearranged_after γ β (a + 1) (λ i. let d : a + 1 + i ≡ a + suc i = omega arith in ap (λ k. get_or γ k 0) d ∙ h (suc i)))
 
--- in the first order of the places a list is itself
+-- arranged by the places 1, .., n in this order, a list of n numbers is unchanged
 pub rearranged_places : (n : ℕ) (β : List ℕ) → length β ≡ n → rearranged (places n) β ≡ β
 rearranged_places n β e =
     ap (λ k. rearranged (places k) β) (sym e) ∙ rearranged_after β β 0 (λ i. let d : 0 + i ≡ i = omega arith in ap (λ k. get_or β k 0) d)
@@ -140,7 +140,7 @@ pub rearranged-join : (w α β : List ℕ) → rearranged w (join α β) ≡ joi
 rearranged-join [] α β = refl
 rearranged-join (i ∷ w) α β = ap₂ ◌∷◌ (get_or-join α β (i - 1)) (rearranged-join w α β)
 
--- ---- alternants
+-- ---- the pairing of an alternant is a signed sum over orders
 
 pub pair_orders : (n : ℕ) (β : List ℕ) (φ : List ℕ → ℤ) → length β ≡ n
     → pair (alternant β) φ ≡ total (λ (w : List ℕ). sign w *ℤ φ (rearranged w β)) (orders (places n))

@@ -1,4 +1,5 @@
--- One row of the Bender–Knuth involution: of its letters k and k + 1, those in the first s places become k, the others k + 1.
+-- One row of the Bender–Knuth involution: of its letters k and k + 1, those in the first s places become k, the others
+-- k + 1.
 use Rattle.std.proofs.Common.{◌≡◌, ℕ, suc, ◌+◌, ◌-◌, ◌<◌, ◌≤◌, ◌⊎◌, ◌==◌, Bool, true, false, cond, List, [], ◌∷◌, length, nat_le, nat_lt, sym, ◌∙◌, ap, ap₂, refl, inl, inr, arith}
 use Rattle.std.proofs.lemmas.Bool.{cases_lt, and_parts, and_from, leb-true, le-leb, lt-ltb, le-ltb, eq-eqb, ne_eqb, cases_eq}
 use Rattle.sym_model.specs.PlaceOrders.{smaller}
@@ -8,7 +9,7 @@ use Rattle.tableau_laws.proofs.PatternFillings.{MayStand, Fits}
 use Rattle.sym_model.specs.Bounded.{AreAtMost}
 use Rattle.tableau_laws.specs.Rows.{RisesFrom}
 
--- ---- rows that rise
+-- ---- weakly increasing rows, and the same as chains
 
 chain_from : (a : ℕ) (w : List ℕ) → is_chain nat_le (a ∷ w) ≡ true → RisesFrom a w
 chain_from a [] e = tt
@@ -26,9 +27,9 @@ pub rises_chain : (w : List ℕ) → RisesFrom 0 w → is_chain nat_le w ≡ tru
 rises_chain [] r = refl
 rises_chain (a ∷ w) r = chain_back a w r.1
 
--- ---- how many letters are smaller
+-- ---- the number of smaller letters
 
--- 1 where the letter is smaller than j, 0 elsewhere
+-- 1 if the letter a is smaller than j, otherwise 0
 abbrev pub is_smaller : ℕ → ℕ → ℕ
 is_smaller j a = cond (nat_lt a j) 1 0
 
@@ -62,9 +63,9 @@ smaller_next j (a ∷ w) = let e = smaller_next j w in let o = by (cases_lt a j)
     by (inr h) (inl e) = omega (arith, counts (suc j) a (omega arith), passes j a h, equals e)
     by (inr h) (inr d) = omega (arith, passes (suc j) a (omega arith), passes j a h, differs d)
 
--- ---- one letter cut again
+-- ---- one letter, recut into k or k + 1
 
--- a letter k or k + 1 becomes k where s places are left, and k + 1 where none is
+-- a letter k or k + 1 becomes k if s places are left, s > 0, and k + 1 if none is left
 abbrev pub cut : ℕ → ℕ → ℕ → ℕ
 cut k s a = cond (nat_lt a k) a (cond (nat_lt (suc k) a) a (cond (s == 0) (suc k) k))
 
@@ -91,7 +92,7 @@ cut-first k s a h g l = cut-between k s a h g ∙ ap (λ (b : Bool). cond b (suc
 cut-second : (k s a : ℕ) → k ≤ a → a ≤ suc k → s ≡ 0 → cut k s a ≡ suc k
 cut-second k s a h g e = cut-between k s a h g ∙ ap (λ (b : Bool). cond b (suc k) k) (eq-eqb s 0 e)
 
--- the cases of a letter and of the places left
+-- the cases for a letter, recut with s places left
 pub data Cut (k s a c : ℕ) : Type 0 where
   low : a < k → c ≡ a → Cut k s a c
   first : k ≤ a → a ≤ suc k → 0 < s → c ≡ k → Cut k s a c
@@ -131,7 +132,7 @@ cut_rises k s lo a h = by (cut k s lo) (cut k (s - 1) a) (cases_cut k s lo) (cas
     by x y (high p e) (second q u v d) = omega arith
     by x y (high p e) (high q d) = omega arith
 
--- ---- a row cut again
+-- ---- a row with each of its letters k and k + 1 recut
 
 pub length-recut : (k s : ℕ) (w : List ℕ) → length (recut k s w) ≡ length w
 length-recut k s [] = refl
@@ -145,7 +146,7 @@ pub recut_rises : (k s : ℕ) (w : List ℕ) → RisesFrom 0 w → RisesFrom 0 (
 recut_rises k s [] r = tt
 recut_rises k s (a ∷ w) r = (omega arith, recut_from k s a w r.1)
 
--- the letters smaller than j stay as many, for j other than k + 1
+-- recutting keeps the number of letters smaller than j, for j other than k + 1
 smaller-cut : (j k s a : ℕ) → (j ≤ k) ⊎ (suc k < j) → is_smaller j (cut k s a) ≡ is_smaller j a
 smaller-cut j k s a h = by (cut k s a) (cases_cut k s a) h
   where
@@ -161,7 +162,7 @@ pub smaller-recut : (j k s : ℕ) (w : List ℕ) → (j ≤ k) ⊎ (suc k < j) �
 smaller-recut j k s [] h = refl
 smaller-recut j k s (a ∷ w) h = ap₂ ◌+◌ (smaller-cut j k s a h) (smaller-recut j k (s - 1) w h)
 
--- those smaller than k + 1 become s
+-- after recutting at s, s letters are smaller than k + 1
 pub smaller-recut_middle : (k s lo : ℕ) (w : List ℕ) → RisesFrom lo w → smaller k w ≤ s → s ≤ smaller (suc (suc k)) w → smaller (suc k) (recut k s w) ≡ s
 smaller-recut_middle k s lo [] r h g = omega arith
 smaller-recut_middle k s lo (a ∷ w) r h g = by (cut k s a) (cases_cut k s a) (smaller-recut_middle k (s - 1) a w r.1)
@@ -193,7 +194,7 @@ smaller-recut_middle k s lo (a ∷ w) r h g = by (cut k s a) (cases_cut k s a) (
         let t = passes (suc k) c (omega arith) in
         omega arith
 
--- cut again at the first place, the row is the same again
+-- a row recut at s, and then recut so that as many letters are smaller than k + 1 as before, is the row again
 pub recut_twice : (k s lo : ℕ) (w : List ℕ) → RisesFrom lo w → recut k (smaller (suc k) w) (recut k s w) ≡ w
 recut_twice k s lo [] r = refl
 recut_twice k s lo (a ∷ w) r =
@@ -233,7 +234,7 @@ recut_twice k s lo (a ∷ w) r =
     by : (c : ℕ) → Cut k s a c → (d : ℕ) → Cut k (is_smaller (suc k) a + smaller (suc k) w) c d → d ≡ a
     by c x d y = twice (is_smaller (suc k) a + smaller (suc k) w) c d x y (places (cases_lt k a))
 
--- ---- cells, bounds, other letters
+-- ---- recutting a row keeps the cells empty that were empty, the letters from 1 to n, and all letters other than k and k + 1
 
 letter_fits : (n k s : ℕ) (p : Bool) (a : ℕ) → 0 < k → k < n → MayStand n p a → MayStand n p (cut k s a)
 letter_fits n k s false a h g m = cut-low k s a (omega arith) ∙ m

@@ -43,7 +43,7 @@ bialternant n parts p h =
     ∙ straight_columns n parts (at_sum n φ) p h
     ∙ ap (λ β. pair (alternant β) φ) (join_padded n parts h)))
 
--- ---- Schur polynomials of more rows than variables
+-- ---- a Schur polynomial with more rows than variables is 0
 
 no_columns : (n : ℕ) (lines : List (List Bool)) (cs : List (List ℕ)) → OnlyCells (leftmost_line lines) → n < length (leftmost_line lines) → AllFit n lines cs → are_tableau_columns cs ≡ false
 no_columns n [] cs o h f = absurd (omega arith)
@@ -63,7 +63,7 @@ schur_few_variables n parts p h =
 
 -- ---- sums of Schur polynomials over good tableaux
 
--- what is known of a good tableau: start plus its content is a partition
+-- the properties of a good tableau: start plus its content is a partition
 record IsGoodSum (n : ℕ) (start : List ℕ) (T : List (List ℕ)) : Type 0 where
   falls : is_falling (join start (content n (letters_of T))) ≡ true
   length : length (join start (content n (letters_of T))) ≡ n
@@ -103,7 +103,7 @@ skew-good_schurs n outer inner o i =
     (stembridge n [] outer inner IsPartition-none (omega arith) o i)
     (Same_sym (times (alternant (staircase n)) (good_schurs n [] outer inner)) (good_alternants n [] outer inner) (staircase_times_good n [] outer inner (omega arith) o.falls)))
 
--- a_ρ times a product with a Schur polynomial
+-- a_ρ times the product of a Schur polynomial with a skew one is the sum over the good tableaux of alternants
 pub staircase_product : (n : ℕ) (start outer inner : List ℕ) → IsPartition start → IsPartition outer → IsPartition inner → rows start ≤ n
     → Same (times (alternant (staircase n)) (times (schur start n) (skew_schur outer inner n))) (good_alternants n start outer inner)
 staircase_product n start outer inner p o i h =

@@ -1,4 +1,4 @@
--- An alternant with two equal exponents is 0; one without is the sign of sorting its exponents times the alternant of the
+-- An alternant with two equal exponents is 0; any other is the sign of sorting its exponents times the alternant of the
 -- sorted list.
 use Rattle.std.proofs.Common.{◌≡◌, ◌⊎◌, ℕ, ◌+◌, ◌-◌, ◌≤◌, Bool, true, false, ◌||◌, ◌==◌, cond, nat_lt, List, [], ◌∷◌, ◌++◌, length, refl, sym, ◌∙◌, ap, ap₂, subst, inl, inr, arith, ℤ, pos, neg_ℤ, ◌*ℤ◌}
 use Rattle.std.proofs.lemmas.Int.{ints}
@@ -20,7 +20,7 @@ use Rattle.beta_list_laws.proofs.BetaLists.{strict_tail, rest_within, length-les
 use Rattle.alternant_laws.proofs.Alternants.{alternant_exchange, alternant_equal}
 use Rattle.alternant_laws.proofs.FallingAlternants.{join_padded, resize-without_last_zeros}
 
--- ---- equal exponents
+-- ---- the alternant is 0 if two exponents are equal
 
 place_of : (a : ℕ) (b : List ℕ) → has a b ≡ true → (middle : List ℕ) × (right : List ℕ) × (b ≡ middle ++ (a ∷ right))
 place_of a [] h = absurd (cc)
@@ -52,7 +52,7 @@ alternant-equal_under left (a ∷ b) φ h = by (has a b) refl h (λ g. subst (λ
 pub alternant-equal : (β : List ℕ) (φ : List ℕ → ℤ) → has_equal_entries β ≡ true → pair (alternant β) φ ≡ pos 0
 alternant-equal β φ h = alternant-equal_under [] β φ h
 
--- ---- sorting
+-- ---- sorting the exponents multiplies an alternant by the sign of sorting
 
 no_greater : (a : ℕ) (l : List ℕ) → Falls (a ∷ l) → greater a l ≡ 0
 no_greater a [] f = refl

@@ -1,5 +1,5 @@
--- The Bender–Knuth involution on padded rows: in each row the number of letters smaller than k + 1 is exchanged for the one
--- that lies as far from the other end of the room that the neighbouring rows leave.
+-- The Bender–Knuth involution on padded rows: in each row, the number of letters smaller than k + 1 is reflected in the
+-- range that the neighbouring rows allow.
 use Rattle.std.proofs.Common.{◌≡◌, ℕ, suc, ◌+◌, ◌-◌, ◌<◌, ◌≤◌, ◌⊎◌, min, max, Bool, true, ◌&&◌, List, [], ◌∷◌, map, length, nat_le, nat_lt, sym, ◌∙◌, ap, ap₂, subst, refl, inl, inr, arith}
 use Rattle.std.proofs.lemmas.Bool.{cases_lt, cases_eq, and_parts, and_from, ltb-true, lt-ltb}
 use Rattle.sym_model.specs.Partition.{Falls}
@@ -14,9 +14,9 @@ use Rattle.sym_model.specs.Bounded.{AreAtMost, Lacks}
 use Rattle.tableau_laws.specs.Rows.{RisesFrom}
 use Rattle.sym_model.proofs.Lists.{smaller-within}
 
--- ---- two rows
+-- ---- two rows, one above the other
 
--- the letters below j + 1 of the lower row stand under letters below j of the upper one
+-- the letters below j + 1 of the lower row are under letters below j of the upper one
 abbrev pub StandsOver : List ℕ → List ℕ → Type 0
 StandsOver upper lower = (j : ℕ) → 0 < j → smaller (suc j) lower ≤ smaller j upper
 
@@ -71,9 +71,9 @@ stands_back lo lo' (a ∷ upper) (b ∷ lower) r s o =
         let z = none_smaller j a upper r.1 c in
         absurd (omega arith)
 
--- ---- all rows
+-- ---- a stack: weakly increasing rows, each of which fits above the next
 
--- each row rises, and stands over the next
+-- each row is weakly increasing, and fits above the next
 abbrev pub IsStack : List (List ℕ) → Type 0
 IsStack [] = Unit {0}
 IsStack (w ∷ ws) = RisesFrom 0 w × (StandsOver w (first_line ws) × IsStack ws)
@@ -104,9 +104,10 @@ stack_back (w ∷ ws) s =
     first_rises [] t = tt
     first_rises (v ∷ vs) t = t.0
 
--- ---- the involution
+-- ---- the involution on a stack of rows
 
--- how many letters smaller than k + 1 the row gets: c letters of the row above are smaller than k, d of the next than k + 2
+-- the number of letters of w smaller than k + 1 after the exchange, if the row above has c letters smaller than k and the next row d smaller than k +
+-- 2
 abbrev pub middle : ℕ → ℕ → List ℕ → ℕ → ℕ
 middle k c w d = (min c (smaller (suc (suc k)) w) + max (smaller k w) d) - smaller (suc k) w
 
@@ -114,7 +115,7 @@ abbrev pub toggled : ℕ → ℕ → List (List ℕ) → List (List ℕ)
 toggled k c [] = []
 toggled k c (w ∷ ws) = recut k (middle k c w (smaller (suc (suc k)) (first_line ws))) w ∷ toggled k (smaller k w) ws
 
--- what is known of one row: the room that its neighbours leave
+-- `middle` is in the range that the row w and its two neighbours allow
 record HasRoom (k c d : ℕ) (w : List ℕ) : Type 0 where
   low : smaller k w ≤ middle k c w d
   high : middle k c w d ≤ smaller (suc (suc k)) w
@@ -134,11 +135,11 @@ has_room k c d w p q =
     let r = room_of c d (smaller k w) (smaller (suc k) w) (smaller (suc (suc k)) w) p q (omega arith) (omega arith) in
     record { low = r.0; high = r.1; above = r.2; below = r.3; sum = r.4 }
 
--- the number of letters smaller than k + 1 is then that one
+-- after recutting, the number of letters smaller than k + 1 is `middle`
 middle_smaller : (k c d : ℕ) (w : List ℕ) → RisesFrom 0 w → HasRoom k c d w → smaller (suc k) (recut k (middle k c w d) w) ≡ middle k c w d
 middle_smaller k c d w r h = smaller-recut_middle k (middle k c w d) 0 w r h.low h.high
 
--- other numbers stay in the first row
+-- if j is not k + 1, the exchange keeps the number of letters of the first row that are smaller than j
 first_smaller : (j k c : ℕ) (ws : List (List ℕ)) → (j ≤ k) ⊎ (suc k < j) → smaller j (first_line (toggled k c ws)) ≡ smaller j (first_line ws)
 first_smaller j k c [] h = refl
 first_smaller j k c (w ∷ ws) h = smaller-recut j k (middle k c w (smaller (suc (suc k)) (first_line ws))) w h
@@ -151,7 +152,7 @@ row_room : (k c : ℕ) (w : List ℕ) (ws : List (List ℕ)) → StandsOver w (f
     → HasRoom k c (smaller (suc (suc k)) (first_line ws)) w
 row_room k c w ws o h = has_room k c (smaller (suc (suc k)) (first_line ws)) w h (o (suc k) (omega arith))
 
--- the first row of the rest has at most c letters smaller than k + 1 afterwards
+-- if the first row has at most c letters smaller than k + 1, it still has at most c after the exchange
 first_within : (k c : ℕ) (ws : List (List ℕ)) → IsStack ws → smaller (suc k) (first_line ws) ≤ c → smaller (suc k) (first_line (toggled k c ws)) ≤ c
 first_within k c [] s h = h
 first_within k c (w ∷ ws) s h =
@@ -197,7 +198,7 @@ toggled_stack k c (w ∷ ws) p s h = (
   (toggled_over k c w ws p s h, toggled_stack k (smaller k w) ws p s.1.1 (s.1.0 k p)),
 )
 
--- twice is nothing
+-- doing the exchange twice changes nothing
 back_again : (x y m : ℕ) → m + y ≡ x → x - m ≡ y
 back_again x y m e = omega arith
 
@@ -217,9 +218,9 @@ toggled_twice k c (w ∷ ws) p s h =
     ap₂ ◌∷◌ (ap (λ i. recut k i w') again ∙ recut_twice k (middle k c w d) 0 w s.0)
     (ap (λ i. toggled k i (toggled k (smaller k w) ws)) low ∙ toggled_twice k (smaller k w) ws p s.1.1 (s.1.0 k p))
 
--- ---- contents
+-- ---- the exchange swaps the numbers of letters k and k + 1 in the content
 
--- how many letters of all rows are smaller than j
+-- the number of letters of all rows that are smaller than j
 abbrev pub all_smaller : ℕ → List (List ℕ) → ℕ
 all_smaller j [] = 0
 all_smaller j (w ∷ ws) = smaller j w + all_smaller j ws
@@ -253,7 +254,7 @@ all_smaller_middle k c (w ∷ ws) p s h =
     ∙ add_up c d (smaller k w) (smaller (suc k) w) (smaller (suc (suc k)) w) (middle k c w d) (all_smaller (suc k) ws) (all_smaller (suc k) (toggled k (smaller k w) ws)) (all_smaller k ws) (all_smaller (suc (suc k)) ws)
     m.sum (all_smaller_middle k (smaller k w) ws p s.1.1 (s.1.0 k p))
 
--- the involution with the length of the first row as the room above it
+-- the involution on all rows; the range of the first row is limited above only by the length of that row
 abbrev pub toggle : ℕ → List (List ℕ) → List (List ℕ)
 toggle k rows = toggled k (length (first_line rows)) rows
 
@@ -272,7 +273,7 @@ all_smaller_toggle k rows p s =
     let b = smaller-within (suc (suc k)) (first_line rows) in
     omega arith
 
--- the numbers of k and k + 1 are exchanged, those of other letters stay
+-- after the involution there are as many letters k as there were letters k + 1, and as many others as before
 pub toggle_lower : (k : ℕ) (rows : List (List ℕ)) → 0 < k → IsStack rows → times_in k (letters_of (toggle k rows)) ≡ times_in (suc k) (letters_of rows)
 toggle_lower k rows p s =
     let a = all_smaller_next k (toggle k rows) in
@@ -305,7 +306,7 @@ toggle_others j k rows n m =
     next (inl l) = inl l
     next (inr l) = inr (omega arith)
 
--- ---- cells and bounds
+-- ---- the exchanged rows fill the same cells with letters from 1 to n
 
 pub toggled_fits : (n k c : ℕ) (pattern : List (List Bool)) (rows : List (List ℕ)) → 0 < k → k < n → AllFit n pattern rows → AllFit n pattern (toggled k c rows)
 toggled_fits n k c [] [] p q f = tt
@@ -314,7 +315,7 @@ toggled_fits n k c (line ∷ pattern) [] p q f = absurd f
 toggled_fits n k c (line ∷ pattern) (w ∷ ws) p q f =
     (recut_fits n k (middle k c w (smaller (suc (suc k)) (first_line ws))) line w p q f.0, toggled_fits n k (smaller k w) pattern ws p q f.1)
 
--- no letter of a row is greater than the letter of the column at that row, as far as both go
+-- no letter of a row is greater than the letter of the column in that row, as far as both go
 abbrev pub AreLeftOf : List ℕ → List (List ℕ) → Type 0
 AreLeftOf column [] = Unit {0}
 AreLeftOf [] (w ∷ ws) = Unit {0}

@@ -1,4 +1,4 @@
--- a_ρ leads with the coefficient 1: each order of ρ but ρ itself is below ρ. So a_ρ cancels.
+-- The leading coefficient of a_ρ is 1: each order of ρ other than ρ is below ρ. So a_ρ can be cancelled.
 use Rattle.std.proofs.Common.{◌≡◌, ℕ, zero, suc, ◌<◌, cond, List, [], ◌∷◌, ◌∙◌, ap, ap₂, subst, refl, inl, inr, arith, ℤ, pos, ◌-ℤ◌}
 use Rattle.std.proofs.lemmas.Int.{ints}
 use Rattle.sym_model.specs.Polynomial.{Poly, Same, In, coefficient, times}
@@ -13,7 +13,7 @@ use Rattle.alternant_laws.proofs.OrderSums.{pair_alternant}
 use Rattle.alternant_laws.proofs.Alternants.{In_alternant}
 use Rattle.sym_model.specs.Bounded.{AreBelow}
 
--- ---- alternating sums look at lists of the same entries alone
+-- ---- an alternating sum depends only on lists of the same entries
 
 inserting_below : (n x : ℕ) (φ ψ : List ℕ → ℤ) → x < n → ((l : List ℕ) → AreBelow n l → φ l ≡ ψ l) → (l : List ℕ) → AreBelow n l → inserting x φ l ≡ inserting x ψ l
 inserting_below n x φ ψ h e [] b = e (x ∷ []) (h, tt)
@@ -32,7 +32,7 @@ staircase_below : (n : ℕ) → AreBelow n (staircase n)
 staircase_below zero = tt
 staircase_below (suc n) = (omega arith, below_weaken n (staircase n) (staircase_below n))
 
--- ---- the leading term
+-- ---- x^ρ is the leading term of a_ρ
 
 inserting_zero : (x : ℕ) (φ : List ℕ → ℤ) → ((l : List ℕ) → φ l ≡ pos 0) → (l : List ℕ) → inserting x φ l ≡ pos 0
 inserting_zero x φ e [] = e (x ∷ [])
@@ -54,7 +54,7 @@ alternating_staircase (suc n) φ v =
     alternating_below n (staircase n) (inserting n φ) (λ l. φ (n ∷ l)) (staircase_below n) (inserting_greatest n φ v)
     ∙ alternating_staircase n (λ l. φ (n ∷ l)) (λ l h. v (n ∷ l) (inr (refl, h)))
 
--- at ρ and above it the coefficients of a_ρ are those of x^ρ
+-- at ρ and above it a_ρ has the coefficients of x^ρ
 coefficient_staircase : (n : ℕ) (α : List ℕ) → (Above (staircase n) α → ⊥) → coefficient (alternant (staircase n)) α ≡ at_only α (staircase n)
 coefficient_staircase n α h =
     coefficient_pair (alternant (staircase n)) α

@@ -1,4 +1,4 @@
--- A straight shape has one good tableau for the empty start: each column holds 1, 2, 3 and so on. So a_ρ times a Schur
+-- A straight shape has one good tableau for the empty start: each column has 1, 2, 3 and so on. So a_ρ times a Schur
 -- polynomial is one alternant.
 use Rattle.std.proofs.Common.{◌≡◌, ℕ, zero, suc, ◌+◌, ◌-◌, ◌<◌, ◌≤◌, ◌⊎◌, Bool, true, false, cond, ◌&&◌, List, [], ◌∷◌, ◌++◌, map, length, replicate, reverse, get_or, nat_le, nat_lt, sym, ◌∙◌, ap, ap₂, subst, refl, inl, inr, arith, ℤ, pos}
 use Rattle.std.proofs.lemmas.Bool.{cases_lt, cases_eq, cases_Bool, and_parts, and_from, leb-true, le-leb, ltb-true, lt-ltb, le-ltb, false_from_ne_true}
@@ -24,7 +24,7 @@ use Rattle.alternant_laws.proofs.Exchanges.{length_content}
 use Rattle.alternant_laws.proofs.LeftColumns.{AreLong, falls_last, falls-transposed}
 use Rattle.alternant_laws.proofs.FailingColumns.{at_letter}
 
--- ---- falling numbers, place by place
+-- ---- decreasing lists, place by place
 
 abbrev pub Places : List ℕ → Type 0
 Places α = (i : ℕ) → get_or α (suc i) 0 ≤ get_or α i 0
@@ -42,7 +42,7 @@ places_fall [] h = refl
 places_fall (a ∷ []) h = refl
 places_fall (a ∷ b ∷ α) h = and_from (nat_le b a) (is_falling (b ∷ α)) (le-leb b a (h 0)) (places_fall (b ∷ α) (λ i. h (suc i)))
 
--- two lists of one length with the same entries
+-- two lists of one length with the same entries are equal
 pub same_places : (α β : List ℕ) → length α ≡ length β → ((i : ℕ) → i < length α → get_or α i 0 ≡ get_or β i 0) → α ≡ β
 same_places [] [] l e = refl
 same_places [] (b ∷ β) l e = absurd (omega arith)
@@ -56,7 +56,7 @@ Ascends : ℕ → List ℕ → Type 0
 Ascends a [] = Unit {0}
 Ascends a (v ∷ w) = (a < v) × Ascends v w
 
--- a line without places outside
+-- a line in which every place is a cell
 abbrev pub OnlyCells : List Bool → Type 0
 OnlyCells [] = Unit {0}
 OnlyCells (p ∷ line) = (p ≡ true) × OnlyCells line
@@ -96,7 +96,7 @@ after_beside a zero k = refl
 after_beside a (suc h) zero = refl
 after_beside a (suc h) (suc k) = and_from (nat_le (a + 1) (a + 1)) (pass_by_place nat_le (after (a + 1) h) (after (a + 1) k)) (le-leb (a + 1) (a + 1) (omega arith)) (after_beside (a + 1) h k)
 
--- ---- how often a letter stands in a column
+-- ---- the number of times that a letter occurs in a column
 
 none_at : (k a : ℕ) (w : List ℕ) → Ascends a w → k ≤ a → times_in k w ≡ 0
 unfolding Ascends
@@ -127,10 +127,10 @@ after_past : (k a h : ℕ) → a + h < k → times_in k (after a h) ≡ 0
 after_past k a zero p = refl
 after_past k a (suc h) p = times_in-other k (a + 1) (after (a + 1) h) (λ e. absurd (omega arith)) ∙ after_past k (a + 1) h (omega arith)
 
--- ---- the one column that may be next
+-- ---- the only column that can be next
 
--- the letters are strictly increasing, are at most their right neighbours 1, 2, .. as far as those go, and no letter past those is
--- without the one before it
+-- if the letters of w are strictly increasing from a + 1 on, at most their right neighbours a + 1, .., a + m, and no later letter occurs without the
+-- one before it, then w is a + 1, a + 2, ..
 only_column : (a m : ℕ) (w : List ℕ) → Ascends a w → pass_by_place nat_le w (after a m) ≡ true → ((k : ℕ) → a + m < k → times_in (suc k) w ≤ times_in k w) → w ≡ after a (length w)
 unfolding Ascends
 only_column a m [] s p o = refl
@@ -163,9 +163,9 @@ only_column a (suc m) (v ∷ w) s p o =
     (only_column v m w s.1 (subst (λ b. pass_by_place nat_le w (after b m) ≡ true) (sym e) q.1)
     (λ k g. let t = o k (omega arith) in let x = times_in-other k v w (λ i. absurd (omega arith)) in let y = times_in-other (suc k) v w (λ i. absurd (omega arith)) in omega arith)))
 
--- ---- the sums along the columns
+-- ---- the sums reached when the columns 1, 2, .. are added
 
--- the sum has no letters past h
+-- ν has the entry 0 at each place from h on
 abbrev pub EndsAt : ℕ → List ℕ → Type 0
 EndsAt h ν = (i : ℕ) → h ≤ i → get_or ν i 0 ≡ 0
 
@@ -175,7 +175,7 @@ at_content n i w h = let e : 0 + suc i ≡ suc i = omega arith in at_letter (λ 
 pub past_content : (n i : ℕ) (w : List ℕ) → n ≤ i → get_or (content n w) i 0 ≡ 0
 past_content n i w h = past_end (content n w) i (omega (arith, length_content n w))
 
--- a column that may be next holds 1, 2, 3 and so on
+-- if a column can be next left of the column 1, .., m, it is the column 1, 2, 3 and so on
 next_is : (n m : ℕ) (line : List Bool) (ν c : List ℕ) → OnlyCells line → Fits n line c → EndsAt m ν → may_be_next n ν (after 0 m) c ≡ true → c ≡ after 0 (length line)
 next_is n m line ν c o f ends e =
     let p = and_parts (is_chain may_stand_above c) (pass_by_place nat_le c (after 0 m) && is_falling (join ν (content n c))) e in
@@ -234,7 +234,7 @@ sum_along : ℕ → List ℕ → List (List Bool) → List ℕ
 sum_along n ν [] = ν
 sum_along n ν (line ∷ back) = sum_along n (join ν (content n (after 0 (length line)))) back
 
--- lines from the rightmost on: of cells alone, not shorter than m and than those before, and not longer than n
+-- the lines, from the rightmost one on, have only cells, and their lengths are weakly increasing, at least m and at most n
 AreStraight : ℕ → ℕ → List (List Bool) → Type 0
 AreStraight n m [] = Unit {0}
 AreStraight n m (line ∷ back) = OnlyCells line × ((m ≤ length line) × ((length line ≤ n) × AreStraight n (length line) back))
@@ -264,9 +264,9 @@ over_straight n m g (line ∷ back) ν f e s =
     other c a d (inl t) = absurd (d (next_is n m line ν c s.0 (word_tells n line c a) e t))
     other c a d (inr t) = ap (λ (b : Bool). cond b (over_columns n (reverse back) (λ s' r. g s') (join ν (content n c)) c) (pos 0)) t
 
--- ---- the sum is the shape
+-- ---- the sum of the contents of all columns is the shape
 
--- how many lines have more than i places
+-- the number of lines with more than i places
 longer : ℕ → List (List Bool) → ℕ
 longer i [] = 0
 longer i (line ∷ lines) = cond (nat_lt i (length line)) 1 0 + longer i lines
@@ -305,7 +305,7 @@ length_sum_along n ν [] l = l
 length_sum_along n ν (line ∷ back) l =
     length_sum_along n (join ν (content n (after 0 (length line)))) back (length-join_same n ν (content n (after 0 (length line))) l (length_content n (after 0 (length line))))
 
--- columns under a row: one place longer each
+-- a line of h + 1 cells has more than i + 1 places if and only if a line of h cells has more than i
 one_longer : (i h : ℕ) → cond {A = ℕ} (nat_lt (suc i) (suc h)) 1 0 ≡ cond {A = ℕ} (nat_lt i h) 1 0
 one_longer i h = by (cases_lt i h)
   where
@@ -344,9 +344,9 @@ longer_transposed zero (line ∷ lines) f = longer_first line (transposed lines)
 longer_transposed (suc i) (line ∷ lines) f =
     longer_put i line (transposed lines) (length-transposed lines (falls_below line lines f) line f) ∙ longer_transposed i lines (falls_below line lines f)
 
--- ---- the lines of a straight shape
+-- ---- the column lines of a straight shape
 
--- lines of cells alone, none with more than k places
+-- all places of the lines are cells, and no line has more than k places
 AllCells : ℕ → List (List Bool) → Type 0
 AllCells k [] = Unit {0}
 AllCells k (line ∷ lines) = (OnlyCells line × (length line ≤ k)) × AllCells k lines
@@ -425,7 +425,7 @@ sum_is_shape n parts p =
         let f = at_resize n i parts h in
         omega arith
 
--- over the columns of a straight shape, from nothing on, one way to add them is left
+-- from the empty sum on, the columns of a straight shape can be added in only one way, so the sum over all ways has one summand
 pub straight_columns : (n : ℕ) (parts : List ℕ) (g : List ℕ → ℤ) → IsPartition parts → rows parts ≤ n
     → over_columns n (column_lines parts []) (λ s d. g s) (resize n []) [] ≡ g (resize n parts)
 straight_columns n parts g p h =
@@ -457,12 +457,12 @@ too_few_letters n line c o f h =
     let l = fits_length n line c f in
     absurd (omega arith))
 
--- the line of the leftmost column; an empty one where there is none
+-- the line of the leftmost column; an empty one if there is none
 abbrev pub leftmost_line : List (List Bool) → List Bool
 leftmost_line [] = []
 leftmost_line (line ∷ lines) = line
 
--- the first column has a place for each row
+-- the leftmost column has a place for each row
 first_put : (row : List Bool) (lines : List (List Bool)) → leftmost_line (put_row (true ∷ row) lines) ≡ true ∷ leftmost_line lines
 first_put row [] = refl
 first_put row (c ∷ lines) = refl

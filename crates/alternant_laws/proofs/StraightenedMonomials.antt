@@ -42,7 +42,7 @@ symmetric-monomial parts n left a b right =
     ∙ ap₂ (λ k (l : List ℕ). cond (eqb k n) (cond (same l parts) (pos 1) (pos 0)) (pos 0)) (length-exchange left a b right) (sorted-exchange left a b right)
     ∙ sym (coefficient-monomial parts n (left ++ (b ∷ a ∷ right)))
 
--- ---- sums of products with combinations
+-- ---- a polynomial times a combination, as a sum over its terms
 
 pair-times_terms : {A : Type 0} (f : Poly) (g : List ℕ → Poly) (h : A → WholeTerms) (xs : List A) (φ : List ℕ → ℤ)
     → pair (times f (combined g (flat_map h xs))) φ ≡ total (λ (x : A). pair (times f (combined g (h x))) φ) xs
@@ -71,7 +71,7 @@ pair-times_single f g label c φ =
     alone : (x : ℤ) → x +ℤ pos 0 ≡ x
     alone x = omega (arith, ints)
 
--- ---- one arrangement
+-- ---- a_(α + ρ) is a_ρ times the Schur polynomial to which α straightens
 
 straight : (n : ℕ) (α : List ℕ) (φ : List ℕ → ℤ) → length α ≡ n
     → pair (alternant (join (staircase n) α)) φ ≡ pair (times (alternant (staircase n)) (combined (λ label. schur label n) (straightened_term (straightened α)))) φ
@@ -99,7 +99,7 @@ straight n α φ e = ap (λ l. pair (alternant l) φ) is ∙ by (has_equal_entri
         ∙ sym (pair_determined (times (alternant (staircase n)) (schur ν n)) (alternant (join ν (staircase n))) φ (bialternant n ν (from_beta_partition (sorted_falling (shifted α)) strict) (omega arith))))
         ∙ sym (pair-times_single (alternant (staircase n)) (λ label. schur label n) ν (sorting_sign (shifted α)) φ)
 
--- ---- the law
+-- ---- m_λ is the sum of what its arrangements straighten to
 
 In-combined : (n : ℕ) (terms : WholeTerms) → In n (combined (λ label. schur label n) terms)
 In-combined n terms = In_each n (λ (t : List ℕ × ℤ). scale t.1 (schur t.0 n)) terms (λ t m. In_scale n t.1 (schur t.0 n) (In-schur t.0 n))

@@ -1,4 +1,5 @@
--- Sums over semistandard tableaux left of a column: the numbers of k and k + 1 may be exchanged where the column misses k.
+-- Sums over semistandard tableaux left of a column: the numbers of k and k + 1 can be exchanged if the column does not
+-- have k.
 use Rattle.std.proofs.Common.{◌≡◌, ℕ, suc, ◌<◌, Bool, true, ◌&&◌, List, [], ◌∷◌, map, length, nat_le, sym, ◌∙◌, ap, subst, refl, arith, ℤ, filter}
 use Rattle.std.proofs.lemmas.Bool.{and_parts, and_from, leb-true, le-leb}
 use Rattle.sym_model.specs.Sum.{total, Among}
@@ -38,11 +39,11 @@ left_back column [] l = refl
 left_back [] (w ∷ ws) l = refl
 left_back (x ∷ column) (w ∷ ws) l = and_from (every (λ a. nat_le a x) w) (is_left_of column ws) (at_most_back x w l.0) (left_back column ws l.1)
 
--- a tableau left of a column
+-- whether the rows are a tableau that fits left of a column
 abbrev pub stands_left : List ℕ → List (List ℕ) → Bool
 stands_left column rows = is_padded_tableau rows && is_left_of column rows
 
--- the padded tableaux over a pattern that stand left of a column
+-- the padded tableaux over a pattern that fit left of a column
 abbrev pub left_tableaux : ℕ → List (List Bool) → List ℕ → List (List (List ℕ))
 left_tableaux n pattern column = filter (stands_left column) (fillings_over n pattern)
 

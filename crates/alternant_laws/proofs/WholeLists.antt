@@ -1,7 +1,7 @@
 -- Lists of whole numbers written as fractions.
---     numerators-as_fractions   the numerators are the list again
---     AreWhole-as_fractions     and all denominators are 1
---     whole_counts              a list that has counts as its coefficients, with the labels told
+--     numerators-as_fractions   the numerators of the fractions are the list
+--     AreWhole-as_fractions     all denominators are 1
+--     whole_counts              a list that has counts as its coefficients, with the conditions on its labels
 use Rattle.std.proofs.Common.{◌≡◌, ℕ, ◌≤◌, ℤ, pos, List, [], ◌∷◌, refl, sym, ◌∙◌, ap, subst}
 use Rattle.sym_model.specs.Sum.{Among}
 use Rattle.sym_model.specs.Polynomial.{coefficient}

@@ -8,24 +8,24 @@ use Rattle.sym_model.specs.Schur.{tableaux, times_in, letters_of}
 abbrev pub IsEither : ℕ → ℕ → Type 0
 IsEither k a = (a ≡ k) ⊎ (a ≡ suc k)
 
--- one letter is the other, or both are k or k + 1
+-- the two letters are equal, or both are k or k + 1
 abbrev pub AgreeBut : ℕ → ℕ → ℕ → Type 0
 AgreeBut k a b = (a ≡ b) ⊎ (IsEither k a × IsEither k b)
 
--- two rows of one length, whose letters agree place by place but for k and k + 1
+-- two rows of one length that have equal letters at each place, or letters k or k + 1 in both
 abbrev pub RowsAgreeBut : ℕ → List ℕ → List ℕ → Type 0
 RowsAgreeBut k [] [] = Unit {0}
 RowsAgreeBut k (a ∷ v) (b ∷ w) = AgreeBut k a b × RowsAgreeBut k v w
 RowsAgreeBut k _ _ = ⊥
 
--- two fillings of one shape that agree in every cell but for k and k + 1
+-- two fillings of one shape that have equal letters in each cell, or letters k or k + 1 in both
 abbrev pub FillingsAgreeBut : ℕ → List (List ℕ) → List (List ℕ) → Type 0
 FillingsAgreeBut k [] [] = Unit {0}
 FillingsAgreeBut k (v ∷ T) (w ∷ U) = RowsAgreeBut k v w × FillingsAgreeBut k T U
 FillingsAgreeBut k _ _ = ⊥
 
--- an involution on the semistandard tableaux of outer/inner with entries from 1 to n that exchanges
--- the numbers of k and k + 1, and leaves every other entry in its cell
+-- an involution on the semistandard tableaux of outer/inner with entries from 1 to n that exchanges the numbers of
+-- entries k and k + 1, and leaves every other entry in its cell
 pub record BenderKnuth (n k : ℕ) (outer inner : List ℕ) : Type 0 where
   pub exchange : List (List ℕ) → List (List ℕ)
   pub into : (T : List (List ℕ)) → Among T (tableaux n outer inner)

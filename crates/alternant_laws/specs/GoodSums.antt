@@ -29,8 +29,8 @@ good_schurs n start outer inner =
     flat_map (λ filling. schur (start_plus_content n start filling) n)
     (good_tableaux n start outer inner)
 
--- the terms have the counts as their coefficients: whole numbers, labels that are partitions with
--- at most k rows, and for each such partition what its terms come to is its count
+-- the terms have the counts as their coefficients: whole numbers, labels that are partitions with at most k rows, and
+-- for each such partition the sum of its coefficients is its count
 pub record ListsCounts (k : ℕ) (count : List ℕ → ℕ) (terms : Terms (List ℕ)) : Type 0 where
   pub whole : AreWhole terms
   pub labels : (t : List ℕ × Fraction) → Among t terms → IsPartition t.0 × (rows t.0 ≤ k)

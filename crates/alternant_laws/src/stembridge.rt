@@ -13,7 +13,7 @@ ghost use Rattle.alternant_laws.specs.GoodSums.{good_alternants, good_schurs};
 /// s_(μ/ν) is the sum of a_(λ+ω(T)+ρ) over the good tableaux T of the shape μ/ν for the start λ,
 /// with entries from 1 to n, where ω(T) is the content of T (Stembridge).
 ///
-/// So a_ρ·s_μ is a_(μ+ρ), and s_μ is 0 where μ has more rows than there are variables.
+/// So a_ρ·s_μ is a_(μ+ρ), and s_μ is 0 if μ has more rows than there are variables.
 pub fn stembridge_law()
     ensures identity { (n : ℕ) (start outer inner : List ℕ) → IsPartition start → rows start ≤ n
         → IsPartition outer → IsPartition inner
@@ -31,12 +31,12 @@ pub fn stembridge_law()
 /// so s_(μ/ν) is the sum of s_(ω(T)) over those for the empty start.
 ///
 /// So the Schur coefficients of a product and of a skew Schur polynomial are the counts of good
-/// tableaux: an alternant a_(α+ρ), α falling, has at x^(ν+ρ) the coefficient 1 where α without the
-/// zeros at its end is ν, and 0 for other partitions ν.
+/// tableaux: for a decreasing α, the alternant a_(α+ρ) has at x^(ν+ρ) the coefficient 1 if ν is α
+/// without the zeros at its end, and 0 for other partitions ν.
 ///
-/// The classical product of several factors, which lists the partitions of one size alone, has at
-/// each partition κ with at most k rows, of whatever size, the Schur coefficient of κ in the product
-/// of the factors in k variables.
+/// The classical product of several factors lists partitions of one size only; at each partition κ
+/// with at most k rows, of whatever size, it has the Schur coefficient of κ in the product of the
+/// factors in k variables.
 pub fn littlewood_richardson_law()
     ensures product { (n : ℕ) (start outer inner : List ℕ) → IsPartition start → IsPartition outer
         → IsPartition inner

@@ -10,10 +10,10 @@ ghost use Rattle.sym_model.specs.Straightening.{straightened};
 ghost use Rattle.sym_model.specs.WholeTerms.{combined};
 ghost use Rattle.alternant_laws.specs.StraightenedTerms.{straightened_terms};
 
-/// In every number n of variables m_λ is the sum over the distinct arrangements α of λ in n places
-/// of what α straightens to: 0 where two entries of α + ρ are equal, and else the sign of sorting α
-/// + ρ times the Schur polynomial of the sorted list less ρ (Macdonald, I.3). In place of n places
-/// any number may be taken that is at least the size of λ.
+/// In every number n of variables m_λ is the sum, over the distinct arrangements α of λ in n
+/// places, of what α straightens to: 0 if two entries of α + ρ are equal, and otherwise the sign of
+/// sorting α + ρ times the Schur polynomial of the sorted list less ρ (Macdonald, I.3). Instead of
+/// n places any number of places that is at least the size of λ gives the same sum.
 ///
 /// Example: (0,2) straightens to -s_(1,1) in two variables, so m_(2) = s_(2) - s_(1,1) there.
 pub fn straighten_law()

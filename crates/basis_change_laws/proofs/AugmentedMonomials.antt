@@ -26,7 +26,7 @@ use Rattle.monomial_laws.proofs.PowerSums.{total_distinct-only, total_times_in, 
 use Rattle.monomial_laws.proofs.PowerSumLists.{has_from-distinct}
 use Rattle.sym_model.specs.ListWeight.{factorials}
 
--- ---- multiplicities
+-- ---- the factorials of the multiplicities of a list with one more number
 
 same_whole : (m n : ℕ) → pos m ≡ pos n → m ≡ n
 same_whole m n e = omega (arith, ints)
@@ -38,7 +38,7 @@ times_in-distinct k l = same_whole (times_in k (distinct l)) (cond (has k l) 1 0
     by true = refl
     by false = refl
 
--- one number more changes no factorial but its own
+-- putting c in front of l does not change the factorials of the multiplicities of numbers other than c
 factorials_without : (c : ℕ) (l D : List ℕ) → times_in c D ≡ 0 → factorials (map (λ b. times_in b (c ∷ l)) D) ≡ factorials (map (λ b. times_in b l) D)
 factorials_without c l [] z = refl
 factorials_without c l (b ∷ D) z = by (cases_eq b c) (factorials_without c l D)
@@ -70,7 +70,7 @@ factorials_with c l (b ∷ D) z = by (cases_eq b c) (factorials_with c l D)
         ap₂ ◌*◌ (ap factorial (times_in-other b c l (λ e. n (sym e)))) (later (sym (times_in-other c b D n) ∙ z))
         ∙ mul_left_comm (factorial (times_in b l)) (times_in c (c ∷ l)) (factorials (map (λ d. times_in d l) D))
 
--- one number more: the factor is how often it then stands there
+-- putting c in front of l multiplies the product of the factorials by the new multiplicity of c
 pub multiplicity_factorials-cons : (c : ℕ) (l : List ℕ) → multiplicity_factorials (c ∷ l) ≡ times_in c (c ∷ l) * multiplicity_factorials l
 multiplicity_factorials-cons c l = by (cases_Bool (has c l))
   where
@@ -89,7 +89,7 @@ multiplicity_factorials-cons c l = by (cases_Bool (has c l))
         no_more (inl h) = absurd (both_ways (has c l) e (has_from-times_in c l h))
         no_more (inr h) = omega arith
 
--- ---- a part put in
+-- ---- the factorials of the multiplicities after a part is inserted or increased
 
 pub multiplicity_factorials-insert : (a : ℕ) (parts : List ℕ) → 0 < a → multiplicity_factorials (insert_part a parts) ≡ times_in a (insert_part a parts) * multiplicity_factorials parts
 multiplicity_factorials-insert zero parts h = absurd (omega arith)
@@ -111,7 +111,7 @@ multiplicity_factorials-insert (suc a) (b ∷ parts) h = by (nat_le b (suc a)) r
         ∙ mul_left_comm (times_in b (b ∷ parts)) (times_in (suc a) (insert_part (suc a) parts)) (multiplicity_factorials parts)
         ∙ ap₂ ◌*◌ (sym v) (sym y)
 
--- a part b made a + b
+-- if μ is λ with a part b replaced by a + b, m_b(λ)·Π m_i(μ)! = m_(a+b)(μ)·Π m_i(λ)!
 raise_factor : (a b : ℕ) (parts : List ℕ) → 0 < a → IsPartition parts → has b parts ≡ true
     → times_in b parts * multiplicity_factorials (raise a b parts) ≡ multiplicity_factorials parts * times_in (a + b) (raise a b parts)
 raise_factor a zero parts h p e = absurd (both_ways (has 0 parts) (has-zero parts p.positive) e)
@@ -127,13 +127,13 @@ raise_factor a (suc b) parts h p e =
     product_turn : (u v w : ℕ) → u * (v * w) ≡ (u * w) * v
     product_turn u v w = omega arith
 
--- ---- sums over the parts
+-- ---- sums over the parts, and over the different parts, of a partition
 
 pull_factor : (t : Bool) (x : ℤ) → cond t (pos 1) (pos 0) *ℤ x ≡ cond t x (pos 0)
 pull_factor true x = omega (arith, ints)
 pull_factor false x = omega (arith, ints)
 
--- a sum over the parts is a sum over the different parts, each as often as it stands there
+-- a sum over the parts is a sum over the different parts, each times its multiplicity
 total_parts : (g : ℕ → ℤ) (l : List ℕ) → total (λ (b : ℕ). pos (times_in b l) *ℤ g b) (distinct l) ≡ total g l
 total_parts g l =
     total_ext (λ (b : ℕ). pos (times_in b l) *ℤ g b) (λ (b : ℕ). total (λ (c : ℕ). cond (b == c) (g b) (pos 0)) l) spread (distinct l)
@@ -149,7 +149,7 @@ total_parts g l =
         ∙ total_ext (λ (c : ℕ). g b *ℤ cond (c == b) (pos 1) (pos 0)) (λ (c : ℕ). cond (b == c) (g b) (pos 0))
         (λ c. *ℤ_comm (g b) (cond (c == b) (pos 1) (pos 0)) ∙ pull_factor (c == b) (g b) ∙ ap (λ (t : Bool). cond t (g b) (pos 0)) (equal-sym c b)) l
 
--- ---- the law
+-- ---- p_a times an augmented monomial
 
 pub power_sum_times_augmented : (a n : ℕ) (parts : List ℕ) → 0 < a → IsPartition parts
     → Same (times (power_sum_of a n) (augmented parts n)) (plus (augmented (insert_part a parts) n) (flat_map (λ b. augmented (raise a b parts) n) parts))

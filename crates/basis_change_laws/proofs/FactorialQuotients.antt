@@ -54,7 +54,7 @@ rise-is a d h =
 pub factors-positive : (a b : ℕ) → 0 < factorial a * factorial b
 factors-positive a b = mul-pos (factorial-positive a) (factorial-positive b)
 
--- a divisor of a factorial of at most 20 is small
+-- if x divides d! and d is at most 20, x is below 2^127
 pub within-factorial : (x k d : ℕ) → x * k ≡ factorial d → 0 < k → d ≤ 20 → x < 2 ^ 127
 within-factorial x k d e p h =
     let m = factorial-mono d 20 h in

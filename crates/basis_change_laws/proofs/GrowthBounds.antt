@@ -1,4 +1,4 @@
--- The growth into p, h and e: it multiplies.
+-- The growth into p, h and e is multiplicative.
 use Rattle.std.proofs.Common.{◌≡◌, ℕ, zero, suc, ◌+◌, ◌*◌, ◌^◌, ◌<◌, ◌≤◌, refl, ap, ◌∙◌, arith}
 use Rattle.std.proofs.Math.Nat.{pow-le-pow_right}
 use Rattle.std.proofs.lemmas.Nat.{mul-le, pow-add}
@@ -11,7 +11,7 @@ use native.Mathlib.Nat.{mul-le-mul_left, pow-zero}
 abbrev pub grown : ℕ → ℕ
 grown d = growth Basis.completes d
 
--- in one form for every degree
+-- the growth at d is d!·(2d)^d, also for d = 0
 pub grown-is : (d : ℕ) → grown d ≡ factorial d * (2 * d) ^ d
 grown-is zero = refl
 grown-is (suc d) = refl
@@ -24,7 +24,7 @@ power-up a (suc d) h =
     omega arith
 power-up (suc a) zero h = absurd (omega arith)
 
--- over a factorial that is greater
+-- if c is d!/a!, c times the growth at a is at most the growth at d
 pub grown-raised : (a d c : ℕ) → a ≤ d → c * factorial a ≡ factorial d → c * grown a ≤ grown d
 grown-raised a d c h e =
     let x = (2 * a) ^ a in
@@ -35,7 +35,7 @@ grown-raised a d c h e =
     grouped : (x y z : ℕ) → x * (y * z) ≡ (x * y) * z
     grouped x y z = omega arith
 
--- a product over the product of the factorials, brought over that of the sum
+-- the growths at a and b, times the binomial coefficient of a + b over a, are at most the growth at a + b
 pub grown-product : (a b c : ℕ) → c * (factorial a * factorial b) ≡ factorial (a + b) → c * (grown a * grown b) ≤ grown (a + b)
 grown-product a b c e =
     let x = (2 * a) ^ a in
@@ -52,7 +52,7 @@ grown-product a b c e =
     grouped : (c u x v y : ℕ) → c * ((u * x) * (v * y)) ≡ (c * (u * v)) * (x * y)
     grouped c u x v y = omega arith
 
--- the same of a list whose absolute values add up to at most 2^k times what it is over
+-- if c is (k + s)!/(o·s!), then c·o·2^k times the growth at s is at most the growth at k + s
 pub grown-joined : (k s c o : ℕ) → c * (o * factorial s) ≡ factorial (k + s) → c * ((o * 2 ^ k) * grown s) ≤ grown (k + s)
 grown-joined k s c o e =
     let x = 2 ^ k in

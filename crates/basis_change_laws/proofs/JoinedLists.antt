@@ -1,6 +1,6 @@
 -- Lists of terms in a basis that is multiplied over the parts of its labels.
---     stands-product, -plus, -scale, -raised, -weaken      what is made of such lists
-use Rattle.std.proofs.Common.{◌≡◌, ℕ, ◌+◌, ◌*◌, ◌≤◌, List, [], ◌∷◌, map, refl, sym, ap, ap₂, ◌∙◌, subst, inl, inr, arith, ℤ, pos, ◌+ℤ◌, ◌*ℤ◌}
+--     stands-product, -plus, -scale, -raised, -weaken      products, sums and multiples of such lists
+use Rattle.std.proofs.Common.{◌≡◌, ℕ, ◌+◌, ◌*◌, ◌≤◌, List, [], ◌∷◌, map, refl, sym, ap, ap₂, ◌∙◌, inl, inr, arith, ℤ, pos, ◌+ℤ◌, ◌*ℤ◌}
 use Rattle.std.specs.Prelude.{nat_abs}
 use Rattle.std.proofs.lemmas.Int.{ints, unsigned_abs-mul}
 use Rattle.std.proofs.lemmas.Nat.{mul-le}
@@ -8,41 +8,36 @@ use Rattle.sym_model.specs.Sum.{total, Among}
 use Rattle.sym_model.specs.Polynomial.{Poly, Same, In, pair, join, times, plus, scale, one}
 use Rattle.sym_model.specs.Partition.{ArePositive}
 use Rattle.sym_model.specs.Bases.{product_over}
-use Rattle.sym_model.specs.WholeTerms.{WholeTerms, absolute_total, EachLabel}
+use Rattle.sym_model.specs.WholeTerms.{WholeTerms, absolute_total, HaveLabels}
 use Rattle.sym_model.proofs.Ring.{ring}
 use Rattle.sym_model.proofs.Sums.{total_ext, total_among, total_each, total_map, total_scale}
 use Rattle.sym_model.proofs.Polynomials.{pair_ext, pair_factor, pair_plus, pair_scale, pair_times, pair_determined, Same_refl, Same_sym, Same_trans, times_respects, In_one}
 use Rattle.sym_model.proofs.PolynomialLaws.{times_comm, times-one}
 use Rattle.monomial_laws.proofs.Powers.{In-product_over}
-use Rattle.monomial_laws.proofs.PowerSumLists.{EachLabel-append, EachLabel-scale}
+use Rattle.sym_model.proofs.WholeTerms.{labels_append, labels_map, labels_scaled}
 use Rattle.basis_change_laws.specs.JoinedLists.{merged, joined, IsLow, Stands}
 use Rattle.basis_change_laws.proofs.MergedParts.{IsPartition-merged, size-merged, product_over-merged}
 use Rattle.sym_model.proofs.WholeTerms.{absolute-append}
 
--- ---- labels
+-- ---- the labels of a product have at most a + b cells
 
-pub each-label : (P : List ℕ → Type 0) (W : WholeTerms) → ((t : List ℕ × ℤ) → Among t W → P t.0) → EachLabel P W
-each-label P [] h = tt
-each-label P (t ∷ W) h = (h t (inl refl), each-label P W (λ u m. h u (inr m)))
-
-pub label-among : (P : List ℕ → Type 0) (W : WholeTerms) → EachLabel P W → (t : List ℕ × ℤ) → Among t W → P t.0
-label-among P [] h t m = absurd m
-label-among P (u ∷ W) h t (inl e) = subst (λ (v : List ℕ × ℤ). P v.0) (sym e) h.0
-label-among P (u ∷ W) h t (inr m) = label-among P W h.1 t m
-
-low-joined : (a b : ℕ) (W V : WholeTerms) → EachLabel (IsLow a) W → EachLabel (IsLow b) V → EachLabel (IsLow (a + b)) (joined W V)
-low-joined a b [] V h k = tt
-low-joined a b (s ∷ W) V h k = EachLabel-append _ (map (λ (t : List ℕ × ℤ). (merged s.0 t.0, s.1 *ℤ t.1)) V) (joined W V) (row V k) (low-joined a b W V h.1 k)
+low-joined : (a b : ℕ) (W V : WholeTerms) → HaveLabels (IsLow a) W → HaveLabels (IsLow b) V → HaveLabels (IsLow (a + b)) (joined W V)
+low-joined a b [] V h k t m = absurd m
+low-joined a b (s ∷ W) V h k u n =
+    labels_append (IsLow (a + b)) (map (λ (t : List ℕ × ℤ). (merged s.0 t.0, s.1 *ℤ t.1)) V) (joined W V)
+    (labels_map (IsLow (a + b)) (λ (t : List ℕ × ℤ). (merged s.0 t.0, s.1 *ℤ t.1)) V one)
+    (low-joined a b W V (λ t m. h t (inr m)) k) u n
   where
-    row : (U : WholeTerms) → EachLabel (IsLow b) U → EachLabel (IsLow (a + b)) (map (λ (t : List ℕ × ℤ). (merged s.0 t.0, s.1 *ℤ t.1)) U)
-    row [] k = tt
-    row (t ∷ U) k =
-        let x = h.0.low in
-        let y = k.0.low in
+    one : (t : List ℕ × ℤ) → Among t V → IsLow (a + b) (merged s.0 t.0)
+    one t m =
+        let first = h s (inl refl) in
+        let second = k t m in
+        let x = first.low in
+        let y = second.low in
         let z = size-merged s.0 t.0 in
-        (record { partition = IsPartition-merged s.0 t.0 k.0.partition; low = omega arith }, row U k.1)
+        record { partition = IsPartition-merged s.0 t.0 second.partition; low = omega arith }
 
--- ---- absolute values
+-- ---- the sum of the absolute values of the coefficients
 
 pub absolute-scale : (c : ℤ) (W : WholeTerms) → absolute_total (scale c W) ≡ nat_abs c * absolute_total W
 absolute-scale c [] = omega arith
@@ -60,7 +55,7 @@ absolute-joined (s ∷ W) V =
     row [] = omega arith
     row (t ∷ U) = let u = unsigned_abs-mul s.1 t.1 in let r = row U in omega arith
 
--- ---- values
+-- ---- the polynomial of a product of two lists is the product
 
 pub pair-joined : (W V : WholeTerms) (ψ : List ℕ → ℤ) → pair (joined W V) ψ ≡ pair W (λ l. pair V (λ r. ψ (merged l r)))
 pair-joined W V ψ =
@@ -78,7 +73,7 @@ pair-among : (W : WholeTerms) (φ ψ : List ℕ → ℤ) → ((t : List ℕ × �
 pair-among W φ ψ h = total_among (λ (t : List ℕ × ℤ). t.1 *ℤ φ t.0) (λ (t : List ℕ × ℤ). t.1 *ℤ ψ t.0) W (λ t m. ap (λ z. t.1 *ℤ z) (h t m))
 
 module _ (P : ℕ → ℕ → Poly) (places : (n k : ℕ) → In n (P k n)) where
-  -- joined parts multiply
+  -- the product over the merged parts is the product of both products
   pub merged-value : (n : ℕ) (l r : List ℕ) → ArePositive l → Same (product_over P (merged l r) n) (times (product_over P l n) (product_over P r n))
   merged-value n l r p =
       let M = product_over P (merged l r) n in
@@ -103,7 +98,7 @@ module _ (P : ℕ → ℕ → Poly) (places : (n k : ℕ) → In n (P k n)) wher
         (λ t i.
         pair_ext V (λ r. pair (product_over P (merged t.0 r) n) φ) (λ r. pair (product_over P r n) (λ β. pair (product_over P t.0 n) (λ α. φ (join β α))))
         (λ r.
-        pair_determined (product_over P (merged t.0 r) n) (times (product_over P t.0 n) (product_over P r n)) φ (merged-value n t.0 r (label-among _ W h.labels t i).partition.positive)
+        pair_determined (product_over P (merged t.0 r) n) (times (product_over P t.0 n) (product_over P r n)) φ (merged-value n t.0 r (h.labels t i).partition.positive)
         ∙ pair_determined (times (product_over P t.0 n) (product_over P r n)) (times (product_over P r n) (product_over P t.0 n)) φ (times_comm (product_over P t.0 n) (product_over P r n))
         ∙ pair_times (product_over P r n) (product_over P t.0 n) φ)
         ∙ k.value n (λ β. pair (product_over P t.0 n) (λ α. φ (join β α)))
@@ -121,7 +116,7 @@ module _ (P : ℕ → ℕ → Poly) (places : (n k : ℕ) → In n (P k n)) wher
         let y = absolute-scale (pos c) W in
         let u = mul-le (absolute_total W) (absolute_total V) A B h.few k.few in
         closing (absolute_total (joined (scale (pos c) W) V)) (absolute_total (scale (pos c) W)) c (absolute_total W) (absolute_total V) (A * B) M x y u m;
-    labels = low-joined a b (scale (pos c) W) V (EachLabel-scale _ (pos c) W h.labels) k.labels;
+    labels = low-joined a b (scale (pos c) W) V (labels_scaled _ (pos c) W h.labels) k.labels;
   }
     where
       regroup : (c r q x : ℤ) → c *ℤ (r *ℤ (q *ℤ x)) ≡ (c *ℤ (q *ℤ r)) *ℤ x
@@ -143,33 +138,33 @@ stands-plus P q A B M d f g W V h k m = record {
       pair_plus W V (λ l. pair (product_over P l n) φ) ∙ ap₂ ◌+ℤ◌ (h.value n φ) (k.value n φ)
       ∙ spread (pos q) (pair (f n) φ) (pair (g n) φ) ∙ ap (λ z. pos q *ℤ z) (sym (pair_plus (f n) (g n) φ));
   few = let x = absolute-append W V in let y = h.few in let z = k.few in omega arith;
-  labels = EachLabel-append _ W V h.labels k.labels;
+  labels = labels_append (IsLow d) W V h.labels k.labels;
 }
   where
     spread : (q x y : ℤ) → q *ℤ x +ℤ q *ℤ y ≡ q *ℤ (x +ℤ y)
     spread q x y = simp ring (omega (arith, ints))
 
--- a multiple
+-- if W is a list for f, c·W is a list for c·f, with c times the bound
 pub stands-scale : (P : ℕ → ℕ → Poly) (q A M d : ℕ) (c : ℤ) (f : ℕ → Poly) (W : WholeTerms) → Stands P q A d f W → nat_abs c * A ≤ M → Stands P q M d (λ n. scale c (f n)) (scale c W)
 stands-scale P q A M d c f W h m = record {
   value = λ n φ.
       pair_scale c W (λ l. pair (product_over P l n) φ) ∙ ap (λ z. c *ℤ z) (h.value n φ)
       ∙ turned c (pos q) (pair (f n) φ) ∙ ap (λ z. pos q *ℤ z) (sym (pair_scale c (f n) φ));
   few = let x = absolute-scale c W in let y = mul-le (nat_abs c) (absolute_total W) (nat_abs c) A (omega arith) h.few in omega arith;
-  labels = EachLabel-scale _ c W h.labels;
+  labels = labels_scaled _ c W h.labels;
 }
   where
     turned : (c q x : ℤ) → c *ℤ (q *ℤ x) ≡ q *ℤ (c *ℤ x)
     turned c q x = simp ring (omega (arith, ints))
 
--- over a multiple of the denominator
+-- if W is a list for f over the denominator q, c·W is one over c·q
 pub stands-raised : (P : ℕ → ℕ → Poly) (q A M d r : ℕ) (c : ℕ) (f : ℕ → Poly) (W : WholeTerms) → Stands P q A d f W → c * q ≡ r → c * A ≤ M → Stands P r M d f (scale (pos c) W)
 stands-raised P q A M d r c f W h e m = record {
   value = λ n φ.
       pair_scale (pos c) W (λ l. pair (product_over P l n) φ) ∙ ap (λ z. pos c *ℤ z) (h.value n φ)
       ∙ grouped (pos c) (pos q) (pair (f n) φ) ∙ ap (λ (k : ℕ). pos k *ℤ pair (f n) φ) e;
   few = let x = absolute-scale (pos c) W in let y = mul-le c (absolute_total W) c A (omega arith) h.few in omega arith;
-  labels = EachLabel-scale _ (pos c) W h.labels;
+  labels = labels_scaled _ (pos c) W h.labels;
 }
   where
     grouped : (c q x : ℤ) → c *ℤ (q *ℤ x) ≡ (c *ℤ q) *ℤ x
@@ -179,7 +174,7 @@ pub stands-weaken : (P : ℕ → ℕ → Poly) (q A M d e : ℕ) (f : ℕ → Po
 stands-weaken P q A M d e f W h m l = record {
   value = h.value;
   few = let x = h.few in omega arith;
-  labels = each-label _ W (λ t i. let x = label-among _ W h.labels t i in let y = x.low in record { partition = x.partition; low = omega arith });
+  labels = λ t i. let x = h.labels t i in let y = x.low in record { partition = x.partition; low = omega arith };
 }
 
 pub stands-same : (P : ℕ → ℕ → Poly) (q A d : ℕ) (f g : ℕ → Poly) (W : WholeTerms) → ((n : ℕ) → Same (f n) (g n)) → Stands P q A d f W → Stands P q A d g W

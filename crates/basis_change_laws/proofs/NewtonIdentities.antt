@@ -1,5 +1,5 @@
--- Newton's identities, coefficient by coefficient: i can be taken from as many places of α as have a number of at least i,
--- and these add up to the size of α.
+-- Newton's identities, coefficient by coefficient: for each i, i can be subtracted at the places of α with a number
+-- of at least i, and these places, over all i, are size α in number.
 use Rattle.std.proofs.Common.{◌≡◌, ℕ, zero, suc, ◌+◌, ◌-◌, ◌<◌, ◌≤◌, ◌⊎◌, ◌==◌, Bool, true, false, cond, ◌&&◌, List, [], ◌∷◌, map, length, nat_le, sym, ◌∙◌, ap, ap₂, subst, refl, inl, inr, arith, ℤ, pos, neg_ℤ, ◌+ℤ◌, ◌*ℤ◌, flat_map}
 use Rattle.std.proofs.lemmas.Int.{ints}
 use Rattle.std.proofs.lemmas.Bool.{cases_lt, le-leb, lt-leb, eq-eqb, eqb-true, ne_eqb, and_parts}
@@ -18,7 +18,7 @@ use Rattle.sym_model.proofs.Polynomials.{coefficient_scale}
 use Rattle.monomial_laws.proofs.PowerSums.{length-lowered, coefficient-power_sum_times}
 use lib.IntN.{+ℤ_idr, *ℤ-zero}
 
--- ---- what is left when i is taken from one place
+-- ---- α with i subtracted at one place
 
 size-lowered : (i : ℕ) (α γ : List ℕ) → Among γ (lowered i α) → i + size γ ≡ size α
 size-lowered i [] γ m = absurd m
@@ -33,7 +33,7 @@ size-lowered i (c ∷ α) γ m = by (cases_lt c i) (Among_from_append γ (cond (
         here (inr v) = absurd v
     by h (inr u) r = let s = Among_from_map (λ (δ : List ℕ). c ∷ δ) γ (lowered i α) u in let d = ap size s.2 in let e = r s.0 s.1 in omega arith
 
--- a sum over what is left
+-- a sum over c ∷ α with i subtracted at one place is the term for the place of c, if i ≤ c, plus the sum over the places of α
 total_lowered : (g : List ℕ → ℤ) (i c : ℕ) (α : List ℕ) → total g (lowered i (c ∷ α)) ≡ cond (nat_le i c) (g ((c - i) ∷ α)) (pos 0) +ℤ total (λ (γ : List ℕ). g (c ∷ γ)) (lowered i α)
 total_lowered g i c α =
     total_append g (cond (nat_le i c) (((c - i) ∷ α) ∷ []) []) (map (λ (γ : List ℕ). c ∷ γ) (lowered i α))
@@ -43,7 +43,7 @@ total_lowered g i c α =
     by true = +ℤ_idr (g ((c - i) ∷ α))
     by false = refl
 
--- ---- sums over 1, .., m
+-- ---- sums over 1, .., m, with the last summand taken out
 
 total_last : (a k : ℕ) (g : ℕ → ℤ) → total g (after a (suc k)) ≡ total g (after a k) +ℤ g (a + suc k)
 total_last a zero g = omega (arith, ints)
@@ -53,9 +53,9 @@ total_last a (suc k) g =
     let f = ap g d in
     omega (arith, ints)
 
--- ---- complete symmetric polynomials
+-- ---- the identity for complete symmetric polynomials
 
--- how often 1, .., m can be taken
+-- the number of ways to subtract one of 1, .., m at a place of α is the size of α
 total_places : (m : ℕ) (α : List ℕ) → size α ≤ m → total (λ (i : ℕ). total (λ (γ : List ℕ). pos 1) (lowered i α)) (after 0 m) ≡ pos (size α)
 total_places m [] h = total_zero (after 0 m)
 total_places m (c ∷ α) h =
@@ -74,9 +74,9 @@ total_places m (c ∷ α) h =
         ∙ one-product (pos (length (after 0 c)))
         ∙ ap pos (length_after 0 c)
 
--- ---- both
+-- ---- the products of p_i and a complete or elementary symmetric polynomial
 
--- whether γ, with i taken from a place of α, has the degree that is left
+-- if γ is α with i subtracted at one place, γ has degree k - i if and only if α has degree k
 left_degree : (n k i : ℕ) (α γ : List ℕ) → i ≤ k → Among γ (lowered i α) → is_exponent_list n (k - i) γ ≡ is_exponent_list n k α
 left_degree n k i α γ h m =
     let l = length-lowered i α γ m in
@@ -86,7 +86,8 @@ left_degree n k i α γ h m =
     (λ e. let d = eqb-true (size γ) (k - i) e in eq-eqb (size α) k (omega arith))
     (λ e. let d = eqb-true (size α) k e in eq-eqb (size γ) (k - i) (omega arith)))
 
--- the coefficient of p_i times the sum of the monomials of degree k - i that pass a test
+-- the coefficient at x^α of p_i times the sum of the monomials of degree k - i that pass a test is the number of ways to subtract i at a place of α
+-- that leave exponents that pass
 one_product : (test : List ℕ → Bool) (n k i : ℕ) (α : List ℕ) → 0 < i → i ≤ k
     → coefficient (times (power_sum_of i n) (monomials test n (k - i))) α ≡ cond (is_exponent_list n k α) (total (λ (γ : List ℕ). cond (test γ) (pos 1) (pos 0)) (lowered i α)) (pos 0)
 one_product test n k i α p h =
@@ -112,7 +113,7 @@ newton_complete k n α =
     by true s = let e = s refl in product-one (pos k) ∙ ap pos (sym e) ∙ sym (total_places k α (omega arith))
     by false s = *ℤ-zero (pos k)
 
--- ---- elementary symmetric polynomials
+-- ---- the identity for elementary symmetric polynomials
 
 -- the sign (-1)^(i-1)
 abbrev turn : ℕ → ℤ
@@ -148,7 +149,7 @@ peak (suc (suc c)) =
     sum_up : (x y z p q t : ℤ) → x ≡ y +ℤ q → y ≡ z +ℤ p → z ≡ pos 0 → p ≡ t → q ≡ neg_ℤ t → x ≡ pos 0
     sum_up x y z p q t a b d e f = omega (arith, ints)
 
--- of the places from which 1, .., m can be taken, with signs, those that leave at most 1 there
+-- the signed sum, over the i that can be subtracted from c, of 1 if at most 1 is left and 0 otherwise
 one_peak : (m c : ℕ) → c ≤ m → total (λ (i : ℕ). cond (nat_le i c) (turn i *ℤ cond (nat_le (c - i) 1) (pos 1) (pos 0)) (pos 0)) (after 0 m) ≡ cond (c == 1) (pos 1) (pos 0)
 one_peak m c h =
     let e : c ≡ 0 + c = omega arith in
@@ -168,7 +169,7 @@ later_places : {A : Type 0} (b : Bool) (test : A → Bool) (xs : List A) (t : �
 later_places true test xs t = refl
 later_places false test xs t = ap (λ z. t *ℤ z) (total_zero xs) ∙ *ℤ-zero t
 
--- the sum over one more number
+-- the signed sum over c ∷ α from that over α, given the number n for α and whether all numbers of α are at most 1
 with_first : (c n : ℕ) (b : Bool) → cond b (cond (c == 1) (pos 1) (pos 0)) (pos 0) +ℤ cond (nat_le c 1) (cond b (pos n) (pos 0)) (pos 0) ≡ cond (nat_le c 1 && b) (pos (c + n)) (pos 0)
 with_first zero n true = omega (arith, ints)
 with_first zero n false = refl
@@ -183,7 +184,7 @@ with_first (suc (suc c)) n b =
     none true = refl
     none false = refl
 
--- what is left with at most 1 in each place, with signs
+-- the signed number of ways to subtract one of 1, .., m at a place of α such that no number is above 1 is the size of α if none of α is, else 0
 elementary_places : (m : ℕ) (α : List ℕ) → size α ≤ m
     → total (λ (i : ℕ). turn i *ℤ total (λ (γ : List ℕ). cond (at_most_one γ) (pos 1) (pos 0)) (lowered i α)) (after 0 m) ≡ cond (at_most_one α) (pos (size α)) (pos 0)
 elementary_places m [] h = total_none (λ (i : ℕ). turn i *ℤ pos 0) (after 0 m) (λ i n. *ℤ-zero (turn i))

@@ -19,7 +19,7 @@ pub record IsNewton (G : ℕ → ℕ → Poly) (σ : ℕ → ℤ) : Type 0 where
   pub first : (n : ℕ) → Same (G 0 n) (one n)
   pub sums : (k n : ℕ) → Same (scale (pos k) (G k n)) (flat_map (λ i. scale (σ i) (times (power_sum_of i n) (G (k - i) n))) (after 0 k))
 
--- ---- the two families
+-- ---- h_k and e_k have Newton's identities
 
 pub zeros_low : (n : ℕ) → at_most_one (replicate n 0) ≡ true
 zeros_low zero = refl
@@ -61,7 +61,7 @@ newton-complete = record {
       ∙ sym (pair_each (λ (i : ℕ). scale (pos 1) (times (power_sum_of i n) (complete_of (k - i) n))) (after 0 k) φ)));
 }
 
--- ---- multiples
+-- ---- multiples of lists of terms
 
 pub scale-scale : (x y : ℤ) (W : WholeTerms) → scale x (scale y W) ≡ scale (x *ℤ y) W
 scale-scale x y [] = refl

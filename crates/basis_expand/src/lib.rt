@@ -1,6 +1,46 @@
-//! Expressions expanded in a basis: the calls of `expand_in_monomials` and `expand_in_schurs`,
-//! passed on.
+//! Expressions expanded in m and in s: one walk over the nodes of an expression for every target,
+//! and those two targets.
+//!
+//! What is proved:
+//!
+//! `evaluate`: the value represents the expression, as the target defines it; `Large` is returned
+//! only if the expression is heavy, as the target defines it.
+//!
+//! `to_monomial`: the list is the expression in m, in every number of variables, bounded by the two
+//! numbers of its weight; `Large` is returned only if the weight is 2^127 or more.
+//! `atom_to_monomial`: the same for one partition in a basis. `schurs_to_monomials`: a list in s
+//! with integer coefficients as a list in m, in every number of variables; `Large` is returned only
+//! if, with the absolute values of the coefficients, some coefficient of the result is 2^127 or
+//! more.
+//!
+//! `to_schur`: the list is the expression in s, in every number of variables: a factor in h, e or p
+//! is multiplied by strips or rim hooks, other products are computed pair by pair by the
+//! Littlewood-Richardson rule, and if an intermediate number is too large, the expression is
+//! expanded in m first; `Large` is returned only if the weight for the target s is 2^127 or more.
+//! `to_monomial_by_schurs`: the list is the expression in m, in every number of variables; `Large`
+//! is returned only if the weight for the target m is 2^127 or more.
 #![tactic(auto)]
 
-pub use expand_in_monomials::to_monomial;
-pub use expand_in_schurs::{to_monomial_by_schurs, to_schur};
+mod cleared;
+mod evaluation;
+mod into_monomials;
+mod into_schurs;
+mod monomial_atoms;
+mod monomials_target;
+mod nodes;
+mod operand;
+mod power_sums;
+mod schur_atoms;
+mod schur_products;
+mod schurs_in_monomials;
+mod schurs_target;
+mod strips_added;
+mod strips_taken;
+mod target;
+mod through_schurs;
+
+pub use evaluation::evaluate;
+pub use into_monomials::{atom_to_monomial, to_monomial};
+pub use into_schurs::to_schur;
+pub use target::Target;
+pub use through_schurs::to_monomial_by_schurs;

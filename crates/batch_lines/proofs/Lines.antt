@@ -50,7 +50,7 @@ pub line_last : (text : List ℕ) → HasNoFeed text → 0 < length text → lin
 line_last text h l =
     lines_are text ∙ ap whole_lines (split_one text h) ∙ ap (λ t. cond t (text ∷ []) []) (lt-ltb 0 (length text) l)
 
--- ---- what is read of a source that records its bytes
+-- ---- the bytes read of a source that records its bytes
 
 pub told : (all rest taken : List ℕ) → Took (Some all) (Some rest) taken → all ≡ taken ++ rest
 told all rest taken h = h
@@ -58,7 +58,7 @@ told all rest taken h = h
 pub long_is : (text : List ℕ) → most_bytes < length text → batch_line text ≡ too_long
 long_is text h = ap (λ t. cond t too_long (line_of_words (words_of_line (without_return text)))) (lt-ltb most_bytes (length text) h)
 
--- ---- blocks
+-- ---- the blocks of two groups of lines, one after the other
 
 pub more_blocks : (entries : List Entry) (lines more : List BatchLine) (blocks others : List Block) → AreBlocks entries lines blocks → AreBlocks entries more others
     → AreBlocks entries (lines ++ more) (blocks ++ others)

@@ -14,7 +14,7 @@ use Rattle.batch_lines.specs.declared.heard.Heard.{Heard}
 use Rattle.batch_lines.specs.declared.next.Next.{Next}
 use Rattle.batch_lines.proofs.Parts.{no_feed_append}
 
--- ---- what was taken
+-- ---- the bytes that were taken from the source
 
 pub took_nothing : (told : Option (List ℕ)) → Took told told []
 took_nothing None = tt
@@ -23,7 +23,7 @@ took_nothing (Some rest) = refl
 pub took_more : (before between now : Option (List ℕ)) (first more : List ℕ) → Took before between first → Took between now more → Took before now (first ++ more)
 took_more before between now first more h k = Consumes-trans before between now first more h k
 
--- ---- a line so far
+-- ---- the first part of a line was read, and the line goes on
 
 pub record ReadsSo (before now : SourceSeen) (first pending kept : List ℕ) (is_long : Bool) : Type 0 where
   pub taken : List ℕ
@@ -35,7 +35,7 @@ pub record ReadsSo (before now : SourceSeen) (first pending kept : List ℕ) (is
   pub bytes : first ++ taken ≡ text ++ pending
   pub heard : IsHeard text kept is_long
 
--- ---- a line that ends
+-- ---- the line ends in the pending bytes
 
 ended_at_feed : (text line : List ℕ) (is_long : Bool) (all pending : List ℕ) (now : Option (List ℕ)) → IsHeard text line is_long → EndsAtFeed all text pending
     → IsNext (next_at_feed is_long) all text pending now line
@@ -61,7 +61,7 @@ ends {before = before} {now = now} {first = first} {pending = pending} {behind =
           (ended_at_feed (r.text ++ h.part) line heard.is_long (first ++ r.taken) behind now.left h.heard all);
     }
 
--- ---- a line that goes on
+-- ---- the line does not end in the pending bytes
 
 pub goes_on : {before now later : SourceSeen} {first pending kept behind line piece : List ℕ} {is_long : Bool} (heard : Heard)
     → (r : ReadsSo before now first pending kept is_long) → Hears r.text pending behind line heard → heard.has_ended ≡ false
@@ -82,7 +82,7 @@ goes_on {before = before} {now = now} {later = later} {first = first} {pending =
       heard = h.heard;
     }
 
--- ---- a fault of the source
+-- ---- the source fails before the line ends
 
 pub cuts : {before now : SourceSeen} (later : Option (List ℕ)) {first pending kept behind line : List ℕ} {is_long : Bool} (heard : Heard)
     → (r : ReadsSo before now first pending kept is_long) → Hears r.text pending behind line heard → heard.has_ended ≡ false
@@ -96,7 +96,7 @@ cuts {before = before} {now = now} later {first = first} {pending = pending} {be
           subst HasNoFeed (sym (r.bytes ∙ ap (λ xs. r.text ++ xs) cut.0)) (no_feed_append r.text h.part r.no_feed h.no_feed);
     }
 
--- ---- the end of the source
+-- ---- the source ends before a line feed
 
 no_bytes : (piece : List ℕ) → length piece ≡ 0 → piece ≡ []
 no_bytes [] h = refl

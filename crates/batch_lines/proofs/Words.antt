@@ -29,7 +29,7 @@ each_numbers (n ∷ numbers) more =
     ap (λ t. (codes " " ++ decimal n) ++ t) (each_numbers numbers more)
     ∙ sym (append_assoc (codes " " ++ decimal n) (behind_spaces numbers) (flat_map (λ w. codes " " ++ w) more))
 
--- a name, numbers, a sign and other numbers
+-- the text of a name, numbers, a sign and other numbers is made of their texts with spaces between them
 pub between_text : (name sign : List ℕ) (first second : List ℕ)
     → separated (codes " ") (name ∷ (map decimal first ++ (sign ∷ map decimal second)))
     ≡ name ++ (behind_spaces first ++ ((codes " " ++ sign) ++ behind_spaces second))
@@ -42,7 +42,7 @@ between_text name sign first second =
     last [] = refl
     last (n ∷ numbers) = ap (λ t. (codes " " ++ decimal n) ++ t) (last numbers)
 
--- ---- four letters by their code
+-- ---- the four letters of a permutation, by its code
 
 abbrev R : ℕ → ℕ → ℕ → ℕ
 R a c q = past (past (c + 1) (min (a + 1) q)) (max (a + 1) q)
@@ -111,7 +111,7 @@ four_words old p q r s =
     ∙ append_assoc old (word p) (word q ++ (word r ++ word s))
     ∙ ap (λ t. old ++ (word p ++ (word q ++ (word r ++ t)))) (sym (append-nil (word s)))
 
--- ---- whole lines
+-- ---- the whole line that is drawn
 
 kind_is : (x k kind : ℕ) → k ≡ drawn 1 5 x → k ≡ kind → separated (codes " ") (words_drawn kind (draw x)) ≡ work_line x
 kind_is x k kind d e = ap (λ j. separated (codes " ") (words_drawn j (draw x))) (sym e ∙ d)

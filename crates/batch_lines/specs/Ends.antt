@@ -1,4 +1,4 @@
--- How far a batch is, and how it ends.
+-- The progress of a batch, and its end.
 use Rattle.std.specs.Prelude.{◌≡◌, ℕ, List, [], Bool, true, false, ◌&&◌, codes, cond}
 use Rattle.calc_base.specs.declared.status.Status.{Status}
 use Rattle.calc_base.specs.declared.status.Status.TheVariants as status
@@ -6,8 +6,7 @@ use Rattle.calc_base.specs.Puts.{Puts}
 use Rattle.calc_base.specs.Sink.{SinkSeen}
 use Rattle.batch_lines.specs.declared.progress.Progress.{Progress}
 
--- what stands in front of a block: nothing in front of the first one,
--- and the line `--` in front of the others
+-- the text before a block: empty before the first one, and the line `--` before the others
 abbrev pub separator : Bool → List ℕ
 separator true = []
 separator false = codes "--\n"
@@ -23,20 +22,20 @@ is_done_status status.SinkFault = false
 is_done_status status.SourceFault = false
 is_done_status status.NoMemory = false
 
--- how far a batch is, after one block more
+-- the progress of a batch after one more block, with this status
 abbrev pub progress_after : Progress → Status → Progress
 progress_after progress answer =
     record { is_first = false; is_done = progress.is_done && is_done_status answer }
 
--- the status at the end, where neither the source nor the sink fails
+-- the status at the end, if neither the source nor the sink fails
 abbrev pub end_status : Progress → Status
 end_status progress = cond progress.is_done status.Done status.SomeRefused
 
--- the status at the end: the one that goes with what was put, or that the sink failed
+-- the given status if no call of the sink failed, otherwise `SinkFault`
 abbrev pub status_where : Bool → Status → Status
 status_where well answer = cond well answer status.SinkFault
 
--- The sink is finished, and the answer is the status; or that failed.
+-- The sink is finished, and the result is the status; or `finish` failed, and it is `SinkFault`.
 pub record Finishes (old new : SinkSeen) (answer result : Status) : Type 0 where
   pub well : Bool
   pub puts : Puts true old well new []

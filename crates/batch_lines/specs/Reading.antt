@@ -1,4 +1,4 @@
--- What a reader of lines has, and what it is to read the next line.
+-- The state of a reader of lines, and the reading of the next line.
 use Rattle.std.specs.Prelude.{◌≡◌, ◌⊎◌, ◌<◌, ◌≤◌, ℕ, ◌+◌, Bool, true, false, List, [], ◌∷◌, ◌++◌}
 use Rattle.std.specs.Prelude.{length, Option, IfSome, Result, Ok, Err}
 use Rattle.std.specs.Io.KnownBytes.{Consumes}
@@ -11,43 +11,43 @@ use Rattle.batch_lines.specs.declared.next.Next.TheVariants.{Line, TooLong, End}
 use Rattle.batch_lines.specs.declared.next.LineFault.{LineFault}
 use Rattle.batch_lines.specs.declared.next.LineFault.TheVariants.{SourceFault, NoMemory}
 
--- the most bytes that are taken from the source at a time, so that no more are pending
+-- the most bytes that are taken from the source at a time, and so the most that are pending
 abbrev pub most_pending : ℕ
 most_pending = 4096
 
--- the bytes that were taken from the source and not yet read, the last line,
--- and whether the source was found at its end
+-- The state of a reader: the bytes that were taken from the source and not yet read, the last line, and whether the
+-- source has ended.
 pub record Reading : Type 0 where
   pub pending : List ℕ
   pub line : List ℕ
   pub has_ended : Bool
 
--- some bytes were taken from the source, where it tells them
+-- the bytes `taken` were taken from the source, if it records its bytes
 abbrev pub Took : Option (List ℕ) → Option (List ℕ) → List ℕ → Type 0
 Took before now taken = Consumes before now taken
 
--- the bytes are the text of a line without its line feed, and what comes after that
+-- the bytes are the text of a line, a line feed, and what follows it
 abbrev pub EndsAtFeed : List ℕ → List ℕ → List ℕ → Type 0
 EndsAtFeed all text pending = all ≡ text ++ 10 ∷ pending
 
--- the bytes are the text of a line that has no line feed, and the source is at its end
+-- the bytes are the text of a line that has no line feed, and the source has ended
 pub record EndsAtEnd (all text pending : List ℕ) (left : Option (List ℕ)) : Type 0 where
   pub whole : all ≡ text
   pub none_pending : pending ≡ []
   pub none_left : IfSome left (λ rest. rest ≡ [])
 
--- where the source was found at its end, nothing is left in it
+-- if the source has ended, nothing is left in it
 abbrev pub IsAtEnd : Bool → Option (List ℕ) → Type 0
 IsAtEnd false left = Unit {0}
 IsAtEnd true left = IfSome left (λ rest. rest ≡ [])
 
--- how a line ends: at a line feed, or where the source was found at its end
+-- the end of a line: a line feed, or the end of the source
 abbrev pub EndsBy : Bool → (all text pending : List ℕ) → Option (List ℕ) → Type 0
 EndsBy false all text pending left = EndsAtFeed all text pending
 EndsBy true all text pending left = EndsAtEnd all text pending left
 
--- what is read next: a line of at most 4,096 bytes, one with more, or none; the last line is one
--- only where it has a byte
+-- the result of reading a line: a line of at most 4,096 bytes, a longer one, or the end; after the last line feed there
+-- is a line only if there are bytes
 abbrev pub IsNext : Next → (all text pending : List ℕ) → Option (List ℕ) → (line : List ℕ) → Type 0
 IsNext Line all text pending left line =
     (line ≡ text) × (length text ≤ most_bytes)
@@ -56,7 +56,7 @@ IsNext TooLong all text pending left line =
     (most_bytes < length text) × (EndsAtFeed all text pending ⊎ EndsAtEnd all text pending left)
 IsNext End all text pending left line = (text ≡ []) × EndsAtEnd all text pending left
 
--- these bytes were taken, and of them and those that were pending the next line was read
+-- the bytes `taken` were taken from the source, and the next line was read from the pending bytes followed by them
 pub record ReadsNext (before now : SourceSeen) (pending left_pending line : List ℕ)
     (has_ended : Bool) (next : Next) : Type 0 where
   pub taken : List ℕ
@@ -67,30 +67,30 @@ pub record ReadsNext (before now : SourceSeen) (pending left_pending line : List
   pub ends : EndsBy has_ended (pending ++ taken) text left_pending now.left
   pub is_next : IsNext next (pending ++ taken) text left_pending now.left line
 
--- what is read where a line ends at a line feed
+-- the result of reading a line that a line feed ended, given whether the line is too long
 abbrev pub next_at_feed : Bool → Next
 next_at_feed true = TooLong
 next_at_feed false = Line
 
--- what is read where the source is at its end
+-- the result if the source has ended, given the bytes of the last line and whether it is too long
 abbrev pub next_at_end : List ℕ → Bool → Next
 next_at_end line true = TooLong
 next_at_end [] false = End
 next_at_end (byte ∷ line) false = Line
 
--- a fault of the source is counted, and nothing else is
+-- the count of faults is one more after `SourceFault`, and the same otherwise
 abbrev pub CountsLine : (before now : ℕ) → Result Next LineFault → Type 0
 CountsLine before now (Ok next) = now ≡ before
 CountsLine before now (Err SourceFault) = Rose before now
 CountsLine before now (Err NoMemory) = now ≡ before
 
--- some bytes were taken, and no line ends in them and those that were pending
+-- bytes were taken from the source, and neither these nor the pending ones have a line feed
 pub record TookPart (before now : Option (List ℕ)) (pending : List ℕ) : Type 0 where
   pub taken : List ℕ
   pub took : Took before now taken
   pub no_feed : HasNoFeed (pending ++ taken)
 
--- where a fault of the source came, it was not at its end, and no line ends in what was taken
+-- if the source failed, it had not ended before, and what was taken has no line feed
 abbrev pub CutsLine : (before now : Option (List ℕ)) → List ℕ → (had_ended : Bool)
     → Result Next LineFault → Type 0
 CutsLine before now pending had_ended (Ok next) = Unit {0}

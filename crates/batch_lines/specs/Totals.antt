@@ -4,7 +4,7 @@ use Rattle.sym_model.specs.Partition.{size}
 use Rattle.sym_model.specs.Workload.{terms_in}
 use Rattle.batch_lines.specs.declared.sums.Sums.{Sums}
 
--- the sums over blocks: how many blocks, terms and bytes there are
+-- the sums over blocks: the numbers of blocks, terms and bytes
 abbrev pub sums_over : List (List ℕ) → Sums
 sums_over blocks =
     record {
@@ -13,12 +13,12 @@ sums_over blocks =
       bytes = size (map length blocks);
     }
 
--- sums with one block more
+-- the sums after one more block
 abbrev pub sums_with : Sums → List ℕ → Sums
 sums_with s block =
     record { lines = s.lines + 1; terms = s.terms + terms_in block; bytes = s.bytes + length block }
 
--- no more terms and bytes than that number of blocks in memory can have
+-- the sums of terms and bytes are at most 2^64 for each block, so that they fit in 128 bits
 pub record AreSmall (s : Sums) : Type 0 where
   pub terms : s.terms ≤ s.lines * 2 ^ 64
   pub bytes : s.bytes ≤ s.lines * 2 ^ 64

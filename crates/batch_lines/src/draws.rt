@@ -4,7 +4,7 @@ ghost use Rattle.std.specs.Prelude.{◌≡◌, ◌<◌, ◌≤◌, ◌%◌};
 ghost use Rattle.sym_model.specs.Workload.{draw as next_state, after_draws};
 ghost use Rattle.batch_lines.specs.Parts.{AreFalling, parts_drawn};
 
-/// Three numbers that fall.
+/// Three weakly decreasing numbers.
 #[derive(Clone, Copy, Debug)]
 pub(crate) struct Parts {
     pub first: u8,
@@ -12,7 +12,7 @@ pub(crate) struct Parts {
     pub third: u8,
 }
 
-/// Moves the state on by one draw, and answers it.
+/// Advances the state by one draw, and returns it.
 pub(crate) fn draw(state: &mut u32) -> u32
     requires { state.old ≤ 65536 }
     ensures moved { state.new ≡ next_state state.old }
@@ -23,7 +23,7 @@ pub(crate) fn draw(state: &mut u32) -> u32
     *state
 }
 
-/// A draw modulo a number.
+/// Advances the state by one draw, and returns it modulo a number.
 pub(crate) fn draw_below(state: &mut u32, modulus: u8) -> u8
     requires within { state.old ≤ 65536 }
     requires some { 0 < modulus }
@@ -35,7 +35,7 @@ pub(crate) fn draw_below(state: &mut u32, modulus: u8) -> u8
     (draw(state) % u32::from(modulus)) as u8
 }
 
-/// Three draws modulo a number of at most 4, each added to the ones in front of it.
+/// Three parts from three draws modulo a number of at most 4: a + b + c, b + c and c.
 pub(crate) fn draw_parts(state: &mut u32, modulus: u8) -> Parts
     requires within { state.old ≤ 65536 }
     requires some { 0 < modulus }

@@ -1,8 +1,8 @@
-//! Where a line ends.
+//! The end of a line.
 ghost use Rattle.std.specs.Prelude.{◌≡◌, ◌<◌, length, take, slice_index, MatchOption};
 ghost use Rattle.batch_lines.specs.Feeds.{HasNoFeed};
 
-/// The place of the first line feed.
+/// The place of the first line feed, if there is one.
 pub(crate) fn first_feed(bytes: &[u8]) -> Option<usize>
     ensures { MatchOption result (HasNoFeed bytes.now)
         (λ at. (at < length bytes.now) × HasNoFeed (take at bytes.now)

@@ -1,4 +1,4 @@
-//! What is kept of a line while it is read.
+//! The bytes that are kept of a line while it is read.
 ghost use Rattle.std.specs.Prelude.{◌≡◌, ◌≤◌, ◌++◌, false, length, List, ℕ, IfOk};
 ghost use Rattle.batch_lines.specs.Heard.{IsHeard, Hears};
 ghost use Rattle.batch_lines.specs.Reading.{most_pending};
@@ -17,7 +17,8 @@ pub(crate) struct Heard {
     pub has_ended: bool,
 }
 
-/// Adds bytes to a line, and answers whether it has too many.
+/// Appends bytes to a line, and returns whether the line is too long. Fails only if memory runs
+/// out.
 fn add(line: &mut Vec<u8>, is_long: bool, bytes: &[u8]) -> Result<bool, NoMemory>
     ensures { (text : List ℕ) → IsHeard text line.old.items is_long
         → IfOk result (λ long. IsHeard (text ++ bytes.now) line.new.items long) }
@@ -29,7 +30,7 @@ fn add(line: &mut Vec<u8>, is_long: bool, bytes: &[u8]) -> Result<bool, NoMemory
     Ok(false)
 }
 
-/// Reads the bytes that are there up to the end of the line.
+/// Reads the bytes of the piece up to the end of the line.
 pub(crate) fn hear(
     pieces: &mut Pieces,
     line: &mut Vec<u8>,

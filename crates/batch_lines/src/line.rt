@@ -9,8 +9,8 @@ use crate::LineBuf;
 use crate::draws::{draw_below, draw_parts};
 use crate::numbers::{put_list, put_partition, put_permutation};
 
-/// Writes the line that begins at the state, and moves the state on to the next one. No memory is
-/// taken.
+/// Writes the line that begins at the state, and advances the state to the next line. No memory is
+/// allocated.
 ///
 /// A draw modulo 5 picks the command, `mult`, `skew`, `coprod`, `schubmult` or `expand p m[..]`,
 /// and further draws its partitions, of at most three parts, or its permutations of four letters.

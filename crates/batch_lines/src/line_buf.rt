@@ -26,7 +26,7 @@ impl Model for LineBuf {
 }
 
 impl LineBuf {
-    /// An empty buffer. No memory is taken.
+    /// An empty buffer. No memory is allocated.
     pub fn new() -> LineBuf
         ensures { result ≡ [] }
     {
@@ -49,7 +49,7 @@ impl LineBuf {
         self.len = 0;
     }
 
-    /// Appends bytes for which there is room.
+    /// Appends bytes, which must fit.
     pub(crate) fn put(&mut self, text: &[u8])
         requires { length self.old + length text.now ≤ 64 }
         ensures { self.new ≡ self.old ++ text.now }

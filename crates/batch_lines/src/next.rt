@@ -1,28 +1,28 @@
-//! What is read next, and why nothing is.
+//! The results and errors of reading a line.
 ghost use Rattle.std.specs.Prelude.{◌≡◌};
 ghost use Rattle.batch_lines.specs.declared.next.LineFault.TheVariants.{NoMemory as no_memory};
 
 use calc_base::NoMemory;
 use thiserror::Error;
 
-/// What is read next.
+/// The result of reading a line.
 #[derive(Clone, Copy, Debug, PartialEq, Eq, Hash)]
 pub enum Next {
     /// A line of at most 4,096 bytes.
     Line,
     /// A line of more bytes.
     TooLong,
-    /// Nothing: the source is at its end.
+    /// No line: the source has ended.
     End,
 }
 
-/// Why no line is read.
+/// The reason why no line was read.
 #[derive(Clone, Copy, Debug, PartialEq, Eq, Hash, Error)]
 pub enum LineFault {
     /// A call of the source failed.
     #[error("reading failed")]
     SourceFault,
-    /// Memory was refused.
+    /// Memory ran out.
     #[error("out of memory")]
     NoMemory,
 }

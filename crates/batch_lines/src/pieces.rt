@@ -31,7 +31,7 @@ impl Model for Pieces {
 }
 
 impl Pieces {
-    /// No bytes.
+    /// An empty buffer.
     pub(crate) fn new() -> Pieces
         ensures { result ≡ [] }
     {
@@ -42,7 +42,7 @@ impl Pieces {
         }
     }
 
-    /// The bytes: at most 4,096.
+    /// The bytes that were not read yet, at most 4,096.
     pub(crate) fn front(&self) -> &[u8]
         ensures bytes { result.now ≡ self.now }
         ensures short { length self.now ≤ most_pending }
@@ -58,7 +58,7 @@ impl Pieces {
         self.start += count;
     }
 
-    /// Takes the next bytes of the source, in place of those that are there, and answers how many.
+    /// Replaces the bytes with the next ones of the source, and returns their number.
     pub(crate) fn refill<S: Source>(&mut self, source: &mut S) -> Result<usize, SourceFault>
         ensures count { IfOk result (λ count. count ≡ length self.new) }
         ensures taken { IfOk result (λ _.

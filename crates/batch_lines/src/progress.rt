@@ -1,10 +1,10 @@
-//! How far a batch is.
+//! The progress of a batch.
 ghost use Rattle.std.specs.Prelude.{◌≡◌};
 ghost use Rattle.batch_lines.specs.Ends.{is_done_status, progress_after, end_status};
 
 use calc_base::Status;
 
-/// How far a batch is.
+/// The progress of a batch.
 #[derive(Clone, Copy, Debug)]
 pub struct Progress {
     /// Whether the next block is the first one.
@@ -14,7 +14,7 @@ pub struct Progress {
 }
 
 impl Progress {
-    /// Counts a block more, with the status that goes with it.
+    /// Counts one more block, with its status.
     pub fn count(&mut self, status: Status)
         ensures { self.new ≡ progress_after self.old status }
     {
@@ -30,8 +30,8 @@ fn is_done(status: Status) -> bool
     matches!(status, Status::Done)
 }
 
-/// The status where all lines were read and put: `Done` where none was refused,
-/// and `SomeRefused` otherwise.
+/// The status at the end if all lines were read and their blocks written: `Done` if no line was
+/// refused, and `SomeRefused` otherwise.
 pub fn at_end(progress: Progress) -> Status
     ensures { result ≡ end_status progress }
 {

@@ -37,7 +37,8 @@ impl Model for LineReader {
 }
 
 impl LineReader {
-    /// A reader that has taken nothing. The memory that a line wants is taken here.
+    /// A reader that has taken nothing. The memory for a line is allocated here, so this fails only
+    /// if memory runs out.
     pub fn new(alloc: Global) -> Result<LineReader, NoMemory>
         ensures { IfOk result (λ r. r ≡ record { pending = []; line = []; has_ended = false }) }
     {
@@ -48,16 +49,14 @@ impl LineReader {
         })
     }
 
-    /// The line that was read last, where it was one of at most 4,096 bytes:
-    /// its bytes before the line feed.
+    /// The bytes, without the line feed, of the line that was read last, if it had at most 4,096.
     pub fn line(&self) -> &[u8]
         ensures { result.now ≡ self.now.line }
     {
         self.line.as_slice()
     }
 
-    /// Whether a whole line was taken that is still to be read,
-    /// so that it is read without a call of the source.
+    /// Whether a complete line was taken and not yet read, so that `next` does not call the source.
     pub fn has_line(&self) -> bool
         ensures some { result ≡ true → HasNoFeed self.now.pending → ⊥ }
         ensures none { result ≡ false → HasNoFeed self.now.pending }
@@ -65,15 +64,14 @@ impl LineReader {
         first_feed(self.pieces.front()).is_some()
     }
 
-    /// Reads the next line. Bytes after the last line feed of the source are a line,
-    /// where there are any.
+    /// Reads the next line. Bytes after the last line feed of the source, if there are any, are a
+    /// line.
     ///
-    /// A line of more than 4,096 bytes is skipped as `TooLong`, and no more bytes of it are kept.
-    /// `SourceFault` comes exactly where a call of the source failed, and then no line ends among
-    /// the bytes that were taken. After an error bytes may be lost, and the reader is not to be
-    /// used. Where the source was found at its end no call of it is made, and the answer is `End`;
-    /// what is read is told of a source in which nothing is left then,
-    /// and so of the one that was found there.
+    /// A line of more than 4,096 bytes is skipped as `TooLong`, and its further bytes are not kept.
+    /// It returns `SourceFault` if and only if a call of the source failed; the bytes that were
+    /// taken then have no line feed. After an error bytes may be lost, and the reader must not be
+    /// used. After the source has ended it is not called, and the result is `End`. The clause
+    /// `reads` assumes that a source that had ended before has nothing left.
     pub fn next<S: Source>(&mut self, source: &mut S) -> Result<Next, LineFault>
         ensures reads { IsAtEnd self.old.has_ended (S.seen source.old).left
             → IfOk result (ReadsNext (S.seen source.old) (S.seen source.new)
@@ -102,14 +100,14 @@ impl LineReader {
     }
 }
 
-/// What it is, where a line ends at a line feed.
+/// The result of reading a line that a line feed ended.
 fn at_feed(is_long: bool) -> Next
     ensures { result ≡ next_at_feed is_long }
 {
     if is_long { Next::TooLong } else { Next::Line }
 }
 
-/// What it is, where the source is at its end.
+/// The result if the source has ended: `End` if no byte follows the last line feed.
 fn at_end(line: &[u8], is_long: bool) -> Next
     ensures { result ≡ next_at_end line.now is_long }
 {
@@ -122,7 +120,7 @@ fn at_end(line: &[u8], is_long: bool) -> Next
     }
 }
 
-/// Reads the next line out of what is pending and what the source gives.
+/// Reads the next line from the pending bytes and the source.
 fn read_next<S: Source>(
     pieces: &mut Pieces,
     line: &mut Vec<u8>,

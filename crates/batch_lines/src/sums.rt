@@ -9,7 +9,7 @@ ghost use Rattle.batch_lines.specs.Totals.{sums_over, sums_with, AreSmall, sums_
 use calc_base::{Sink, put_if};
 use itoa::Buffer;
 
-/// How many blocks, terms and bytes there are.
+/// The numbers of blocks, terms and bytes.
 #[derive(Clone, Copy, Debug, Drop)]
 pub struct Sums {
     lines: u128,
@@ -30,7 +30,8 @@ impl Sums {
         }
     }
 
-    /// Adds a block: at most 65,536 are added. A block has a term a line, but none in the line `0`.
+    /// Adds a block; at most 65,536 blocks may be added. A block has one term for each line, and
+    /// none if it is the line `0`.
     pub fn add(&mut self, block: &[u8])
         requires small { AreSmall self.old }
         requires room { self.old.lines < 65536 }
@@ -43,7 +44,7 @@ impl Sums {
     }
 }
 
-/// How many terms a block has.
+/// The number of terms of a block.
 fn terms(block: &[u8]) -> u64
     ensures terms { result ≡ terms_in block.now }
     ensures few { result ≤ length block.now }
@@ -55,7 +56,7 @@ fn terms(block: &[u8]) -> u64
     feeds(block)
 }
 
-/// How many line feeds there are.
+/// The number of line feeds.
 fn feeds(bytes: &[u8]) -> u64
     ensures feeds { result ≡ times_in 10 bytes.now }
     ensures few { result ≤ length bytes.now }
@@ -74,7 +75,7 @@ fn feed(byte: u8) -> u64
     if byte == b'\n' { 1 } else { 0 }
 }
 
-/// Puts the three lines of the sums, and answers whether all went well.
+/// Writes the three lines of the sums, and returns whether all calls of the sink succeeded.
 pub fn put_summary<K: Sink>(sums: &Sums, sink: &mut K) -> bool
     ensures { Puts true (K.seen sink.old) result (K.seen sink.new) (sums_text sums.now) }
 {
@@ -87,7 +88,7 @@ pub fn put_summary<K: Sink>(sums: &Sums, sink: &mut K) -> bool
     put_if(bytes, sink, b"\n")
 }
 
-/// Puts a number.
+/// Writes a number, if all calls of the sink succeeded so far.
 fn put_number<K: Sink>(well: bool, number: u128, sink: &mut K) -> bool
     ensures { Puts well (K.seen sink.old) result (K.seen sink.new) (decimal number) }
 {

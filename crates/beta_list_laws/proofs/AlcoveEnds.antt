@@ -1,6 +1,6 @@
--- Where the reflections of a strictly falling list end: by remainders and the sum alone.
---     alcove_reduced      what the answer of the reflections is
---     alcove_found        an end that is found in a window is the answer, with the sign of sorting
+-- The end of the reflections of a strictly decreasing list depends only on the remainders and the sum.
+--     alcove_reduced      the result of the reflections
+--     alcove_found        an end that is found in a window is the result, with the sign of sorting
 use Rattle.std.proofs.Common.{◌↔◌, ◌≡◌, ℕ, zero, suc, ◌+◌, ◌-◌, ◌%◌, ◌<◌, ◌≤◌, ◌⊎◌, inl, inr, Bool, true, false, ◌==◌, ◌||◌, cond, List, [], ◌∷◌, ◌++◌, map, refl, sym, ◌∙◌, ap, ap₂, subst, arith, ℤ, ◌*ℤ◌, pos, Option, Some, None}
 use Rattle.std.proofs.lemmas.Bool.{cases_lt, cases_eq, cases_Bool, eq-eqb, eqb-true, or_cases, or_right as or_either}
 use Rattle.std.proofs.Math.Nat.{add-mod_right, mod-mod}
@@ -23,7 +23,7 @@ use Rattle.beta_list_laws.proofs.Lowest.{strict_pairs}
 use Rattle.beta_list_laws.proofs.Windows.{LieIn, up_low, up_high, up-remainder, up_is, sorted-map-sorted, spread_is, last_below, narrow_lie, alcove_only}
 use Rattle.beta_list_laws.proofs.BetaLowerings.{map_append}
 
--- ---- equal entries
+-- ---- equal entries of a list and of its remainders
 
 has_map : (f : ℕ → ℕ) (x : ℕ) (b : List ℕ) → has x b ≡ true → has (f x) (map f b) ≡ true
 has_map f x [] e = absurd (cc)
@@ -46,7 +46,7 @@ equal_inside (c ∷ left) x y right e = or_either (has c (left ++ (x ∷ y ∷ r
 pub not_both : (t : Bool) → t ≡ true → t ≡ false → ⊥
 not_both t e f = let h = sym e ∙ f in cc
 
--- ---- values at remainders
+-- ---- values in a window depend only on the remainders
 
 pub up_alike : (n t x y : ℕ) → 1 ≤ n → x % n ≡ y % n → up n t x ≡ up n t y
 up_alike n t x y h e = up_is n t x (up n t y) h (up_low n t y h) (up_high n t y h) (up-remainder n t y h ∙ sym e)
@@ -73,7 +73,7 @@ ups_differ n t b h e = elim (cases_Bool (has_equal_entries (map (up n t) b))) [
   | inl f ↦ absurd (not_both (has_equal_entries (remainders n b)) (ap has_equal_entries (sym (remainders_of_ups n t b h)) ∙ equal_map (λ x. x % n) (map (up n t) b) f) e)
 ]
 
--- the matching is by these values
+-- if c lies in the window at t and has an entry with the remainder of x, that entry is the least number from t on with this remainder
 match_up : (n t x : ℕ) (c : List ℕ) → 1 ≤ n → LieIn n t c → has (x % n) (remainders n c) ≡ true → match_in n c x ≡ up n t x
 match_up n t x [] h w e = absurd (cc)
 match_up n t x (y ∷ c) h w e = by (cases_eq (y % n) (x % n)) (match_up n t x c h w.2)
@@ -93,7 +93,7 @@ matches_up n t (x ∷ b) c h w m =
 pub same_remainders_has : (n : ℕ) (b c : List ℕ) → sorted_falling (remainders n c) ≡ sorted_falling (remainders n b) → (r : ℕ) → has r (remainders n b) ≡ true → has r (remainders n c) ≡ true
 same_remainders_has n b c e r h = sym (has-sorted r (remainders n c)) ∙ ap (has r) e ∙ has-sorted r (remainders n b) ∙ h
 
--- ---- a narrow list
+-- ---- a list with a spread below n has different remainders
 
 absent_remainder : (n t x : ℕ) (b : List ℕ) → FallsStrictly (x ∷ b) → t ≤ x → x < t + n → LieIn n t b → has (x % n) (remainders n b) ≡ false
 absent_remainder n t x [] f a c w = refl
@@ -110,7 +110,7 @@ distinct_narrow n t [] f w = refl
 distinct_narrow n t (x ∷ b) f w =
     ap₂ ◌||◌ (absent_remainder n t x b f w.0 w.1 w.2) (distinct_narrow n t b (strict_tail x b f) w.2)
 
--- ---- one reflection
+-- ---- one reflection keeps the remainders and the sum
 
 raised_remainders : (n a : ℕ) (b : List ℕ) → remainders n (last_raised n (a ∷ b)) ≡ remainders n (a ∷ b)
 raised_remainders n a [] = ap (λ r. r ∷ []) (add-mod_right a n)
@@ -152,7 +152,7 @@ wall_equal n (a ∷ c ∷ b) h f e =
     let r : last_of c b % n ≡ a % n = sym (add-mod_right (last_of c b) n) ∙ ap (λ x. x % n) (sym m) in
     ap (λ t. t || has_equal_entries (remainders n (c ∷ b))) (ap (λ x. has x (remainders n (c ∷ b))) (sym r) ∙ has_last n c b)
 
--- ---- what exchanges keep of the parities
+-- ---- parities that exchanges of neighbours keep
 
 keeps_turns : (f : ℕ → ℕ) (k : ℕ) → KeptByExchanges (λ l. (has_equal_entries (map f l) ≡ false) × ((rising_pairs (map f l) + rising_pairs l + k) % 2 ≡ 0))
 keeps_turns f k left a b right p =
@@ -191,9 +191,9 @@ equal_map_sorted f s =
     ∙ e)
     refl
 
--- ---- the answer
+-- ---- the result of the reflections
 
--- a list reduces to nothing where two entries leave one remainder, and else to a list in some window, with the sign of
+-- a list reduces to 0 if two entries leave one remainder, and otherwise to a list in some window, with the sign of
 -- sorting the values in that window
 abbrev pub Reduced : ℕ → List ℕ → Option (List ℕ × ℤ) → Type 0
 Reduced n b None = has_equal_entries (remainders n b) ≡ true
@@ -264,7 +264,7 @@ reduced_within (suc fuel) n b q h f =
 pub alcove_reduced : (n : ℕ) (b : List ℕ) → 1 ≤ n → FallsStrictly b → Reduced n b (reflected_into_alcove n b)
 alcove_reduced n b h f = reduced_within (suc (squares b)) n b (omega arith) h f
 
--- ---- as the laws say it
+-- ---- the clauses of `alcove_law`
 
 pub alcove_zero : (n : ℕ) (b : List ℕ) → 1 ≤ n → FallsStrictly b → reflected_into_alcove n b ≡ None → has_equal_entries (remainders n b) ≡ true
 alcove_zero n b h f e = subst (Reduced n b) e (alcove_reduced n b h f)
@@ -284,7 +284,7 @@ alcove_sign n b c sign h f e =
     let r = subst (Reduced n b) e (alcove_reduced n b h f) in
     r.4 ∙ ap sorting_sign (sym (matches_up n r.2 b c h r.3 (same_remainders_has n b c r.1.alike)))
 
--- ---- an end in a window
+-- ---- a list in a window with the same remainders and sum is the end
 
 lies_kept : (n t : ℕ) → KeptByExchanges (LieIn n t)
 lies_kept n t [] a b right w = (w.2.0, w.2.1, (w.0, w.1, w.2.2))

@@ -1,7 +1,7 @@
--- Beta lists back and forth.
---     beta_strict            the beta list of a falling list is strictly decreasing
+-- From partitions to beta lists and back.
+--     beta_strict            the beta list of a decreasing list is strictly decreasing
 --     from_beta-beta         a partition is determined by its beta list
---     beta-from_beta         and a strictly falling list from its partition
+--     beta-from_beta         a strictly decreasing list is determined by its partition
 use Rattle.std.proofs.Common.{◌≡◌, ℕ, zero, suc, ◌+◌, ◌-◌, ◌<◌, ◌≤◌, List, [], ◌∷◌, ◌++◌, map, length, get_or, replicate, refl, ◌∙◌, ap, ap₂, arith}
 use Rattle.std.proofs.lemmas.List.{length-map}
 use Rattle.sym_model.specs.Partition.{Falls, ArePositive, IsPartition, size, rows, part, after, in_front, without_last_zeros}
@@ -22,7 +22,7 @@ pub map_after_ext : (f g : ℕ → ℕ) (a k : ℕ) → ((i : ℕ) → a < i →
 map_after_ext f g a zero e = refl
 map_after_ext f g a (suc k) e = ap₂ ◌∷◌ (e (a + 1) (omega arith) (omega arith)) (map_after_ext f g (a + 1) k (λ i h l. e i (omega arith) (omega arith)))
 
--- one place further
+-- the values at the places from a + 2 on are the values of the shifted function at the places from a + 1 on
 map_after_shift : (f : ℕ → ℕ) (a k : ℕ) → map f (after (a + 1) k) ≡ map (λ i. f (i + 1)) (after a k)
 map_after_shift f a zero = refl
 map_after_shift f a (suc k) = ap (λ l. f (a + 1 + 1) ∷ l) (map_after_shift f (a + 1) k)
@@ -84,13 +84,13 @@ pub from_beta-beta : (k : ℕ) (parts : List ℕ) → IsPartition parts → rows
 from_beta-beta k parts p h =
     ap without_last_zeros (less-beta k parts ∙ parts_padded parts k h) ∙ padding_dropped parts (k - length parts) p.positive
 
--- ---- from a strictly falling list to its partition and back
+-- ---- from a strictly decreasing list to its partition and back
 
 pub strict_tail : (a : ℕ) (b : List ℕ) → FallsStrictly (a ∷ b) → FallsStrictly b
 strict_tail a [] f = tt
 strict_tail a (c ∷ b) f = f.1
 
--- the first entry is at least the number of the others
+-- in a strictly decreasing list the first entry is at least the number of the other entries
 pub rest_within : (a : ℕ) (b : List ℕ) → FallsStrictly (a ∷ b) → length b ≤ a
 rest_within a [] f = omega arith
 rest_within a (c ∷ b) f = let h = rest_within c b f.1 in let l = f.0 in omega arith
@@ -133,7 +133,7 @@ beta-from_beta b f =
     map_after_ext (λ i. part (from_beta b) i + (length b - i)) (λ i. part (less_the_rest b) i + (length b - i)) 0 (length b) (λ i l m. ap (λ p. p + (length b - i)) (part-from_beta b i))
     ∙ beta_less b (length b) f refl
 
--- ---- sizes
+-- ---- the size of a partition by its beta list
 
 size-less : (b : List ℕ) → FallsStrictly b → size b ≡ size (less_the_rest b) + size (staircase (length b))
 size-less [] f = refl

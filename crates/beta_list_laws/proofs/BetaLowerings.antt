@@ -1,7 +1,7 @@
--- Each removal of a rim hook lowers an entry of the beta list, and no entry can be lowered where the list is full.
---     removal_lowers      the entry that a removal lowers, and the entries that it passes
---     fewer_rows          a removal leaves no row more
---     lowers_or_full      a strictly falling list has an entry that can be lowered, or is full
+-- Each removal of a rim hook lowers an entry of the beta list, and no entry can be lowered if the list is full.
+--     removal_lowers      the entry that a removal lowers, and the entries between its old and its new place
+--     fewer_rows          the number of rows after a removal is not greater
+--     lowers_or_full      a strictly decreasing list has an entry that can be lowered, or is full
 --     full_none           nothing can be lowered in a full list
 use Rattle.std.proofs.Common.{◌≡◌, ℕ, zero, suc, ◌+◌, ◌-◌, ◌<◌, ◌≤◌, ◌⊎◌, inl, inr, true, false, List, [], ◌∷◌, ◌++◌, map, length, refl, sym, ◌∙◌, ap, ap₂, subst, arith, Bool, ◌||◌}
 use Rattle.std.proofs.lemmas.Bool.{cases_lt, cases_eq, cases_Bool}
@@ -22,7 +22,7 @@ use Rattle.beta_list_laws.specs.FullBetaList.{IsFull}
 use Rattle.beta_list_laws.proofs.BetaLists.{beta_strict, from_beta-beta, strict_tail, map_after_ext}
 use Rattle.beta_list_laws.proofs.BetaRemovals.{before, lowered, shown_removal}
 
--- b with an entry lowered by n, past the entries of middle, is c
+-- c is b with an entry lowered by n and moved after the entries of `middle`, of which there are `passed`
 pub record Lowers (n : ℕ) (b c : List ℕ) (passed : ℕ) : Type 0 where
   pub front : List ℕ
   pub entry : ℕ
@@ -54,7 +54,7 @@ map_after_next : (f g : ℕ → ℕ) (a k : ℕ) → ((i : ℕ) → a < i → i 
 map_after_next f g a zero e = refl
 map_after_next f g a (suc k) e = ap₂ ◌∷◌ (e (a + 1) (omega arith) (omega arith)) (map_after_next f g (a + 1) k (λ i h l. e i (omega arith) (omega arith)))
 
--- the values at the places 1, .., k, split before and after the place a + 1
+-- the values at the places 1, .., k are split before and after the place a + 1
 split_at : (f : ℕ → ℕ) (k a d c : ℕ) → k ≡ a + suc (d + c) → map f (after 0 k) ≡ map f (after 0 a) ++ (f (a + 1) ∷ (map f (after (a + 1) d) ++ map f (after (a + 1 + d) c)))
 split_at f k a d c e =
     ap (λ m. map f (after 0 m)) e
@@ -67,7 +67,7 @@ split_at f k a d c e =
     zero_plus : 0 + a ≡ a
     zero_plus = omega arith
 
--- and before and after the place a + d + 1
+-- the values at the places 1, .., k are split before and after the place a + d + 1
 split_later : (f : ℕ → ℕ) (k a d c : ℕ) → k ≡ a + suc (d + c) → map f (after 0 k) ≡ map f (after 0 a) ++ (map f (after a d) ++ (f (a + d + 1) ∷ map f (after (a + 1 + d) c)))
 split_later f k a d c e =
     ap (λ m. map f (after 0 m)) length_is
@@ -87,8 +87,8 @@ split_later f k a d c e =
     place : a + d + 1 ≡ a + 1 + d
     place = omega arith
 
--- the values f at the places and the values g, where f at the place a + 1 is y + n and g at the place a + d + 1 is y, the
--- places between are chained, and the others agree
+-- f and g at the places 1, .., k: f at a + 1 is y + n, g at a + d + 1 is y, f at i + 1 is g at i for the places
+-- between, and the other values are equal
 lowered_values : (f g : ℕ → ℕ) (n y k a d c : ℕ) → k ≡ a + suc (d + c) → f (a + 1) ≡ y + n → g (a + d + 1) ≡ y
     → ((i : ℕ) → 0 < i → i ≤ a → f i ≡ g i) → ((i : ℕ) → a < i → i ≤ a + d → f (i + 1) ≡ g i) → ((i : ℕ) → a + 1 + d < i → i ≤ a + 1 + d + c → f i ≡ g i)
     → Lowers n (map f (after 0 k)) (map g (after 0 k)) d
@@ -133,7 +133,7 @@ rows_lower k n shape left first last l r h =
     (λ i u v. let e = h.chained i (omega arith) (omega arith) in omega arith)
     (λ i u v. ap (λ m. m + (k - i)) (h.below i (omega arith)))
 
--- a removal lowers an entry of the beta list, past one entry less than its rim hook has rows
+-- a removal lowers an entry of the beta list and moves it after one entry less than its rim hook has rows
 pub removal_lowers : (k n : ℕ) (shape left : List ℕ) → IsPartition shape → rows shape ≤ k → IsRemoval n shape left
     → (passed : ℕ) × Lowers n (beta k shape) (beta k left) passed × (height shape left ≡ passed + 1)
 removal_lowers k n shape left p l r =
@@ -146,7 +146,7 @@ removal_lowers k n shape left p l r =
         let o = h.ordered in
         (last - first, rows_lower k n shape left first last l r h, omega arith)
 
--- ---- full lists
+-- ---- a strictly decreasing list is full, or an entry of it can be lowered
 
 place_for : (y : ℕ) (b : List ℕ) → FallsStrictly b → has y b ≡ false → (middle : List ℕ) × (back : List ℕ) × (b ≡ middle ++ back) × FallsStrictly (middle ++ (y ∷ back))
 place_for y [] f h = ([], [], refl, tt)
@@ -170,7 +170,7 @@ place_for y (x ∷ b) f h = by (cases_lt y x) (cases_eq x y) (place_for y b (str
         let r = later (sym (has_past y x b d) ∙ h) in
         (x ∷ r.0, r.1, ap (λ c. x ∷ c) r.2, front_strict r.0 r.1 r.2 l r.3)
 
--- an entry of a strictly falling list can be lowered
+-- an entry of a strictly decreasing list that can be lowered
 pub record CanLower (n : ℕ) (b : List ℕ) : Type 0 where
   pub front : List ℕ
   pub entry : ℕ
@@ -179,7 +179,7 @@ pub record CanLower (n : ℕ) (b : List ℕ) : Type 0 where
   pub from : b ≡ before n entry front middle back
   pub strict : FallsStrictly (lowered entry front middle back)
 
--- a strict list under a greater first entry, when an entry was lowered
+-- an entry that can be lowered in b can be lowered in b with a greater entry in front
 under_first : (n x : ℕ) (b : List ℕ) (l : CanLower n b) → FallsStrictly (x ∷ b) → CanLower n (x ∷ b)
 under_first n x b l f = record {
   front = x ∷ l.front;
@@ -218,7 +218,7 @@ lowers_or_full n (x ∷ b) f = by (lowers_or_full n b (strict_tail x b f)) (case
     by (inr g) (inr l) (inl e) = inr (λ h. e, g)
     by (inr g) (inr l) (inr e) = inl (here l e)
 
--- an entry of a list whose first entry is smaller does not stand in it
+-- a number that is at least the first entry y is not among the later entries
 pub not_below : (y z : ℕ) (b : List ℕ) → FallsStrictly (y ∷ b) → y ≤ z → has z b ≡ false
 not_below y z [] f l = refl
 not_below y z (x ∷ b) f l = let h = f.0 in has_past z x b (λ e. omega (arith, e, h, l)) ∙ not_below x z b f.1 (omega (arith, h, l))
@@ -240,14 +240,14 @@ full_none n y [] middle back g f =
     cc
 full_none n y (x ∷ front) middle back g f = full_none n y front middle back g.1 (strict_tail x (lowered y front middle back) f)
 
--- nothing can be removed exactly where the beta list is full
+-- if the beta list is full, nothing can be removed
 pub full_stays : (k n : ℕ) (shape : List ℕ) → IsPartition shape → rows shape ≤ k → IsFull n (beta k shape) → HasNoRemoval n shape
 full_stays k n shape p l g left r =
     let h = removal_lowers k n shape left p l r in
     let w = h.1 in
     full_none n w.entry w.front w.middle w.back (subst (IsFull n) w.from g) (subst FallsStrictly w.to (beta_strict k left r.partition.falls))
 
--- where an entry can be lowered, the partition of the lowered list is left by a removal
+-- lowering an entry removes a rim hook from the partition
 pub lowering_removes : (k n : ℕ) (shape : List ℕ) → 1 ≤ n → IsPartition shape → rows shape ≤ k → (l : CanLower n (beta k shape))
     → IsRemoval n shape (from_beta (lowered l.entry l.front l.middle l.back))
 lowering_removes k n shape h p r l =
@@ -261,7 +261,7 @@ stays_full k n shape h p r none = elim (lowers_or_full n (beta k shape) (beta_st
   | inr g ↦ g
 ]
 
--- ---- as the laws say it
+-- ---- removals of rim hooks and lowered entries, as the law function states them
 
 pub removal_as_lowered : (k n : ℕ) (shape left : List ℕ) → IsPartition shape → rows shape ≤ k → IsRemoval n shape left
     → (y : ℕ) × (front : List ℕ) × (middle : List ℕ) × (back : List ℕ) × (beta k shape ≡ before n y front middle back) × (beta k left ≡ lowered y front middle back) × (height shape left ≡ length middle + 1)
@@ -270,7 +270,7 @@ removal_as_lowered k n shape left p l r =
     let w = h.1 in
     (w.entry, w.front, w.middle, w.back, w.from, w.to, h.2 ∙ ap (λ m. m + 1) w.passes)
 
--- a strictly falling list has no equal entries
+-- a strictly decreasing list has no equal entries
 pub strict_distinct : (b : List ℕ) → FallsStrictly b → has_equal_entries b ≡ false
 strict_distinct [] f = refl
 strict_distinct (a ∷ b) f = ap₂ (λ (s t : Bool). s || t) (not_below a a b f (omega arith)) (strict_distinct b (strict_tail a b f))

@@ -1,5 +1,5 @@
--- The removal of a rim hook that a beta list shows: an entry y + n lowered by n, past the entries `middle` that are
--- between, where both lists are strictly decreasing.
+-- The removal of a rim hook by its beta lists: an entry y + n is lowered by n and moved after the entries `middle`, and
+-- both lists are strictly decreasing.
 use Rattle.std.proofs.Common.{◌≡◌, ℕ, zero, suc, ◌+◌, ◌-◌, ◌<◌, ◌≤◌, List, [], ◌∷◌, ◌++◌, length, get_or, refl, sym, ◌∙◌, ap, arith, length-append}
 use Rattle.sym_model.specs.Partition.{size, part}
 use Rattle.sym_model.specs.Alternant.{staircase}
@@ -12,7 +12,7 @@ use Rattle.strip_laws.proofs.RimHooks.{hook_from_rows, height_of_rows}
 use Rattle.beta_list_laws.specs.StrictFall.{FallsStrictly}
 use Rattle.beta_list_laws.proofs.BetaLists.{strict_tail, rest_within, from_beta_partition, part-from_beta, size-from_beta}
 
--- the list before, and the list with the entry lowered
+-- the beta list with the entry y + n, before it is lowered; `lowered` is the list after it
 abbrev pub before : ℕ → ℕ → List ℕ → List ℕ → List ℕ → List ℕ
 before n y left middle right = left ++ ((y + n) ∷ (middle ++ right))
 
@@ -25,7 +25,7 @@ strict_drop (a ∷ left) c f = strict_drop left c (strict_tail a (left ++ c) f)
 
 -- ---- the entries less the number of those after them
 
--- in front nothing changes
+-- the entries in front do not change
 same_front : (left c d : List ℕ) (i : ℕ) → length c ≡ length d → i < length left → get_or (less_the_rest (left ++ c)) i 0 ≡ get_or (less_the_rest (left ++ d)) i 0
 same_front [] c d i e h = absurd (omega arith)
 same_front (a ∷ left) c d zero e h = let p = length-append left c in let q = length-append left d in ap (λ n. a - n) (omega arith)
@@ -37,7 +37,7 @@ past_front (a ∷ left) c i =
     let e : suc (length left) + i ≡ suc (length left + i) = omega arith in
     ap (λ n. get_or (less_the_rest ((a ∷ left) ++ c)) n 0) e ∙ past_front left c i
 
--- between, each entry comes one place further up, and is one less over the places after it
+-- an entry of `middle` is one place further left in the new list, and its part is one less
 chained_middle : (x y : ℕ) (middle right : List ℕ) (i : ℕ) → FallsStrictly (middle ++ (y ∷ right)) → i < length middle
     → get_or (less_the_rest (x ∷ (middle ++ right))) (suc i) 0 ≡ get_or (less_the_rest (middle ++ (y ∷ right))) i 0 + 1
 chained_middle x y [] right i f h = absurd (omega arith)
@@ -48,13 +48,13 @@ chained_middle x y (p ∷ middle) right zero f h =
     omega arith
 chained_middle x y (p ∷ middle) right (suc i) f h = chained_middle p y middle right i (strict_tail p (middle ++ (y ∷ right)) f) (omega arith)
 
--- after nothing changes
+-- the entries at the back do not change
 same_back : (x y : ℕ) (middle right : List ℕ) (i : ℕ) → length middle < i → get_or (less_the_rest (x ∷ (middle ++ right))) i 0 ≡ get_or (less_the_rest (middle ++ (y ∷ right))) i 0
 same_back x y middle right zero h = absurd (omega arith)
 same_back x y [] right (suc i) h = refl
 same_back x y (p ∷ middle) right (suc i) h = same_back p y middle right i (omega arith)
 
--- and the lowered entry stands below the last that was passed
+-- the part of the lowered entry is less than the last part that was there
 below_last : (x y : ℕ) (middle right : List ℕ) → y < x → FallsStrictly (middle ++ (y ∷ right))
     → get_or (less_the_rest (middle ++ (y ∷ right))) (length middle) 0 < get_or (less_the_rest (x ∷ (middle ++ right))) (length middle) 0
 below_last x y [] right h f = let w = rest_within y right f in omega arith
@@ -64,7 +64,7 @@ below_last x y (p ∷ middle) right h f = below_last p y middle right (first p m
     first q [] g = g.0
     first q (r ∷ m) g = let k = g.0 in let e = first r m g.1 in omega arith
 
--- ---- the parts
+-- ---- the parts of the partitions before and after the removal
 
 abbrev outer_of : ℕ → ℕ → List ℕ → List ℕ → List ℕ → List ℕ
 outer_of n y left middle right = from_beta (before n y left middle right)

@@ -1,5 +1,5 @@
 -- All ends of the removals from one partition are the partition of its lowest list, sorted.
---     goes_ends       where the removals go to
+--     goes_ends       the end of the removals
 use Rattle.std.proofs.Common.{◌≡◌, ℕ, zero, suc, ◌+◌, ◌-◌, ◌*◌, ◌/◌, ◌<◌, ◌≤◌, ◌⊎◌, inl, inr, List, ◌∷◌, ◌++◌, length, refl, sym, ◌∙◌, ap, ap₂, subst, arith, length-append, ℤ, ◌*ℤ◌, pos, Bool, true, false, nat_le, cond, Option, Some, None}
 use Rattle.std.proofs.Math.Nat.{mul-div_cancel_left}
 use Rattle.std.proofs.lemmas.Bool.{leb-true}
@@ -19,12 +19,12 @@ use Rattle.beta_list_laws.proofs.NeighbourExchanges.{Resorts, same_sign, sorted-
 use Rattle.beta_list_laws.specs.LowestList.{lowest, end_of, power_of, end_sign, reduction_by_remainders}
 use Rattle.beta_list_laws.proofs.Lowest.{lowest_moves, full_lowest, strict_falls, strict_pairs}
 
--- ---- where nothing can be removed
+-- ---- if nothing can be removed from a partition, its beta list is its own lowest list
 
 stays_lowest : (k n : ℕ) (shape : List ℕ) → 1 ≤ n → IsPartition shape → rows shape ≤ k → HasNoRemoval n shape → lowest n (beta k shape) ≡ beta k shape
 stays_lowest k n shape h p r none = full_lowest n (beta k shape) (beta_strict k shape p.falls) (stays_full k n shape h p r none)
 
--- ---- one removal
+-- ---- one removal does not change the sorted lowest list
 
 removal_resorts : (k n : ℕ) (shape left : List ℕ) → IsPartition shape → rows shape ≤ k → IsRemoval n shape left
     → (passed : ℕ) × Resorts passed (lowest n (beta k shape)) (lowest n (beta k left)) × (height shape left ≡ passed + 1) × (passed + 1 ≤ k)
@@ -47,7 +47,7 @@ removal_resorts k n shape left p l r =
         let y = length-append w.middle w.back in
         (passed, subst (λ q. Resorts q (lowest n (beta k shape)) (lowest n (beta k left))) (sym d) c, e, omega arith)
 
--- ---- the ends
+-- ---- the shape at which removals end, with its sign and power
 
 pub record Ends (k n : ℕ) (shape end : List ℕ) (sign : ℤ) (power : ℕ) : Type 0 where
   pub end_is : end ≡ end_of k n shape
@@ -98,7 +98,7 @@ goes_ends k n shape end sign zero h p (r, none, e, s) = stays_ends k n shape end
 goes_ends k n shape end sign (suc power) h p (r, left, t, m, g, s) =
     step_ends k n shape left end t sign power p r m (goes_ends k n left end t power h m.partition g) s
 
--- ---- there is an end
+-- ---- each partition has an end
 
 abbrev HasEnd : ℕ → ℕ → List ℕ → Type 0
 HasEnd k n shape = (end : List ℕ) × (sign : ℤ) × (power : ℕ) × GoesTo k n shape end sign power
@@ -116,7 +116,7 @@ goes_within (suc fuel) k n shape f h p r =
         let e = later left m in
         (e.0, minus_one_to (k - height shape left) *ℤ e.1, suc e.2, (r, left, e.1, m, e.3, refl))
 
--- ---- as the laws say it
+-- ---- the clauses of `removals_end_law`
 
 pub goes_end : (k n : ℕ) (shape end : List ℕ) (sign : ℤ) (power : ℕ) → 1 ≤ n → IsPartition shape → GoesTo k n shape end sign power → end ≡ end_of k n shape
 goes_end k n shape end sign power h p g = (goes_ends k n shape end sign power h p g).end_is
@@ -153,7 +153,7 @@ pub goes_rows : (k n : ℕ) (shape end : List ℕ) (sign : ℤ) (power : ℕ) �
 goes_rows k n shape end sign zero (r, none, e, s) = let d = ap length e in omega arith
 goes_rows k n shape end sign (suc power) (r, left, t, m, g, s) = goes_rows k n left end t power g
 
--- ---- reductions
+-- ---- the reduction of a partition by its end
 
 by_columns : (k n : ℕ) (shape : List ℕ) → 1 ≤ n → IsPartition shape → rows shape ≤ k → (t : Bool) → nat_le (k + columns (end_of k n shape)) n ≡ t
     → ReducesTo k n shape (cond t (Some (end_of k n shape, end_sign k n shape, power_of k n shape)) None)
@@ -162,7 +162,7 @@ by_columns k n shape h p r false e =
     let l : n < k + columns (end_of k n shape) = grind (arith, nat_tests) in
     (end_of k n shape, end_sign k n shape, power_of k n shape, goes_to_end k n shape h p r, l)
 
--- each partition reduces to the reduction by remainders
+-- each partition of at most k rows reduces to its reduction by remainders
 pub reduces_by_remainders : (k n : ℕ) (shape : List ℕ) → 1 ≤ n → IsPartition shape → rows shape ≤ k → ReducesTo k n shape (reduction_by_remainders k n shape)
 reduces_by_remainders k n shape h p r = by_columns k n shape h p r (nat_le (k + columns (end_of k n shape)) n) refl
 
@@ -176,7 +176,7 @@ narrow k n shape l =
     let t : nat_le (k + columns (end_of k n shape)) n ≡ true = grind (arith, nat_tests) in
     ap (λ v. cond {A = Option (List ℕ × ℤ × ℕ)} v (Some (end_of k n shape, end_sign k n shape, power_of k n shape)) None) t
 
--- and to nothing else
+-- a partition has no other reduction
 pub reduces_only : (k n : ℕ) (shape : List ℕ) (answer : Option (List ℕ × ℤ × ℕ)) → 1 ≤ n → IsPartition shape → ReducesTo k n shape answer → answer ≡ reduction_by_remainders k n shape
 reduces_only k n shape None h p (end, sign, power, g, l) =
     let e = ap columns (goes_end k n shape end sign power h p g) in

@@ -1,5 +1,5 @@
--- The lowest list: what lowering an entry changes in it, and that a full list is its own.
---     lowest_moves      lowering an entry moves one entry past those between
+-- The lowest list: lowering an entry only moves one entry of it, and a full list is its own lowest list.
+--     lowest_moves      lowering an entry moves one entry of the lowest list to the right of those between
 --     full_lowest       the lowest list of a full list is that list
 use Rattle.std.proofs.Common.{◌≡◌, ℕ, suc, ◌+◌, ◌-◌, ◌*◌, ◌%◌, ◌<◌, ◌≤◌, ◌⊎◌, inl, inr, true, List, [], ◌∷◌, ◌++◌, length, refl, sym, ◌∙◌, ap, ap₂, subst, arith}
 use Rattle.std.proofs.lemmas.Bool.{cases_lt, cases_eq}
@@ -18,7 +18,7 @@ use Rattle.beta_list_laws.specs.LowestList.{alike, lowest}
 use Rattle.beta_list_laws.proofs.Remainders.{alike_far, between_unlike, alike-here, alike-past, alike-remainder, alike-append, lowered_remainder}
 use Rattle.beta_list_laws.proofs.BetaLowerings.{not_below}
 
--- ---- an entry lowered past others
+-- ---- the lowest list after an entry is lowered and moved
 
 strict_second : (a b : ℕ) (c : List ℕ) → FallsStrictly (a ∷ b ∷ c) → FallsStrictly (a ∷ c)
 strict_second a b [] f = tt
@@ -28,7 +28,7 @@ above_lowered : (y z : ℕ) (middle back : List ℕ) → FallsStrictly (z ∷ (m
 above_lowered y z [] back f = f.0
 above_lowered y z (m ∷ middle) back f = let p = f.0 in let q = above_lowered y m middle back f.1 in omega arith
 
--- the counts that entries in front see are the same before and after
+-- the count of an entry in front is the same before y + n is lowered and moved as after
 same_counts : (n x y : ℕ) (middle back : List ℕ) → alike n x ((y + n) ∷ (middle ++ back)) ≡ alike n x (middle ++ (y ∷ back))
 same_counts n x y middle back =
     let a = alike-append n x middle back in
@@ -42,7 +42,7 @@ same_counts n x y middle back =
       | inr d ↦ alike-past n x u [] (λ g. d (sym e ∙ g)) ∙ sym (alike-past n x v [] d)
     ]
 
--- an entry between sees one of them at most, and not that
+-- the count of an entry between does not depend on the lowered entry, which has another remainder
 unseen : (n y m : ℕ) (middle back : List ℕ) → (y % n ≡ m % n → ⊥) → alike n m (middle ++ back) ≡ alike n m (middle ++ (y ∷ back))
 unseen n y m middle back d =
     let a = alike-append n m middle back in
@@ -91,7 +91,7 @@ lowest_moves n y (x ∷ front) middle back f g =
     (ap (λ a. x % n + a * n) e)
     (resorts_under (length middle) head (lowest n (before n y front middle back)) (lowest n (lowered y front middle back)) later)
 
--- ---- full lists
+-- ---- a full list is its own lowest list
 
 count_full : (n x : ℕ) (b : List ℕ) → FallsStrictly (x ∷ b) → IsFull n (x ∷ b) → x % n + alike n x b * n ≡ x
 count_full n x [] f g = elim (cases_lt x n) [
@@ -134,7 +134,7 @@ pub full_lowest : (n : ℕ) (b : List ℕ) → FallsStrictly b → IsFull n b �
 full_lowest n [] f g = refl
 full_lowest n (x ∷ b) f g = ap₂ ◌∷◌ (count_full n x b f g) (full_lowest n b (strict_tail x b f) g.1)
 
--- ---- strict lists have no rising pair
+-- ---- strictly decreasing lists have no increasing pair
 
 pub strict_falls : (b : List ℕ) → FallsStrictly b → Falls b
 strict_falls [] f = tt
@@ -149,7 +149,7 @@ pub strict_pairs : (b : List ℕ) → FallsStrictly b → rising_pairs b ≡ 0
 strict_pairs [] f = refl
 strict_pairs (a ∷ b) f = let e = none_greater a a b f (omega arith) in let g = strict_pairs b (strict_tail a b f) in omega arith
 
--- ---- no entry is raised
+-- ---- no entry of the lowest list is greater than the entry it comes from
 
 pub lowered_below : (n x : ℕ) (b : List ℕ) → FallsStrictly (x ∷ b) → x % n + alike n x b * n ≤ x
 lowered_below n x [] f = let e = mod-le x n in omega arith

@@ -1,6 +1,6 @@
--- Sums of reductions: they follow from the coefficients of what is reduced, whatever its order.
---     reduced_sum         the coefficient at a label, where terms are reduced by rim hooks
---     reflected_sum       and where they are reflected
+-- Sums of reductions: they depend only on the coefficients of the list that is reduced, not on its order.
+--     reduced_sum         the coefficient at a label, if terms are reduced by rim hooks
+--     reflected_sum       the coefficient at a label, if terms are reflected into the alcove
 --     absolute_within     a list with each label once has no greater absolute values than one with the same coefficients
 use Rattle.std.proofs.Common.{◌≡◌, ℕ, ◌≤◌, Bool, true, false, cond, List, [], ◌∷◌, refl, sym, ◌∙◌, ap, ap₂, subst, inl, inr, arith, ℤ, pos, negsuc, ◌+ℤ◌, ◌*ℤ◌, ◌≤ℤ◌, Option, Some, None}
 use Rattle.std.specs.Prelude.{nat_abs}
@@ -9,7 +9,7 @@ use Rattle.std.proofs.Math.IntN.{*ℤ-zero, +ℤ_idl, +ℤ_idr}
 use Rattle.sym_model.specs.Sum.{total, Among, Once}
 use Rattle.sym_model.specs.Polynomial.{Term, same, coefficient, Same}
 use Rattle.sym_model.specs.Partition.{IsPartition, rows}
-use Rattle.sym_model.specs.WholeTerms.{WholeTerms, coefficient_by, same_power, absolute_total, EachLabel, labels}
+use Rattle.sym_model.specs.WholeTerms.{WholeTerms, coefficient_by, same_power, absolute_total, HaveLabels, labels}
 use Rattle.sym_model.specs.AlcoveReduction.{alcove_reduction}
 use Rattle.sym_model.specs.Reductions.{Reduction, AreReductions, reduced_terms, reflected_term, reflected_terms}
 use Rattle.sym_model.proofs.Sums.{total_ext, total_among, total_each}
@@ -20,9 +20,9 @@ use Rattle.beta_list_laws.specs.ReductionLists.{reductions_of}
 use Rattle.beta_list_laws.proofs.Ends.{reduces_by_remainders}
 use Rattle.sym_model.proofs.Integers.{sign_of}
 
--- ---- reductions by rim hooks
+-- ---- lists reduced by rim hooks
 
--- what a reduction adds at a label
+-- the coefficient that a reduction adds at a label
 abbrev pub reduced_value : ℕ × List ℕ → Reduction → ℤ
 reduced_value label None = pos 0
 reduced_value label (Some r) = cond (same_power (r.2, r.0) label) r.1 (pos 0)
@@ -30,9 +30,10 @@ reduced_value label (Some r) = cond (same_power (r.2, r.0) label) r.1 (pos 0)
 abbrev pub reduced_share : ℕ → ℕ → ℕ × List ℕ → List ℕ → ℤ
 reduced_share k n label shape = reduced_value label (reduction_by_remainders k n shape)
 
-pub are_reductions : (k n : ℕ) (terms : WholeTerms) → 1 ≤ n → EachLabel (λ shape. IsPartition shape × (rows shape ≤ k)) terms → AreReductions k n terms (reductions_of k n terms)
+pub are_reductions : (k n : ℕ) (terms : WholeTerms) → 1 ≤ n → HaveLabels (λ shape. IsPartition shape × (rows shape ≤ k)) terms → AreReductions k n terms (reductions_of k n terms)
 are_reductions k n [] h e = tt
-are_reductions k n (t ∷ terms) h e = (reduces_by_remainders k n t.0 h e.0.0 e.0.1, are_reductions k n terms h e.1)
+are_reductions k n (t ∷ terms) h e =
+    let p = e t (inl refl) in (reduces_by_remainders k n t.0 h p.0 p.1, are_reductions k n terms h (λ u m. e u (inr m)))
 
 pub times_chosen : (b : Bool) (c s : ℤ) → cond b (c *ℤ s) (pos 0) ≡ c *ℤ cond b s (pos 0)
 times_chosen true c s = refl
@@ -48,7 +49,7 @@ reduced_sum k n (t ∷ terms) label = by (reduction_by_remainders k n t.0) (redu
     by None e = e ∙ sym (+ℤ_idl (total (λ (t : Term). t.1 *ℤ reduced_share k n label t.0) terms)) ∙ ap (λ z. z +ℤ total (λ (t : Term). t.1 *ℤ reduced_share k n label t.0) terms) (sym (*ℤ-zero t.1))
     by (Some r) e = ap₂ ◌+ℤ◌ (times_chosen (same_power (r.2, r.0) label) t.1 r.1) e
 
--- ---- reflections
+-- ---- lists reflected into the alcove
 
 abbrev pub alcove_value : List ℕ → Option (List ℕ × ℤ) → ℤ
 alcove_value label None = pos 0
@@ -67,7 +68,7 @@ reflected_sum k n terms label =
     ∙ total_ext (λ (t : Term). coefficient (reflected_term t.1 (alcove_reduction k n t.0)) label) (λ (t : Term). t.1 *ℤ alcove_share k n label t.0)
     (λ (t : Term). one_reflected label t.1 (alcove_reduction k n t.0)) terms
 
--- ---- absolute values
+-- ---- the sums of the absolute values of the coefficients
 
 sgn_itself : (z : ℤ) → z *ℤ sign_of z ≡ pos (nat_abs z)
 sgn_itself (pos n) = omega (arith, ints)

@@ -25,7 +25,7 @@ alike_same n t x y e a b c d = elim (cases_lt x y) [
   | inr l ↦ elim (cases_lt y x) [ inl m ↦ (let f = alike_far n x y e m in absurd (omega arith)) | inr m ↦ omega arith ]
 ]
 
--- a difference of n or less, where one is not n more, is no multiple of n
+-- two different numbers with a difference less than n leave different remainders
 pub between_unlike : (n x y : ℕ) → y < x → x < y + n → x % n ≡ y % n → ⊥
 between_unlike n x y h l e = let f = alike_far n x y e h in omega arith
 
@@ -38,7 +38,7 @@ alike-here n x y b e = let t : (y % n == x % n) ≡ true = eq-eqb (y % n) (x % n
 pub alike-past : (n x y : ℕ) (b : List ℕ) → (y % n ≡ x % n → ⊥) → alike n x (y ∷ b) ≡ alike n x b
 alike-past n x y b d = let t : (y % n == x % n) ≡ false = test_unlike (y % n) (x % n) d in ap (λ v. cond {A = ℕ} v 1 0 + alike n x b) t ∙ omega arith
 
--- the count looks at the remainder alone
+-- if x and y leave the same remainder, as many entries leave the remainder of x as that of y
 pub alike-remainder : (n x y : ℕ) (b : List ℕ) → x % n ≡ y % n → alike n x b ≡ alike n y b
 alike-remainder n x y [] e = refl
 alike-remainder n x y (z ∷ b) e = let r = alike-remainder n x y b e in let t = ap (λ m. cond {A = ℕ} (z % n == m) 1 0) e in omega arith
@@ -47,6 +47,6 @@ pub alike-append : (n x : ℕ) (s t : List ℕ) → alike n x (s ++ t) ≡ alike
 alike-append n x [] t = omega arith
 alike-append n x (y ∷ s) t = let r = alike-append n x s t in omega arith
 
--- what a lowered entry leaves modulo n
+-- a lowered entry leaves the same remainder modulo n
 pub lowered_remainder : (n x a : ℕ) → (x % n + a * n) % n ≡ x % n
 lowered_remainder n x a = add-mul-mod_self_right (x % n) a n ∙ mod-mod x n

@@ -1,6 +1,6 @@
 -- Lists in a window of n numbers from t on.
 --     up_low, up_high, up-remainder     the least number of at least t with a remainder
---     up_is                             it is each number of the window with that remainder
+--     up_is                             each number of the window is the least with its remainder
 --     alcove_only                       a list with a spread below n is determined by its sum and its remainders
 use Rattle.std.proofs.Common.{◌≡◌, ℕ, zero, suc, ◌+◌, ◌-◌, ◌*◌, ◌/◌, ◌%◌, ◌||◌, Bool, true, false, ◌<◌, ◌≤◌, ◌⊎◌, inl, inr, cond, List, [], ◌∷◌, ◌++◌, map, length, get_or, refl, sym, ◌∙◌, ap, ap₂, arith}
 use Rattle.std.proofs.lemmas.Bool.{cases_lt, cases_eq, eq-eqb}
@@ -20,7 +20,7 @@ use Rattle.beta_list_laws.proofs.Lowest.{strict_falls}
 use Rattle.beta_list_laws.proofs.BetaLowerings.{map_append}
 use Rattle.strip_laws.proofs.Reflections.{last_of, last_is}
 
--- ---- the least number past t with a remainder
+-- ---- the least number from t on with a remainder
 
 record InWindow (n t x u : ℕ) : Type 0 where
   low : t ≤ u
@@ -73,7 +73,7 @@ up_rises n t (suc d) x =
     let b = past_above n (t + d) (up n (t + d) x) in
     omega arith
 
--- ---- lists
+-- ---- lists of values in a window
 
 pub map_up_same : (n t : ℕ) (s : List ℕ) (d : ℕ) → size (map (up n t) s) ≤ size (map (up n (t + d)) s)
 map_up_same n t [] d = omega arith
@@ -86,7 +86,7 @@ same_where_sums n t (x ∷ s) d e =
     let b = map_up_same n t s d in
     ap₂ ◌∷◌ (omega arith) (same_where_sums n t s d (omega arith))
 
--- sorting before values are taken changes no sorted list of values
+-- sorting before the values are taken gives the same sorted list of values
 pub sorted-map-exchange : (f : ℕ → ℕ) (left : List ℕ) (a b : ℕ) (right : List ℕ) → sorted_falling (map f (left ++ (a ∷ b ∷ right))) ≡ sorted_falling (map f (left ++ (b ∷ a ∷ right)))
 sorted-map-exchange f left a b right =
     ap sorted_falling (map_append f left (a ∷ b ∷ right))
@@ -121,12 +121,12 @@ strict_lie n t a (c ∷ b) f e l =
 pub narrow_lie : (n a : ℕ) (b : List ℕ) → FallsStrictly (a ∷ b) → spread (a ∷ b) < n → LieIn n (last_of a b) (a ∷ b)
 narrow_lie n a b f l = let e = spread_is a b in let h = last_below a b f in strict_lie n (last_of a b) a b f refl (omega arith)
 
--- values in the window come from their remainders
+-- the numbers in the window are determined by their remainders
 pub window_back : (n t : ℕ) (b : List ℕ) → 1 ≤ n → LieIn n t b → map (up n t) (remainders n b) ≡ b
 window_back n t [] h w = refl
 window_back n t (x ∷ b) h w = ap₂ ◌∷◌ (up_is n t (x % n) x h w.0 w.1 (sym (mod-mod x n))) (window_back n t b h w.2)
 
--- a narrow strict list by its remainders alone
+-- a narrow strictly decreasing list is determined by its remainders
 narrow_shown : (n a : ℕ) (b : List ℕ) → 1 ≤ n → FallsStrictly (a ∷ b) → spread (a ∷ b) < n
     → a ∷ b ≡ sorted_falling (map (up n (last_of a b)) (sorted_falling (remainders n (a ∷ b))))
 narrow_shown n a b h f l =
@@ -177,7 +177,7 @@ alcove_only n b (x ∷ c) (y ∷ d) h w v =
 
 -- ---- the sum of the values, as the window moves
 
--- a window that begins at a multiple of n
+-- in the window from n·q on, the value of x is the remainder of x plus n·q
 up-multiple : (n q x : ℕ) → 1 ≤ n → up n (n * q) x ≡ x % n + n * q
 up-multiple n q x h =
     let l = mod-lt x h in
@@ -187,7 +187,7 @@ pub size-multiple : (n q : ℕ) (b : List ℕ) → 1 ≤ n → size (map (up n (
 size-multiple n q [] h = omega arith
 size-multiple n q (x ∷ b) h = let e = up-multiple n q x h in let r = size-multiple n q b h in omega arith
 
--- one number further, the values at its remainder go up by n
+-- if the window moves by one, the numbers with the remainder of t increase by n
 pub size-next : (n t : ℕ) (b : List ℕ) → 1 ≤ n → size (map (up n (suc t)) b) ≡ size (map (up n t) b) + n * alike n t b
 size-next n t [] h = omega arith
 size-next n t (x ∷ b) h = by (cases_eq (x % n) (t % n)) (size-next n t b h)

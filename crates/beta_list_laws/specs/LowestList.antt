@@ -6,31 +6,32 @@ use Rattle.sym_model.specs.Partition.{size, columns}
 use Rattle.sym_model.specs.PlaceOrders.{minus_one_to}
 use Rattle.sym_model.specs.BetaList.{beta, from_beta, sorted_falling, rising_pairs}
 
--- how many entries of the list leave the same remainder modulo n as x
+-- the number of entries of the list that leave the same remainder modulo n as x
 abbrev pub alike : ℕ → ℕ → List ℕ → ℕ
 alike n x [] = 0
 alike n x (y ∷ b) = cond (y % n == x % n) 1 0 + alike n x b
 
--- each entry lowered by multiples of n as far as the entries after it, lowered before, leave room
+-- each entry lowered by a multiple of n, as far as possible without meeting a later entry; the later entries are
+-- lowered first
 abbrev pub lowest : ℕ → List ℕ → List ℕ
 lowest n [] = []
 lowest n (x ∷ b) = (x % n + alike n x b * n) ∷ lowest n b
 
--- the partition where all removals of n-cell rim hooks from a partition with at most k rows end
+-- the end of all removals of n-cell rim hooks from a partition with at most k rows
 abbrev pub end_of : ℕ → ℕ → List ℕ → List ℕ
 end_of k n shape = from_beta (sorted_falling (lowest n (beta k shape)))
 
--- the number of removals
+-- the number of the removals that lead from the shape to its end
 abbrev pub power_of : ℕ → ℕ → List ℕ → ℕ
 power_of k n shape = (size shape - size (end_of k n shape)) / n
 
--- the product of their signs
+-- the product of the signs of the removals that lead from the shape to its end
 abbrev pub end_sign : ℕ → ℕ → List ℕ → ℤ
 end_sign k n shape =
     minus_one_to (power_of k n shape * (k + 1) + rising_pairs (lowest n (beta k shape)))
 
--- the end of a shape of at most k rows with its sign and power; nothing if it has more than n - k
--- columns
+-- the reduction of a partition with at most k rows: its end, with the sign and the power; None if the end has more than
+-- n - k columns
 abbrev pub reduction_by_remainders : ℕ → ℕ → List ℕ → Option (List ℕ × ℤ × ℕ)
 reduction_by_remainders k n shape =
     cond (nat_le (k + columns (end_of k n shape)) n)

@@ -1,4 +1,4 @@
--- Strictly falling lists: what beta lists are.
+-- Strictly decreasing lists, such as beta lists.
 use Rattle.std.specs.Prelude.{ℕ, ◌<◌, List, [], ◌∷◌}
 
 -- each number is smaller than the one before it

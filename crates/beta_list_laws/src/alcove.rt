@@ -1,4 +1,4 @@
-//! Where reflections of beta lists end: by remainders and the sum alone.
+//! The end of the reflections of beta lists, which depends only on remainders and the sum.
 
 ghost use Rattle.std.specs.Prelude.{◌≡◌, ℕ, ◌≤◌, ◌↔◌, true, false, ℤ, List, Some, None, map};
 ghost use Rattle.std.specs.Prelude.{length};
@@ -8,8 +8,8 @@ ghost use Rattle.sym_model.specs.AlcoveReduction.{reflected_into_alcove};
 ghost use Rattle.beta_list_laws.specs.StrictFall.{FallsStrictly};
 ghost use Rattle.beta_list_laws.specs.AlcoveEnd.{remainders, match_in, IsAlcoveEnd, up};
 
-/// The reflections of a strictly falling list end in 0 exactly where two entries leave one
-/// remainder modulo n. Otherwise they end in the only strictly falling list with that sum, these
+/// The reflections of a strictly decreasing list end in 0 if and only if two entries leave one
+/// remainder modulo n. Otherwise they end in the only strictly decreasing list with that sum, these
 /// remainders and a spread below n, with the sign of the order in which its entries are matched
 /// with those of the list. It is computed by raising or lowering each entry into a window of n
 /// numbers.

@@ -7,8 +7,8 @@
 //!
 //! `removals_end_law`: all ends of the removals of rim hooks of n cells from one partition agree in
 //! partition, sign and power, by a closed formula. `alcove_law`: the reduction into the alcove is 0
-//! exactly if two entries of the beta list leave one remainder, and otherwise the only list in its
-//! window with these remainders and this sum.
+//! if and only if two entries of the beta list leave one remainder, and otherwise the only list in
+//! its window with these remainders and this sum.
 #![tactic(auto)]
 
 mod alcove;

@@ -1,4 +1,4 @@
-//! All ends of the removals of rim hooks from one partition are one.
+//! All removals of rim hooks from one partition have the same end.
 
 ghost use Rattle.std.specs.Prelude.{◌≡◌, ℕ, ◌+◌, ◌*◌, ◌≤◌, ℤ, List, Option};
 ghost use Rattle.sym_model.specs.Partition.{IsPartition, size, rows};
@@ -6,9 +6,9 @@ ghost use Rattle.sym_model.specs.RimHookReduction.{GoesTo, ReducesTo};
 ghost use Rattle.beta_list_laws.specs.LowestList.{end_of, power_of, end_sign};
 ghost use Rattle.beta_list_laws.specs.LowestList.{reduction_by_remainders};
 
-/// Removing rim hooks of n cells, as often as this is possible and in any order, leads from one
-/// partition to one end, with one sign and one number of removals. The end is computed from the
-/// beta list, where each entry is lowered by multiples of n as far as there is room.
+/// Removing rim hooks of n cells, as long as possible and in any order, leads from one partition to
+/// one end, with one sign and one number of removals. The end is computed from the beta list by
+/// lowering each entry by multiples of n as far as possible.
 pub fn removals_end_law()
     ensures goes { (k n : ℕ) (shape : List ℕ) → 1 ≤ n → IsPartition shape → rows shape ≤ k
         → GoesTo k n shape (end_of k n shape) (end_sign k n shape) (power_of k n shape) }

@@ -1,4 +1,4 @@
--- What a text is read back as.
+-- The reading of a text as an answer.
 use Rattle.std.proofs.Common.{◌≡◌, ◌≢◌, ℕ, arith, ℤ, pos, List, [], ◌∷◌, ◌++◌, ◌&&◌, ◌==◌, Bool, true, false, cond, Option, Some, None, FitsSigned, refl, sym, ◌∙◌, ap, subst, append-nil, nat_lt, nat_abs}
 use Rattle.std.specs.Prelude.{Err}
 use Rattle.std.specs.Int.{w128}
@@ -22,9 +22,9 @@ use Rattle.block_reader.specs.declared.fault.ReadBackFault.TheVariants.{NotPrint
 use Rattle.block_reader.specs.Fitting.{fits, all_fit}
 use Rattle.block_reader.specs.Readings.{IsReading}
 
--- ---- texts and the terms of their lines
+-- ---- the terms that are read from the lines of a text
 
--- the tests that the terms of a text have to pass
+-- the tests that the terms of a text must pass
 abbrev passes : {L : Type 0} → LabelRules L → List ℕ → Bool
 passes rules text = is_canonical_by rules (terms_of rules text) && is_printable (terms_of rules text) && same (block_by rules (terms_of rules text)) text
 
@@ -47,7 +47,7 @@ canonical-fit {L} rules (t ∷ terms) h k =
     (and_from (fits rules.has_fractions t.1) (rules.is_within_limits t.0) (and_from (is_coefficient rules.has_fractions t.1) (fits_128_bits t.1.0 && fits_128_bits (pos t.1.1)) r.0 q.0) r.1)
     (canonical-fit rules terms p.1 q.1)
 
--- terms that cannot stand in a block
+-- if a block cannot have the terms of the text, the text is not read
 refused-none : {L : Type 0} (rules : LabelRules L) (text : List ℕ)
     → (is_ordered rules.order (terms_of rules text) && all_fit rules.has_fractions rules.is_within_limits (terms_of rules text)) ≡ false → read_by rules text ≡ None
 refused-none {L} rules text h =
@@ -63,9 +63,9 @@ pub reading-refused : (kind : Kind) (text : List ℕ) (fault : ReadBackFault)
 reading-refused kind text NotPrinted h = refused-none (label_rules kind) text (h refl)
 reading-refused kind text NoMemory h = tt
 
--- ---- numbers
+-- ---- texts that are read as a number
 
--- a number with the line that it stands on
+-- the text is the line of a number, with these terms
 record IsOnLine (text : List ℕ) (terms : Terms (Label kinds.number)) : Type 0 where
   fits : FitsSigned w128 (signed_value (cut_at 10 text).0)
   told : number_terms (signed_value (cut_at 10 text).0) ≡ terms
@@ -109,9 +109,9 @@ none_else (Some x) h = absurd (h x refl)
 pub number-refused : (text : List ℕ) → (FitsSigned w128 (signed_value (cut_at 10 text).0) → ⊥) → read_by (label_rules kinds.number) text ≡ None
 number-refused text large = none_else (read_by (label_rules kinds.number) text) (λ terms e. large (number-line text terms e).fits)
 
--- ---- blocks that are compared
+-- ---- a text is compared with the block of the answer that was read
 
--- where the only answer that can have the text as its block has another one, no answer has it
+-- if the only answer that can have this block prints to another text, no answer has this block
 pub not_printed : (kind : Kind) (text : List ℕ) (a : PlainAnswer)
     → ((terms : Terms (Label kind)) → read_by (label_rules kind) text ≡ Some terms → a ≡ answer kind terms) → answer_text a ≢ text
     → read_by (label_rules kind) text ≡ None

@@ -7,6 +7,5 @@ pub mod FittingTerms
 pub mod LineSteps
 pub mod NewFractions
 pub mod BlockReadings
--- Lemmas of the crate.
 pub mod Blocks
 pub mod LineReadings

@@ -1,4 +1,4 @@
--- A line is read by the block that it comes to.
+-- A line is read by way of the block that it is rewritten as.
 use Rattle.std.proofs.Common.{◌≡◌, ◌≢◌, ℕ, List, Some, None, Result, Ok, Err, IfOk, true, false, refl, sym, ap, ◌∙◌, subst}
 use Rattle.std.proofs.lemmas.Bool.{and_parts}
 use Rattle.std.proofs.lemmas.Option.{same_Some}
@@ -33,7 +33,7 @@ plain_kind-is (Permutations terms) = refl
 plain_kind-is (Polynomial terms) = refl
 plain_kind-is (Shifts terms) = refl
 
--- where a line is read as a list, so is the block that it comes to
+-- if a line is read as a list, the block that it is rewritten as is read as the same list
 reads-block : (basis : Basis) (kind : Kind) → HasAtoms kind → (text : List ℕ) (terms : Terms (Label kind))
     → read_in (as_line basis) kind text ≡ Some terms → read_by (label_rules kind) (block_from true text) ≡ Some terms
 reads-block basis expansion atoms text terms h =
@@ -48,7 +48,7 @@ reads-block basis product atoms text terms h =
     (ap (read_by (label_rules product)) (line-rewritten false basis terms readable) ∙ read_by-block (label_rules product) (legible product) terms r.canonical r.printable)
 reads-block basis _ atoms text terms h = absurd atoms
 
--- a text whose block is refused is no line
+-- a text is not a line if the block that it is rewritten as is refused
 pub refused_line : (basis : Basis) (kind : Kind) → HasAtoms kind → (text block : List ℕ) → block ≡ block_from true text → read_by (label_rules kind) block ≡ None
     → read_in (as_line basis) kind text ≡ None
 refused_line basis kind atoms text block is none =
@@ -64,7 +64,7 @@ same_line basis kind atoms text terms h found printable same =
     ∙ ap (read_by (label_rules kind)) same ∙ reads-block basis kind atoms text terms h in
     ap (text_in (as_line basis) kind) (same_Some found terms e) ∙ (read_in-tells (as_line basis) kind text terms h).text_is
 
--- where the only answer that can have the text as its line has another one, no answer has it
+-- if the only answer that can have this line prints to another text, no answer has this line
 pub not_line : (basis : Basis) (kind : Kind) → HasAtoms kind → (text : List ℕ) (a : PlainAnswer) → plain_kind a ≡ kind → IsPrintable a → answer_text a ≡ block_from true text
     → answer_text_in (as_line basis) a ≢ text → read_in (as_line basis) kind text ≡ None
 not_line basis kind atoms text (answer k found) e printable same other =
@@ -72,14 +72,14 @@ not_line basis kind atoms text (answer k found) e printable same other =
     other (subst (λ j. (ts : Terms (Label j)) → IsPrintable (answer j ts) → block_by (label_rules j) ts ≡ block_from true text → text_in (as_line basis) j ts ≡ text) (sym e)
     (same_line basis kind atoms text terms h) found printable same))
 
--- ---- the expression on a line
+-- ---- the text of a line is an expression
 
 line_expression : (basis : Basis) (a : PlainAnswer) → HasAtoms (plain_kind a) → IsPrintable a → IsLineOfExpression basis a
 line_expression basis (answer expansion terms) atoms p = is_expression true basis terms p.0 p.1
 line_expression basis (answer product terms) atoms p = is_expression false basis terms p.0 p.1
 line_expression basis (answer _ terms) atoms p = absurd atoms
 
--- the same of what is answered
+-- the one-line form of the answer that is returned is an expression that denotes its list
 pub answered_expression : {E : Type 0} (basis : Basis) (result : Result Answer E) (found : Answer) → HasAtoms (kind_of_answer found)
     → IfOk result (λ a. a ≡ found) → IfOk result (λ a. IsPrintable (plain_answer a)) → IfOk result (λ a. IsLineOfExpression basis (plain_answer a))
 answered_expression basis (Ok a) found atoms is printable =

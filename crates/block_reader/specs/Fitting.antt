@@ -1,4 +1,4 @@
--- Which terms can stand in a block, and what a line tells.
+-- The terms that a block can have, and the terms of its lines.
 use Rattle.std.specs.Prelude.{ℤ, pos, ℕ, nat_lt, nat_abs, Bool, ◌&&◌, List, [], ◌∷◌, cond, Option}
 use Rattle.std.specs.Prelude.{Some, None}
 use Rattle.sym_model.specs.Expansion.{Fraction, Terms}
@@ -10,16 +10,17 @@ abbrev pub fits : Bool → Fraction → Bool
 fits has_fractions c =
     is_coefficient has_fractions c && (fits_128_bits c.0 && fits_128_bits (pos c.1))
 
--- whether each term can stand in a block
+-- whether a block can have each of the terms
 abbrev pub all_fit : {L : Type 0} → Bool → (L → Bool) → Terms L → Bool
 all_fit has_fractions is_label terms = each_term (λ t. fits has_fractions t.1 && is_label t.0) terms
 
--- the terms of a line in which this was found
+-- the terms of a line, given the term that was found in it, if any
 abbrev pub terms_found : {L R : Type 0} → (R → Fraction) → Option (L × R) → Terms L
 terms_found value None = []
 terms_found value (Some p) = (p.0, value p.1) ∷ []
 
--- the term that a numerator, the text after it, and a label come to; none where the numerator is 0
+-- the term with this numerator, with the denominator in the text after it, and with this label; none if the numerator
+-- is 0
 abbrev pub term_with : {L : Type 0} → ℤ → List ℕ → L → Terms L
 term_with num text label =
     cond (nat_lt 0 (nat_abs num)) ((label, (num, denominator_after text)) ∷ []) []

@@ -2,5 +2,4 @@
 pub mod Parts
 pub mod Fitting
 pub mod Readings
--- The definitions that the contracts cite.
 pub mod Lines

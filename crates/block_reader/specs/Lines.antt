@@ -1,4 +1,4 @@
--- The block that a one-line form comes to, byte by byte.
+-- The block that a one-line form is rewritten as, byte by byte.
 use Rattle.std.specs.Prelude.{ℕ, ◌==◌, nat_le, Bool, true, false, ◌&&◌, ◌||◌, List, [], ◌∷◌, ◌++◌}
 use Rattle.std.specs.Prelude.{codes, cond}
 use Rattle.sym_model.specs.Answer.{Answer, answer}
@@ -6,37 +6,35 @@ use Rattle.sym_model.specs.Expansion.{Basis}
 use Rattle.sym_model.specs.Kind.{Kind, expansion, product}
 use Rattle.printing_laws.specs.LineExpression.{IsExpression}
 
--- the kinds whose labels are partitions alone, which stand on one line as atoms
+-- the kinds whose labels are single partitions, which a line writes as atoms
 abbrev pub HasAtoms : Kind → Type 0
 HasAtoms expansion = Unit {0}
 HasAtoms product = Unit {0}
 HasAtoms _ = ⊥
 
--- the one-line form of the answer is an expression, and what that denotes is the list of the answer
+-- the one-line form of the answer is an expression that denotes the list of the answer
 abbrev pub IsLineOfExpression : Basis → Answer → Type 0
 IsLineOfExpression basis (answer expansion terms) = IsExpression basis terms
 IsLineOfExpression basis (answer product terms) = IsExpression basis terms
 IsLineOfExpression basis _ = ⊥
 
--- whether a byte leaves no trace: `+`, `*`, a letter,
--- and LF where no number was read since the last atom
+-- whether the block has nothing for a byte: `+`, `*`, a letter, and an LF if no number was read since the last atom
 abbrev pub is_dropped : Bool → ℕ → Bool
 is_dropped bare byte = (((byte == 43) || (byte == 42)) || nat_le 97 byte) || (bare && (byte == 10))
 
--- what a byte comes to: `[` opens a label, after the coefficient 1 where none was read,
--- and `]` ends its line
+-- the text for a byte: `[` opens a label, after the coefficient 1 if none was read, and `]` ends its line
 abbrev pub emitted : Bool → ℕ → List ℕ
 emitted bare byte =
     cond (is_dropped bare byte) []
     (cond (byte == 91) (cond bare (codes "1  (") (codes "  ("))
     (cond (byte == 93) (codes ")\n") (byte ∷ [])))
 
--- whether no number was read since the last atom, when this byte has been
+-- whether no number was read since the last atom, once this byte has been read
 abbrev pub is_bare_after : Bool → ℕ → Bool
 is_bare_after bare byte =
     cond (byte == 93) true (cond (nat_le 48 byte && nat_le byte 57) false bare)
 
--- the block that the rest of a line comes to
+-- the block for the rest of a line
 abbrev pub block_from : Bool → List ℕ → List ℕ
 block_from bare [] = []
 block_from bare (byte ∷ text) = emitted bare byte ++ block_from (is_bare_after bare byte) text

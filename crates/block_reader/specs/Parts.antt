@@ -7,8 +7,7 @@ abbrev pub inside_of : List ℕ → List ℕ
 inside_of [] = []
 inside_of (byte ∷ text) = without_last text
 
--- the denominator of a fraction whose text goes on like this after its numerator;
--- `/` is the byte 47
+-- the denominator of a fraction, given its text after the numerator; `/` is the byte 47
 abbrev pub denominator_after : List ℕ → ℕ
 denominator_after [] = 1
 denominator_after (slash ∷ text) = decimal_value (cut_at 47 text).0

@@ -6,11 +6,11 @@ use coeff_rings::{Frac, Int, Scalar};
 
 /// Coefficients that can be read back.
 pub(crate) trait Coefficient: Scalar {
-    // Whether they may be fractions.
+    // Whether the coefficients may be fractions.
     ghost has_fractions: { Bool };
 
-    /// The coefficient with this numerator and this denominator,
-    /// or `None` where it cannot stand in a block.
+    /// The coefficient with this numerator and this denominator, or `None` if a block cannot have
+    /// it.
     fn of_parts(num: i128, den: u128) -> Option<Self>
         ensures { MatchOption result (fits has_fractions (num, den) ≡ false)
             (λ c. Self.value c ≡ (num, den)) };

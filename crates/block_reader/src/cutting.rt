@@ -4,7 +4,7 @@ ghost use Rattle.sym_model.specs.Kind.{after_one, after_two};
 ghost use Rattle.sym_model.specs.NumberText.{cut_at};
 ghost use Rattle.block_reader.specs.Parts.{inside_of};
 
-/// Cuts a text in two in front of the first separator, which begins the second part.
+/// Cuts a text in two before the first separator, which begins the second part.
 pub(crate) fn cut(text: &[u8], separator: u8) -> (&[u8], &[u8])
     ensures front { result.0.now ≡ (cut_at separator text.now).0 }
     ensures back { result.1.now ≡ (cut_at separator text.now).1 }

@@ -1,4 +1,4 @@
-//! Why a text is not read back.
+//! Errors of reading a text back.
 ghost use Rattle.std.specs.Prelude.{◌≡◌};
 ghost use Rattle.block_reader.specs.declared.fault.ReadBackFault.TheVariants.{NoMemory as no_memory};
 
@@ -6,13 +6,13 @@ use calc_base::NoMemory;
 use std::alloc::{AllocError, AllocFailed};
 use thiserror::Error;
 
-/// Why a text is not read back as an answer.
+/// The reason why a text is not read back as an answer.
 #[derive(Clone, Copy, Debug, PartialEq, Eq, Hash, Error)]
 pub enum ReadBackFault {
-    /// The text is no block that an answer of this kind prints.
+    /// The text is not a block that an answer of this kind prints.
     #[error("no printed block of this kind")]
     NotPrinted,
-    /// Memory was refused.
+    /// Memory ran out.
     #[error("out of memory")]
     NoMemory,
 }

@@ -19,11 +19,11 @@ use std::alloc::Global;
 
 /// Labels that can be read back.
 pub(crate) trait Spelled: Label {
-    // What a block has to know of them.
+    // The rules of a block for these labels.
     ghost line_rules: { LabelRules Self };
 
-    /// The label that the text after a coefficient spells,
-    /// or `None` where that is not within the limits.
+    /// The label that the text after a coefficient spells, or `None` if it is not within the
+    /// limits.
     fn spelled(alloc: Global, text: &[u8]) -> Result<Option<Self>, NoMemory>
         ensures { IfOk result (λ found. MatchOption found
             (Self.is_label (line_rules.spelled text.now) ≡ false)
@@ -99,7 +99,7 @@ impl Spelled for Shifted {
     }
 }
 
-/// The partition of a label, or `None` where that is not within the limits.
+/// The partition of a label, or `None` if it is not within the limits.
 fn shape_of(alloc: Global, label: &[u8]) -> Result<Option<Partition>, NoMemory>
     ensures { IfOk result (λ found.
         MatchOption found (is_label (label_of label.now) ≡ false)
@@ -111,7 +111,7 @@ fn shape_of(alloc: Global, label: &[u8]) -> Result<Option<Partition>, NoMemory>
     }
 }
 
-/// The partition with these parts, or `None` where they are not one.
+/// The partition with these parts, or `None` if they are not a partition.
 fn partition_of(alloc: Global, parts: &[u16]) -> Result<Option<Partition>, NoMemory>
     ensures { IfOk result (λ found.
         MatchOption found (is_label parts.now ≡ false) (λ shape. shape ≡ parts.now)) }
@@ -125,7 +125,7 @@ fn partition_of(alloc: Global, parts: &[u16]) -> Result<Option<Partition>, NoMem
     }
 }
 
-/// The partition that was made of these parts, where they have no zeros at the end.
+/// The partition that was made of these parts, if they have no zeros at the end.
 fn whole_shape(shape: Partition, parts: &[u16]) -> Option<Partition>
     requires { shape ≡ without_last_zeros parts.now }
     ensures { MatchOption result (is_label parts.now ≡ false) (λ shape. shape ≡ parts.now) }
@@ -136,7 +136,7 @@ fn whole_shape(shape: Partition, parts: &[u16]) -> Option<Partition>
     None
 }
 
-/// The permutation of a label, or `None` where that is not within the limits.
+/// The permutation of a label, or `None` if it is not within the limits.
 fn labelled_permutation(alloc: Global, label: &[u8]) -> Result<Option<Perm>, NoMemory>
     ensures { IfOk result (λ found.
         MatchOption found (is_permutation_label (label_of label.now) ≡ false)
@@ -148,7 +148,8 @@ fn labelled_permutation(alloc: Global, label: &[u8]) -> Result<Option<Perm>, NoM
     }
 }
 
-/// The permutation with these letters, or `None` where they are not one as it is kept.
+/// The permutation with these letters, or `None` if they are not a permutation, or not one without
+/// fixed letters at its end.
 fn permutation_of(alloc: Global, letters: &[u16]) -> Result<Option<Perm>, NoMemory>
     ensures { IfOk result (λ found.
         MatchOption found (is_permutation_label letters.now ≡ false) (λ w. w ≡ letters.now)) }
@@ -162,7 +163,7 @@ fn permutation_of(alloc: Global, letters: &[u16]) -> Result<Option<Perm>, NoMemo
     }
 }
 
-/// The permutation that was made of these letters, where none of them was dropped.
+/// The permutation that was made of these letters, if none of them was dropped.
 fn whole_permutation(w: Perm, letters: &[u16]) -> Option<Perm>
     requires { w ≡ kept letters.now }
     ensures { MatchOption result (is_permutation_label letters.now ≡ false) (λ w. w ≡ letters.now) }
@@ -173,7 +174,7 @@ fn whole_permutation(w: Perm, letters: &[u16]) -> Option<Perm>
     None
 }
 
-/// The monomial of a label, or `None` where that is not within the limits.
+/// The monomial of a label, or `None` if it is not within the limits.
 fn labelled_monomial(alloc: Global, label: &[u8]) -> Result<Option<Monomial>, NoMemory>
     ensures { IfOk result (λ found.
         MatchOption found (is_monomial_label (label_of label.now) ≡ false)
@@ -185,7 +186,7 @@ fn labelled_monomial(alloc: Global, label: &[u8]) -> Result<Option<Monomial>, No
     }
 }
 
-/// The monomial with these exponents, or `None` where they are not one without zeros at the end.
+/// The monomial with these exponents, or `None` if they exceed the limits or end in a zero.
 fn monomial_of(alloc: Global, exponents: &[u16]) -> Result<Option<Monomial>, NoMemory>
     ensures { IfOk result (λ found.
         MatchOption found (is_monomial_label exponents.now ≡ false) (λ m. m ≡ exponents.now)) }
@@ -198,7 +199,7 @@ fn monomial_of(alloc: Global, exponents: &[u16]) -> Result<Option<Monomial>, NoM
     }
 }
 
-/// The monomial that was made of these exponents, where they have no zeros at the end.
+/// The monomial that was made of these exponents, if they have no zeros at the end.
 fn whole_monomial(m: Monomial, exponents: &[u16]) -> Option<Monomial>
     requires { m ≡ without_last_zeros exponents.now }
     ensures { MatchOption result (is_monomial_label exponents.now ≡ false)
@@ -210,7 +211,7 @@ fn whole_monomial(m: Monomial, exponents: &[u16]) -> Option<Monomial>
     None
 }
 
-/// The value of a row of digits, where it is below 2^32.
+/// The value of a row of digits, if it is below 2^32.
 fn power_of(digits: &[u8]) -> Option<u32>
     ensures { SomeIff result (decimal_value digits.now < 2 ^ 32) (decimal_value digits.now) }
 {

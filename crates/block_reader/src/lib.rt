@@ -1,13 +1,14 @@
 //! Printed blocks and one-line forms, read back as answers. The answer that is read is printed
-//! again, and the bytes are compared; a line is rewritten as a block first.
+//! again, and the bytes are compared; a one-line form is rewritten as a block first.
 //!
 //! What is proved:
 //!
 //! `read_back`: the answer of a kind whose block a text is. It has that kind, prints to the same
-//! bytes and is canonical; `NotPrinted` comes only where the text is no block of that kind.
+//! bytes and is canonical; `NotPrinted` is returned only if the text is not a block of that kind.
 //! `read_one_line`: the expansion or product whose one-line form in a basis a text is. It has that
 //! kind, prints to the same bytes and is canonical, and the text without its LF is an expression
-//! that denotes the list of the answer; `NotPrinted` comes only where the text is no such form.
+//! that denotes the list of the answer; `NotPrinted` is returned only if the text is not such a
+//! form.
 #![tactic(auto)]
 
 mod coefficients;

@@ -17,7 +17,7 @@ use coeff_rings::{Int, Scalar};
 use linear_combinations::{Label, Terms};
 use std::alloc::Global;
 
-/// The terms that the lines of a text spell, or `NotPrinted` where they cannot stand in a block.
+/// The terms that the lines of a text spell, or `NotPrinted` if a block cannot have them.
 pub(crate) fn read_terms<L: Spelled, R: Coefficient>(
     alloc: Global,
     text: &[u8],
@@ -58,7 +58,7 @@ fn read_pairs<L: Spelled, R: Coefficient>(
     }
 }
 
-/// Appends what a line told.
+/// Appends the term of a line, if there is one.
 fn push_found<L: Label, R: Scalar>(
     pairs: &mut Vec<(L, R)>,
     found: Option<(L, R)>,
@@ -73,7 +73,7 @@ fn push_found<L: Label, R: Scalar>(
     Ok(())
 }
 
-/// What a line tells: its term, or nothing where its coefficient is 0.
+/// The term of a line, or `None` if its coefficient is 0.
 fn read_line<L: Spelled, R: Coefficient>(
     alloc: Global,
     line: &[u8],
@@ -101,7 +101,7 @@ fn read_line<L: Spelled, R: Coefficient>(
     }
 }
 
-/// The coefficient with this numerator, where its text goes on like this.
+/// The coefficient with this numerator, and with the denominator in the text after it.
 fn coefficient_with<R: Coefficient>(num: i128, text: &[u8]) -> Option<R>
     ensures { MatchOption result (fits R.has_fractions (num, denominator_after text.now) ≡ false)
         (λ c. R.value c ≡ (num, denominator_after text.now)) }

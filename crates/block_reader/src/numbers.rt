@@ -7,7 +7,7 @@ ghost use Rattle.block_reader.specs.Parts.{denominator_after};
 
 use crate::cutting::{after_first, cut};
 
-/// The value of a row of digits, where it is below 2^128.
+/// The value of a row of digits, if it is below 2^128.
 pub(crate) fn number_of(digits: &[u8]) -> Option<u128>
     ensures { SomeIff result (decimal_value digits.now < 2 ^ 128) (decimal_value digits.now) }
 {
@@ -21,7 +21,7 @@ pub(crate) fn number_of(digits: &[u8]) -> Option<u128>
     Some(value)
 }
 
-/// The value of a number followed by one more digit.
+/// The value of a number with one more digit appended, if it is below 2^128.
 fn with_digit(value: u128, digit: u8) -> Option<u128>
     ensures { SomeIff result (10 * value + (digit - 48) < 2 ^ 128) (10 * value + (digit - 48)) }
 {
@@ -30,7 +30,7 @@ fn with_digit(value: u128, digit: u8) -> Option<u128>
         .checked_add(u128::from(digit.saturating_sub(48)))
 }
 
-/// The whole number that a text spells, where it is one of 128 bits with a sign.
+/// The whole number that a text spells, if it is a signed number of 128 bits.
 pub(crate) fn signed_of(text: &[u8]) -> Option<i128>
     ensures { SomeIff result (FitsSigned w128 (signed_value text.now)) (signed_value text.now) }
 {
@@ -40,7 +40,7 @@ pub(crate) fn signed_of(text: &[u8]) -> Option<i128>
     }
 }
 
-/// A number as one with a sign.
+/// A number as a signed number of 128 bits, if it is one.
 fn positive(number: Option<u128>) -> Option<i128>
     ensures { (n : ℕ) → SomeIff number (n < 2 ^ 128) n
         → SomeIff result (FitsSigned w128 (pos n)) (pos n) }
@@ -48,7 +48,7 @@ fn positive(number: Option<u128>) -> Option<i128>
     i128::try_from(number?).ok()
 }
 
-/// The negative of a number.
+/// The negative of a number as a signed number of 128 bits, if it is one.
 fn negative(number: Option<u128>) -> Option<i128>
     ensures { (n : ℕ) → SomeIff number (n < 2 ^ 128) n
         → SomeIff result (FitsSigned w128 (neg_ℤ (pos n))) (neg_ℤ (pos n)) }
@@ -56,8 +56,7 @@ fn negative(number: Option<u128>) -> Option<i128>
     0i128.checked_sub_unsigned(number?)
 }
 
-/// The denominator of a fraction whose text goes on like this after its numerator:
-/// 1 where it ends there.
+/// The denominator of a fraction, given its text after the numerator: 1 if that is empty.
 pub(crate) fn denominator_of(text: &[u8]) -> Option<u128>
     ensures { SomeIff result (denominator_after text.now < 2 ^ 128) (denominator_after text.now) }
 {

@@ -12,11 +12,11 @@ use calc_base::{Basis, CountSink, MemSink, NoMemory};
 use expansion_printer::{Answer, Kind, print_one_line};
 use std::alloc::Global;
 
-/// The answer of this kind, an expansion or a product,
-/// whose one-line form with the atoms of the basis the text is.
+/// The answer of this kind, an expansion or a product, whose one-line form with the atoms of the
+/// basis is this text.
 ///
-/// It is refused as `NotPrinted` exactly where the text is no such form,
-/// unless memory was refused before.
+/// Fails with `NotPrinted` if the text is not such a form, and with `NoMemory` only if memory runs
+/// out.
 pub fn read_one_line(
     alloc: Global,
     text: &[u8],
@@ -29,7 +29,7 @@ pub fn read_one_line(
         answer_text_in (as_line (basis_of basis)) (plain_answer answer) ≡ text.now) }
     ensures printable { IfOk result (λ answer. IsPrintable (plain_answer answer)) }
 
-    // The text without its LF is an expression, and what that denotes is the list of the answer.
+    // The text without its LF is an expression that denotes the list of the answer.
     ensures expression { IfOk result
         (λ answer. IsLineOfExpression (basis_of basis) (plain_answer answer)) }
     ensures not_printed { IsErrOf result ReadBackFault.NotPrinted
@@ -40,7 +40,7 @@ pub fn read_one_line(
     checked(alloc, answer, basis, text)
 }
 
-/// The answer, where the text is its line.
+/// The answer, if the text is its line.
 fn checked(
     alloc: Global,
     answer: Answer,
@@ -54,7 +54,7 @@ fn checked(
     ensures not_printed { IsErrOf result ReadBackFault.NotPrinted
         → answer_text_in (as_line (basis_of basis)) (plain_answer answer) ≢ text.now }
 
-    // Memory is taken only where the line has as many bytes as the text.
+    // Memory is allocated only if the line has the length of the text.
     ensures no_memory { IsErrOf result ReadBackFault.NoMemory
         → length (answer_text_in (as_line (basis_of basis)) (plain_answer answer))
         ≡ length text.now }
@@ -81,13 +81,14 @@ fn is_line(alloc: Global, answer: &Answer, basis: Basis, text: &[u8]) -> Result<
     }
     let mut sink = MemSink::new(alloc, text.len(), &[])?;
     if print_one_line(answer, basis, &mut sink).is_err() {
-        // The line is as long as the text, for which this sink has room.
+        // This sink has room for the text, which is as long as the line, so it fails only if memory
+        // runs out.
         return Err(NoMemory);
     }
     Ok(sink.bytes() == text)
 }
 
-/// Whether the line of the answer has as many bytes as the text.
+/// Whether the line of the answer has the length of the text.
 fn has_length(answer: &Answer, basis: Basis, text: &[u8]) -> bool
     ensures length { let line = answer_text_in (as_line (basis_of basis)) (plain_answer answer.now) in
         MatchBool result (length line ≡ length text.now) (length line ≢ length text.now) }

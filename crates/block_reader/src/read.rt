@@ -16,10 +16,10 @@ use coeff_rings::Int;
 use expansion_printer::{Answer, Kind, print};
 use std::alloc::Global;
 
-/// The answer of this kind whose printed block the text is.
+/// The answer of this kind whose printed block is this text.
 ///
-/// It is refused as `NotPrinted` exactly where the text is no block of this kind,
-/// unless memory was refused before.
+/// Fails with `NotPrinted` if the text is not a block of this kind, and with `NoMemory` only if
+/// memory runs out.
 pub fn read_back(alloc: Global, text: &[u8], kind: Kind) -> Result<Answer, ReadBackFault>
     ensures kind { IfOk result (λ answer. kind_of_answer answer ≡ kind_of kind) }
     ensures prints { IfOk result (λ answer. answer_text (plain_answer answer) ≡ text.now) }
@@ -31,7 +31,7 @@ pub fn read_back(alloc: Global, text: &[u8], kind: Kind) -> Result<Answer, ReadB
     checked(alloc, answer, text)
 }
 
-/// The answer, where the text is its block.
+/// The answer, if the text is its block.
 fn checked(alloc: Global, answer: Answer, text: &[u8]) -> Result<Answer, ReadBackFault>
     ensures same { IfOk result (λ same. same ≡ answer) }
     ensures prints { IfOk result (λ same. answer_text (plain_answer same) ≡ text.now) }
@@ -39,7 +39,7 @@ fn checked(alloc: Global, answer: Answer, text: &[u8]) -> Result<Answer, ReadBac
     ensures not_printed { IsErrOf result ReadBackFault.NotPrinted
         → answer_text (plain_answer answer) ≢ text.now }
 
-    // Memory is taken only where the block has as many bytes as the text.
+    // Memory is allocated only if the block has the length of the text.
     ensures no_memory { IsErrOf result ReadBackFault.NoMemory
         → length (answer_text (plain_answer answer)) ≡ length text.now }
 {
@@ -64,13 +64,13 @@ fn is_block(alloc: Global, answer: &Answer, text: &[u8]) -> Result<bool, NoMemor
     }
     let mut sink = GrowingSink::new(alloc);
     if print(answer, &mut sink).is_err() {
-        // This sink has no other fault.
+        // This sink fails only if memory runs out.
         return Err(NoMemory);
     }
     Ok(sink.bytes() == text)
 }
 
-/// Whether the block of the answer has as many bytes as the text.
+/// Whether the block of the answer has the length of the text.
 fn has_length(answer: &Answer, text: &[u8]) -> bool
     ensures length { MatchBool result
         (length (answer_text (plain_answer answer.now)) ≡ length text.now)
@@ -98,7 +98,7 @@ fn candidate(alloc: Global, text: &[u8], kind: Kind) -> Result<Answer, ReadBackF
     }
 }
 
-/// A number.
+/// Reads a number.
 fn read_number(text: &[u8]) -> Result<Answer, ReadBackFault>
     ensures { IsReading number text.now result }
 {
@@ -111,7 +111,7 @@ fn read_number(text: &[u8]) -> Result<Answer, ReadBackFault>
     }
 }
 
-/// Partitions with fractions.
+/// Reads partitions with fractions.
 fn read_expansion(alloc: Global, text: &[u8]) -> Result<Answer, ReadBackFault>
     ensures { IsReading expansion text.now result }
 {
@@ -119,7 +119,7 @@ fn read_expansion(alloc: Global, text: &[u8]) -> Result<Answer, ReadBackFault>
     Ok(Answer::Expansion { terms })
 }
 
-/// Partitions with whole coefficients.
+/// Reads partitions with whole coefficients.
 fn read_product(alloc: Global, text: &[u8]) -> Result<Answer, ReadBackFault>
     ensures { IsReading product text.now result }
 {
@@ -127,7 +127,7 @@ fn read_product(alloc: Global, text: &[u8]) -> Result<Answer, ReadBackFault>
     Ok(Answer::Product { terms })
 }
 
-/// Pairs of partitions.
+/// Reads pairs of partitions.
 fn read_pairs(alloc: Global, text: &[u8]) -> Result<Answer, ReadBackFault>
     ensures { IsReading pairs text.now result }
 {
@@ -135,7 +135,7 @@ fn read_pairs(alloc: Global, text: &[u8]) -> Result<Answer, ReadBackFault>
     Ok(Answer::Pairs { terms })
 }
 
-/// Partitions with a power of q.
+/// Reads partitions with a power of q.
 fn read_powers(alloc: Global, text: &[u8]) -> Result<Answer, ReadBackFault>
     ensures { IsReading powers text.now result }
 {
@@ -143,7 +143,7 @@ fn read_powers(alloc: Global, text: &[u8]) -> Result<Answer, ReadBackFault>
     Ok(Answer::Powers { terms })
 }
 
-/// Permutations.
+/// Reads permutations.
 fn read_permutations(alloc: Global, text: &[u8]) -> Result<Answer, ReadBackFault>
     ensures { IsReading permutations text.now result }
 {
@@ -151,7 +151,7 @@ fn read_permutations(alloc: Global, text: &[u8]) -> Result<Answer, ReadBackFault
     Ok(Answer::Permutations { terms })
 }
 
-/// Monomials.
+/// Reads monomials.
 fn read_polynomial(alloc: Global, text: &[u8]) -> Result<Answer, ReadBackFault>
     ensures { IsReading polynomial text.now result }
 {
@@ -159,7 +159,7 @@ fn read_polynomial(alloc: Global, text: &[u8]) -> Result<Answer, ReadBackFault>
     Ok(Answer::Polynomial { terms })
 }
 
-/// Permutations with a monomial beside them.
+/// Reads permutations with a monomial beside them.
 fn read_shifts(alloc: Global, text: &[u8]) -> Result<Answer, ReadBackFault>
     ensures { IsReading shifts text.now result }
 {

@@ -5,8 +5,8 @@ ghost use Rattle.block_reader.specs.Lines.{block_from, emitted, is_dropped, is_b
 use calc_base::NoMemory;
 use std::alloc::Global;
 
-/// The block that a one-line form comes to, byte by byte: a line for each atom, with the
-/// coefficient in front of it or 1. What a text that is no one-line form comes to does not matter.
+/// The block for a one-line form, byte by byte: a line for each atom, with the coefficient in front
+/// of it, or 1. The result for any other text does not matter.
 pub(crate) fn as_block(alloc: Global, text: &[u8]) -> Result<Vec<u8>, NoMemory>
     ensures { IfOk result (λ block. block.items ≡ block_from true text.now) }
 {
@@ -19,7 +19,7 @@ pub(crate) fn as_block(alloc: Global, text: &[u8]) -> Result<Vec<u8>, NoMemory>
     Ok(block)
 }
 
-/// Appends what a byte comes to.
+/// Appends the text for a byte.
 fn put_byte(block: &mut Vec<u8>, bare: bool, byte: u8) -> Result<(), NoMemory>
     ensures { OnOk result (block.new.items ≡ block.old.items ++ emitted bare byte) }
 {
@@ -44,7 +44,7 @@ fn put_text(block: &mut Vec<u8>, text: &[u8]) -> Result<(), NoMemory>
     Ok(())
 }
 
-/// What opens a label: after the coefficient 1, where none was read.
+/// The text that opens a label, with the coefficient 1 if none was read.
 fn opening(bare: bool) -> &'static [u8]
     ensures { result.now ≡ cond bare (codes "1  (") (codes "  (") }
 {
@@ -54,14 +54,15 @@ fn opening(bare: bool) -> &'static [u8]
     b"  ("
 }
 
-/// Whether a byte leaves no trace: `+`, `*`, a letter, and the end of the line after an atom.
+/// Whether the block has nothing for a byte: `+`, `*`, a letter, and the end of the line after an
+/// atom.
 fn is_dropped(bare: bool, byte: u8) -> bool
     ensures { result ≡ is_dropped bare byte }
 {
     byte == b'+' || byte == b'*' || byte >= b'a' || bare && byte == b'\n'
 }
 
-/// Whether no coefficient of the next atom was read, when this byte has been.
+/// Whether no coefficient of the next atom was read, once this byte has been read.
 fn is_bare_after(bare: bool, byte: u8) -> bool
     ensures { result ≡ is_bare_after bare byte }
 {

@@ -1,4 +1,4 @@
--- What is told of a sink over a writer in whose buffer nothing waits.
+-- A sink over a writer, if nothing waits in its buffer.
 use Rattle.std.proofs.Common.{◌≡◌, ℕ, List, [], ◌∷◌, Option, Some, None, true, false, refl, ap, ◌∙◌, append-nil}
 use Rattle.std.proofs.lemmas.Bool.{and_parts}
 use Rattle.std.specs.Io.KnownBytes.{append_known}
@@ -12,7 +12,7 @@ nothing_more : (known : Option (List ℕ)) → append_known known [] ≡ known
 nothing_more None = refl
 nothing_more (Some bytes) = ap Some (append-nil bytes)
 
--- what was put is what the writer holds
+-- If nothing waits in the buffer, then the bytes that were written to the sink are the bytes that the writer holds.
 pub handed_on : {W : Type 0} (contents : W → Option (List ℕ)) (s : Outlet W) → is_handed_on s ≡ true → told_bytes contents s ≡ contents s.writer
 handed_on contents s settled =
     ap (append_known (contents s.writer)) (none_waits s.waiting (and_parts s.finished (is_none s.waiting) settled).1) ∙ nothing_more (contents s.writer)

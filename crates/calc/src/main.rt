@@ -3,11 +3,11 @@
 //!
 //! What is proved:
 //!
-//! The program: it is proved safe, and its stored run is `expand m p[2,1]`. `code_of_run`: the
-//! program's code is that of a status that `answers` the words after the program's name, as `run`
-//! says; `code_for`: 7 or 8 where the system refuses the words. `run_over`: all clauses of `run`,
-//! over any reader and any writer with a buffer in front of it, and its `headline` and `lines` also
-//! of the bytes that the writer itself holds.
+//! The program: it is proved safe, and its stored run is `expand m p[2,1]`. `code_of_run`: the exit
+//! code of the program is the code of a status that the words after the program's name may have, by
+//! `AnswersWords`. `code_for`: 7 or 8 if the system refuses the words. `run_over`: all clauses of
+//! `run`, over any reader and any writer with a buffer in front of it; and its clauses `headline`
+//! and `lines` also of the bytes that the writer itself holds.
 #![tactic(auto)]
 
 ghost use Rattle.std.specs.Prelude.{◌≡◌, ◌≢◌, ℕ, List, Some, drop, map, string_bytes};
@@ -26,8 +26,8 @@ use std::process::ExitCode;
 use std::rt::Env;
 use std::{env, io};
 
-/// The code at the end where the system refuses the words for another reason than out of memory, as
-/// where one is no text in UTF-8.
+/// The exit code if the system refuses the words for another reason than lack of memory, for
+/// example if one of them is not UTF-8.
 const WORDS_REFUSED: u8 = 8;
 
 fn main(rt: HostRuntime) -> ExitCode {
@@ -37,7 +37,7 @@ fn main(rt: HostRuntime) -> ExitCode {
     }
 }
 
-/// Runs the words after the program's name, and gives the code of their status.
+/// Runs the words after the program's name, and returns the exit code of their status.
 fn code_of_run(rt: &HostRuntime, arguments: &[String]) -> ExitCode
     ensures { IsCodeOf (AnswersWords (map string_bytes (drop 1 arguments.now)) (λ line. Unit {0}))
         (exit_status result) }
@@ -60,8 +60,8 @@ fn after_name(arguments: &[String]) -> &[String]
     }
 }
 
-/// The code at the end where the system refuses the words: that of out of memory,
-/// and 8 for another reason.
+/// The exit code if the system refuses the words: the code of `NoMemory` if memory was lacking, and
+/// 8 for any other reason.
 fn code_for(refusal: ErrorKind) -> u8
     ensures memory { refusal ≡ ErrorKind.OutOfMemory → result ≡ code_of Status.NoMemory }
     ensures other { refusal ≢ ErrorKind.OutOfMemory → result ≡ 8 }
@@ -73,12 +73,12 @@ fn code_for(refusal: ErrorKind) -> u8
     }
 }
 
-/// Runs the words over standard input and standard output. The text is written in large pieces;
-/// `run` finishes the output where a batch has no further line to run, so that who sends a line and
-/// waits for its block gets it.
+/// Runs the words over standard input and standard output. The text is written in large pieces.
+/// When a batch has no further line to run, `run` flushes the output, so that a caller who sends a
+/// line and waits for its block receives it.
 fn status_of(rt: &HostRuntime, words: &[String]) -> Status
-    // The status that `run` answers to the words. What standard input gives and standard output
-    // takes no clause can say.
+    // The status is one that the words may have. No clause can speak of the bytes that standard
+    // input gives and standard output takes.
     ensures { AnswersWords (map string_bytes words.now) (λ line. Unit {0}) result }
 {
     let Ok(writer) = BufWriter::new(rt.alloc(), rt.stdout()) else {
@@ -95,8 +95,8 @@ fn run_over<R: Read, W: Write + Drop>(
     source: &mut StdIn<R>,
     sink: &mut StdOut<W>,
 ) -> Status
-    // The headlines of `run`, of the bytes that the writer itself holds:
-    // nothing that was put waits in the buffer.
+    // The clauses `headline` and `lines` of `run`, of the bytes that the writer itself holds:
+    // nothing waits in the buffer.
     ensures headline { result ≡ Status.Done → (before : List ℕ)
         → told_bytes W.contents sink.old ≡ Some before
         → PrintsAnswerTo (map string_bytes words.now) before (R.remaining source.old.reader)
@@ -105,7 +105,7 @@ fn run_over<R: Read, W: Write + Drop>(
         → told_bytes W.contents sink.old ≡ Some before
         → PrintsLines before (R.remaining source.old.reader) (W.contents sink.new.writer) }
 
-    // The other clauses of `run`, as it says them of its source and sink.
+    // The other clauses of `run`, of this source and this sink.
     ensures cut { RunsLines (map string_bytes words.now) → result ≡ Status.SinkFault
         → CutsLines (outlet_seen W.contents sink.old) (outlet_seen W.contents sink.new)
         (intake_seen R.remaining source.old)

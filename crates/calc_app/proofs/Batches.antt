@@ -18,7 +18,7 @@ use Rattle.calc_base.specs.Puts.{Puts}
 use Rattle.calc_base.specs.Sink.{SinkSeen, Appends, AppendsPrefix}
 use Rattle.calc_base.specs.Source.{SourceSeen}
 use Rattle.calc_language.specs.BuiltCommands.{batch_entries}
-use Rattle.calc_commands.specs.declared.command.Command.{Command}
+use Rattle.calc_words.specs.declared.command.Command.{Command}
 use Rattle.calc_language.specs.Lines.{IsLineRead}
 use Rattle.calc_language.specs.Reading.{IsFaultOf, command_of}
 use Rattle.sym_model.specs.BatchLine.{BatchLine, too_long, passed_over, spoken, batch_line, lines_of, most_bytes, too_long_offence}
@@ -41,7 +41,7 @@ use Rattle.calc_app.proofs.Faults.{no_faults, sink_failed, source_failed, ends_w
 use Rattle.calc_app.proofs.Outcomes.{has_outcome, leaves_ending}
 use Rattle.calc_replies.proofs.Replies.{computes_reply}
 
--- ---- the outcome of one line
+-- ---- the reply to one line, and its block
 
 pub line_reply : (line : BatchLine) (command : Command) (outcome : Outcome) → IsLineRead line (Ok (Some command))
     → IsReplyTo (command_of command) (Ok outcome) → ComesOfLine line (Some outcome)
@@ -49,7 +49,7 @@ line_reply too_long command outcome read reply = absurd read
 line_reply passed_over command outcome read reply = absurd read
 line_reply (spoken words) command outcome read reply = computes_reply batch_entries words (command_of command) (Ok outcome) read.0 reply
 
--- the line ended the block, with an ending that goes with the status
+-- the block of the line has this text, and an ending that matches the status
 pub record HasBlockOf (line : BatchLine) (text : List ℕ) (answer : Status) : Type 0 where
   pub ending : Ending
   pub are : AreBlocks batch_entries (line ∷ []) ((text, ending) ∷ [])
@@ -84,13 +84,13 @@ comes_nothing too_long comes = absurd comes
 comes_nothing passed_over comes = tt
 comes_nothing (spoken words) comes = absurd comes
 
--- ---- the lines so far
+-- ---- the lines that were read so far, and their blocks
 
 abbrev pub is_none : List Block → Bool
 is_none [] = true
 is_none (b ∷ blocks) = false
 
--- these lines were read, and their blocks were put
+-- the lines were read, and their blocks were written
 pub record Runs (first now : SinkSeen) (source here : SourceSeen) (pending : List ℕ) (has_ended : Bool) (progress : Progress) : Type 0 where
   pub lines : List (List ℕ)
   pub spelled : List ℕ
@@ -121,7 +121,7 @@ begins sink source = record {
   source_still = refl;
 }
 
--- what was read next: a line, of which this comes
+-- a line was read next, and `comes` is its outcome
 pub record TookLine (before now : SourceSeen) (pending behind : List ℕ) (ended : Bool) (comes : Option Outcome) : Type 0 where
   pub taken : List ℕ
   pub took : Took before.left now.left taken
@@ -193,7 +193,7 @@ pub passed_took : {before now : SourceSeen} {pending behind : List ℕ} {ended :
     → TakesTurn before now pending behind ended turn.Passed → TookLine before now pending behind ended None
 passed_took t = took_line None t (λ e. subst (λ r. IsTurn r t.line turn.Passed) e t.is) passed_comes
 
--- the end of the source was read
+-- the end of the source was read: it has no further line
 pub record TookEnd (before now : SourceSeen) (pending behind : List ℕ) : Type 0 where
   pub taken : List ℕ
   pub took : Took before.left now.left taken
@@ -213,7 +213,7 @@ last_took {before = before} {now = now} {pending = pending} {behind = behind} t 
       ends = subst (λ x. EndsAtEnd (pending ++ t.reads.taken) x behind now.left) e.0 e.1;
     }
 
--- ---- one line more
+-- ---- after one more line was read, and its block written
 
 map_more : (lines : List (List ℕ)) (line : List ℕ) → map batch_line (lines ++ line ∷ []) ≡ map batch_line lines ++ batch_line line ∷ []
 map_more lines line = map-append batch_line lines (line ∷ [])
@@ -287,9 +287,9 @@ runs_block {first = first} {sink = sink} {next_sink = next_sink} {source = sourc
       source_still = same ∙ r.source_still;
     }
 
--- ---- how a batch ends
+-- ---- the end of a batch
 
--- the statuses with which a batch was not read to its end
+-- `SinkFault` and `NoMemory` are not statuses of a batch that was read to its end
 is_cut : IsThrough status.SinkFault → ⊥
 is_cut (inl e) = cc
 is_cut (inr e) = cc
@@ -305,7 +305,7 @@ is_source_fault (inr e) = cc
 no_end : {answer : Status} {Read : Type 0} → (IsThrough answer → ⊥) → IsThrough answer → Read
 no_end none through = absurd (none through)
 
--- a text over an input with these lines
+-- a text over the lines of an input is a text over the input
 runs_input : (input : List ℕ) (lines : List (List ℕ)) (blocks : List Block) → AreBlocks batch_entries (map batch_line lines) blocks → lines_of input ≡ lines
     → RunsInput batch_entries input (batch_text blocks) (batch_ending blocks)
 runs_input input lines blocks are same = record {
@@ -315,7 +315,7 @@ runs_input input lines blocks are same = record {
   ends = refl;
 }
 
--- the block of one line more was cut off
+-- if the blocks of the lines were written whole, and a prefix of the next block, this is what `CutsBlock` states
 cuts_block : (first sink next_sink : SinkSeen) (lines : List (List ℕ)) (line : List ℕ) (blocks : List Block) (b : Block) → AreBlocks batch_entries (map batch_line lines) blocks → AreBlocks batch_entries (batch_line line ∷ []) (b ∷ [])
     → Appends first sink (batch_text blocks) → AppendsPrefix sink next_sink (separator (is_none blocks) ++ b.0)
     → CutsBlock first next_sink (map batch_line (lines ++ line ∷ []))
@@ -337,7 +337,7 @@ cuts_block first sink next_sink lines line blocks b are is_last appended cut = r
   appended = Appends-then appended cut.appends;
 }
 
--- the sink failed in a block
+-- if the sink fails in a block, the batch ends with `SinkFault`
 pub ends_cut : {first sink next_sink : SinkSeen} {source before now : SourceSeen} (Untouched : Type 0) {pending behind : List ℕ} {had ended : Bool}
     {progress : Progress} (outcome : Outcome) → Runs first sink source before pending had progress
     → TookLine before now pending behind ended (Some outcome) → HasBlock outcome → now.faults ≡ before.faults
@@ -377,7 +377,7 @@ ends_cut {first = first} {sink = sink} {next_sink = next_sink} {source = source}
       };
     }
 
--- memory was refused after these lines
+-- if memory runs out after these lines, the batch ends with `NoMemory`
 pub ends_full : {first sink : SinkSeen} {source before now : SourceSeen} (Untouched : Type 0) {pending : List ℕ} {had : Bool} {progress : Progress}
     → Runs first sink source before pending had progress → now.faults ≡ before.faults
     → (taken : List ℕ) × Took before.left now.left taken → EndsBatch first sink source now Untouched status.NoMemory
@@ -407,14 +407,14 @@ no_front : (front rest : List ℕ) → front ++ rest ≡ [] → front ≡ []
 no_front [] rest h = refl
 no_front (b ∷ front) rest h = cc
 
--- a prefix of nothing was appended
+-- appending a prefix of the empty text changes nothing
 put_nothing : (first sink next_sink : SinkSeen) (text : List ℕ)
     → Appends first sink text → AppendsPrefix sink next_sink [] → Appends first next_sink text
 put_nothing first sink next_sink text appended cut =
     subst (Appends first next_sink)
     (ap (λ xs. text ++ xs) (no_front cut.front cut.is_prefix.rest cut.is_prefix.joined) ∙ append-nil text) (Appends-then appended cut.appends)
 
--- the text of the lines so far was put, and then the finish failed
+-- if the finish fails after the blocks of the lines so far, these blocks were written whole
 finish_cut : {first sink next_sink : SinkSeen} {source now : SourceSeen} (Untouched : Type 0) {lines : List (List ℕ)} {piece : List ℕ} (blocks : List Block)
     → AreBlocks batch_entries (map batch_line lines) blocks → Appends first sink (batch_text blocks) → sink.faults ≡ first.faults
     → Puts true sink false next_sink [] → Cut source.left now.left lines piece → HasNoFeed piece → source.faults ≤ now.faults
@@ -447,7 +447,7 @@ finished_text : (first sink next_sink : SinkSeen) (text : List ℕ) → Appends 
 finished_text first sink next_sink text appended puts =
     subst (Appends first next_sink) (append-nil text) (Appends-then appended (puts.whole refl))
 
--- what was put was handed on
+-- after a finish that succeeded, the blocks of the same lines have been written
 pub runs_handed : {first sink next_sink : SinkSeen} {source now : SourceSeen} {pending : List ℕ} {had : Bool} {progress : Progress}
     → Runs first sink source now pending had progress → Puts true sink true next_sink [] → Runs first next_sink source now pending had progress
 runs_handed {first = first} {sink = sink} {next_sink = next_sink} r puts = record {
@@ -465,7 +465,7 @@ runs_handed {first = first} {sink = sink} {next_sink = next_sink} r puts = recor
   source_still = r.source_still;
 }
 
--- what was put could not be handed on, where no further line was there whole
+-- if the finish before a further line is read fails, the batch ends with `SinkFault`
 pub ends_held : {first sink next_sink : SinkSeen} {source now : SourceSeen} (Untouched : Type 0) {pending : List ℕ} {had : Bool} {progress : Progress}
     → Runs first sink source now pending had progress → HasNoFeed pending → Puts true sink false next_sink []
     → EndsBatch first next_sink source now Untouched status.SinkFault
@@ -474,7 +474,7 @@ ends_held {source = source} {now = now} Untouched {pending = pending} {had = had
     (read_cut source.left now.left now.left [] pending r.spelled r.lines had r.read r.is_spelled r.is_whole (took_nothing now.left))
     (subst HasNoFeed (sym (append-nil pending)) none) (let s = r.source_still in omega (arith, s))
 
--- the status of the end goes with the ending of the batch
+-- the status at the end of a batch is the status of its ending
 end_same : (progress : Progress) (blocks : List Block) → progress.is_done ≡ are_done blocks → end_status progress ≡ status_of (batch_ending blocks)
 end_same progress blocks same = ap (λ x. cond x status.Done status.SomeRefused) same ∙ by (are_done blocks)
   where
@@ -482,7 +482,7 @@ end_same progress blocks same = ap (λ x. cond x status.Done status.SomeRefused)
     by true = refl
     by false = refl
 
--- the end of the source was read, and the sink was finished
+-- if the end of the source was read and the sink was finished, the batch ends with the status of its blocks
 pub ends_last : {first sink next_sink : SinkSeen} {source before now : SourceSeen} (Untouched : Type 0) {pending behind : List ℕ} {had : Bool}
     {progress : Progress} {answer result : Status} → Runs first sink source before pending had progress
     → TookEnd before now pending behind → now.faults ≡ before.faults → answer ≡ end_status progress
@@ -510,7 +510,7 @@ ends_last {first = first} {sink = sink} {next_sink = next_sink} {source = source
         (read_cut source.left before.left now.left t.taken pending r.spelled r.lines had r.read r.is_spelled r.is_whole t.took)
         (subst HasNoFeed (sym t.ends.whole) tt) (let s = same ∙ r.source_still in omega (arith, s)))
 
--- the source failed, and the sink was finished
+-- if the source failed and the sink was finished, the batch ends with `SourceFault`
 pub ends_source : {first sink next_sink : SinkSeen} {source before now : SourceSeen} (Untouched : Type 0) {pending : List ℕ} {progress : Progress}
     {result : Status} → Runs first sink source before pending false progress
     → TookPart before.left now.left pending → Rose before.faults now.faults → before.faults ≤ now.faults

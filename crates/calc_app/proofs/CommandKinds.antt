@@ -1,4 +1,5 @@
--- What a command does: it names an expansion, it tells lines, or it runs other commands.
+-- The three kinds of commands: those that name an expansion, those that print lines (tableaux, words, grids), and those
+-- that run other commands.
 use Rattle.std.proofs.Common.{ℕ, List, Option, inl, inr, ◌⊎◌, refl}
 use Rattle.std.specs.Prelude.{ℤ}
 use Rattle.sym_model.specs.Answer.{Answer as PlainAnswer}
@@ -7,10 +8,9 @@ use Rattle.sym_model.specs.Command.{Command, quantum, fusion, tab, rsk, unrsk, r
 use Rattle.sym_model.specs.Ending.{Ending, done}
 use Rattle.sym_model.specs.Form.{EachOf}
 use Rattle.sym_model.specs.Headline.{ReadsBack}
-use Rattle.sym_model.specs.LargeAnswer.{IsDefinedCoefficient, HasWeight}
+use Rattle.sym_model.specs.Target.{IsDefinedCoefficient, HasWeight, Meets}
 use Rattle.sym_model.specs.Outcome.{Answers, Expands, MayBeLarge}
-use Rattle.sym_model.specs.Target.{Meets}
-use Rattle.reduction_laws.proofs.TextsInSteps.{quantum_reads-steps, fusion_reads-steps}
+use Rattle.rim_hooks.proofs.TextsInSteps.{quantum_reads-steps, fusion_reads-steps}
 use Rattle.calc_words.specs.WrittenLimits.{IsWritten, KeepsLimits}
 use Rattle.word_laws.proofs.LongestPrefixes.{each_in}
 use Rattle.calc_language.specs.BuiltCommands.{batch_entries}
@@ -18,7 +18,7 @@ use Rattle.calc_replies.specs.Computed.{Tells}
 use Rattle.calc_app.specs.Top.{IsInput, Says, SaysOver}
 use Rattle.sym_model.specs.Partition.{ArePartitions}
 
--- it names an expansion
+-- the command names an expansion
 pub record NamesExpansion (command : Command) : Type 0 where
   pub answers : (text : List ℕ) (ending : Ending) → Expands command text ending → Answers command text ending
   pub expands : (text : List ℕ) (ending : Ending) → Answers command text ending → Expands command text ending
@@ -28,7 +28,7 @@ pub record NamesExpansion (command : Command) : Type 0 where
   pub says : (text : List ℕ) → KeepsLimits command → ReadsBack command text → Says command text
   pub says_over : (left : Option (List ℕ)) (text : List ℕ) → Says command text → SaysOver left command text
 
--- it tells lines
+-- the command prints lines
 pub record TellsLines (command : Command) : Type 0 where
   pub answers : (text : List ℕ) → Tells command text → Answers command text done
   pub over : (input text : List ℕ) (ending : Ending) → Answers command text ending → AnswersWith batch_entries input command text ending
@@ -38,7 +38,7 @@ pub record TellsLines (command : Command) : Type 0 where
   pub says : (text : List ℕ) → Answers command text done → Says command text
   pub says_over : (left : Option (List ℕ)) (text : List ℕ) → Says command text → SaysOver left command text
 
--- it runs other commands
+-- the command runs other commands
 pub record RunsOthers (command : Command) : Type 0 where
   pub unanswered : (text : List ℕ) (ending : Ending) → Answers command text ending → ⊥
   pub unnamed : (answer : PlainAnswer) → Meets command answer → ⊥
@@ -57,7 +57,7 @@ not_large command h k (inr heavy) = k heavy.0 heavy.1
 are_partitions : (factors : List (List ℕ)) → EachOf IsWritten factors → ArePartitions factors
 are_partitions factors written parts among = (each_in IsWritten parts factors written among).partition
 
--- every command is one of the three
+-- every command is of one of the three kinds
 pub kind : (command : Command) → NamesExpansion command ⊎ TellsLines command ⊎ RunsOthers command
 kind (tab outer inner last) = inr (inl (record { answers = λ t h. (h, refl); over = λ i t e h. h; alone = λ i t e h. h; unnamed = λ a h. h; small = not_large (tab outer inner last) (λ c h. h) (λ w h. h); says = λ t h. h; says_over = λ l t h. h }))
 kind (rsk w) = inr (inl (record { answers = λ t h. (h, refl); over = λ i t e h. h; alone = λ i t e h. h; unnamed = λ a h. h; small = not_large (rsk w) (λ c h. h) (λ w h. h); says = λ t h. h; says_over = λ l t h. h }))

@@ -1,4 +1,4 @@
--- What the top call promises, where an outcome was put, and where lines were run.
+-- The clauses of the top call after an outcome was written, and after lines were run.
 use Rattle.std.proofs.Common.{◌≡◌, ◌⊎◌, ℕ, List, [], ◌∷◌, ◌++◌, Bool, true, false, cond, map, Some, refl, sym, ◌∙◌, ap, subst, inl, inr, arith}
 use Rattle.std.specs.Prelude.{Ok}
 use Rattle.calc_base.specs.declared.status.Status.{Status}
@@ -30,7 +30,7 @@ use Rattle.calc_app.specs.Batch.{EndsBatch}
 use Rattle.calc_app.proofs.Faults.{no_faults, sink_failed, ends_well}
 use Rattle.calc_app.proofs.Outcomes.{has_outcome, headline, leaves_whole, leaves_prefix, answers_say, not_done, accepted, refuses_offence, refuses_place, cut_answers}
 
--- what is known of the task for the words
+-- the properties of the task for the words
 pub record HasTask (words : List (List ℕ)) (task : Task) : Type 0 where
   pub computes : IsTaskFor words (Ok task)
   pub accepts : (command : Command) → SpellsWithoutOffence command_entries words command → AcceptsTask command (Ok task)
@@ -44,7 +44,7 @@ pub task_is : {words : List (List ℕ)} {found task : Task} → found ≡ task �
 task_is {words = words} is computes accepts refuses goes_wrong =
     subst (HasTask words) is (record { computes = computes; accepts = accepts; refuses = refuses; goes_wrong = goes_wrong })
 
--- what the top call promises, but that the source is as it was
+-- the clauses of the top call, except that the source is unchanged
 pub record Ran (words : List (List ℕ)) (old new : SinkSeen) (source now : SourceSeen) (Untouched : Type 0) (result : Status) : Type 0 where
   pub headline : result ≡ status.Done → (before : List ℕ) → old.written ≡ Some before → PrintsAnswerTo words before source.left new.written
   pub lines : RunsLines words → IsThrough result → (before : List ℕ) → old.written ≡ Some before → PrintsLines before source.left new.written
@@ -54,7 +54,7 @@ pub record Ran (words : List (List ℕ)) (old new : SinkSeen) (source now : Sour
   pub faults : HidesNoFault old new source now result
   pub all_read : RunsLines words → IsThrough result → IsEmptied now.left
 
--- ---- an outcome was put
+-- ---- the clauses after an outcome was written
 
 put_leaves : (words : List (List ℕ)) (old new : SinkSeen) (source : SourceSeen) (Untouched : Type 0) (outcome : Outcome) (result : Status)
     → HasTask words (Put outcome) → PutsOutcome old new outcome result
@@ -108,7 +108,7 @@ put_ran words old new source Untouched outcome result task p =
       all_read = λ runs. absurd ((task.accepts batch runs).1 refl);
     }
 
--- ---- lines were run
+-- ---- the clauses after lines were run
 
 -- a text that is defined for the lines of an input is defined for the words that run them
 runs_outcome : (words : List (List ℕ)) (input text : List ℕ) (ending : Ending) → RunsLines words → RunsInput batch_entries input text ending
@@ -204,7 +204,7 @@ lines_end old new source now Untouched status.SinkFault l = inr (inr (inl (inr r
 lines_end old new source now Untouched status.SourceFault l = inr (inr (inr (refl, inr refl)))
 lines_end old new source now Untouched status.NoMemory l = inr (inr (inl (inl refl)))
 
--- ---- what the blocks of lines say
+-- ---- the blocks of lines are the answers to their commands
 
 kept_in_line : (words : List (List ℕ)) (command : Command) → SpellsWithoutOffence batch_entries words command → KeepsLimits command
 kept_in_line words command spelled =

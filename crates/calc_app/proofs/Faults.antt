@@ -1,4 +1,4 @@
--- That a status hides no fault: where none came, where one of the sink did, and where one of the source did.
+-- No status hides a fault: the cases of no fault, of a fault of the sink and of a fault of the source.
 use Rattle.std.proofs.Common.{◌≡◌, ◌≤◌, refl, arith}
 use Rattle.calc_base.specs.declared.status.Status.{Status}
 use Rattle.calc_base.specs.declared.status.Status.TheVariants as status
@@ -8,7 +8,7 @@ use Rattle.calc_base.specs.Source.{SourceSeen}
 use Rattle.sym_model.specs.Ending.{Ending, done, some_refused, syntax, range, past}
 use Rattle.calc_app.specs.Top.{status_of, HidesNoFault}
 
--- no fault came
+-- if no fault was counted and the status is not a fault, none is hidden
 pub no_faults : {old new : SinkSeen} {source now : SourceSeen} {answer : Status} → (answer ≡ status.SinkFault → ⊥) × (answer ≡ status.SourceFault → ⊥)
     → new.faults ≡ old.faults → now.faults ≡ source.faults → HidesNoFault old new source now answer
 no_faults others still source_still = record {
@@ -20,7 +20,7 @@ no_faults others still source_still = record {
   source_later = omega (arith, source_still);
 }
 
--- the sink failed
+-- if the sink counted one more fault, and no count decreased, the status `SinkFault` hides no fault
 pub sink_failed : {old new : SinkSeen} {source now : SourceSeen} → Rose old.faults new.faults → old.faults ≤ new.faults → source.faults ≤ now.faults
     → HidesNoFault old new source now status.SinkFault
 sink_failed rose later source_later = record {
@@ -32,7 +32,7 @@ sink_failed rose later source_later = record {
   source_later = source_later;
 }
 
--- the source failed
+-- if the source failed and the sink did not, `SourceFault` hides no fault
 pub source_failed : {old new : SinkSeen} {source now : SourceSeen} → new.faults ≡ old.faults → Rose source.faults now.faults → source.faults ≤ now.faults
     → HidesNoFault old new source now status.SourceFault
 source_failed still rose later = record {
@@ -52,6 +52,6 @@ ends_well syntax = ((λ e. cc), (λ e. cc))
 ends_well range = ((λ e. cc), (λ e. cc))
 ends_well past = ((λ e. cc), (λ e. cc))
 
--- neither does out of memory
+-- out of memory is no fault of the sink or the source
 pub is_full : (status.NoMemory ≡ status.SinkFault → ⊥) × (status.NoMemory ≡ status.SourceFault → ⊥)
 is_full = ((λ e. cc), (λ e. cc))

@@ -1,8 +1,8 @@
--- A command of a line is sound, and runs no other ones.
+-- A command of a line is sound, and does not run other commands.
 use Rattle.std.proofs.Common.{ℕ, List, [], ◌∷◌, sym, subst, inl, inr}
 use Rattle.std.specs.Prelude.{Ok, Some}
-use Rattle.calc_commands.specs.Commands.{command_of, IsSound}
-use Rattle.calc_commands.specs.declared.command.Command.{Command as Read}
+use Rattle.calc_words.specs.Commands.{command_of, IsSound}
+use Rattle.calc_words.specs.declared.command.Command.{Command as Read}
 use Rattle.calc_language.specs.BuiltCommands.{batch_entries}
 use Rattle.calc_language.specs.Lines.{IsLineRead}
 use Rattle.calc_replies.specs.Computed.{RunsNoOther}

@@ -1,4 +1,4 @@
--- Which lines were read so far of a source that records its bytes.
+-- The lines read so far of a source that records its bytes.
 use Rattle.std.proofs.Common.{◌≡◌, ℕ, Bool, true, false, ◌+◌, ◌<◌, ◌≤◌, List, [], ◌∷◌, ◌++◌, append_assoc, append-nil, length, length-append, refl, sym, ap, ◌∙◌, arith, Option, Some, None, ◌⊎◌, inl, inr}
 use Rattle.batch_lines.proofs.Lines.{line_first, line_last, told}
 use Rattle.batch_lines.specs.Feeds.{HasNoFeed}
@@ -6,7 +6,7 @@ use Rattle.batch_lines.specs.Reading.{Took, IsAtEnd, EndsAtFeed, EndsAtEnd, Took
 use Rattle.sym_model.specs.BatchLine.{lines_of}
 use Rattle.calc_app.specs.Top.{IsInput, IsFrontOf, IsWholeLines}
 
--- the text ends where a line does: its lines are these, and whatever follows has its own
+-- the text ends at the end of a line: its lines are these, followed by the lines of whatever comes after it
 abbrev pub IsEnded : List ℕ → List (List ℕ) → Type 0
 IsEnded front lines = (text : List ℕ) → lines_of (front ++ text) ≡ lines ++ lines_of text
 
@@ -15,14 +15,14 @@ abbrev Stands : Bool → (front behind : List ℕ) → List (List ℕ) → Type 
 Stands false front behind lines = IsEnded front lines × IsWholeLines front
 Stands true front behind lines = (behind ≡ []) × (lines_of front ≡ lines)
 
--- these lines were read of the input, and the bytes that are pending and the rest are still to be read
+-- the lines `lines` were read of the input, and the pending bytes and `rest` are still to be read
 pub record Reads (input rest : List ℕ) (lines : List (List ℕ)) (pending : List ℕ) (has_ended : Bool) : Type 0 where
   pub front : List ℕ
   pub cut : input ≡ front ++ (pending ++ rest)
   pub state : Stands has_ended front (pending ++ rest) lines
 
--- the same of a source that may record its bytes; of one that did not record them at first, that nothing is left where it was found
--- at its end
+-- `Reads` for a source that may not record its bytes. If it does not, this says only that a source that has ended has
+-- nothing left.
 abbrev pub ReadsTold : Option (List ℕ) → Option (List ℕ) → List (List ℕ) → List ℕ → Bool → Type 0
 ReadsTold (Some input) (Some rest) lines pending has_ended = Reads input rest lines pending has_ended
 ReadsTold (Some input) None lines pending has_ended = ⊥
@@ -47,7 +47,7 @@ read_end None now lines pending true r = r
 pub begin_spelled : IsEnded [] []
 begin_spelled = λ text. refl
 
--- ---- one line more
+-- ---- after one more line was read
 
 -- the bytes of a line that is read next, and what comes after it
 abbrev pub EndsLine : Bool → (all text behind : List ℕ) → Option (List ℕ) → Type 0
@@ -115,7 +115,7 @@ read_more (Some input) None now taken pending text behind lines had has r took n
 read_more None before now taken pending text behind lines had false r took n e = tt
 read_more None before now taken pending text behind lines had true r took n e = e.0.none_left
 
--- fewer bytes are left to be read
+-- after a line was read, fewer bytes are left to be read
 pub fewer_left : (allowance less : ℕ) (taken pending text behind : List ℕ) (now : Option (List ℕ)) (has : Bool) → less + length taken ≤ allowance
     → EndsLine has (pending ++ taken) text behind now → less + length behind < allowance + length pending
 fewer_left allowance less taken pending text behind now false spent e =
@@ -125,12 +125,12 @@ fewer_left allowance less taken pending text behind now true spent e =
     let l = ap length e.0.whole in let p = length-append pending taken in let b = ap length e.0.none_pending in let positive = e.1 in
     omega (arith, l, p, b, positive, spent)
 
--- ---- the end of the lines
+-- ---- all lines of the source were read
 
 front_lines : (front : List ℕ) (lines : List (List ℕ)) → IsEnded front lines → lines_of front ≡ lines
 front_lines front lines h = ap lines_of (sym (append-nil front)) ∙ h [] ∙ append-nil lines
 
--- an input with these lines, which is all that was left where that is told
+-- an input with these lines, which is all that the source had left if it records that
 pub record Whole (left : Option (List ℕ)) (lines : List (List ℕ)) : Type 0 where
   pub input : List ℕ
   pub is_input : IsInput left input
@@ -158,7 +158,7 @@ read_whole (Some input) None now taken pending behind spelled lines had r ended 
 read_whole None before now taken pending behind spelled lines had r ended took e =
     record { input = spelled; is_input = tt; are = front_lines spelled lines ended }
 
--- ---- the first lines
+-- ---- the first lines of the source were read
 
 front_told : (input rest : List ℕ) (lines : List (List ℕ)) (pending : List ℕ) (had : Bool) → (r : Reads input rest lines pending had)
     → (lines_of r.front ≡ lines) × (more : List (List ℕ)) × (lines_of input ≡ lines_of r.front ++ more)

@@ -1,4 +1,4 @@
--- What is put for what was computed is what is defined for the words.
+-- The text written for what was computed is one that is defined for the words.
 use Rattle.std.proofs.Common.{◌≡◌, ℕ, List, ◌++◌, true, Option, Some, refl, sym, ◌∙◌, ap, subst, inl, inr, ◌⊎◌}
 use Rattle.std.specs.Prelude.{codes, None, Ok, []}
 use Rattle.calc_base.specs.declared.status.Status.{Status}
@@ -37,9 +37,9 @@ use Rattle.calc_replies.specs.declared.outcome.Outcome.TheVariants.{Answered, Re
 use Rattle.calc_replies.specs.Computed.{Computes, AreRefused, Accepts, Refuses, GoesWrong, Tells, lines_text, text_of, HasBlock, refusal_status, status_for}
 use Rattle.calc_app.specs.Top.{IsOutcome, IsInput, IsFrontOf, RunsLines, Says, SaysOver, status_of, PutsPrefix, Leaves, PrintsAnswerTo, WasCutOff, IsAccepted, IsRefused, AnswersWords}
 
--- ---- the outcome of a command
+-- ---- the text of the answer to a command
 
--- an answer in the form that its command asks for
+-- the text of an answer to a command, in the form that the command asks for, is what `PrintsAnswer` requires
 prints : (command : Command) (answer : Answer) (form : Form) → Meets command (plain_answer answer) → plain_form form ≡ printed_form command
     → IsPrintable (plain_answer answer) → PrintsAnswer command (answer_text_in (plain_form form) (plain_answer answer))
 prints command answer form meets asked printable = record {
@@ -74,7 +74,7 @@ tells_answer command text tells = by (kind command)
     by (inr (inl k)) = k.answers text tells
     by (inr (inr k)) = absurd (k.untold text tells)
 
--- ---- the outcome of the words
+-- ---- the text of the answer to the words, or of their refusal
 
 -- an outcome of the words by the commands of the list, with a text, and the status that goes with it
 pub record HasOutcome (entries : List Entry) (words : List (List ℕ)) (text : List ℕ) (answer : Status) : Type 0 where
@@ -145,7 +145,7 @@ alone words input text ending (inl wrong) = inl wrong
 alone words input text ending (inr (inl offends)) = inr (inl offends)
 alone words input text ending (inr (inr comes)) = inr (inr (comes.0, comes.1, answers_alone input comes.0 text ending comes.2))
 
--- ---- what a command leaves in the sink
+-- ---- the bytes that a command leaves in the sink
 
 no_some_refused : (outcome : Outcome) → status_for outcome ≡ status.SomeRefused → ⊥
 no_some_refused (Answered answer form) is = cc
@@ -157,7 +157,7 @@ no_some_refused (Refused fault.NoMemory) is = cc
 no_some_refused Large is = cc
 no_some_refused (Told lines) is = cc
 
--- where the text was put whole
+-- if a text that is defined for the words was written whole, the clause `Leaves` holds
 pub leaves_ending : (old new : SinkSeen) (source now : SourceSeen) (Untouched Runs : Type 0) (Defined : List ℕ → List ℕ → Ending → Type 0)
     (input text : List ℕ) (ending : Ending) → IsInput source.left input → Defined input text ending → (status_of ending ≡ status.SomeRefused → Runs)
     → Appends old new text → new.settled ≡ true → Leaves old new source now Untouched Runs Defined (status_of ending)
@@ -174,12 +174,12 @@ leaves_ending old new source now Untouched Runs Defined input text range is_inpu
 leaves_ending old new source now Untouched Runs Defined input text past is_input outcome runs appended is_settled =
     record { input = input; is_input = is_input; text = text; outcome = outcome; appended = appended; is_settled = is_settled }
 
--- all that is left, where it is told
+-- there is an input that is all that the source has left, if the source records its bytes
 pub told_input : (left : Option (List ℕ)) → (input : List ℕ) × IsInput left input
 told_input None = ([], tt)
 told_input (Some bytes) = (bytes, refl)
 
--- no line is a front of each input
+-- the empty text is a front of every input, with none of its lines
 pub no_front : (left : Option (List ℕ)) → IsFrontOf left []
 no_front None = tt
 no_front (Some bytes) = (lines_of bytes, refl)
@@ -210,7 +210,7 @@ leaves_prefix old new source words outcome computes block appended =
       appended = appended;
     }
 
--- ---- the headline
+-- ---- the clause `headline`: the text that was written is the answer
 
 says_text : (command : Command) (answer : PlainAnswer) → Meets command answer → IsPrintable answer
     → ReadsBack command (answer_text_in (printed_form command) answer)
@@ -228,7 +228,7 @@ expands_say command text (inl expands) =
     subst (ReadsBack command) (sym prints.printed) (says_text command prints.answer prints.meets prints.printable)
 expands_say command text (inr refused) = let clash : done ≡ past = refused.2 in cc
 
--- the text of a command that was answered says what the command names
+-- the text of a command that was answered is the answer to the command
 pub answers_say : (command : Command) (text : List ℕ) → KeepsLimits command → Answers command text done → Says command text
 answers_say command text keeps answers = by (kind command)
   where
@@ -251,7 +251,7 @@ not_done offences.literal is = cc
 not_done offences.range is = cc
 not_done offences.shape is = cc
 
--- a text that was put whole with the status Done says what the command of the words names
+-- a text that was written whole with the status Done is the answer to the command of the words
 pub headline : (old new : SinkSeen) (source now : SourceSeen) (Untouched : Type 0) (words : List (List ℕ)) (answer : Status)
     → Leaves old new source now Untouched (RunsLines words) (IsOutcome words) answer
     → answer ≡ status.Done → (before : List ℕ) → old.written ≡ Some before → PrintsAnswerTo words before source.left new.written
@@ -271,7 +271,7 @@ headline old new source now Untouched words answer leaves ended before told =
       says = answers_with_say source.left input comes.0 text is_input (kept_by_all words comes.0 comes.1) comes.2;
     }
 
--- ---- each refusal by its own line
+-- ---- the clause `answers`: a refusal by its own line
 
 pub accepted : (command : Command) (outcome : Outcome) → Accepts command (Ok outcome) → IsAccepted command (status_for outcome)
 accepted command (Answered answer form) accepts = inl refl
@@ -279,7 +279,7 @@ accepted command (Refused reason) accepts = absurd accepts
 accepted command Large accepts = inr (inl (refl, accepts))
 accepted command (Told lines) accepts = inl refl
 
--- the line and the status of a refusal that names the error
+-- a refusal that names the error has the status and the line of that error
 names : (offence : Offence) (reason : WordsFault) → IsFaultOf offence reason
     → (refusal_status reason ≡ status_of (ending_of offence.2)) × (refusal_text reason ≡ offence_line offence)
 names offence (fault.Syntax at) is = absurd is
@@ -307,7 +307,7 @@ refuses_place IsPut word byte (Refused reason) wrong put =
 refuses_place IsPut word byte Large wrong put = absurd wrong
 refuses_place IsPut word byte (Told lines) wrong put = absurd wrong
 
--- where memory was refused, or the sink failed, no line is owed
+-- a status of memory or of the sink is the status of no ending, so it requires no line
 no_ending : (ending : Ending) (answer : Status) → WasCutOff answer → answer ≡ status_of ending → ⊥
 no_ending done answer (inl cut) ended = let clash : status.NoMemory ≡ status.Done = sym cut ∙ ended in cc
 no_ending done answer (inr cut) ended = let clash : status.SinkFault ≡ status.Done = sym cut ∙ ended in cc
@@ -323,7 +323,7 @@ no_ending past answer (inr cut) ended = let clash : status.SinkFault ≡ status.
 was_cut_off : (ending : Ending) (IsPut : Type 0) (answer : Status) → WasCutOff answer → IsRefused ending IsPut answer
 was_cut_off ending IsPut answer cut = record { ends = inr cut; puts = λ ended. absurd (no_ending ending answer cut ended) }
 
--- so words are answered, whatever they are
+-- if memory ran out or the sink failed, then `AnswersWords` holds for all words
 pub cut_answers : (words : List (List ℕ)) (IsPut : List ℕ → Type 0) (answer : Status) → WasCutOff answer → AnswersWords words IsPut answer
 cut_answers words IsPut answer cut = record {
   accepted = λ command spelled. inr (inr (inl cut));
@@ -331,7 +331,7 @@ cut_answers words IsPut answer cut = record {
   no_command = λ word byte place. was_cut_off syntax (IsPut (refusal_line (codes "Syntax") word byte)) answer cut;
 }
 
--- the same where another thing is said of the line that was put
+-- a reply to words with P of the line that was written is one with Q, if P implies Q
 pub answers_as : {words : List (List ℕ)} {status : Status} (P Q : List ℕ → Type 0) → ((line : List ℕ) → P line → Q line) → AnswersWords words P status
     → AnswersWords words Q status
 answers_as P Q carry a = record {

@@ -31,7 +31,7 @@ use Rattle.calc_app.proofs.Ends.{HasTask, Ran}
 use Rattle.calc_app.proofs.Faults.{no_faults, sink_failed, ends_well, is_full}
 use Rattle.calc_app.proofs.Outcomes.{headline, told_input, no_front}
 
--- ---- one line
+-- ---- the sums after one more line
 
 pub add_some : (line : BatchLine) (outcome : Outcome) (result : Result (Unit {0}) NoMemory) (old new : Sums) → ComesOfLine line (Some outcome)
     → IfOk result (λ _. new ≡ sums_with old (text_of outcome)) → IfOk result (λ _. AreSmall new) → IfOk result (λ _. HasBlock outcome)
@@ -50,7 +50,7 @@ add_some line outcome (Err e) old new comes sums small block = tt
 pub add_none : (line : BatchLine) (sums : Sums) → ComesOfLine line None → AreSmall sums → AddsLine line sums sums
 add_none line sums comes small = record { blocks = []; are = comes_nothing line comes; added = refl; small = small; one = omega arith }
 
--- ---- the lines so far
+-- ---- the sums over the lines so far
 
 pub record SoFar (lines seed index state : ℕ) (sums : Sums) : Type 0 where
   pub ran : List (List ℕ)
@@ -145,7 +145,7 @@ all_ran lines seed index state sums s above = by s.rest s.count s.all
     }
     by (suc rest) count all = absurd (omega (arith, count, above))
 
--- ---- how `work` ends
+-- ---- the two ends of `work`: the sums were written, or the sink failed
 
 pub seed_within : (words : List (List ℕ)) (lines seed : ℕ) → SpellsWithoutOffence command_entries words (work lines seed) → seed ≤ 65536
 seed_within words lines seed spelled = (kept_by_all words (work lines seed) spelled).2

@@ -31,8 +31,7 @@ pub record RefusesLong (outcome : Outcome) : Type 0 where
   pub is : outcome ≡ Refused reason
   pub names : IsFaultOf too_long_offence reason
 
--- the outcome of a line: nothing where it is skipped,
--- and otherwise its refusal or the outcome of its words
+-- the outcome of a line: none if it is skipped, otherwise its refusal or the outcome of its words
 abbrev pub ComesOfLine : BatchLine → Option Outcome → Type 0
 ComesOfLine too_long None = ⊥
 ComesOfLine too_long (Some outcome) = RefusesLong outcome
@@ -41,7 +40,7 @@ ComesOfLine passed_over (Some outcome) = ⊥
 ComesOfLine (spoken words) None = ⊥
 ComesOfLine (spoken words) (Some outcome) = Computes batch_entries words (Ok outcome)
 
--- the outcome of what is read next
+-- the turn `Passed` is that of a skipped line, `Block` has the outcome of a line, also of one that is too long, and `Last` is the end
 abbrev pub IsTurn : Next → List ℕ → Turn → Type 0
 IsTurn next.Line line Passed = ComesOfLine (batch_line line) None
 IsTurn next.Line line (Block outcome) = ComesOfLine (batch_line line) (Some outcome)
@@ -61,7 +60,7 @@ pub record TakesTurn (before now : SourceSeen) (pending left_pending : List ℕ)
   pub reads : ReadsNext before now pending left_pending line has_ended read
   pub is : IsTurn read line turn
 
--- where a fault of the source came, it was not at its end, and no line ends in what was taken
+-- if the source failed, it had not ended before, and what was taken has no complete line
 abbrev pub CutsTurn : (before now : Option (List ℕ)) → List ℕ → (had_ended : Bool)
     → Result Turn LineFault → Type 0
 CutsTurn before now pending had_ended (Ok turn) = Unit {0}
@@ -69,16 +68,16 @@ CutsTurn before now pending had_ended (Err line_fault.SourceFault) =
     (had_ended ≡ false) × TookPart before now pending
 CutsTurn before now pending had_ended (Err line_fault.NoMemory) = Unit {0}
 
--- a fault of the source is counted, and nothing else is
+-- the count of faults is one more after `SourceFault`, and the same otherwise
 abbrev pub CountsTurn : (before now : ℕ) → Result Turn LineFault → Type 0
 CountsTurn before now (Ok turn) = now ≡ before
 CountsTurn before now (Err line_fault.SourceFault) = Rose before now
 CountsTurn before now (Err line_fault.NoMemory) = now ≡ before
 
--- ---- the end
+-- ---- the end of a batch
 
--- how a batch ends: what it leaves in the sink, which faults were counted, and that all was read
--- where the status says so
+-- The end of a batch: the bytes in the sink, the faults that were counted, and, if the status says so, that the whole
+-- input was read.
 pub record EndsBatch (old new : SinkSeen) (source now : SourceSeen) (Untouched : Type 0)
     (result : Status) : Type 0 where
   pub leaves : Leaves old new source now Untouched (Unit {0}) (RunsInput batch_entries) result

@@ -1,4 +1,4 @@
--- What the top call promises, by cases on the status that it answers.
+-- The promises of the top call, by cases on the status that it returns.
 use Rattle.std.specs.Prelude.{◌≡◌, ◌≢◌, ◌⊎◌, ◌+◌, ◌≤◌, ℕ, List, [], ◌∷◌, ◌++◌, length, Bool, true}
 use Rattle.std.specs.Prelude.{codes, map, Option, Some, IfSome}
 use Rattle.calc_base.specs.declared.status.Status.{Status}
@@ -28,9 +28,9 @@ use Rattle.sym_model.specs.Headline.{ReadsBack}
 use Rattle.sym_model.specs.Outcome.{Answers, MayBeLarge, ending_of}
 use Rattle.sym_model.specs.RefusalText.{refusal_line, offence_line}
 use Rattle.sym_model.specs.SyntaxPlace.{IsSyntaxPlace}
-use Rattle.reduction_laws.specs.PrintedSteps.{ReadsReducedInSteps, ReadsReflectedInSteps}
+use Rattle.rim_hooks.specs.PrintedSteps.{ReadsReducedInSteps, ReadsReflectedInSteps}
 
--- ---- which text is defined
+-- ---- the texts that are defined for words and an input
 
 -- the text is defined for the words over an input, with this ending
 abbrev pub IsOutcome : List (List ℕ) → List ℕ → List ℕ → Ending → Type 0
@@ -41,24 +41,24 @@ IsOutcome words input text ending =
 abbrev pub RunsLines : List (List ℕ) → Type 0
 RunsLines words = SpellsWithoutOffence command_entries words batch
 
--- the input is all that the source has left, where it tells that
+-- the input is all that the source has left, if the source records that
 abbrev pub IsInput : Option (List ℕ) → List ℕ → Type 0
 IsInput left input = IfSome left (λ bytes. bytes ≡ input)
 
--- the lines of the front are the first ones of all that the source has left, where it tells that
+-- the lines of `front` are the first lines of what the source has left, if the source records that
 abbrev pub IsFrontOf : Option (List ℕ) → List ℕ → Type 0
 IsFrontOf left front =
     IfSome left (λ bytes. (more : List (List ℕ)) × (lines_of bytes ≡ lines_of front ++ more))
 
--- all that the source had is taken, where it tells that
+-- nothing is left in the source, if it records that
 abbrev pub IsEmptied : Option (List ℕ) → Type 0
 IsEmptied left = IfSome left (λ rest. rest ≡ [])
 
--- the text is empty, or its last byte is a line feed
+-- the text is empty or ends in a line feed
 abbrev pub IsWholeLines : List ℕ → Type 0
 IsWholeLines text = (text ≡ []) ⊎ ((front : List ℕ) × (text ≡ front ++ 10 ∷ []))
 
--- the status that says how a command ended
+-- the status of a command that ends in this way
 abbrev pub status_of : Ending → Status
 status_of done = Done
 status_of some_refused = SomeRefused
@@ -66,8 +66,7 @@ status_of syntax = Syntax
 status_of range = Range
 status_of past = Past
 
--- ---- what is left in the sink, where `Defined input text ending` says which texts are defined
--- over an input
+-- ---- the bytes left in the sink; `Defined input text ending` says which texts are defined over an input
 
 -- a text that is defined over the whole input, with this ending, was appended whole,
 -- and the sink is settled
@@ -90,9 +89,8 @@ pub record PutsPrefix (old new : SinkSeen) (source : SourceSeen)
   pub outcome : Defined front text ending
   pub appended : AppendsPrefix old new text
 
--- A text that is defined over the first lines of the input was appended whole. Those lines and a
--- piece after them were read, and each of them ends in what was read: at a line feed, or where the
--- source tells that nothing is left.
+-- A text that is defined over the first lines of the input was appended whole. Those lines and a piece after them were
+-- read; each of the lines ends within what was read, at a line feed or because nothing is left in the source.
 pub record PutsFront (old new : SinkSeen) (source now : SourceSeen)
     (Defined : List ℕ → List ℕ → Ending → Type 0) : Type 0 where
   pub front : List ℕ
@@ -105,8 +103,8 @@ pub record PutsFront (old new : SinkSeen) (source now : SourceSeen)
   pub outcome : Defined front text ending
   pub appended : Appends old new text
 
--- The text of the lines that were wholly read was appended whole, and the sink is settled. After
--- those lines no line ends in what was read.
+-- The text of the lines that were read completely was appended whole, and the sink is settled. The piece that was read
+-- after those lines has no line feed.
 pub record PutsRead (old new : SinkSeen) (source now : SourceSeen)
     (Defined : List ℕ → List ℕ → Ending → Type 0) : Type 0 where
   pub front : List ℕ
@@ -121,11 +119,10 @@ pub record PutsRead (old new : SinkSeen) (source now : SourceSeen)
   pub appended : Appends old new text
   pub is_settled : new.settled ≡ true
 
--- What a command leaves in the sink, by its status: the whole text, settled; after a fault of the
--- sink a prefix of the text of the first lines; after a fault of the source the text of the lines
--- wholly read, settled; without memory nothing, or, where lines are run, the text of the first
--- ones. `Untouched` says that no call of the sink was made, and `Runs` that lines are run:
--- without that two of the statuses never come.
+-- The bytes that a command leaves in the sink, by its status: the whole text, settled; after a fault of the sink a
+-- prefix of the text of the first lines; after a fault of the source the text of the lines read completely, settled;
+-- without memory nothing or, if lines are run, the text of the first ones. `Untouched` says that no call of the sink
+-- was made, and `Runs` that lines are run; only then can the status be `SomeRefused` or `SourceFault`.
 abbrev pub Leaves : (old new : SinkSeen) (source now : SourceSeen) (Untouched Runs : Type 0)
     → (List ℕ → List ℕ → Ending → Type 0) → Status → Type 0
 Leaves old new source now Untouched Runs Defined Done = PutsWhole old new source Defined done
@@ -140,9 +137,9 @@ Leaves old new source now Untouched Runs Defined SourceFault =
 Leaves old new source now Untouched Runs Defined NoMemory =
     Untouched ⊎ (Runs × PutsFront old new source now Defined)
 
--- No fault is hidden: with `SinkFault` the sink's count of faults rose by exactly one, or stands at
--- 2^64 - 1, and with every other status it is as it was. The same of the source with `SourceFault`,
--- but that a fault of the sink can follow one of the source. No count falls.
+-- No fault is hidden: with `SinkFault` the sink's count of faults is greater by exactly one, or is 2^64 - 1, and with
+-- every other status it has not changed. The same holds of the source with `SourceFault`, except that a fault of the
+-- sink can follow one of the source. No count decreases.
 pub record HidesNoFault (old new : SinkSeen) (source now : SourceSeen)
     (status : Status) : Type 0 where
   pub sink_fault : status ≡ SinkFault → Rose old.faults new.faults
@@ -152,12 +149,11 @@ pub record HidesNoFault (old new : SinkSeen) (source now : SourceSeen)
   pub no_source_fault : status ≢ SourceFault → status ≢ SinkFault → now.faults ≡ source.faults
   pub source_later : source.faults ≤ now.faults
 
--- ---- the headline
+-- ---- the headline: the text that was written is the answer
 
--- what the text of a command that runs no lines says: of `tab`, `rsk`, `unrsk`, `rect` and `growth`
--- it is what is defined for them; of the others it reads back as a canonical list of terms, which
--- is what the command names; of `quantum` and `fusion` that list is also what reducing after each
--- factor gives
+-- The meaning of the text of a command that runs no lines. For `tab`, `rsk`, `unrsk`, `rect` and `growth` it is the
+-- text that is defined for them. For the others the text reads back as a canonical list of terms, which is the answer
+-- to the command; for `quantum` and `fusion` that list is also the result of reducing after each factor.
 abbrev pub Says : Command → List ℕ → Type 0
 Says (quantum rows columns factors) text =
     ReadsBack (quantum rows columns factors) text
@@ -174,18 +170,18 @@ Says batch text = ⊥
 Says (work lines seed) text = ⊥
 Says command text = ReadsBack command text
 
--- the same of every command: for `batch` the text is the blocks of the lines of the input that the
--- source had left, if the source tells that; for `work` it is the sums over the blocks of its lines
+-- The meaning of the text of every command: for `batch` it is the blocks of the lines that the source had left, if the
+-- source records them; for `work` it is the sums over the blocks of its lines.
 abbrev pub SaysOver : Option (List ℕ) → Command → List ℕ → Type 0
 SaysOver left batch text =
     (input : List ℕ) × IsInput left input × RunsInput batch_entries input text done
 SaysOver left (work lines seed) text = RunsWorkload batch_entries lines seed text
 SaysOver left command text = Says command text
 
--- The headline. A text was appended to the bytes that stood before. The words spell a command
--- without an error; the text, read back, is a canonical list of terms; and that list is what the
--- command names; of `tab` it is the listed lines. For `expand m` and an expression: in every number
--- of variables the list, read in the monomial basis, is the expression.
+-- The headline. A text was appended to the bytes written before. The words spell a command without an error; the text,
+-- read back, is a canonical list of terms; and that list is the answer to the command; for `tab` the text is the list
+-- of tableaux. For `expand m` and an expression: in every number of variables the list, read in the monomial basis, is
+-- the expression.
 pub record PrintsAnswerTo (words : List (List ℕ)) (before : List ℕ)
     (left now : Option (List ℕ)) : Type 0 where
   pub text : List ℕ
@@ -194,14 +190,14 @@ pub record PrintsAnswerTo (words : List (List ℕ)) (before : List ℕ)
   pub spelled : SpellsWithoutOffence command_entries words command
   pub says : SaysOver left command text
 
--- the words of a line spell a command of a line without an error,
--- and its block says what the command names
+-- the words of a line spell a command of a line without an error, and the text of its block is the answer to the
+-- command
 pub record SaysLine (words : List (List ℕ)) (text : List ℕ) : Type 0 where
   pub command : Command
   pub spelled : SpellsWithoutOffence batch_entries words command
   pub says : Says command text
 
--- each line that was not refused has a block that says what its command names
+-- each line that was not refused has a block whose text is the answer to its command
 abbrev pub SayLines : List BatchLine → List Block → Type 0
 SayLines (spoken words ∷ lines) (b ∷ blocks) =
     (b.1 ≡ done → SaysLine words b.0) × SayLines lines blocks
@@ -209,9 +205,9 @@ SayLines (too_long ∷ lines) (b ∷ blocks) = SayLines lines blocks
 SayLines (passed_over ∷ lines) blocks = SayLines lines blocks
 SayLines _ _ = Unit {0}
 
--- The headline of a batch. For some input, which is all that the source had left, where it tells
--- that, the blocks of all lines were appended, in their order, to the bytes that stood before, and
--- each block of a line that was not refused says what the line's command names.
+-- The headline of a batch. For some input, which is all that the source had left if the source records that, the blocks
+-- of all lines were appended in order to the bytes written before, and each block of a line that was not refused is the
+-- answer to the line's command.
 pub record PrintsLines (before : List ℕ) (left now : Option (List ℕ)) : Type 0 where
   pub input : List ℕ
   pub is_input : IsInput left input
@@ -222,8 +218,7 @@ pub record PrintsLines (before : List ℕ) (left now : Option (List ℕ)) : Type
 
 -- ---- a batch whose sink failed
 
--- the blocks of the earlier lines were put whole, and of the block of the line after them, with
--- what parts two blocks, a prefix
+-- the blocks of the earlier lines were written whole, and a prefix of the separator and block of the next line
 pub record CutsBlock (old new : SinkSeen) (lines : List BatchLine) : Type 0 where
   pub earlier : List BatchLine
   pub line : BatchLine
@@ -236,16 +231,16 @@ pub record CutsBlock (old new : SinkSeen) (lines : List BatchLine) : Type 0 wher
   pub is_shown : IsPrefix (batch_text blocks ++ shown) (batch_text (blocks ++ last ∷ []))
   pub appended : Appends old new (batch_text blocks ++ shown)
 
--- the blocks of all lines were put whole
+-- the lines have blocks by the definition, and the texts of all these blocks were written whole
 pub record PutsBlocks (old new : SinkSeen) (lines : List BatchLine) : Type 0 where
   pub blocks : List Block
   pub are_blocks : AreBlocks batch_entries lines blocks
   pub appended : Appends old new (batch_text blocks)
 
--- What a fault of the sink leaves of a batch. These lines were read and no unfinished one. The
--- blocks of all lines but the last were put whole, and of its own a prefix, and at most 4,096 bytes
--- were taken after them; or those of all, where the sink failed at the end, and then no line ends
--- in what was taken after them.
+-- The state after a fault of the sink in a batch. The lines of `front` were read, all completely. Either the blocks of
+-- all but the last were written whole, a prefix of the last block too, and at most 4,096 bytes were taken after the
+-- lines; or the blocks of all lines were written whole, the sink failed at the end, and no complete line was taken
+-- after them.
 pub record CutsLines (old new : SinkSeen) (source now : SourceSeen) : Type 0 where
   pub front : List ℕ
   pub piece : List ℕ
@@ -254,9 +249,9 @@ pub record CutsLines (old new : SinkSeen) (source now : SourceSeen) : Type 0 whe
   pub puts : (CutsBlock old new (map batch_line (lines_of front)) × (length piece ≤ most_pending))
       ⊎ (PutsBlocks old new (map batch_line (lines_of front)) × HasNoFeed piece)
 
--- ---- the outcome of words
+-- ---- the outcome of words: they are answered or refused
 
--- memory was refused or the sink failed
+-- memory ran out or the sink failed
 abbrev pub WasCutOff : Status → Type 0
 WasCutOff status = (status ≡ NoMemory) ⊎ (status ≡ SinkFault)
 
@@ -264,22 +259,21 @@ WasCutOff status = (status ≡ NoMemory) ⊎ (status ≡ SinkFault)
 abbrev pub IsThrough : Status → Type 0
 IsThrough status = (status ≡ Done) ⊎ (status ≡ SomeRefused)
 
--- a command without an error is answered, but for out of memory and faults of the sink; it is
--- refused only where a coefficient that is defined for it is past 2^127 - 1, or its weight is 2^127
--- or more; in a batch lines can be refused, and its source can fail
+-- A command without an error is answered, unless memory runs out or the sink fails. It is refused only if a coefficient
+-- that is defined for it exceeds 2^127 - 1, or its weight is 2^127 or more. In a batch lines can be refused, and its
+-- source can fail.
 abbrev pub IsAccepted : Command → Status → Type 0
 IsAccepted command status =
     (status ≡ Done) ⊎ ((status ≡ Past) × MayBeLarge command) ⊎ WasCutOff status
     ⊎ ((command ≡ batch) × ((status ≡ SomeRefused) ⊎ (status ≡ SourceFault)))
 
--- words that are refused with this ending are refused so, and then their line was put, but for out
--- of memory and faults of the sink
+-- Words whose refusal has this ending are refused with its status, and then their line was written, unless memory ran
+-- out or the sink failed.
 pub record IsRefused (ending : Ending) (IsPut : Type 0) (status : Status) : Type 0 where
   pub ends : (status ≡ status_of ending) ⊎ WasCutOff status
   pub puts : status ≡ status_of ending → IsPut
 
--- How words are answered, where `IsPut` says that a line was put. Words that spell a command
--- without an error are answered.
+-- The reply to words; `IsPut` says that a line was written. Words that spell a command without an error are answered.
 -- Words with a first error, and words that are no command, are refused by their own line.
 pub record AnswersWords (words : List (List ℕ)) (IsPut : List ℕ → Type 0)
     (status : Status) : Type 0 where
@@ -290,10 +284,10 @@ pub record AnswersWords (words : List (List ℕ)) (IsPut : List ℕ → Type 0)
   pub no_command : (word byte : ℕ) → IsSyntaxPlace command_entries words word byte
       → IsRefused syntax (IsPut (refusal_line (codes "Syntax") word byte)) status
 
--- ---- an outcome was put
+-- ---- writing an outcome to the sink
 
--- The text of the outcome was put and the sink finished, with the status that goes with it; or the
--- sink failed. The block of an answer is one that can be read back.
+-- The text of the outcome was written and the sink finished, with the status of the outcome; or the sink failed. The
+-- block of an answer can be read back.
 pub record PutsOutcome (old new : SinkSeen) (outcome : Outcome) (result : Status) : Type 0 where
   pub well : Bool
   pub puts : Puts true old well new (text_of outcome)

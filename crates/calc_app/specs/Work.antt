@@ -12,16 +12,16 @@ use Rattle.sym_model.specs.Workload.{work_lines}
 use Rattle.batch_lines.specs.declared.sums.Sums.{Sums}
 use Rattle.batch_lines.specs.Totals.{sums_over, sums_with, AreSmall, sums_text}
 
--- the texts of blocks
+-- the text of each block
 abbrev pub texts_of : List Block → List (List ℕ)
 texts_of blocks = map (λ (b : Block). b.0) blocks
 
--- sums with further blocks
+-- the sums after the blocks with these texts, in order
 abbrev pub sums_more : Sums → List (List ℕ) → Sums
 sums_more s [] = s
 sums_more s (text ∷ texts) = sums_more (sums_with s text) texts
 
--- the blocks of a line, of which there is one at most, were added
+-- the blocks of a line, at most one, were added to the sums
 pub record AddsLine (line : BatchLine) (old new : Sums) : Type 0 where
   pub blocks : List Block
   pub are : AreBlocks batch_entries (line ∷ []) blocks
@@ -29,26 +29,26 @@ pub record AddsLine (line : BatchLine) (old new : Sums) : Type 0 where
   pub small : AreSmall new
   pub one : new.lines ≤ old.lines + 1
 
--- the sums over the blocks of the lines from the seed on
+-- the sums over the blocks of the `lines` generated lines from the seed on
 pub record AreSumsOf (lines seed : ℕ) (sums : Sums) : Type 0 where
   pub blocks : List Block
   pub are : AreBlocks batch_entries (map batch_line (work_lines lines seed)) blocks
   pub sum_up : sums ≡ sums_over (texts_of blocks)
 
--- The text of the sums was put and the sink finished; or the sink failed.
+-- The text of the sums was written and the sink finished, or the sink failed.
 pub record PutsSums (old new : SinkSeen) (sums : Sums) (result : Status) : Type 0 where
   pub well : Bool
   pub puts : Puts true old well new (sums_text sums)
   pub settles : well ≡ true → new.settled ≡ true
   pub is : result ≡ status_where well status.Done
 
--- the sums over the blocks of the lines, put
+-- the sums over the blocks of the lines were written, or the sink failed
 pub record PutsWork (old new : SinkSeen) (lines seed : ℕ) (result : Status) : Type 0 where
   pub sums : Sums
   pub are : AreSumsOf lines seed sums
   pub put : PutsSums old new sums result
 
--- how `work` ends: the sums were put, or memory was refused and the sink was not called
+-- the end of `work`: memory ran out and the sink was not called, or the sums were written or the sink failed
 abbrev pub EndsWork : (old new : SinkSeen) → (Untouched : Type 0) → (lines seed : ℕ) → Status
     → Type 0
 EndsWork old new Untouched lines seed result =

@@ -7,7 +7,7 @@ ghost use Rattle.batch_lines.specs.Reading.{IsAtEnd, ReadsNext, Took, most_pendi
 ghost use Rattle.calc_base.specs.Puts.{Puts};
 ghost use Rattle.sym_model.specs.BatchLine.{batch_line, too_long};
 ghost use Rattle.batch_lines.specs.Ends.{separator, progress_after};
-ghost use Rattle.calc_commands.specs.Commands.{IsSound};
+ghost use Rattle.calc_words.specs.Commands.{IsSound};
 ghost use Rattle.calc_app.specs.Batch.{ComesOfLine, TakesTurn, CutsTurn, CountsTurn, EndsBatch};
 ghost use Rattle.calc_language.specs.Reading.{IsWithinItsLimits, command_of};
 ghost use Rattle.calc_replies.specs.Computed.{IsReplyTo, RunsNoOther, text_of, HasText, HasBlock};
@@ -23,13 +23,13 @@ use std::alloc::Global;
 /// The most bytes of a line before its line feed.
 const MOST_BYTES: u64 = 4096;
 
-/// How many Schubert polynomials are kept for later lines.
+/// The number of Schubert polynomials that are kept for later lines.
 const KEPT: usize = 64;
 
-/// The outcome of what is read next.
+/// The outcome of the next line.
 #[derive(Drop)]
 enum Turn {
-    /// Nothing: the line is skipped.
+    /// No outcome: the line is skipped.
     Passed,
     /// The outcome of the line's words.
     Block { outcome: Outcome },
@@ -37,12 +37,12 @@ enum Turn {
     Last,
 }
 
-/// Runs the lines of the source and puts their blocks, with the line `--` between two of them.
+/// Runs the lines of the source and writes their blocks, with the line `--` between two blocks.
 ///
-/// A block is put when its line is read, and nothing of it is kept but Schubert polynomials for
-/// later lines. Where no further line is there whole, the sink hands on what was put before the
-/// source is called. A fault of the source ends the run after the lines that were wholly read, and
-/// the sink is finished. Want of memory ends the run.
+/// Each block is written when its line has been read; only Schubert polynomials are kept for later
+/// lines. If no further complete line has been read, the sink is finished before the source is
+/// called. If the source fails, the run ends after the lines read completely, and the sink is
+/// finished. If memory runs out, the run ends.
 pub(crate) fn batch<S: Source, K: Sink>(alloc: Global, source: &mut S, sink: &mut K) -> Status
     ensures { EndsBatch (K.seen sink.old) (K.seen sink.new) (S.seen source.old) (S.seen source.new)
         (sink.new ≡ sink.old) result }
@@ -75,14 +75,14 @@ pub(crate) fn batch<S: Source, K: Sink>(alloc: Global, source: &mut S, sink: &mu
     }
 }
 
-/// An empty store for the Schubert polynomials of lines, which keeps 64.
+/// An empty store for up to 64 Schubert polynomials of earlier lines.
 pub(crate) fn new_memo(alloc: Global) -> Result<Memo, NoMemory>
     ensures { IfOk result (λ memo. memo ≡ lru_cache [] 64) }
 {
     Memo::new(alloc, KEPT)
 }
 
-/// Reads the next line, and computes the outcome of it.
+/// Reads the next line and computes its outcome.
 fn next_turn<S: Source>(
     alloc: Global,
     memo: &mut Memo,
@@ -130,7 +130,7 @@ pub(crate) fn line_outcome(
     }
 }
 
-/// The outcome of a command of a line, which is dropped then.
+/// The outcome of a command of a line; the command is dropped.
 fn reply_once(alloc: Global, memo: &mut Memo, command: Command) -> Result<Outcome, NoMemory>
     requires limits { IsWithinItsLimits command }
     requires sound { IsSound command }
@@ -138,7 +138,7 @@ fn reply_once(alloc: Global, memo: &mut Memo, command: Command) -> Result<Outcom
     ensures { IsReplyTo (command_of command) result }
 {
     let reply = reply_by(alloc, memo, &command);
-    // By a call, so that the proof does not go through all that a command can hold.
+    // Dropped by a call, so that the proof need not unfold the type of commands.
     drop(command);
     reply
 }
@@ -157,8 +157,8 @@ fn refused_long() -> Outcome
     }
 }
 
-/// Puts the block of a line, after the line `--` where it is not the first one,
-/// and answers whether all went well.
+/// Writes the block of a line, after the line `--` unless it is the first one, and returns whether
+/// all calls of the sink succeeded.
 fn put_block<K: Sink>(progress: &mut Progress, outcome: Outcome, sink: &mut K) -> bool
     requires { HasText outcome }
     ensures goes { Puts true (K.seen sink.old) result (K.seen sink.new)
@@ -172,8 +172,8 @@ fn put_block<K: Sink>(progress: &mut Progress, outcome: Outcome, sink: &mut K) -
     put_text(front, &mut outcome, sink)
 }
 
-/// Hands on what was put, where no further line is there whole: who sends a line and waits for its
-/// block gets it. It answers whether all went well.
+/// Finishes the sink if no further complete line has been read, so that a caller who sends a line
+/// and waits gets its block. It returns whether the sink did not fail.
 fn hand_on<K: Sink>(reader: &LineReader, sink: &mut K) -> bool
     ensures goes { Puts true (K.seen sink.old) result (K.seen sink.new) [] }
     ensures none { result ≡ false → HasNoFeed reader.now.pending }

@@ -1,5 +1,5 @@
 //! The top call of the calculator: `run` reads the words of a command, computes the whole answer
-//! and puts its text, or the one line that says why there is none.
+//! and writes its text, or one line with the reason of a refusal.
 #![tactic(auto)]
 
 mod batch;

@@ -17,18 +17,21 @@ use std::alloc::Global;
 /// Runs the command that the words name (without the name of the program) and writes its text to
 /// the sink.
 ///
-/// The commands are those of `calc_language::read_words`. The text is a line for each term of the
-/// answer, or of `tab` for each tableau, or `0` if there is none; for `rsk`, `unrsk` and `rect` it
-/// is two tableaux, a word or a tableau; for `growth` a line of shapes for each line of the grid.
+/// The commands are those of `calc_language::read_words`. The text has a line for each term of the
+/// answer (for `tab`, for each tableau), or is the line `0` if there is none; for `rsk`, `unrsk`
+/// and `rect` it is two tableaux, a word or a tableau; for `growth` it has a line of shapes for
+/// each line of the grid.
 ///
-/// In this order: the words are read, and refused by one line if they are no command (`Syntax`),
-/// exceed a limit or have a wrong shape (`Range`), or have a number that is too large (`Past`). The
-/// whole answer is computed, and refused by the line `! Large` (`Past`) only if a coefficient of
-/// its definition exceeds 2^127 - 1 or its weight is 2^127 or more; tableaux are written as they
-/// are listed. Its text is written, and then `finish` is called, after a refusal too. It returns
-/// `SinkFault` if and only if a call of the sink failed, and the sink is not called after that. If
-/// memory runs out it returns `NoMemory` and writes nothing; in a batch the earlier answers have
-/// been written.
+/// First the words are read. They are refused by one line if they are no command (`Syntax`), exceed
+/// a limit or have a wrong shape (`Range`), or have a number that is too large (`Past`). Then the
+/// whole answer is computed. It is refused by the line `! Large` (`Past`) only if a coefficient of
+/// its definition exceeds 2^127 - 1 or a weight of the command is 2^127 or more. The tableaux of
+/// `tab` are not kept: each is written when it is found. Last, `finish` is called, also after a
+/// refusal.
+///
+/// Returns `SinkFault` if and only if a call of the sink failed; the sink is not called after that.
+/// If memory runs out it returns `NoMemory` and writes nothing, except that a batch has written the
+/// earlier answers.
 ///
 /// `batch` runs each line of the source as a command, and writes its block (or its refusal) as soon
 /// as the line is read, with the line `--` between two blocks; if no complete line is left of the
@@ -42,17 +45,17 @@ pub fn run<S: Source, K: Sink>(
     source: &mut S,
     sink: &mut K,
 ) -> Status
-    // If the status is `Done`, the text read back is a canonical list of terms, and that list is
-    // what the command that the words spell names, by the defining polynomials; of `quantum` and
-    // `fusion` it is also what reducing after each factor gives.
-    // Of commands on tableaux the text is what is defined for them.
+    // If the status is `Done`, the text can be read back as a canonical list of terms, and that
+    // list is the answer to the command, which is defined by polynomials; for `quantum` and
+    // `fusion` it is also the result of reducing after each factor. For a command on tableaux the
+    // text is the one that is defined for it.
     ensures headline { result ≡ Status.Done → (before : List ℕ)
         → (K.seen sink.old).written ≡ Some before
         → PrintsAnswerTo (map string_bytes words.now) before (S.seen source.old).left
         (K.seen sink.new).written }
 
-    // If a batch was read to its end, the blocks of all its lines were written, and the block of each
-    // line that was not refused says what the line's command names.
+    // If a batch was read to its end, the blocks of all its lines were written, and the block of
+    // each line that was not refused is the answer to the line's command.
     ensures lines { RunsLines (map string_bytes words.now) → IsThrough result → (before : List ℕ)
         → (K.seen sink.old).written ≡ Some before
         → PrintsLines before (S.seen source.old).left (K.seen sink.new).written }
@@ -62,16 +65,16 @@ pub fn run<S: Source, K: Sink>(
     ensures cut { RunsLines (map string_bytes words.now) → result ≡ Status.SinkFault
         → CutsLines (K.seen sink.old) (K.seen sink.new) (S.seen source.old) (S.seen source.new) }
 
-    // By cases on the status: the whole text that is defined for the words, and the sink settled;
-    // after a fault of the sink a prefix of it; after a fault of the source that of the lines
-    // wholly read, and the sink settled; without memory nothing, or, of a batch,
-    // the text of its first lines.
+    // The text that was written, by the status: the whole text that is defined for the words, and
+    // the sink is settled; after a fault of the sink, a prefix of it; after a fault of the source,
+    // the text of the lines read completely, and the sink is settled; if memory ran out, nothing
+    // or, in a batch, the text of its first lines.
     ensures leaves { Leaves (K.seen sink.old) (K.seen sink.new) (S.seen source.old)
         (S.seen source.new) (sink.new ≡ sink.old)
         (RunsLines (map string_bytes words.now)) (IsOutcome (map string_bytes words.now)) result }
 
-    // Words that spell a command without an error are answered, and refused only where a
-    // coefficient of their definition exceeds 2^127 - 1, or their weight is 2^127 or more.
+    // Words that spell a command without an error are answered, and refused only if a coefficient
+    // of the answer's definition exceeds 2^127 - 1, or a weight of the command is 2^127 or more.
     // Words with a first error, and words that are no command, are refused by their own line.
     ensures answers { AnswersWords (map string_bytes words.now)
         (Appends (K.seen sink.old) (K.seen sink.new)) result }
@@ -80,7 +83,7 @@ pub fn run<S: Source, K: Sink>(
     ensures faults { HidesNoFault (K.seen sink.old) (K.seen sink.new) (S.seen source.old)
         (S.seen source.new) result }
 
-    // A batch is read to its end, and other commands leave the source as it was.
+    // A batch is read to its end, and other commands do not touch the source.
     ensures all_read { RunsLines (map string_bytes words.now) → IsThrough result
         → IsEmptied (S.seen source.new).left }
     ensures untouched { (RunsLines (map string_bytes words.now) → ⊥) → source.new ≡ source.old }

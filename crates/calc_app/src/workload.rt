@@ -13,10 +13,9 @@ use calc_replies::{Outcome, put_text};
 use schubert_transition::Memo;
 use std::alloc::Global;
 
-/// Runs that many lines of the generator from the seed on, and puts the sums over their blocks.
+/// Runs `lines` lines of the generator from the seed on, and writes the sums over their blocks.
 ///
-/// One block is kept at a time. Where memory is refused the answer is `NoMemory`,
-/// and nothing was put.
+/// One block is kept at a time. If memory runs out it returns `NoMemory` and writes nothing.
 pub fn work<K: Sink>(alloc: Global, lines: u16, seed: u32, sink: &mut K) -> Status
     requires { seed ≤ 65536 }
     ensures { EndsWork (K.seen sink.old) (K.seen sink.new) (sink.new ≡ sink.old) lines seed result }
@@ -27,7 +26,7 @@ pub fn work<K: Sink>(alloc: Global, lines: u16, seed: u32, sink: &mut K) -> Stat
     }
 }
 
-/// Puts the summary and finishes the sink.
+/// Writes the summary and finishes the sink.
 fn put_sums<K: Sink>(sums: &Sums, sink: &mut K) -> Status
     ensures { PutsSums (K.seen sink.old) (K.seen sink.new) sums.now result }
 {
@@ -83,7 +82,7 @@ fn add_block(outcome: Outcome, text: &mut GrowingSink, sums: &mut Sums) -> Resul
 {
     let mut outcome = outcome;
     text.clear();
-    // A put into memory fails only where memory is refused.
+    // Writing into memory fails only if memory runs out.
     if !put_text(b"", &mut outcome, text) {
         return Err(NoMemory);
     }

@@ -1,4 +1,4 @@
--- What sources and sinks in memory do, over plain lists.
+-- Sources and sinks in memory, as operations on lists.
 use Rattle.std.proofs.Common.{◌≡◌, ℕ, zero, suc, ◌+◌, ◌<◌, ◌≤◌, min, max, List, [], ◌∷◌, ◌++◌, length, take, drop, Some, refl, sym, ◌∙◌, ap, arith, length-append, Bool}
 use Rattle.std.proofs.lemmas.List.{take-append-drop}
 use Rattle.std.proofs.Math.Seq.{take-append_seam}
@@ -6,7 +6,7 @@ use Rattle.std.proofs.lemmas.Grind.{common_steps}
 use Rattle.calc_base.specs.Source.{Takes}
 use Rattle.calc_base.specs.Sink.{greatest_length, seen_bytes, AppendsPrefix}
 
--- the first bytes of what is left, moved to the front of a buffer
+-- a call that moves the first bytes of the rest to the front of a buffer is a `take`
 pub Takes-front : (rest later filled behind buffer : List ℕ) (piece count : ℕ)
     → filled ≡ take count rest → later ≡ drop count rest → buffer ≡ filled ++ behind
     → count ≡ min (length buffer) (min piece (length rest)) → 0 < length buffer → 1 ≤ piece
@@ -35,7 +35,7 @@ Takes-front rest later filled behind buffer piece count front back whole number 
     nothing [] e = refl
     nothing (x ∷ xs) e = cc
 
--- a sink that records its bytes, which grew by some of the piece
+-- if the first `count` bytes of the piece were appended, the sink has appended a prefix of the piece
 pub appends_some : (old new piece : List ℕ) (count was failed : ℕ) (settled finished : Bool) → new ≡ old ++ take count piece
     → AppendsPrefix (seen_bytes (Some old) was settled) (seen_bytes (Some new) failed finished) piece
 appends_some old new piece count was failed settled finished grew = record {

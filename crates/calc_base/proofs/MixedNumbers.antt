@@ -1,4 +1,4 @@
--- Numbers mixed one by one.
+-- The number that a list of numbers is combined into for hashing, number by number.
 use Rattle.std.proofs.Common.{◌≡◌, ℕ, zero, suc, ◌+◌, ◌*◌, ◌%◌, ◌^◌, ◌<◌, ◌≤◌, List, [], ◌∷◌, length, drop, get_or, refl, ap, ◌∙◌, arith}
 use Rattle.calc_base.specs.Mixing.{mixed}
 

@@ -1,6 +1,5 @@
--- How texts that are put to a sink one after another join: `Puts-then` for two, `Puts-as` for an equal text, `Puts-nothing`
--- where nothing was put, `Puts-finished` at a finish, `Puts-stopped` after a fault, and
--- `Puts-prints` at a printer's end.
+-- Texts written to a sink one after another: `Puts-then` for two, `Puts-as` for an equal text, `Puts-nothing` for the
+-- empty text, `Puts-finished` at a finish, `Puts-stopped` after a fault, and `Puts-prints` at the end of a printer.
 use Rattle.std.proofs.Common.{◌≡◌, ℕ, ◌+◌, min, max, List, [], ◌++◌, length, Option, Some, None, Bool, true, false, refl, sym, ◌∙◌, ap, subst, arith, append_assoc, append-nil, length-append}
 use Rattle.std.specs.Prelude.{Result, Ok, Err, is_ok}
 use Rattle.std.specs.Io.KnownBytes.{Appends as Grows}
@@ -9,7 +8,7 @@ use Rattle.calc_base.specs.Fault.{counted_up, Rose}
 use Rattle.calc_base.specs.Sink.{SinkSeen, greatest_length, IsLonger, Appends, AppendsPrefix}
 use Rattle.calc_base.specs.Puts.{Puts, Prints}
 
--- appending two texts is appending them joined
+-- the recorded number of bytes after two texts is that after their concatenation
 number-number : (n a b c limit : ℕ) → c ≡ a + b
     → max (max n (min (n + a) limit)) (min (max n (min (n + a) limit) + b) limit) ≡ max n (min (n + c) limit)
 number-number n a b c limit e = omega arith
@@ -27,7 +26,7 @@ longer-nothing (Some n) = ap Some (number-nothing n greatest_length)
     number-nothing : (n limit : ℕ) → n ≡ max n (min (n + 0) limit)
     number-nothing n limit = omega arith
 
--- ---- what one call appended
+-- ---- the text that one call appended
 
 pub Appends-then : {old mid new : SinkSeen} {a b : List ℕ}
     → Appends old mid a → Appends mid new b → Appends old new (a ++ b)
@@ -40,7 +39,7 @@ pub Appends-nothing : (s : SinkSeen)
     → Appends s s []
 Appends-nothing s = record { bytes = Grows-nil s.written; number = longer-nothing s.length }
 
--- the record of a sink after a text: the bytes before, and then the text
+-- if the sink had recorded the bytes `before` and a text was appended, it records `before` followed by the text
 pub Appends-told : {old new : SinkSeen} {text : List ℕ} (before : List ℕ)
     → Appends old new text → old.written ≡ Some before → new.written ≡ Some (before ++ text)
 Appends-told {old = old} {new = new} {text = text} before h told = by old.written new.written told h.bytes
@@ -50,7 +49,7 @@ Appends-told {old = old} {new = new} {text = text} before h told = by old.writte
     by (Some x) None e g = absurd g
     by (Some x) (Some y) e g = let same : x ≡ before = cc in ap Some (g ∙ ap (λ t. t ++ text) same)
 
--- a prefix of the first text is one of the two joined
+-- if a prefix of a was appended, a prefix of a followed by b was
 pub AppendsPrefix-more : {old new : SinkSeen} {a : List ℕ} (b : List ℕ)
     → AppendsPrefix old new a → AppendsPrefix old new (a ++ b)
 AppendsPrefix-more b cut = record {
@@ -62,7 +61,7 @@ AppendsPrefix-more b cut = record {
   appends = cut.appends;
 }
 
--- the first text whole and a prefix of the second are a prefix of the two joined
+-- if a was appended whole and then a prefix of b, a prefix of a followed by b was appended
 pub AppendsPrefix-then : {old mid new : SinkSeen} {a b : List ℕ}
     → Appends old mid a → AppendsPrefix mid new b
     → AppendsPrefix old new (a ++ b)
@@ -79,9 +78,9 @@ pub AppendsPrefix-whole : {old new : SinkSeen} {a : List ℕ}
     → Appends old new a → AppendsPrefix old new a
 AppendsPrefix-whole {a = a} all = record { front = a; is_prefix = record { rest = []; joined = append-nil a }; appends = all }
 
--- ---- what several calls appended
+-- ---- the text that several calls appended
 
--- two texts, one after the other
+-- if two texts were written one after the other, their concatenation was written
 pub Puts-then : {before mid now : Bool} {old between new : SinkSeen} {a b : List ℕ}
     → Puts before old mid between a → Puts mid between now new b
     → Puts before old now new (a ++ b)
@@ -114,13 +113,13 @@ Puts-then {before = before} {mid = mid} {now = now}
     by_rose false went began ended =
         ap (λ (s : SinkSeen). s.faults) (second.untouched went) ∙ first.rose began went
 
--- the same text, written otherwise
+-- if a text was written, so was any text that is equal to it
 pub Puts-as : {before now : Bool} {old new : SinkSeen} {a b : List ℕ} → a ≡ b
     → Puts before old now new a → Puts before old now new b
 Puts-as {before = before} {now = now} {old = old} {new = new} same goes =
     let P : List ℕ → Type 0 = λ t. Puts before old now new t in subst P same goes
 
--- nothing was put
+-- writing the empty text leaves a sink unchanged
 pub Puts-nothing : (before : Bool) (s : SinkSeen)
     → Puts before s before s []
 Puts-nothing before s = record {
@@ -133,7 +132,7 @@ Puts-nothing before s = record {
   ill = λ ill. ill;
 }
 
--- a printer that began well, and answers whether it ended so
+-- if a printer began without a fault and returns `Ok` if and only if none occurred, it prints the text
 pub Puts-prints : {E : Type 0} {now : Bool} {old new : SinkSeen} {text : List ℕ} (result : Result (Unit {0}) E)
     → Puts true old now new text → is_ok result ≡ now
     → Prints old new text result
@@ -144,13 +143,13 @@ Puts-prints {now = now} (Err e) goes answer =
     let ended : now ≡ false = sym answer in
     record { whole = tt; cut = goes.cut refl ended; counted = record { still = tt; rose = goes.rose refl ended; later = goes.later } }
 
--- a text and then the finish of the sink
+-- if a text was written and then the sink was finished, the text was written
 pub Puts-finished : {before mid now : Bool} {old between new : SinkSeen} {text : List ℕ}
     → Puts before old mid between text → Puts mid between now new []
     → Puts before old now new text
 Puts-finished {text = text} first finish = Puts-as (append-nil text) (Puts-then first finish)
 
--- after a fault nothing more is put, whatever the text
+-- after a fault nothing more is written, for any text
 pub Puts-stopped : (s : SinkSeen) (text : List ℕ)
     → Puts false s false s text
 Puts-stopped s text = record {

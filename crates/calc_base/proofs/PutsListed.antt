@@ -1,4 +1,5 @@
--- How the items of a lister go to a sink: the invariant of a printer's loop over a lister, its start, its step and its ends.
+-- Writing the items of a lister to a sink: the invariant of a printer's loop over a lister, its start, its step and
+-- its ends.
 use Rattle.std.proofs.Common.{◌≡◌, ℕ, List, [], ◌++◌, Option, Some, Bool, false, refl, sym, ◌∙◌, ap, subst, append_assoc, append-nil}
 use Rattle.std.specs.List.{flat_map}
 use Rattle.std.specs.Option.{option_to_list}
@@ -6,7 +7,7 @@ use Rattle.calc_base.specs.Puts.{Puts}
 use Rattle.calc_base.specs.Sink.{SinkSeen}
 use Rattle.calc_base.proofs.PutsLaws.{Puts-then, Puts-as, Puts-nothing, Puts-stopped}
 
--- The first of all items went to the sink, and those left are still to go.
+-- The first items were written to the sink, and those left are still to be written.
 pub record PutsUpTo {X : Type 0} (before : Bool) (old : SinkSeen) (now : Bool) (new : SinkSeen)
     (text : X → List ℕ) (all left : List X) : Type 0 where
   pub front : List ℕ
@@ -21,7 +22,7 @@ PutsUpTo-start before s text all = record {
   joined = refl;
 }
 
--- an item was listed, and went to the sink
+-- after one more item was listed and written, one item fewer is left to be written
 pub PutsUpTo-more : {X : Type 0} {before mid now : Bool} {old between new : SinkSeen} (text : X → List ℕ) (all listed left : List X) (item : Option X) (x : X)
     → PutsUpTo before old mid between text all listed
     → listed ≡ option_to_list item ++ left → item ≡ Some x
@@ -35,7 +36,7 @@ PutsUpTo-more text all listed left item x so_far next current goes = record {
       ∙ so_far.joined;
 }
 
--- nothing is left
+-- if no item is left, the texts of all items were written
 pub PutsUpTo-all : {X : Type 0} {before now : Bool} {old new : SinkSeen} (text : X → List ℕ) (all left : List X)
     → PutsUpTo before old now new text all left → left ≡ []
     → Puts before old now new (flat_map text all)
@@ -43,7 +44,7 @@ PutsUpTo-all text all left so_far none =
     Puts-as (sym (append-nil so_far.front) ∙ ap (λ items. so_far.front ++ flat_map text items) (sym none) ∙ so_far.joined)
     so_far.goes
 
--- a fault came
+-- if a call has failed, a prefix of the texts of all items was written
 pub PutsUpTo-stopped : {X : Type 0} {before now : Bool} {old new : SinkSeen} (text : X → List ℕ) (all left : List X)
     → PutsUpTo before old now new text all left → now ≡ false
     → Puts before old now new (flat_map text all)

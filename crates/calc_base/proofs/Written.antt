@@ -1,9 +1,9 @@
--- What several writes do to the bytes that a writer holds, where those are known.
+-- The bytes of a writer after several writes, if they are known.
 use Rattle.std.proofs.Common.{◌≡◌, ℕ, ◌+◌, ◌-◌, List, ◌++◌, length, take, drop, Option, Some, None, sym, ◌∙◌, ap, subst, append_assoc, length-drop}
 use Rattle.std.proofs.Math.Seq.{take-add, take-length}
 use Rattle.std.specs.Io.KnownBytes.{Appends}
 
--- two writes
+-- if a was appended and then b, then a followed by b was appended
 Appends-append : (before between after : Option (List ℕ)) (a b : List ℕ)
     → Appends before between a → Appends between after b → Appends before after (a ++ b)
 Appends-append None between after a b first second = tt
@@ -12,7 +12,7 @@ Appends-append (Some x) (Some y) (Some z) a b first second =
 Appends-append (Some x) (Some y) None a b first second = absurd second
 Appends-append (Some x) None after a b first second = absurd first
 
--- a write of some of the bytes that were left to write
+-- if `bytes` up to `at` were appended, and then `count` of those left, `bytes` up to `at` + `count` were appended
 pub Appends-more : (before between after : Option (List ℕ)) (bytes left : List ℕ) (at count : ℕ)
     → left ≡ take (length bytes - at) (drop at bytes)
     → Appends before between (take at bytes) → Appends between after (take count left)

@@ -2,12 +2,11 @@
 -- it is there.
 use Rattle.std.specs.Prelude.{◌≡◌, ℕ, ◌+◌, ◌-◌, ◌^◌, ◌≤◌, min, Bool, cond, Result, OnOk, OnErr}
 
--- a count after one more
+-- the next value of a count, at most 2^64 - 1
 abbrev pub counted_up : ℕ → ℕ
 counted_up count = min (count + 1) (2 ^ 64 - 1)
 
--- a count of faults rose in a call, by exactly one;
--- one at its greatest value has risen also where it stays there
+-- the count of faults increased by 1 in a call, or was at its greatest value and remained there
 abbrev pub Rose : (before now : ℕ) → Type 0
 Rose before now = now ≡ counted_up before
 
@@ -15,8 +14,8 @@ Rose before now = now ≡ counted_up before
 abbrev pub faults_after : ℕ → Bool → ℕ
 faults_after before fails = cond fails (counted_up before) before
 
--- A call hides no fault: where it succeeds the count of faults is as it was, and where it fails the
--- count rose. The count never falls.
+-- A call that succeeds leaves the count of faults unchanged, and one that fails increases it. The count never
+-- decreases.
 pub record CountsFaults {T E : Type 0} (before now : ℕ) (result : Result T E) : Type 0 where
   pub still : OnOk result (now ≡ before)
   pub rose : OnErr result (Rose before now)

@@ -1,5 +1,4 @@
--- What the outside of the calculator is to it: sources, sinks, listers,
--- and how a text is put to a sink.
+-- Sources, sinks and listers in contracts, and the rules of writing a text to a sink.
 pub mod Fault
 pub mod Source
 pub mod Sink

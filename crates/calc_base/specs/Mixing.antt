@@ -1,7 +1,7 @@
--- One number made of many, for hashing.
+-- One number combined from many, for hashing.
 use Rattle.std.specs.Prelude.{ℕ, ◌+◌, ◌*◌, ◌%◌, ◌^◌, List, [], ◌∷◌}
 
--- the numbers as digits after a number, modulo 2^64
+-- the number with the digits of `sum` and then these numbers, modulo 2^64
 abbrev pub mixed : ℕ → List ℕ → ℕ
 mixed sum [] = sum
 mixed sum (a ∷ numbers) = mixed (((sum * 1000003) % 2 ^ 64 + a) % 2 ^ 64) numbers

@@ -1,12 +1,11 @@
--- How a text is put to a sink piece by piece,
--- with one truth value that says whether all went well so far.
+-- Writing a text to a sink piece by piece, with one truth value: whether no call has failed so far.
 use Rattle.std.specs.Prelude.{◌≡◌, ℕ, ◌≤◌, List, Bool, true, false, Result, OnOk, OnErr}
 use Rattle.calc_base.specs.Fault.{Rose, CountsFaults}
 use Rattle.calc_base.specs.Sink.{SinkSeen, Appends, AppendsPrefix}
 
--- Where it went well before and now, the text was appended whole, and no call failed. Where it
--- ceased to go well, a prefix was, and exactly one call failed, so that the count of faults rose by
--- one, or stands at 2^64 - 1. Where it did not go well before, the sink shows what it showed.
+-- If no call has failed before or now, the text was appended whole. If the first call failed now, a prefix of it was
+-- appended, and the count of faults increased by 1, or was 2^64 - 1. If a call had failed before, the sink is
+-- unchanged.
 pub record Puts (before : Bool) (old : SinkSeen) (now : Bool) (new : SinkSeen)
     (text : List ℕ) : Type 0 where
   pub whole : now ≡ true → Appends old new text
@@ -17,8 +16,8 @@ pub record Puts (before : Bool) (old : SinkSeen) (now : Bool) (new : SinkSeen)
   pub untouched : before ≡ false → new ≡ old
   pub ill : before ≡ false → now ≡ false
 
--- what a printer owes: at Ok the whole text and no fault,
--- and otherwise a prefix and exactly one fault
+-- the outcome of a printer: at `Ok` the text was appended whole without a fault, otherwise a prefix with exactly one
+-- fault
 pub record Prints {E : Type 0} (old new : SinkSeen) (text : List ℕ)
     (result : Result (Unit {0}) E) : Type 0 where
   pub whole : OnOk result (Appends old new text)

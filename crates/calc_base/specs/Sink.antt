@@ -1,39 +1,38 @@
--- What a sink shows of itself, and what it is for a call to append a text. What is shown of the
--- bytes is said where the sink tells it.
+-- The visible state of a sink, and its change when a call appends a text. The bytes are compared only if the sink
+-- records them.
 use Rattle.std.specs.Prelude.{◌≡◌, ℕ, ◌+◌, ◌-◌, ◌^◌, min, max, List, ◌++◌, length, Bool, Option}
 use Rattle.std.specs.Prelude.{IfSome, Some, None, refl}
 use Rattle.std.specs.Option.{option_map}
 use Rattle.std.specs.Io.KnownBytes.{Appends as Grows}
 
--- What a sink shows: the bytes so far, where it tells them; their number, or 2^128 - 1 where there
--- are more, told wherever the bytes are; how often a call failed; and whether the last call was a
--- finish that went well, so that nothing waits in the sink.
+-- The visible state of a sink: the bytes so far, if they are recorded; their number, or 2^128 - 1 if there are more,
+-- which is recorded whenever the bytes are; the number of calls that failed; and whether the last call was a finish
+-- that succeeded, so that no byte waits in the sink.
 pub record SinkSeen : Type 0 where
   pub written : Option (List ℕ)
   pub length : Option ℕ
   pub faults : ℕ
   pub settled : Bool
 
--- the greatest number of bytes that a sink tells
+-- the greatest number of bytes that a sink records
 abbrev pub greatest_length : ℕ
 greatest_length = 2 ^ 128 - 1
 
--- the number of bytes that a sink tells grew by that of a text; `max`,
--- so that the empty text changes nothing
+-- the recorded number of bytes increased by the length of a text; `max`, so that the empty text changes nothing
 abbrev pub IsLonger : (before now : Option ℕ) → List ℕ → Type 0
 IsLonger None now text = Unit {0}
 IsLonger (Some n) now text = now ≡ Some (max n (min (n + length text) greatest_length))
 
--- the number of the bytes that are told
+-- the number of the recorded bytes
 abbrev pub number_told : Option (List ℕ) → Option ℕ
 number_told told = option_map (λ bytes. min (length bytes) greatest_length) told
 
--- what a sink shows that tells these bytes, where they are known, and their number
+-- the state of a sink with these bytes, if they are known, and their number
 abbrev pub seen_bytes : Option (List ℕ) → (faults : ℕ) → (settled : Bool) → SinkSeen
 seen_bytes told faults settled =
     record { written = told; length = number_told told; faults = faults; settled = settled }
 
--- a call appended the text: what the sink tells grew by it
+-- a call appended the text: the recorded bytes and their number grew by it
 pub record Appends (old new : SinkSeen) (text : List ℕ) : Type 0 where
   pub bytes : Grows old.written new.written text
   pub number : IsLonger old.length new.length text
@@ -49,11 +48,11 @@ pub record AppendsPrefix (old new : SinkSeen) (text : List ℕ) : Type 0 where
   pub is_prefix : IsPrefix front text
   pub appends : Appends old new front
 
--- where the bytes are told, so is their number
+-- if the bytes are recorded, so is their number
 abbrev pub IsCounted : Option (List ℕ) → Option ℕ → Type 0
 IsCounted bytes number = IfSome bytes (λ told. number ≡ Some (min (length told) greatest_length))
 
--- where a sink records its bytes and counts those, their number is told
+-- `number_told` gives the number of bytes that are recorded
 pub counts_told : (told : Option (List ℕ)) → IsCounted told (number_told told)
 counts_told None = tt
 counts_told (Some bytes) = refl

@@ -5,7 +5,7 @@ use Rattle.calc_base.specs.declared.status.Status.TheVariants.{Done, SomeRefused
 use Rattle.calc_base.specs.declared.status.Status.TheVariants.{Past, SinkFault, SourceFault}
 use Rattle.calc_base.specs.declared.status.Status.TheVariants.{NoMemory}
 
--- the code that the program ends with
+-- the exit code of the program for a status
 abbrev pub code_of : Status → ℕ
 code_of Done = 0
 code_of SomeRefused = 1
@@ -16,7 +16,7 @@ code_of SinkFault = 5
 code_of SourceFault = 6
 code_of NoMemory = 7
 
--- the code is that of such a status
+-- the code is that of a status with the property P
 pub record IsCodeOf (P : Status → Type 0) (code : ℕ) : Type 0 where
   pub status : Status
   pub is : code ≡ code_of status

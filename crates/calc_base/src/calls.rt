@@ -1,4 +1,4 @@
-//! What a source or sink in memory knows of its calls.
+//! The calls of a source or sink in memory: which of them fail, and their count.
 ghost use Rattle.std.specs.Prelude.{◌≡◌, [], length, IfOk};
 ghost use Rattle.calc_base.specs.Fault.{counted_up};
 ghost use Rattle.calc_base.specs.Supply.{is_listed};
@@ -6,7 +6,7 @@ ghost use Rattle.calc_base.specs.Supply.{is_listed};
 use crate::NoMemory;
 use std::alloc::Global;
 
-/// Which calls are to fail, and how many calls and faults there were.
+/// The numbers of the calls that fail, the number of calls so far, and the number of faults.
 #[derive(Drop)]
 pub(crate) struct Calls {
     pub(crate) fails: Vec<u64>,
@@ -15,7 +15,7 @@ pub(crate) struct Calls {
 }
 
 impl Calls {
-    /// No call so far.
+    /// The state before the first call; the calls with a number in `fails` fail.
     pub(crate) fn new(alloc: Global, fails: &[u64]) -> Result<Self, NoMemory>
         ensures fails { IfOk result (λ calls. calls.fails.items ≡ fails.now) }
         ensures made { IfOk result (λ calls. calls.made ≡ 0) }
@@ -28,7 +28,7 @@ impl Calls {
         })
     }
 
-    /// Counts one more call, and answers whether it is one of those that fail.
+    /// Counts one more call, and returns whether it is one that fails.
     pub(crate) fn begin(&mut self) -> bool
         ensures listed { result ≡ is_listed self.old.fails.items self.old.made }
         ensures fails { self.new.fails.items ≡ self.old.fails.items }

@@ -31,7 +31,7 @@ impl CountSink {
         }
     }
 
-    /// The number of bytes that were put, or 2^128 - 1 if there were more.
+    /// The number of bytes written, or 2^128 - 1 if there were more.
     pub fn count(&self) -> u128
         ensures { result ≡ self.now.count }
     {
@@ -50,7 +50,7 @@ impl Sink for CountSink {
         ensures counts { CountsFaults 0 0 result }
         ensures settled { self.new.finished ≡ false }
 
-        // What this one does.
+        // Clauses of this sink.
         ensures never { IsOk result }
         ensures after { self.new ≡ tally_after_put self.old bytes.now }
     {
@@ -65,7 +65,7 @@ impl Sink for CountSink {
         ensures counts { CountsFaults 0 0 result }
         ensures settled { self.new.finished ≡ is_ok result }
 
-        // What this one does.
+        // Clauses of this sink.
         ensures never { IsOk result }
         ensures after { self.new ≡ record { count = self.old.count; finished = true } }
     {

@@ -1,38 +1,38 @@
-//! What a call answers where memory, a source or a sink failed it.
+//! The errors of calls that fail because of memory, a source, a sink or a number that is too large.
 ghost use Rattle.std.specs.Prelude.{◌≡◌};
 ghost use Rattle.calc_base.specs.declared.faults.SumFault.TheVariants.{Large as large, NoMemory as no_memory};
 
 use std::alloc::{AllocError, AllocFailed};
 use thiserror::Error;
 
-/// Memory was refused.
+/// Memory could not be allocated.
 #[derive(Clone, Copy, Debug, PartialEq, Eq, Hash, Error)]
 #[error("out of memory")]
 pub struct NoMemory;
 
-/// A number is too large. It is the error of code that takes no memory, so that such code can't
-/// name a want of memory.
+/// A number is too large. It is the error of code that allocates no memory, so such code cannot
+/// fail for lack of memory.
 #[derive(Clone, Copy, Debug, PartialEq, Eq, Hash, Error)]
 #[error("a number is too large")]
 pub struct Large;
 
-/// A source failed to give bytes.
+/// Reading from a source failed.
 #[derive(Clone, Copy, Debug, PartialEq, Eq, Hash, Error)]
 #[error("reading failed")]
 pub struct SourceFault;
 
-/// A sink failed to take bytes.
+/// Writing to a sink failed.
 #[derive(Clone, Copy, Debug, PartialEq, Eq, Hash, Error)]
 #[error("writing failed")]
 pub struct SinkFault;
 
-/// Why a sum of terms is not given: a coefficient is too large, or memory was refused.
+/// The reasons for which a sum of terms is not returned.
 #[derive(Clone, Copy, Debug, PartialEq, Eq, Hash, Error)]
 pub enum SumFault {
     /// A coefficient is too large.
     #[error("a coefficient is too large")]
     Large,
-    /// Memory was refused.
+    /// Memory could not be allocated.
     #[error("out of memory")]
     NoMemory,
 }

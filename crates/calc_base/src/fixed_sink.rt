@@ -1,4 +1,4 @@
-//! A sink into a lent buffer.
+//! A sink into a borrowed buffer.
 ghost use Rattle.std.specs.Prelude.{◌≡◌, ◌≤◌, ◌+◌, ◌-◌, ◌++◌, min, [], false, true, OnOk, OnErr};
 ghost use Rattle.std.specs.Prelude.{IsOk, is_ok, is_err, take, length as list_length, refl};
 ghost use Rattle.calc_base.specs.Fault.{CountsFaults};
@@ -8,7 +8,7 @@ ghost use Rattle.calc_base.specs.Fixed.{Fixed, fixed_seen, is_too_long, fixed_af
 use crate::{Sink, SinkFault};
 use std::marker::Model;
 
-/// A sink into a lent buffer, that takes no memory.
+/// A sink into a borrowed buffer. It allocates no memory.
 #[derive(Drop)]
 pub struct FixedSink<'a> {
     buffer: &'a mut [u8],
@@ -48,14 +48,14 @@ impl<'a> FixedSink<'a> {
         }
     }
 
-    /// What was written.
+    /// The bytes written.
     pub fn bytes(&self) -> &[u8]
         ensures { result.now ≡ self.now.bytes }
     {
         &self.buffer[..self.filled]
     }
 
-    /// How many calls failed, up to 2^64 - 1.
+    /// The number of calls that failed, up to 2^64 - 1.
     pub fn faults(&self) -> u64
         ensures { result ≡ self.now.failed }
     {
@@ -74,7 +74,7 @@ impl<'a> Sink for FixedSink<'a> {
         ensures counts { CountsFaults self.old.failed self.new.failed result }
         ensures settled { self.new.finished ≡ false }
 
-        // What this one does.
+        // Clauses of this sink.
         ensures fails { is_err result ≡ is_too_long self.old bytes.now }
         ensures after { self.new ≡ fixed_after_put self.old bytes.now }
     {
@@ -94,7 +94,7 @@ impl<'a> Sink for FixedSink<'a> {
         ensures counts { CountsFaults self.old.failed self.new.failed result }
         ensures settled { self.new.finished ≡ is_ok result }
 
-        // What this one does.
+        // Clauses of this sink.
         ensures never { IsOk result }
         ensures after { self.new ≡ record self.old { finished = true } }
     {
@@ -105,8 +105,8 @@ impl<'a> Sink for FixedSink<'a> {
     ghost counted = { λ s. refl };
 }
 
-/// Copies the bytes after those that are filled, as many as there is room for,
-/// and returns how many.
+/// Copies the bytes into the buffer after the filled part, up to its end, and returns the number of
+/// bytes copied.
 fn copy_what_fits(buffer: &mut [u8], filled: usize, bytes: &[u8]) -> usize
     requires { filled ≤ list_length buffer.old }
     ensures count { result ≡ min (list_length buffer.old - filled) (list_length bytes.now) }

@@ -8,8 +8,8 @@ use crate::{Sink, SinkFault};
 use std::alloc::Global;
 use std::marker::Model;
 
-/// A sink into memory that grows. A put fails only where memory is refused,
-/// and then appends nothing.
+/// A sink into memory that grows. A call of `put` fails only if memory cannot be allocated, and
+/// then appends nothing.
 #[derive(Drop)]
 pub struct GrowingSink {
     bytes: Vec<u8>,
@@ -26,7 +26,7 @@ impl Model for GrowingSink {
 }
 
 impl GrowingSink {
-    /// A sink without bytes, which takes no memory yet.
+    /// A sink without bytes. It allocates no memory yet.
     pub fn new(alloc: Global) -> GrowingSink
         ensures bytes { result.bytes ≡ [] }
         ensures faults { result.failed ≡ 0 }
@@ -39,7 +39,7 @@ impl GrowingSink {
         }
     }
 
-    /// Drops the bytes and keeps their memory for the next block. It hides no fault.
+    /// Removes the bytes and keeps their memory for the next text. The count of faults stays.
     pub fn clear(&mut self)
         ensures bytes { self.new.bytes ≡ [] }
         ensures faults { self.new.failed ≡ self.old.failed }
@@ -48,7 +48,7 @@ impl GrowingSink {
         self.bytes.clear();
     }
 
-    /// The bytes.
+    /// The bytes written.
     pub fn bytes(&self) -> &[u8]
         ensures { result.now ≡ self.now.bytes }
     {

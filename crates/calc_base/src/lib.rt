@@ -1,13 +1,13 @@
-//! What the calculator stands on outside of itself: where bytes come from and go, how a list is
-//! given item by item, and the plain types that its crates share.
+//! The base of the calculator: sources and sinks of bytes, listers, which give a list item by item,
+//! and the plain types that its crates share.
 //!
 //! What is proved:
 //!
 //! The traits `Source`, `Sink`, `Lister`; sources and sinks in memory do exactly what their records
-//! say, and fail at exactly the calls that were chosen; `StdIn` and `StdOut` meet the traits, and
-//! where `StdOut` is settled nothing waits in its buffer; every call that succeeds leaves the count
-//! of faults as it was, and one that fails counts one; the writing tool puts a text whole or a
-//! prefix of it; `mixed` is its numbers as the digits of one, modulo 2^64.
+//! say, and exactly the chosen calls fail; `StdIn` and `StdOut` meet the traits, and if `StdOut` is
+//! settled, its buffer is empty; a call that succeeds leaves the count of faults unchanged, and one
+//! that fails adds 1; `put_if` writes a text whole or a prefix of it; `mixed` is the number with
+//! the given digits, modulo 2^64.
 #![tactic(auto)]
 
 mod calls;

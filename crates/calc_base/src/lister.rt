@@ -3,17 +3,17 @@ ghost use Rattle.std.specs.Prelude.{◌≡◌, ◌++◌, ◌↔◌, ℕ, List, [
 ghost use Rattle.std.specs.Option.{option_to_list};
 ghost use Rattle.std.specs.Bool.{OnFalse};
 
-/// A list that is given item by item, each a list of numbers, without taking memory. A new lister
-/// has no current item.
+/// A list that is given item by item, each a list of numbers, without allocating memory. A new
+/// lister has no current item.
 pub trait Lister {
-    /// The items still to come.
+    /// The items that are still to be given.
     ghost rest: { Self → List (List ℕ) };
 
     /// The current item, if there is one.
     ghost item: { Self → Option (List ℕ) };
 
-    /// Makes the next item the current one. False exactly if none was left: then there is no
-    /// current item.
+    /// Makes the next item the current one. Returns false if and only if there was no further item;
+    /// then there is no current item.
     fn advance(&mut self) -> bool
         ensures next { rest self.old ≡ option_to_list (item self.new) ++ rest self.new }
         ensures found { IsTrue result ↔ IsSome (item self.new) }

@@ -1,4 +1,4 @@
-//! A sink into memory, which fails at chosen calls and if its room is too small.
+//! A sink into memory, at which chosen calls fail, and calls for which its room is too small.
 ghost use Rattle.std.specs.Prelude.{◌≡◌, ◌≤◌, [], false, IfOk, OnOk, OnErr, is_ok, is_err, refl};
 ghost use Rattle.std.specs.Prelude.{length as list_length, vec_capacity};
 ghost use Rattle.calc_base.specs.Fault.{CountsFaults};
@@ -11,7 +11,7 @@ use crate::{NoMemory, Sink, SinkFault};
 use std::alloc::Global;
 use std::marker::Model;
 
-/// A sink into memory, with a fixed room, that fails at chosen calls.
+/// A sink into memory, with a fixed room, at which chosen calls fail.
 #[derive(Drop)]
 pub struct MemSink {
     bytes: Vec<u8>,
@@ -36,8 +36,9 @@ impl Model for MemSink {
 }
 
 impl MemSink {
-    /// An empty sink with this room, which it takes now. A call of `put` or `finish` fails if its
-    /// number, from 0, is in `fails`, and a `put` also if its piece is longer than the room left.
+    /// An empty sink with the room `room`, which it allocates now. A call of `put` or `finish`
+    /// fails if its number, counted from 0, is in `fails`, and a `put` also if its bytes are more
+    /// than the room left.
     pub fn new(alloc: Global, room: usize, fails: &[u64]) -> Result<MemSink, NoMemory>
         ensures { IfOk result (λ sink. sink ≡ record {
           bytes = [];
@@ -56,14 +57,14 @@ impl MemSink {
         })
     }
 
-    /// What was written.
+    /// The bytes written.
     pub fn bytes(&self) -> &[u8]
         ensures { result.now ≡ self.now.bytes }
     {
         &self.bytes
     }
 
-    /// How many calls failed, up to 2^64 - 1.
+    /// The number of calls that failed, up to 2^64 - 1.
     pub fn faults(&self) -> u64
         ensures { result ≡ self.now.failed }
     {
@@ -82,7 +83,7 @@ impl Sink for MemSink {
         ensures counts { CountsFaults self.old.failed self.new.failed result }
         ensures settled { self.new.finished ≡ false }
 
-        // What this one does.
+        // Clauses of this sink.
         ensures fails { is_err result ≡ put_fails self.old bytes.now }
         ensures after { self.new ≡ after_put self.old bytes.now }
     {
@@ -108,7 +109,7 @@ impl Sink for MemSink {
         ensures counts { CountsFaults self.old.failed self.new.failed result }
         ensures settled { self.new.finished ≡ is_ok result }
 
-        // What this one does.
+        // Clauses of this sink.
         ensures fails { is_err result ≡ fails_now self.old }
         ensures after { self.new ≡ after_finish self.old }
     {

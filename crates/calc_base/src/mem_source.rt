@@ -1,4 +1,4 @@
-//! A source over bytes in memory, which fails at chosen calls.
+//! A source over bytes in memory, at which chosen calls fail.
 ghost use Rattle.std.specs.Prelude.{◌≡◌, ◌<◌, ◌≤◌, Some, length, take, drop, IfOk, OnErr, is_err};
 ghost use Rattle.std.specs.Io.KnownBytes.{Keeps};
 ghost use Rattle.calc_base.specs.Fault.{CountsFaults};
@@ -11,7 +11,7 @@ use crate::{NoMemory, Source, SourceFault};
 use std::alloc::Global;
 use std::marker::Model;
 
-/// A source over bytes in memory, that gives them in pieces and fails at chosen calls.
+/// A source over bytes in memory, which gives them in pieces, and at which chosen calls fail.
 #[derive(Drop)]
 pub struct MemSource {
     bytes: Vec<u8>,
@@ -35,8 +35,8 @@ impl Model for MemSource {
 }
 
 impl MemSource {
-    /// A source of these bytes. A call gives at most `piece` of them, and fails if its number, from
-    /// 0, is in `fails`.
+    /// A source of these bytes. A call gives at most `piece` of them, and fails if its number,
+    /// counted from 0, is in `fails`.
     pub fn new(
         alloc: Global,
         bytes: &[u8],
@@ -60,7 +60,7 @@ impl MemSource {
         })
     }
 
-    /// How many calls failed, up to 2^64 - 1.
+    /// The number of calls that failed, up to 2^64 - 1.
     pub fn faults(&self) -> u64
         ensures { result ≡ self.now.failed }
     {
@@ -80,7 +80,7 @@ impl Source for MemSource {
         ensures spends { Spends (length self.old.rest) (length self.new.rest) result }
         ensures counts { CountsFaults self.old.failed self.new.failed result }
 
-        // What this one does.
+        // Clauses of this source.
         ensures fails { is_err result ≡ is_listed self.old.fails self.old.calls }
         ensures given { IfOk result (λ count. count ≡ given_count self.old (length buf.new)) }
         ensures after { self.new ≡ after_take self.old result }

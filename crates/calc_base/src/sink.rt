@@ -1,29 +1,29 @@
-//! Sinks: where bytes go.
+//! Sinks, to which bytes are written.
 ghost use Rattle.std.specs.Prelude.{◌≡◌, [], false, is_ok, OnOk, OnErr};
 ghost use Rattle.calc_base.specs.Fault.{CountsFaults};
 ghost use Rattle.calc_base.specs.Sink.{SinkSeen, Appends, AppendsPrefix, IsCounted};
 
 use crate::SinkFault;
 
-/// A sink of bytes. It may record what was written, or how much: that record grows by each piece
-/// that is put. About the bytes of a sink that records nothing, the contracts say nothing, as the
-/// standard library says nothing about a writer whose bytes are not known.
+/// A sink of bytes. It may record the bytes written, or only their number; each call of `put`
+/// extends this record. Of the bytes of a sink without a record the contracts say nothing, as the
+/// standard library says nothing of a writer whose bytes are not known.
 pub trait Sink {
-    /// What the sink shows: the bytes so far (`written`) and their number (`length`, up to 2^128 -
-    /// 1), each if it is recorded; how often a call failed (`faults`, up to 2^64 - 1); and whether
-    /// the last call was a `finish` that returned `Ok`,
-    /// so that nothing waits in the sink (`settled`).
+    /// The visible state of the sink: the bytes so far (`written`) and their number (`length`, up
+    /// to 2^128 - 1), each if it is recorded; the number of calls that failed (`faults`, up to 2^64
+    /// - 1); and whether the last call was a `finish` that returned `Ok`, so that no byte waits in
+    /// the sink (`settled`).
     ghost seen: { Self → SinkSeen };
 
-    /// Appends the piece. After an `Err` a prefix of it was appended, and the count of faults grew
-    /// by one, or is at its greatest value. After an `Ok` the count is unchanged.
+    /// Appends the bytes. After an `Err` a prefix of them was appended, and the count of faults is
+    /// greater by 1, or is at its greatest value. After an `Ok` the count is unchanged.
     fn put(&mut self, bytes: &[u8]) -> Result<(), SinkFault>
         ensures ok { OnOk result (Appends (seen self.old) (seen self.new) bytes.now) }
         ensures err { OnErr result (AppendsPrefix (seen self.old) (seen self.new) bytes.now) }
         ensures counts { CountsFaults (seen self.old).faults (seen self.new).faults result }
         ensures settled { (seen self.new).settled ≡ false };
 
-    /// Passes on what was put, and appends nothing. The count of faults changes as for `put`.
+    /// Flushes the bytes that wait, and appends none. The count of faults changes as for `put`.
     fn finish(&mut self) -> Result<(), SinkFault>
         ensures same { Appends (seen self.old) (seen self.new) [] }
         ensures counts { CountsFaults (seen self.old).faults (seen self.new).faults result }

@@ -1,16 +1,16 @@
-//! How a command ended.
+//! The status of a command at its end.
 ghost use Rattle.std.specs.Prelude.{◌≡◌};
 
-/// How a command ended, with the code that the program ends with.
+/// The status of a command at its end; `code` is the exit code of the program.
 #[derive(Clone, Copy, Debug, PartialEq, Eq, Hash)]
 pub enum Status {
-    /// The text of the command was written and the sink finished.
+    /// The text of the command was written, and the sink is finished.
     Done,
     /// Some line of a batch was refused.
     SomeRefused,
     /// The words are not a command.
     Syntax,
-    /// A number in the words exceeds a limit, or a list there is not one of its kind.
+    /// A number in the words exceeds a limit, or a list in them is not one of its kind.
     Range,
     /// A number in the words, or a number of the answer, is too large.
     Past,
@@ -25,7 +25,7 @@ pub enum Status {
 impl Status {
     ghost use Rattle.calc_base.specs.Status.{code_of};
 
-    /// The code that the program ends with: 0 to 7, in the order of the statuses.
+    /// The exit code of the program: 0 to 7, in the order of the statuses.
     pub fn code(self) -> u8
         ensures { result ≡ code_of self }
     {

@@ -11,8 +11,8 @@ use std::marker::Model;
 
 const ALLOWANCE: u64 = 1 << 62;
 
-/// The source over the program's input, at any reader. It records what the reader has left, if that
-/// is known, and gives at most 2^62 bytes.
+/// The source over the program's input, from any reader. It records the bytes that the reader has
+/// left, if they are known, and gives at most 2^62 bytes.
 #[derive(Drop)]
 pub struct StdIn<R> {
     reader: R,
@@ -42,7 +42,7 @@ impl<R> StdIn<R> {
 impl<R: Read> Source for StdIn<R> {
     ghost seen = { intake_seen R.remaining };
 
-    /// Reads once. A read that fails is the fault, and so is a call with no allowance left.
+    /// Reads once. It fails if the read fails or no allowance is left.
     fn take(&mut self, buf: &mut [u8]) -> Result<usize, SourceFault>
         requires { 0 < length buf.old }
 
@@ -54,7 +54,7 @@ impl<R: Read> Source for StdIn<R> {
         ensures spends { Spends self.old.allowance self.new.allowance result }
         ensures counts { CountsFaults self.old.failed self.new.failed result }
 
-        // What this one does.
+        // Clauses of this source.
         ensures spent { IfOk result (λ count. self.new.allowance + count ≡ self.old.allowance) }
         ensures unspent { OnErr result (self.new.allowance ≡ self.old.allowance) }
         ensures exhausted { self.old.allowance ≡ 0 → IsErr result }

@@ -11,8 +11,8 @@ use crate::{Sink, SinkFault};
 use std::io::{BufWriter, Write};
 use std::marker::Model;
 
-/// The sink over the program's output: a buffer in front of any writer. It records the bytes that
-/// the writer holds and those that wait in the buffer, if the first are known.
+/// The sink over the program's output: a buffer before any writer. It records the bytes of the
+/// writer, if they are known, followed by those that wait in the buffer.
 #[derive(Drop)]
 pub struct StdOut<W: Write + Drop> {
     writer: BufWriter<W>,
@@ -50,11 +50,10 @@ impl<W: Write + Drop> StdOut<W> {
 }
 
 impl<W: Write + Drop> Sink for StdOut<W> {
-    /// If it is settled, nothing waits in the buffer.
+    /// If it is settled, the buffer is empty.
     ghost seen = { outlet_seen W.contents };
 
-    /// Writes until all is written. A write that fails, or takes nothing of what is left,
-    /// is the fault.
+    /// Writes until all bytes are written. It fails if a write fails or writes nothing.
     fn put(&mut self, bytes: &[u8]) -> Result<(), SinkFault>
         // Clauses of the trait.
         ensures ok { OnOk result (Appends (outlet_seen W.contents self.old)
@@ -72,7 +71,7 @@ impl<W: Write + Drop> Sink for StdOut<W> {
         Err(SinkFault)
     }
 
-    /// Flushes, so that nothing waits in the buffer. A flush that fails is the fault.
+    /// Flushes, so that the buffer is empty. It fails if the flush fails.
     fn finish(&mut self) -> Result<(), SinkFault>
         // Clauses of the trait.
         ensures same { Appends (outlet_seen W.contents self.old)
@@ -91,7 +90,7 @@ impl<W: Write + Drop> Sink for StdOut<W> {
     ghost counted = { λ s. counts_told (told_bytes W.contents s) };
 }
 
-/// Writes all of the bytes, and answers whether each write took some of what was left.
+/// Writes all of the bytes, and returns false if a write fails or writes nothing.
 fn write_whole<W: Write>(writer: &mut W, bytes: &[u8]) -> bool
     ensures whole { OnTrue result
         (WriterAppends (W.contents writer.old) (W.contents writer.new) bytes.now) }

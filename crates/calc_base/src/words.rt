@@ -1,4 +1,4 @@
-//! What the words of a command name, and where they are invalid.
+//! The types that the words of a command name, and the errors of words.
 ghost use Rattle.std.specs.Prelude.{◌≡◌};
 ghost use Rattle.calc_base.specs.declared.words.WordsFault.TheVariants.{NoMemory as no_memory};
 
@@ -15,19 +15,20 @@ pub struct Place {
     pub byte: u64,
 }
 
-/// Why words are not a command that can be run: the first error and its place, or out of memory.
+/// The reasons for which words are not a command that can be run: the first error and its place, or
+/// out of memory.
 #[derive(Clone, Copy, Debug, PartialEq, Eq, Hash, Error)]
 pub enum WordsFault {
-    /// No command has these words: they first fail at this place.
+    /// No command has these words; the first error is at this place.
     #[error("no command, at byte {byte} of word {word}", byte = .at.byte, word = .at.word)]
     Syntax { at: Place },
-    /// A number past 2^127 - 1 begins here.
+    /// A number that exceeds 2^127 - 1 begins here.
     #[error("a number too large, at byte {byte} of word {word}", byte = .at.byte, word = .at.word)]
     Literal { at: Place },
     /// A limit is exceeded here.
     #[error("past a limit, at byte {byte} of word {word}", byte = .at.byte, word = .at.word)]
     Range { at: Place },
-    /// A list here is not one of its kind, such as parts that increase.
+    /// A list here is not one of its kind, such as increasing parts.
     #[error("a list out of shape, at byte {byte} of word {word}", byte = .at.byte, word = .at.word)]
     Shape { at: Place },
     /// Out of memory.
@@ -80,7 +81,7 @@ pub enum Basis {
 /// list.
 #[derive(Clone, Copy, Debug, PartialEq, Eq, Hash)]
 pub struct Weight {
-    /// The bound of the coefficients times the denominator.
+    /// The bound for the coefficients times `den`.
     pub num: u128,
     /// A multiple of each denominator.
     pub den: u128,

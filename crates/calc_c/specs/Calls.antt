@@ -1,4 +1,4 @@
--- What a call from C answers, and leaves in the caller's buffer.
+-- The result of a call from C, and the text that it leaves in the caller's buffer.
 use Rattle.std.specs.Prelude.{◌≡◌, ◌≤◌, ◌<◌, ◌⊎◌, ◌++◌, ℕ, List, [], Some, drop, length, take}
 use Rattle.calc_app.specs.Top.{IsFrontOf, IsOutcome, RunsLines}
 use Rattle.calc_base.specs.Sink.{IsPrefix}
@@ -9,7 +9,7 @@ use Rattle.calc_base.specs.declared.status.Status.TheVariants.{Past, SinkFault, 
 use Rattle.calc_base.specs.declared.status.Status.TheVariants.{NoMemory}
 use Rattle.sym_model.specs.Ending.{Ending, done, some_refused, syntax, range, past}
 
--- a source over lent bytes tells those that are left, and no call of it fails
+-- a source over lent bytes records the bytes left, and none of its calls fails
 abbrev pub slice_seen : List ℕ → SourceSeen
 slice_seen rest = record { left = Some rest; allowance = length rest; faults = 0 }
 
@@ -20,9 +20,9 @@ pub record IsTextOfFirst (words : List (List ℕ)) (input text : List ℕ) : Typ
   pub ending : Ending
   pub outcome : IsOutcome words front text ending
 
--- Which text a call leaves, by its status: the whole one that is defined for the words over the
--- input; where memory was refused for the text, a prefix of one that is defined over its first
--- lines; where it was refused for the answer nothing, or, of a batch, the text of its first lines.
+-- The text that a call leaves, by its status: the whole text that is defined for the words over the input; if memory
+-- ran out for the text, a prefix of one that is defined over its first lines; if memory ran out for the answer, nothing
+-- or, in a batch, the text of its first lines.
 abbrev pub IsLeft : (words : List (List ℕ)) → (input text : List ℕ) → Status → Type 0
 IsLeft words input text Done = IsOutcome words input text done
 IsLeft words input text SomeRefused = RunsLines words × IsOutcome words input text some_refused
@@ -34,8 +34,8 @@ IsLeft words input text SinkFault =
 IsLeft words input text SourceFault = ⊥
 IsLeft words input text NoMemory = (text ≡ []) ⊎ (RunsLines words × IsTextOfFirst words input text)
 
--- A text was left, and `needed` is its length. Where the buffer has room for it, it stands at the
--- front, and the bytes after it are as they were; where it has not, all are.
+-- A text was left, and `needed` is its length. If the buffer has room, the text is at its front and the bytes after it
+-- are unchanged; if not, all bytes are unchanged.
 pub record LeavesText (words : List (List ℕ)) (input : List ℕ) (needed : ℕ) (old_out out : List ℕ)
     (status : Status) : Type 0 where
   pub text : List ℕ
@@ -44,6 +44,6 @@ pub record LeavesText (words : List (List ℕ)) (input : List ℕ) (needed : ℕ
   pub stands : length text ≤ length out → out ≡ text ++ drop (length text) old_out
   pub untouched : length out < length text → out ≡ old_out
 
--- the line stands at the front of the buffer, where that has room
+-- the line is at the front of the buffer, if the buffer has room for it
 abbrev pub StandsIn : (needed : ℕ) → (out line : List ℕ) → Type 0
 StandsIn needed out line = needed ≤ length out → take needed out ≡ line

@@ -1,2 +1,2 @@
--- What the contracts of the C library cite.
+-- The definitions that the contracts of the C library cite.
 pub mod Calls

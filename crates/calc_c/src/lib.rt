@@ -1,14 +1,14 @@
-//! The calculator for C: one call that runs the line of a command and leaves its text in the
+//! The calculator for C: one call that runs the command on a line and leaves its text in the
 //! caller's buffer.
 //!
 //! What is proved:
 //!
 //! `calc_run`, the call of the C library, over the words of a line and the caller's buffer.
-//! `leaves`: with 0 to 4 the text is the whole one that is defined for the words, with 5 a prefix
-//! of it, with 7 nothing or of a batch the text of its first lines; `needed` is its length; where
-//! it has room the buffer begins with it and is otherwise as it was, and where it has not the
-//! buffer is as it was. `headline` and `lines` of `run`, of the bytes in the buffer; `answers`,
-//! where the line that refuses the words stands in the buffer; the code is that of a status, and
+//! `leaves`: with codes 0 to 4 the text is the whole one that is defined for the words; with 5 a
+//! prefix of it; with 7 nothing or, in a batch, the text of its first lines. `needed` is the length
+//! of the text. If the buffer has room, it begins with the text and is otherwise unchanged; if not,
+//! it is unchanged. `headline` and `lines` of `run`, for the bytes in the buffer. `answers`, with
+//! the line that refuses the words at the front of the buffer. The code is that of a status, and
 //! never that of a source that failed (`ends`).
 #![tactic(auto)]
 
@@ -29,15 +29,15 @@ use calc_words::line_words;
 use slice_source::SliceSource;
 use std::alloc::Global;
 
-/// Runs the command that the line's words name, over the input where it is `batch`, and answers the
-/// code of its status, as the program ends with it.
+/// Runs the command that the line's words name (over the input if it is `batch`), and returns the
+/// code of its status, which is the exit status of the program.
 ///
-/// The words stand between spaces and tabs. `needed` becomes the length of the text. Where the
-/// buffer has room for it, the text is at its front, and the bytes after it are as they were; where
-/// it has not, the buffer is as it was, and the call is to be made again with more room. Code 5
-/// says that memory was refused for the text, of which a front is left, and 7 that it was refused
-/// for the answer: then no text is left, or, of a batch, that of its first lines. The other codes
-/// are those of the words, and 6 never comes.
+/// The words are separated by spaces and tabs. `needed` is set to the length of the text. If the
+/// buffer has room for the text, the text is at its front, and the bytes after it are unchanged. If
+/// not, the buffer is unchanged, and the call can be made again with more room. Code 5 says that
+/// memory ran out for the text, of which a prefix is left; 7 that memory ran out for the answer:
+/// then no text is left or, in a batch, that of its first lines. The other codes are those of the
+/// words; 6 is never returned.
 #[unsafe(no_mangle)]
 pub extern "C" fn calc_run(
     alloc: Global,
@@ -46,7 +46,7 @@ pub extern "C" fn calc_run(
     out: &mut [u8],
     needed: &mut usize,
 ) -> u8
-    // The headline, of the bytes in the caller's buffer.
+    // The headline, for the bytes in the caller's buffer.
     ensures headline { result ≡ code_of Status.Done → needed.new ≤ length out.new
         → PrintsAnswerTo (map seen (words_of_line line.now)) [] (Some input.now)
         (Some (take needed.new out.new)) }
@@ -55,16 +55,16 @@ pub extern "C" fn calc_run(
         → needed.new ≤ length out.new
         → PrintsLines [] (Some input.now) (Some (take needed.new out.new)) }
 
-    // By cases on the status: the whole text that is defined for the words; where memory was
-    // refused for the text a prefix of it; where it was refused for the answer nothing, or, of a
-    // batch, the text of its first lines. `needed` is its length. Where it has room the buffer
-    // begins with it, and its other bytes are as they were.
+    // By cases on the status: the whole text that is defined for the words; if memory ran out for
+    // the text, a prefix of it; if memory ran out for the answer, nothing or, in a batch, the text
+    // of its first lines. `needed` is its length. If the buffer has room it begins with the text,
+    // and its other bytes are unchanged.
     ensures leaves { IsCodeOf (LeavesText
         (map seen (words_of_line line.now)) input.now needed.new out.old out.new) result }
 
-    // Words that spell a command without an offence are answered, and refused only where a
-    // coefficient that is defined for them is past 2^127 - 1, or their weight is 2^127 or more.
-    // Words with a first offence, and words that are no command, are refused by their own line.
+    // Words that spell a command without an error are answered, and refused only if a coefficient
+    // that is defined for them exceeds 2^127 - 1, or their weight is 2^127 or more. Words with a
+    // first error, and words that are no command, are refused by their own line.
     ensures answers { IsCodeOf (AnswersWords (map seen (words_of_line line.now))
         (StandsIn needed.new out.new)) result }
 
@@ -109,7 +109,7 @@ fn run_words(
     status
 }
 
-/// Copies the text to the front of the buffer, where it has room, and answers the text's length.
+/// Copies the text to the front of the buffer if it fits, and returns the text's length.
 fn put_front(out: &mut [u8], text: &[u8]) -> usize
     ensures needed { result ≡ length text.now }
     ensures same { length out.new ≡ length out.old }

@@ -7,7 +7,7 @@ ghost use Rattle.calc_c.specs.Calls.{slice_seen};
 
 use calc_base::{Source, SourceFault};
 
-/// A source over lent bytes. It takes no memory, and no call of it fails.
+/// A source over lent bytes. It allocates no memory, and none of its calls fails.
 #[derive(Drop)]
 pub(crate) struct SliceSource<'a> {
     pub(crate) rest: &'a [u8],
@@ -19,13 +19,13 @@ impl Source for SliceSource<'_> {
     fn take(&mut self, buf: &mut [u8]) -> Result<usize, SourceFault>
         requires { 0 < length buf.old }
 
-        // What each source owes.
+        // Clauses of the trait.
         ensures ok { IfOk result (Takes (Some self.old.rest.now) (Some self.new.rest.now) buf.new) }
         ensures err { OnErr result (Keeps (Some self.old.rest.now) (Some self.new.rest.now)) }
         ensures spends { Spends (length self.old.rest.now) (length self.new.rest.now) result }
         ensures counts { CountsFaults 0 0 result }
 
-        // What this one does.
+        // The clause of this source: a call gives all the bytes that fit.
         ensures given { IfOk result (λ count. count
             ≡ min (length buf.new) (length self.old.rest.now)) }
     {

@@ -15,7 +15,7 @@ use Rattle.word_laws.specs.Reading.{forms_of}
 use Rattle.word_laws.proofs.LongestPrefixes.{CanBe}
 use Rattle.calc_base.specs.declared.words.WordsFault.{WordsFault}
 use Rattle.calc_base.specs.declared.words.WordsFault.TheVariants.{Syntax}
-use Rattle.calc_commands.specs.declared.command.Command.{Command}
+use Rattle.calc_words.specs.declared.command.Command.{Command}
 use Rattle.calc_words.specs.Reading.{IsRead as IsReadBy}
 use Rattle.calc_words.specs.WrittenLimits.{KeepsLimits}
 use Rattle.calc_words.proofs.CutWords.{first_text}
@@ -25,12 +25,12 @@ use Rattle.calc_language.specs.BuiltCommands.{command_entries, batch_entries}
 use Rattle.calc_language.specs.Reading.{command_of, entry_named, IsReadAs, IsRead, IsWithinItsLimits}
 use Rattle.calc_language.proofs.NamedEntries.{IsLed, are_named_apart, each_among, one_named, led_named, unnamed, clash}
 
--- ---- entries by their names
+-- ---- an entry is found by its name
 
 some_same : (e f : Entry) → Some f ≡ Some e → f ≡ e
 some_same e f h = cc
 
--- the entry that is found is one of them
+-- if an entry is found for the word w, it is in the list, and w is its name
 found : (w : List ℕ) (entries : List Entry) (e : Entry) → entry_named w entries ≡ Some e → Among e entries × (w ≡ e.name)
 found w [] e h = cc
 found w (f ∷ entries) e h = by (same w f.name) refl h (found w entries e)
@@ -40,7 +40,7 @@ found w (f ∷ entries) e h = by (same w f.name) refl h (found w entries e)
     by true s k later = let q = some_same e f k in (inl (sym q), same_true w f.name s ∙ ap (λ (x : Entry). x.name) q)
     by false s k later = let r = later k in (inr r.0, r.1)
 
--- where none is found, none has the name
+-- if no entry is found, no entry of the list has the name
 none_found : (w : List ℕ) (entries : List Entry) → entry_named w entries ≡ None → (e : Entry) → Among e entries → w ≡ e.name → ⊥
 none_found w [] h e m n = absurd m
 none_found w (f ∷ entries) h e m n = by (same w f.name) refl h m (λ k a. none_found w entries k e a n)
@@ -51,14 +51,14 @@ none_found w (f ∷ entries) h e m n = by (same w f.name) refl h m (λ k a. none
     by false s k (inl q) later = clash (same w f.name) s (same_from w f.name (n ∙ ap (λ (x : Entry). x.name) q))
     by false s k (inr m) later = later k m
 
--- names that are not the word are not found
+-- if no entry of the list has the name w, none is found
 pub none_named : (w : List ℕ) (entries : List Entry) → EachOf (λ (e : Entry). w ≡ e.name → ⊥) entries → entry_named w entries ≡ None
 none_named w [] h = refl
 none_named w (e ∷ entries) h = ap (λ b. cond b (Some e) (entry_named w entries)) (same_apart w e.name h.0) ∙ none_named w entries h.1
 
--- ---- commands that are told apart by their names
+-- ---- commands that are distinguished by their names
 
--- what is known of a list of commands
+-- the names of the commands distinguish them
 pub record AreTold (entries : List Entry) : Type 0 where
   pub led : EachOf IsLed entries
   pub can : CanBe (forms_of entries)
@@ -69,7 +69,8 @@ wrong_first : (entries : List Entry) (words : Words) (r : Result Command WordsFa
     → r ≡ Err (Syntax (record { word = 0; byte = 0 })) → IsReadBy entries words r
 wrong_first entries words r p h = subst (λ x. IsReadBy entries words x) (sym h) p
 
--- what is read by its name among all is read so among some that are there for this name
+-- if words with the first word w are read by that name in a list of commands, they are read so in a part of the list that has all its commands named
+-- w
 pub named_among : (all entries : List Entry) → AreTold entries → (w : List ℕ) (words rest : Words) (r : Result Command WordsFault) → words ≡ w ∷ rest
     → ((e : Entry) → Among e all → w ≡ e.name → Among e entries) → ((e : Entry) → Among e entries → Among e all)
     → IsReadAs (entry_named w all) words r → IsReadBy entries words r
@@ -87,7 +88,7 @@ named_among all entries t w words rest r is here there h = by (entry_named w all
         (record { among = m; alone = λ f n q. one_named entries t.apart e f m n q; named = λ f n. led_named f (each_among IsLed entries t.led f n) })
         words rest (is ∙ ap (λ v. v ∷ rest) f.1) r k
 
--- ---- the commands of the command line and of a batch
+-- ---- the names distinguish the commands of the command line, and those of a batch
 
 pub commands_told : AreTold command_entries
 commands_told = record {
@@ -136,7 +137,7 @@ read_in_line w words rest r is b k h = named_among command_entries batch_entries
         by (inr (inr (inl q))) = absurd (k (n ∙ ap (λ (x : Entry). x.name) q))
         by (inr (inr (inr q))) = absurd q
 
--- no word, or a name that stands in no line
+-- if there are no words, they are refused as no command, at word 0 and byte 0
 pub no_words : (words : Words) (r : Result Command WordsFault) (entries : List Entry) → AreTold entries → words ≡ [] → r ≡ Err (Syntax (record { word = 0; byte = 0 }))
     → IsReadBy entries words r
 no_words words r entries t is h =
@@ -151,7 +152,7 @@ pub within : (words : Words) (result : Result Command WordsFault) → IsRead wor
 within words (Ok command) h = kept_by_all words (command_of command) h.0
 within words (Err fault) h = tt
 
--- words whose first word is the name of a command that stands in no line
+-- words whose first word is the name of no command of a line first fail at that word
 pub elsewhere : (w : List ℕ) (words rest : Words) (r : Result Command WordsFault) → words ≡ w ∷ rest
     → EachOf (λ (e : Entry). w ≡ e.name → ⊥) batch_entries → r ≡ Err (Syntax (record { word = 0; byte = 0 })) → IsReadBy batch_entries words r
 elsewhere w words rest r is apart h =
@@ -179,7 +180,7 @@ none_same a (e ∷ entries) h = by (same a e.name) refl h (none_same a entries)
     by true s k later = cc
     by false s k later = (s, later k)
 
--- `batch` and `work` stand in no line
+-- `batch` and `work` are no commands of a line
 pub runs_others : (w : List ℕ) → (w ≡ codes "batch") ⊎ (w ≡ codes "work") → EachOf (λ (e : Entry). w ≡ e.name → ⊥) batch_entries
 runs_others w (inl h) = of_no_line w (codes "batch") h (none_same (codes "batch") batch_entries refl)
 runs_others w (inr h) = of_no_line w (codes "work") h (none_same (codes "work") batch_entries refl)

@@ -1,4 +1,4 @@
--- What an expression at a word of a command offends by first, and the words of `expand`.
+-- The first error of an expression at a word of a command, and the words of `expand`.
 use Rattle.std.proofs.Common.{◌≡◌, ℕ, ◌+◌, ◌==◌, nat_lt, Bool, true, false, ◌&&◌, ◌||◌, cond, List, [], ◌∷◌, length, map, refl, sym, ap, ◌∙◌, subst, arith, Option, Some, None, option_map, Ok, Err, inl, inr}
 use Rattle.std.specs.Prelude.{codes}
 use Rattle.std.proofs.lemmas.Bool.Decides.{nat_tests}
@@ -19,7 +19,7 @@ use Rattle.expression_reading.specs.declared.reading.ExpressionFault.{Expression
 use Rattle.expression_reading.specs.declared.reading.ExpressionFault.TheVariants.{Syntax as Wrong, Literal as Wide, Range as Past, Shape as Misshapen, NoMemory as Full}
 use Rattle.expression_reading.specs.Reading.{IsRead as IsReadAs, IsReadBy, IsWrongByte}
 use Rattle.expression_reading.specs.Trees.{basis_of, tree_of}
-use Rattle.calc_commands.specs.declared.command.Command.TheVariants.{Expand}
+use Rattle.calc_words.specs.declared.command.Command.TheVariants.{Expand}
 use Rattle.calc_words.specs.Parts.{AreCut, IsUnread, AreCutUnread}
 use Rattle.calc_words.specs.declared.word_parts.Part.{Part}
 use Rattle.calc_words.specs.declared.word_parts.Part.TheVariants.{MaybeForm, Target, Expression}
@@ -28,7 +28,7 @@ use Rattle.calc_words.proofs.Commands.{first_refused, read_standing}
 use Rattle.calc_words.proofs.CutCommands.{has_of}
 use Rattle.calc_language.specs.Reading.{placed}
 
--- the errors of an expression, with the word at which it stands, come in the same order
+-- an error of an expression, made an error of word k of the command; the order of errors stays the same
 abbrev pub at_word : ℕ → WordOffence → Offence
 at_word k o = (k, o.0, o.1)
 
@@ -51,7 +51,7 @@ pub first-placed : (k : ℕ) (os : List WordOffence) → first_offence (map (at_
 first-placed k [] = refl
 first-placed k (o ∷ os) = ap (earlier_of (at_word k o)) (first-placed k os) ∙ earlier-placed k o (first_of os)
 
--- the first error of the expression that is read is that of the one that is spelled
+-- the first error of the expression that is read is the first error of the expression that the word spells
 placed_as : (k : ℕ) (offends : Phrase → List WordOffence) (w : List ℕ) (f g : Phrase) (first : Option WordOffence) → SpellsPhrase w f → SpellsPhrase w g
     → first_of (offends g) ≡ first → first_offence (offences_in_word k (offends f)) ≡ option_map (at_word k) first
 placed_as k offends w f g first s r h =
@@ -66,7 +66,7 @@ placed_first k offends w f (Past byte) s h = placed_as k offends w f h.0 _ s h.1
 placed_first k offends w f (Misshapen byte) s h = placed_as k offends w f h.0 _ s h.1 h.2
 placed_first k offends w f Full s h = tt
 
--- an expression without error
+-- an expression without error has no first error
 pub none_placed : (k : ℕ) (offends : Phrase → List WordOffence) (w : List ℕ) (f : Phrase) (x : Formula) → SpellsPhrase w f → IsReadBy offends w (Ok x)
     → first_offence (offences_in_word k (offends f)) ≡ None
 none_placed k offends w f x s h = placed_as k offends w f h.0 None s h.1 h.2
@@ -74,7 +74,7 @@ none_placed k offends w f x s h = placed_as k offends w f h.0 None s h.1 h.2
 pub tree_read : (offends : Phrase → List WordOffence) (w : List ℕ) (f : Phrase) (x : Formula) → SpellsPhrase w f → IsReadBy offends w (Ok x) → tree_of x.tree ≡ tree f
 tree_read offends w f x s h = h.3 ∙ sym (ap tree (one_phrase w f h.0 s h.1))
 
--- ---- the words of `expand`
+-- ---- the words of `expand`, cut into parts
 
 abbrev pub expand_parts : List Part
 expand_parts = MaybeForm ∷ Target ∷ Expression ∷ []
@@ -103,7 +103,7 @@ expand_fine words places k b m x h i read =
       none_placed (2 + n) (offences k.parts.3.0) (spelling f) f x spells (subst (λ t. IsReadAs t (spelling f) (Ok x)) h read),
     )
 
--- an expression is read that the cut has not looked at: then the words are cut
+-- if the expression is read, the words that were cut without looking at it are cut
 pub cut_of : (name : List ℕ) (ps : List Part) (places : List ℕ) (words : Words) (v : List ℕ) → AreCutUnread name ps places words
     → ((u : IsUnread name ps places words) → v ≡ u.text) → (f : Phrase) → SpellsPhrase v f → AreCut name ps places words
 cut_of name ps places words v (inl a) e f s = a

@@ -1,4 +1,4 @@
--- What a line of a batch is, by its words as they are kept, and what follows of what is read of it.
+-- The kind of a line of a batch, by its words as they are kept, and consequences of reading it.
 use Rattle.std.proofs.Common.{◌≡◌, ℕ, ◌==◌, nat_lt, Bool, true, false, cond, List, [], ◌∷◌, ◌++◌, map, length, refl, sym, ap, ◌∙◌, subst, arith, Option, Some, None, Result, Ok, Err, inl, inr}
 use Rattle.std.specs.Prelude.{IfOk}
 use Rattle.std.proofs.lemmas.Bool.Decides.{nat_tests}
@@ -18,10 +18,10 @@ use Rattle.calc_words.proofs.ReadingFacts.{accepts, refuses, goes_wrong}
 use Rattle.calc_language.specs.BuiltCommands.{command_entries, batch_entries}
 use Rattle.calc_language.specs.Lines.{IsLineRead, KeepsItsLimits, AcceptsInLine}
 use Rattle.calc_language.specs.Reading.{command_of}
-use Rattle.calc_commands.specs.declared.command.Command.{Command}
+use Rattle.calc_words.specs.declared.command.Command.{Command}
 use Rattle.calc_language.proofs.Entries.{kept_by_all}
 
--- ---- which line it is
+-- ---- the kind of a line: too long, skipped, or with words
 
 hash_seen : (b : ℕ) → (seen_byte b == 35) ≡ (b == 35)
 hash_seen b = by (nat_lt b 128) refl
@@ -48,7 +48,7 @@ spoken_line line kept n k h =
     let words = words_of_line (without_return line) in
     line_is line (spoken words) n (some_words words (sym (ap is_passed_over k) ∙ h))
 
--- ---- what is read of it
+-- ---- reading the words of a line
 
 abbrev whole : Result Command WordsFault → Result (Option Command) WordsFault
 whole (Ok command) = Ok (Some command)
@@ -66,7 +66,7 @@ line_read line kept r n k h read =
     subst (λ l. IsLineRead l (whole r)) (sym (spoken_line line kept n k h))
     (words_line words r (seen_read batch_entries refl words r (subst (λ ws. IsRead batch_entries ws r) k read)))
 
--- ---- what follows
+-- ---- a line is accepted or refused as its command or its error requires
 
 some_append : (P : Entry → Type 0) (xs ys : List Entry) → SomeOf P xs → SomeOf P (xs ++ ys)
 some_append P [] ys h = absurd h

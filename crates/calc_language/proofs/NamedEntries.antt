@@ -1,4 +1,5 @@
--- Lists of commands whose first word is the name: each is told by it, and words with another first word first fail there.
+-- Lists of commands whose first word is the name: the name determines the command, and words with another first word
+-- first fail there.
 use Rattle.std.proofs.Common.{◌≡◌, ℕ, zero, suc, take, ◌≤◌, ◌<◌, Bool, true, false, not, ◌&&◌, ◌||◌, List, [], ◌∷◌, ◌++◌, map, length, refl, sym, ap, ◌∙◌, subst, arith, ◌⊎◌, inl, inr}
 use Rattle.sym_model.specs.Sum.{Among}
 use Rattle.sym_model.specs.GoodTableau.{is_among}
@@ -14,7 +15,7 @@ use Rattle.word_laws.proofs.LongestPrefixes.{CanBe, some_words, some_out}
 use Rattle.calc_words.specs.Joined.{Named}
 use Rattle.calc_words.proofs.Joining.{first_spells, first_awaits}
 
--- what stands after the first of two forms
+-- the second of two forms in sequence
 abbrev pub behind : Form → Form
 behind (sequence f g) = g
 behind f = f
@@ -23,14 +24,14 @@ behind f = f
 abbrev pub IsLed : Entry → Type 0
 IsLed e = (e.form ≡ sequence (the e.name) (behind e.form)) ⊎ (e.form ≡ the e.name)
 
--- ---- lists of entries
+-- ---- lists of entries: a property of all, or of some
 
 pub each_among : (P : Entry → Type 0) (entries : List Entry) → EachOf P entries → (e : Entry) → Among e entries → P e
 each_among P [] h e m = absurd m
 each_among P (f ∷ entries) h e (inl s) = subst P (sym s) h.0
 each_among P (f ∷ entries) h e (inr m) = each_among P entries h.1 e m
 
--- ---- names that tell the commands apart
+-- ---- names that distinguish the commands
 
 abbrev pub names_of : List Entry → List (List ℕ)
 names_of entries = map (λ (e : Entry). e.name) entries
@@ -95,7 +96,7 @@ led_named e (inr s) = record {
       subst P (sym s) (λ words h. absurd h);
 }
 
--- ---- words that begin with no name, or of which there is none
+-- ---- words whose first word is no name, or that have no first word
 
 pub unnamed : (entries : List Entry) → EachOf IsLed entries → CanBe (forms_of entries) → 0 < length entries → (words : Words)
     → ((e : Entry) → Among e entries → BeginsAs e.name words → ⊥) → IsSyntaxPlace entries words 0 0

@@ -1,4 +1,4 @@
--- What the two expressions of a `plethysm` offend by first.
+-- The first error of the two expressions of a `plethysm`.
 use Rattle.std.proofs.Common.{◌≡◌, ℕ, ◌*◌, ◌≤◌, ◌<◌, nat_lt, Bool, true, false, cond, List, [], ◌∷◌, ◌++◌, append_assoc, length, refl, sym, ap, ◌∙◌, subst, arith, Option, Some, None, option_map, Result, Ok, Err, inl, inr, ◌⊎◌}
 use Rattle.std.specs.Prelude.{codes}
 use Rattle.std.proofs.lemmas.Bool.Decides.{nat_tests}
@@ -29,8 +29,8 @@ use Rattle.calc_words.specs.Reading.{IsRead, IsFirst, IsJudged}
 use Rattle.calc_words.proofs.Commands.{read_standing, judged_err, judged_on}
 use Rattle.calc_words.proofs.CutCommands.{has_of}
 use Rattle.calc_words.proofs.FirstOffences.{AllBefore, none-append}
-use Rattle.calc_commands.specs.Commands.{StandsFor}
-use Rattle.calc_commands.specs.declared.command.Command.{Command}
+use Rattle.calc_words.specs.Commands.{StandsFor}
+use Rattle.calc_words.specs.declared.command.Command.{Command}
 use Rattle.calc_language.specs.Reading.{placed}
 use Rattle.calc_language.proofs.ExpressionJudging.{at_word, first-placed, same_order, placed_first, none_placed, tree_read}
 
@@ -50,7 +50,7 @@ too_high past g = cond past (end_of g ∷ []) []
 abbrev is_past : Phrase → Phrase → Bool
 is_past f g = nat_lt plethysm_degree_limit (degree (tree f) * degree (tree g))
 
--- the errors of a word stand at it
+-- the errors of a word have the number of that word
 in_word : (k : ℕ) (os : List WordOffence) (p : Offence) → Among p (offences_in_word k os) → p.0 ≡ k
 in_word k [] p m = absurd m
 in_word k (o ∷ os) p (inl h) = ap (λ (x : Offence). x.0) h
@@ -62,7 +62,7 @@ in_judged [] true g p (inr m) = absurd m
 in_judged [] false g p m = absurd m
 in_judged (x ∷ xs) past g p m = absurd m
 
--- the first expression offends
+-- each error of the first expression is before all errors of the second one and of the two together
 behind_outer : (f g : Phrase) → AllBefore (outer_found f) (inner_found g ++ judged_against (outer_found f) (too_high (is_past f g) g))
 behind_outer f g p q m n =
     let a = in_word 2 (offences_within plethysm_degree_limit f) p m in
@@ -81,7 +81,7 @@ outer_faulty w f g e s h =
     (judged_err (outer_found f) (inner_found g ++ last) (placed 2 e) (behind_outer f g)
     (placed_first 2 (offences_within plethysm_degree_limit) w f e s h))
 
--- the first expression has no error
+-- if the first expression has no error, the first error is that of the second one or of the two together
 rest_only : (f g : Phrase) → first_offence (outer_found f) ≡ None
     → first_offence (plethysm_offences 2 f g) ≡ first_offence (inner_found g ++ too_high (is_past f g) g)
 rest_only f g n =
@@ -112,7 +112,7 @@ inner_faulty v w f g x e r k s h =
     (judged_on (first_offence (inner_found g)) (first_offence (inner_found g ++ too_high (is_past f g) g)) (placed 3 e)
     (inner_first (is_past f g) g s.allowed) (placed_first 3 inner_offences w g e s h))
 
--- neither has an error
+-- if neither expression has an error, the first error is that of the two together
 both_judged : (v w : List ℕ) (f g : Phrase) (x y : Formula) → SpellsPhrase v f → IsReadBy (offences_within plethysm_degree_limit) v (Ok x)
     → SpellsPhrase w g → IsReadBy inner_offences w (Ok y) → first_offence (plethysm_offences 2 f g) ≡ first_offence (too_high (is_past f g) g)
 both_judged v w f g x y r k s h =
@@ -154,7 +154,7 @@ trees_said v w f g x y t r k s h =
     ap (λ e. plethysm t e (tree_of y.tree)) (tree_read (offences_within plethysm_degree_limit) v f x r k)
     ∙ ap (plethysm t (tree f)) (tree_read inner_offences w g y s h)
 
--- ---- the words of `plethysm`
+-- ---- the words of `plethysm`, cut into parts
 
 abbrev pub plethysm_parts : List Part
 plethysm_parts = Target ∷ Expression ∷ Expression ∷ []

@@ -1,4 +1,4 @@
--- What a line of a batch is read as.
+-- The reading of a line of a batch.
 use Rattle.std.specs.Prelude.{◌≡◌, Option, Some, None, Result, Ok, Err}
 use Rattle.sym_model.specs.BatchLine.{BatchLine, too_long, passed_over, spoken, too_long_offence}
 use Rattle.sym_model.specs.Command.{Command as PlainCommand}
@@ -7,12 +7,12 @@ use Rattle.calc_base.specs.declared.words.WordsFault.{WordsFault}
 use Rattle.calc_base.specs.declared.words.WordsFault.TheVariants.{NoMemory}
 use Rattle.calc_words.specs.Reading.{IsRefusal, IsFaultOf}
 use Rattle.calc_language.specs.BuiltCommands.{batch_entries}
-use Rattle.calc_commands.specs.Commands.{IsSound}
-use Rattle.calc_commands.specs.declared.command.Command.{Command}
+use Rattle.calc_words.specs.Commands.{IsSound}
+use Rattle.calc_words.specs.declared.command.Command.{Command}
 use Rattle.calc_language.specs.Reading.{command_of, IsWithinItsLimits}
 
--- a line that is too long is refused by its error, one that is skipped is no command, and the
--- words of another are read among the commands of a line; running out of memory says nothing
+-- A line that is too long is refused with its error, one that is skipped gives no command, and the words of any other
+-- line are read as a command of a line. Out of memory says nothing about the line.
 abbrev pub IsLineRead : BatchLine → Result (Option Command) WordsFault → Type 0
 IsLineRead too_long (Ok answer) = ⊥
 IsLineRead too_long (Err NoMemory) = Unit {0}
@@ -26,7 +26,7 @@ IsLineRead (spoken words) (Ok (Some command)) =
     SpellsWithoutOffence batch_entries words (command_of command) × IsSound command
 IsLineRead (spoken words) (Err fault) = IsRefusal batch_entries words fault
 
--- what a command of a line names is within the limits of words
+-- the command of a line, if there is one, is within the limits of words
 abbrev pub KeepsItsLimits : Option Command → Type 0
 KeepsItsLimits None = Unit {0}
 KeepsItsLimits (Some command) = IsWithinItsLimits command

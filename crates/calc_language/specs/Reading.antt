@@ -1,4 +1,4 @@
--- What the words of a command are read as.
+-- The reading of the words of a command.
 use Rattle.std.specs.Prelude.{◌≡◌, ℕ, cond, List, [], ◌∷◌, Option, Some, None, Result, Err}
 use Rattle.sym_model.specs.Entry.{Entry}
 use Rattle.sym_model.specs.Polynomial.{same}
@@ -14,31 +14,31 @@ use Rattle.expression_reading.specs.declared.reading.ExpressionFault.TheVariants
 use Rattle.expression_reading.specs.declared.reading.ExpressionFault.TheVariants.{NoMemory as Full}
 use Rattle.calc_words.specs.Reading.{IsRead as IsReadBy}
 use Rattle.calc_words.specs.WrittenLimits.{KeepsLimits}
-use Rattle.calc_commands.specs.declared.command.Command.{Command}
-pub use Rattle.calc_commands.specs.Commands.{command_of}
+use Rattle.calc_words.specs.declared.command.Command.{Command}
+pub use Rattle.calc_words.specs.Commands.{command_of}
 pub use Rattle.calc_words.specs.Reading.{IsFaultOf, Accepts, Refuses, GoesWrong}
 
--- the entry of this name
+-- the first entry of this name
 abbrev pub entry_named : List ℕ → List Entry → Option Entry
 entry_named name [] = None
 entry_named name (e ∷ entries) = cond (same name e.name) (Some e) (entry_named name entries)
 
--- the words are read as those of the entry, where there is one,
--- and otherwise first fail at the first word
+-- the words are read as those of the entry, if there is one, and otherwise first fail at the first word
 abbrev pub IsReadAs : Option Entry → List (List ℕ) → Result Command WordsFault → Type 0
 IsReadAs None words result = result ≡ Err (Syntax (record { word = 0; byte = 0 }))
 IsReadAs (Some e) words result = IsReadBy (e ∷ []) words result
 
--- what the command names is within the limits of words
+-- the command is within the limits of words
 abbrev pub IsWithinItsLimits : Command → Type 0
 IsWithinItsLimits command = KeepsLimits (command_of command)
 
--- the words are this command without error, and it is sound, or they first fail or first offend
--- at this place; running out of memory says nothing of them
+-- If the result is a command, the words spell it without error, and it is sound; if it is an
+-- error, that is their first error or the place where they first fail. Out of memory says nothing
+-- about the words.
 abbrev pub IsRead : List (List ℕ) → Result Command WordsFault → Type 0
 IsRead words result = IsReadBy command_entries words result
 
--- the refusal of an expression that stands at the word
+-- the refusal of the expression that is this word
 abbrev pub placed : ℕ → ExpressionFault → WordsFault
 placed word (Wrong byte) = Syntax (record { word = word; byte = byte })
 placed word (Wide byte) = Literal (record { word = word; byte = byte })

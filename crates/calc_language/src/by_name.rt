@@ -5,18 +5,22 @@ ghost use Rattle.calc_language.specs.Reading.{IsReadAs, entry_named};
 
 use crate::Command;
 use crate::expand::read_expand;
+use crate::pairs::read_unrsk;
 use crate::plethysm_command::read_plethysm;
+use crate::skew_tableaux::read_rect;
+use crate::tab::read_tab;
 use calc_base::WordsFault;
-use calc_words::{
-    read_batch, read_coef, read_coprod, read_dschubmult, read_fusion, read_growth, read_mult,
-    read_quantum, read_rsk, read_schubert, read_schubmult, read_skew, read_stanley, read_work,
-    syntax,
+use calc_words::batches::{read_batch, read_work};
+use calc_words::permutations::{
+    read_dschubmult, read_growth, read_rsk, read_schubert, read_schubmult, read_stanley,
 };
+use calc_words::products::{read_coef, read_coprod, read_mult, read_skew};
+use calc_words::reductions::{read_fusion, read_quantum};
+use calc_words::syntax;
 use std::alloc::Global;
-use tableau_words::{read_rect, read_tab, read_unrsk};
 
-/// The words as those of the command of this name alone; where there is none,
-/// they first fail at the first word.
+/// Reads the words as those of the command of this name; if there is no such command, they first
+/// fail at the first word.
 pub(crate) fn by_name(alloc: Global, name: &str, words: &[String]) -> Result<Command, WordsFault>
     ensures { IsReadAs (entry_named name.now command_entries) (map string_bytes words.now) result }
 {

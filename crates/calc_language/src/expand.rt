@@ -10,8 +10,8 @@ use calc_words::{Part, cut_unread, maybe_form_of, piece_at, target_of, text_of};
 use expression_reading::read_expression;
 use std::alloc::Global;
 
-/// The words of `expand`: that word, `-m` where the answer is wanted on one line, the letter of a
-/// target, and an expression.
+/// Reads the words of `expand`: that word, `-m` for an answer on one line, the letter of a target,
+/// and an expression.
 pub(crate) fn read_expand(alloc: Global, words: &[String]) -> Result<Command, WordsFault>
     ensures { IsReadBy (expand_entry all_bases ∷ []) (map string_bytes words.now) result }
 {

@@ -6,7 +6,7 @@ ghost use Rattle.sym_model.specs.Grammar.{all_bases, plethysm_entry};
 ghost use Rattle.sym_model.specs.Phrase.{Phrase, SpellsPhrase, tree};
 ghost use Rattle.expression_reading.specs.Trees.{basis_of};
 ghost use Rattle.calc_words.specs.Reading.{IsRead as IsReadBy, IsJudged};
-ghost use Rattle.calc_commands.specs.Commands.{StandsFor};
+ghost use Rattle.calc_words.specs.Commands.{StandsFor};
 
 use crate::refusal::placed;
 use crate::{Basis, Command};
@@ -15,7 +15,7 @@ use calc_words::{Part, cut, piece_at, target_of, text_of};
 use expression_reading::{ExpressionFault, PLETHYSM_DEGREE, read_inner, read_outer};
 use std::alloc::Global;
 
-/// The two expressions, or their first error.
+/// The command of the two expressions, or their first error.
 fn judged(alloc: Global, target: Basis, outer: &[u8], inner: &[u8]) -> Result<Command, WordsFault>
     ensures { (f g : Phrase) → SpellsPhrase outer.now f → SpellsPhrase inner.now g
         → IsJudged (StandsFor (plethysm (basis_of target) (tree f) (tree g)))
@@ -42,8 +42,8 @@ fn judged(alloc: Global, target: Basis, outer: &[u8], inner: &[u8]) -> Result<Co
     }
 }
 
-/// The words of `plethysm`: that word, the letter of a target,
-/// the outer expression and the inner one.
+/// Reads the words of `plethysm`: that word, the letter of a target, the outer expression and the
+/// inner one.
 pub(crate) fn read_plethysm(alloc: Global, words: &[String]) -> Result<Command, WordsFault>
     ensures { IsReadBy (plethysm_entry all_bases ∷ []) (map string_bytes words.now) result }
 {

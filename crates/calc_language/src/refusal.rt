@@ -6,7 +6,7 @@ use calc_base::{Place, WordsFault};
 use calc_words::syntax;
 use expression_reading::ExpressionFault;
 
-/// The refusal of the expression that stands at this word.
+/// The error of an expression, at the word that has it.
 pub(crate) fn placed(word: u64, fault: ExpressionFault) -> WordsFault
     ensures { result ≡ placed_at word fault }
 {

@@ -1,4 +1,4 @@
-//! How the words of a command are read.
+//! The reading of the words of a command.
 ghost use Rattle.std.specs.Prelude.{◌≡◌, ℕ, IfOk, map, string_bytes};
 ghost use Rattle.sym_model.specs.Command.{Command as PlainCommand};
 ghost use Rattle.sym_model.specs.CommandOffence.{Offence};
@@ -14,15 +14,15 @@ use calc_base::WordsFault;
 use calc_words::syntax;
 use std::alloc::Global;
 
-/// Reads the words of a command: its name, and after it what the entry of that name asks for
+/// Reads the words of a command: its name, and then what the entry of that name asks for
 /// (`sym_model/specs/Grammar.antt`).
 ///
-/// Words that are no command are refused as `Syntax`, at the word where they first fail, and in the
-/// word of an expression at the byte after its longest prefix that begins one. Otherwise the first
-/// error is refused, as the readers of the commands say,
-/// `calc_words::read_mult` and its like, and
-/// `expression_reading::{read_expression, read_outer, read_inner}`; two expressions of a
-/// `plethysm` whose degrees have a product past 10 are refused as `Range` at the end of the second.
+/// Words that are no command are refused as `Syntax`, at the word where they first fail, and within
+/// the word of an expression at the byte after its longest prefix that begins an expression.
+/// Otherwise the first error is refused, as the readers of the commands say:
+/// `calc_words::read_mult` and its like, and `expression_reading::{read_expression, read_outer,
+/// read_inner}`. Two expressions of a `plethysm` whose degrees have a product over 10 are refused
+/// as `Range` at the end of the second.
 pub fn read_words(alloc: Global, words: &[String]) -> Result<Command, WordsFault>
     ensures read { IsRead (map string_bytes words.now) result }
     ensures within { IfOk result IsWithinItsLimits }
@@ -39,7 +39,7 @@ pub fn read_words(alloc: Global, words: &[String]) -> Result<Command, WordsFault
     read(alloc, words)
 }
 
-/// The words as they are read: what follows for each command and error, the public call says.
+/// Reads the words; the public call states what this implies for each command and error.
 fn read(alloc: Global, words: &[String]) -> Result<Command, WordsFault>
     ensures { IsRead (map string_bytes words.now) result }
 {

@@ -1,4 +1,4 @@
--- What the weight of a plethysm is at least.
+-- Lower bounds for the weight of a plethysm.
 use Rattle.std.proofs.Common.{◌≡◌, ℕ, ◌+◌, ◌*◌, ◌^◌, ◌≤◌, arith, subst, sym, refl}
 use Rattle.std.proofs.lemmas.Nat.{mul-le}
 use Rattle.std.proofs.Math.Nat.{mul-le-mul_left, pow-zero, pow-suc}
@@ -12,7 +12,7 @@ use Rattle.plethysm_laws.proofs.NonnegativeTerms.{denominator-one}
 use Rattle.expression_reading.proofs.WeightFacts.{Positive}
 use Rattle.plethysm_laws.proofs.PathWeights.{weight-outer, weight-product}
 
--- the weight of the outer expression in m
+-- the weight of the outer expression in m is at most that of the plethysm
 pub outer-weight : (e : Tree) (K b : ℕ) → 1 ≤ numerator e → 1 ≤ denominator e → 1 ≤ K
     → weight monomials e ≤ plethysm_weight (numerator e) (denominator e) (degree e) K b
 outer-weight e K b n d k =
@@ -22,7 +22,8 @@ outer-weight e K b n d k =
       weight-outer (numerator e) (denominator e) (degree e) K b n d k,
     )
 
--- the weight of the inner expression in m, where it has no fraction and the outer one is no constant
+-- the weight of the inner expression in m is at most that of the plethysm, if it has no fraction and the outer one is
+-- not constant
 pub inner-weight : (N D a : ℕ) (e : Tree) → 1 ≤ N → 1 ≤ D → 1 ≤ a → 1 ≤ numerator e → denominator e ≡ 1
     → weight monomials e ≤ plethysm_weight N D a (numerator e) (degree e)
 inner-weight N D a e n d h k one =
@@ -37,17 +38,18 @@ inner-weight N D a e n d h k one =
     let wide = mul-le (K * 1) (growth monomials b) (K * (b + 1)) (growth monomials b) some (omega arith) in
     subst (λ x. K * x * growth monomials b ≤ plethysm_weight N D a K b) (sym one) (omega (arith, wide, u))
 
--- so an outer expression that is heavy for m makes the plethysm heavy
+-- if the weight of the outer expression in m is 2^127 or more, so is that of the plethysm
 pub outer-large : (e f : Tree) → Positive e → Positive f → 2 ^ 127 ≤ weight monomials e
     → 2 ^ 127 ≤ plethysm_weight (numerator e) (denominator e) (degree e) (numerator f) (degree f)
 outer-large e f p q h = omega (arith, h, outer-weight e (numerator f) (degree f) (omega (arith, p.0)) (omega (arith, p.1)) (omega (arith, q.0)))
 
--- and so does an inner one, where the outer one is no constant
+-- if the weight of the inner expression in m is 2^127 or more and the outer one is not constant, so is that of the
+-- plethysm
 pub inner-large : (e f : Tree) → Positive e → Positive f → 1 ≤ degree e → HasNoSigns f → 2 ^ 127 ≤ weight monomials f
     → 2 ^ 127 ≤ plethysm_weight (numerator e) (denominator e) (degree e) (numerator f) (degree f)
 inner-large e f p q some h heavy =
     omega (arith, heavy, inner-weight (numerator e) (denominator e) (degree e) f (omega (arith, p.0)) (omega (arith, p.1)) some (omega (arith, q.0)) (denominator-one f h))
 
--- with an outer constant the weight is the same whatever the inner expression is
+-- for a constant outer expression the weight does not depend on the inner expression
 pub constant-weight : (N D K b : ℕ) → plethysm_weight N D 0 1 b ≡ plethysm_weight N D 0 K b
 constant-weight N D K b = rw (pow-zero (1 * (b + 1)), pow-zero (K * (b + 1))) refl

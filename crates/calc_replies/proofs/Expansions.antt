@@ -1,4 +1,4 @@
--- What an expansion in m says of that in another basis.
+-- Bounds for expansions in other bases from the expansion in m.
 use Rattle.std.proofs.Common.{◌*◌, ◌^◌, ◌≤◌, ℕ, zero, suc, arith}
 use Rattle.std.proofs.Math.Nat.{mul-le-mul_left}
 use Rattle.monomial_laws.proofs.Growths.{growth-most}
@@ -15,6 +15,6 @@ least_growth elementaries (suc d) = growth-most monomials (suc d)
 least_growth completes (suc d) = growth-most monomials (suc d)
 least_growth power_sums (suc d) = growth-most monomials (suc d)
 
--- an expression that is heavy for m is heavy for every target
+-- an expression with weight 2^127 or more for m has such a weight for every target
 pub heavy_for_m : (b : Basis) (e : Tree) → 2 ^ 127 ≤ weight monomials e → 2 ^ 127 ≤ weight b e
 heavy_for_m b e h = omega (arith, h, mul-le-mul_left (numerator e * denominator e) (least_growth b (degree e)))

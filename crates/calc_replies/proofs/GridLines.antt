@@ -6,11 +6,11 @@ use Rattle.sym_model.proofs.Lists.{each-append}
 use Rattle.sym_model.specs.Growth.{grid_line, grid_lines}
 use Rattle.sym_model.specs.TableauText.{shapes_line, grid_text}
 
--- the text of the first lines
+-- the text of the first k lines
 abbrev pub first_lines : List ℕ → ℕ → List ℕ
 first_lines w k = flat_map shapes_line (take k (grid_lines w))
 
--- the text of the lines after them
+-- the text of the lines after the first k
 abbrev pub last_lines : List ℕ → ℕ → List ℕ
 last_lines w k = flat_map shapes_line (drop k (grid_lines w))
 

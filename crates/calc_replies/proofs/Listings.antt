@@ -42,7 +42,8 @@ pub none_after : (outer inner : List ℕ) (after : Option (List ℕ)) → contai
 none_after outer inner None h = none_outside outer inner h
 none_after outer inner (Some last) h = ap (later_than last) (none_outside outer inner h)
 
--- the lists of a lister of good tableaux with an empty start and as many letters as the outer shape has rows
+-- the list of good tableaux with an empty start in k letters, for k the number of rows of the outer shape, is the list
+-- of the lattice tableaux
 pub all_listed : (outer inner start : List ℕ) (k : ℕ) (rest : List (List ℕ)) → k ≡ rows outer → start ≡ [] → rest ≡ good_readings k start outer inner
     → rest ≡ lattice_readings outer inner
 all_listed outer inner start k rest l e is = is ∙ ap (λ j. good_readings j start outer inner) l ∙ ap (λ s. good_readings (rows outer) s outer inner) e
@@ -52,7 +53,7 @@ pub later_listed : (outer inner start last w : List ℕ) (k : ℕ) (rest : List 
 later_listed outer inner start last w k rest l e s is =
     is ∙ ap (later_than last) (all_listed outer inner start k (good_readings k start outer inner) l e refl) ∙ ap (λ v. later_than v (lattice_readings outer inner)) s
 
--- the lines of what is listed
+-- if the shape is outer/inner and `rest` has the readings to be listed, the text of the list is the one that is defined for outer/inner
 pub listed-lines : (outer inner : List ℕ) (shape : List ℕ × List ℕ) (after : Option (List ℕ)) (rest : List (List ℕ))
     → shape ≡ (outer, inner) → rest ≡ readings_after shape.0 shape.1 after
     → readings_text shape.0 shape.1 rest ≡ readings_text outer inner (readings_after outer inner after)

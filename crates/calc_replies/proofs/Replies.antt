@@ -40,7 +40,7 @@ task_reply words command (Ok (Workload lines seed)) spelled task = subst (Spells
 task_reply words command (Ok (Put outcome)) spelled task = computes_reply command_entries words command (Ok outcome) spelled task
 task_reply words command (Err e) spelled task = tt
 
--- nothing that is put is the outcome of the command that runs lines
+-- the command that runs lines has no outcome of its own
 no_reply : (outcome : Outcome) → IsReplyTo batch (Ok outcome) → ⊥
 no_reply (Answered answer form) reply = reply.1
 no_reply (Refused reason) reply = reply
@@ -56,7 +56,7 @@ accepts_task command (Ok (Put outcome)) other task same =
     (accepts_reply command (Ok outcome) other task same, λ is. no_reply outcome (subst (λ c. IsReplyTo c (Ok outcome)) (same ∙ is) task))
 accepts_task command (Err e) other task same = tt
 
--- a refusal other than for memory
+-- if a refusal has another reason than lack of memory, it names the error
 pub refused_by : (offence : Offence) (reason : WordsFault) → reason ≢ fault.NoMemory
     → IsFaultOf offence reason ⊎ (reason ≡ fault.NoMemory) → IsFaultOf offence reason
 refused_by offence reason memory (inl is) = is

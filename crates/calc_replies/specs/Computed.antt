@@ -1,4 +1,4 @@
--- What is computed for the words of a command, and what is put for that.
+-- The result computed for the words of a command, and the text written for it.
 use Rattle.std.specs.Prelude.{◌≡◌, ◌≢◌, ℕ, List, Option, Some, None, Result, Ok, Err, codes}
 use Rattle.calc_base.specs.declared.faults.NoMemory.{NoMemory}
 use Rattle.calc_base.specs.declared.faults.SumFault.{SumFault}
@@ -38,12 +38,12 @@ use Rattle.calc_replies.specs.declared.outcome.Task.TheVariants.{Lines, Workload
 use Rattle.calc_replies.specs.declared.outcome.Outcome.{Outcome}
 use Rattle.calc_replies.specs.declared.outcome.Outcome.TheVariants.{Answered, Refused, Large, Told}
 
--- what is put for a list: a line for each tableau, and the line 0 where there is none
+-- the text of a list: a line for each tableau, or the line 0 if there is none
 abbrev pub listing_text : Option Listing → List ℕ
 listing_text None = codes "0\n"
 listing_text (Some l) = readings_text l.order.0 l.order.1 l.lattice.rest
 
--- what is put for the answer to a command on tableaux
+-- the text of the answer to a command on tableaux
 abbrev pub lines_text : TableauAnswer → List ℕ
 lines_text (Listed list) = listing_text list
 lines_text (Paired p q) = pair_text p.rows q.rows
@@ -51,7 +51,7 @@ lines_text (Spelled word) = word_line word
 lines_text (Straight t) = tableau_line t.rows
 lines_text (Grown w) = grid_text w
 
--- the command is one on tableaux, and the text is what it answers
+-- the command is one on tableaux, and the text is its answer
 abbrev pub Tells : PlainCommand → List ℕ → Type 0
 Tells (tab outer inner last) text =
     text ≡ readings_text outer inner (readings_after outer inner last)
@@ -68,9 +68,8 @@ reply_of (Ok answer) form = Ok (Answered answer form)
 reply_of (Err sums.Large) form = Ok Large
 reply_of (Err sums.NoMemory) form = Err (record {})
 
--- the outcome of a command: an answer that is what it names, in the form that it asks for, where it
--- need not be refused as too large, or that it can be refused so; running out of memory says
--- nothing
+-- The outcome of a command: the answer to the command, in the form that it asks for, if the command need not be refused
+-- as too large; or `Large`, if it may be refused. Out of memory says nothing.
 abbrev pub IsReplyTo : PlainCommand → Result Outcome NoMemory → Type 0
 IsReplyTo command (Ok (Answered answer form)) =
     (MustBeLarge command → ⊥) × Meets command (plain_answer answer)
@@ -80,19 +79,19 @@ IsReplyTo command (Ok Large) = MayBeLarge command
 IsReplyTo command (Ok (Told lines)) = Tells command (lines_text lines)
 IsReplyTo command (Err e) = Unit {0}
 
--- the words spell this command of the list without an offence, and the outcome is the outcome of it
+-- the words spell this command of the list without an error, and the outcome is that of the command
 pub record RepliesTo (entries : List Entry) (words : List (List ℕ))
     (result : Result Outcome NoMemory) : Type 0 where
   pub command : PlainCommand
   pub spelled : SpellsWithoutOffence entries words command
   pub reply : IsReplyTo command result
 
--- the words are refused for this reason, which is not that memory ran out
+-- the words are refused for this reason, and the reason is not out of memory
 abbrev pub AreRefused : List Entry → List (List ℕ) → WordsFault → Type 0
 AreRefused entries words reason = IsRefusal entries words reason × (reason ≢ fault.NoMemory)
 
--- the outcome of the words: the outcome of the command of the list that they spell, or their
--- refusal; running out of memory says nothing
+-- The outcome of the words: that of the command of the list that they spell, or their refusal. Out of memory says
+-- nothing.
 abbrev pub Computes : List Entry → List (List ℕ) → Result Outcome NoMemory → Type 0
 Computes entries words (Ok (Answered answer form)) =
     RepliesTo entries words (Ok (Answered answer form))
@@ -101,8 +100,7 @@ Computes entries words (Ok Large) = RepliesTo entries words (Ok Large)
 Computes entries words (Ok (Told lines)) = RepliesTo entries words (Ok (Told lines))
 Computes entries words (Err e) = Unit {0}
 
--- words of the command without an offence are not refused by their words, and by their answer only
--- where it can be too large
+-- words that spell the command without an error are refused only as too large, and only if the command can be
 abbrev pub Accepts : PlainCommand → Result Outcome NoMemory → Type 0
 Accepts command (Ok (Answered answer form)) = Unit {0}
 Accepts command (Ok (Refused reason)) = ⊥
@@ -110,7 +108,7 @@ Accepts command (Ok Large) = MayBeLarge command
 Accepts command (Ok (Told lines)) = Unit {0}
 Accepts command (Err e) = Unit {0}
 
--- words with this first offence are refused by it
+-- words whose first error is `offence` are refused with it
 abbrev pub Refuses : Offence → Result Outcome NoMemory → Type 0
 Refuses offence (Ok (Answered answer form)) = ⊥
 Refuses offence (Ok (Refused reason)) = IsFaultOf offence reason
@@ -127,23 +125,22 @@ GoesWrong word byte (Ok Large) = ⊥
 GoesWrong word byte (Ok (Told lines)) = ⊥
 GoesWrong word byte (Err e) = Unit {0}
 
--- ---- what is to be done
+-- ---- the task for words: lines to be run, or an outcome to be written
 
--- the command runs no other ones
+-- the command does not run other commands
 abbrev pub RunsNoOther : PlainCommand → Type 0
 RunsNoOther batch = ⊥
 RunsNoOther (work lines seed) = ⊥
 RunsNoOther command = Unit {0}
 
--- what is to be done for a command: lines are to be run for `batch` and `work`, and for the others
--- the outcome of them is to be put
+-- the task of a command: to run lines for `batch` and `work`, and to write the outcome for the others
 abbrev pub IsTaskOf : PlainCommand → Result Task NoMemory → Type 0
 IsTaskOf command (Ok Lines) = command ≡ batch
 IsTaskOf command (Ok (Workload lines seed)) = command ≡ work lines seed
 IsTaskOf command (Ok (Put outcome)) = IsReplyTo command (Ok outcome)
 IsTaskOf command (Err e) = Unit {0}
 
--- what is to be done for words
+-- the task for words
 abbrev pub IsTaskFor : List (List ℕ) → Result Task NoMemory → Type 0
 IsTaskFor words (Ok Lines) = SpellsWithoutOffence command_entries words batch
 IsTaskFor words (Ok (Workload lines seed)) =
@@ -151,14 +148,14 @@ IsTaskFor words (Ok (Workload lines seed)) =
 IsTaskFor words (Ok (Put outcome)) = Computes command_entries words (Ok outcome)
 IsTaskFor words (Err e) = Unit {0}
 
--- the command's words are not refused by their words, and lines are run for `batch`
+-- the words are not refused with an error, and lines are run for `batch`
 abbrev pub AcceptsTask : PlainCommand → Result Task NoMemory → Type 0
 AcceptsTask command (Ok Lines) = command ≡ batch
 AcceptsTask command (Ok (Workload lines seed)) = command ≡ work lines seed
 AcceptsTask command (Ok (Put outcome)) = Accepts command (Ok outcome) × (command ≢ batch)
 AcceptsTask command (Err e) = Unit {0}
 
--- words with this first offence are refused by it
+-- words whose first error is `offence` are refused with it
 abbrev pub RefusesTask : Offence → Result Task NoMemory → Type 0
 RefusesTask offence (Ok Lines) = ⊥
 RefusesTask offence (Ok (Workload lines seed)) = ⊥
@@ -172,23 +169,23 @@ TaskGoesWrong word byte (Ok (Workload lines seed)) = ⊥
 TaskGoesWrong word byte (Ok (Put outcome)) = GoesWrong word byte (Ok outcome)
 TaskGoesWrong word byte (Err e) = Unit {0}
 
--- ---- what is put
+-- ---- the text that is written
 
--- what is put: the answer in its form, or the line of the refusal
+-- the text of an outcome: the answer in its form, or the line of the refusal
 abbrev pub text_of : Outcome → List ℕ
 text_of (Answered answer form) = answer_text_in (plain_form form) (plain_answer answer)
 text_of (Refused reason) = refusal_text reason
 text_of Large = large_line
 text_of (Told lines) = lines_text lines
 
--- what is put is a line: a refusal is not for memory
+-- the outcome has a text: it is not a refusal for lack of memory
 abbrev pub HasText : Outcome → Type 0
 HasText (Answered answer form) = Unit {0}
 HasText (Refused reason) = reason ≢ fault.NoMemory
 HasText Large = Unit {0}
 HasText (Told lines) = Unit {0}
 
--- an answer is printable
+-- if the outcome is an answer, the answer is printable
 abbrev pub HasBlock : Outcome → Type 0
 HasBlock (Answered answer form) = IsPrintable (plain_answer answer)
 HasBlock (Refused reason) = Unit {0}
@@ -203,7 +200,7 @@ refusal_status (fault.Range at) = status.Range
 refusal_status (fault.Shape at) = status.Range
 refusal_status fault.NoMemory = status.NoMemory
 
--- the status at the end, where the sink does not fail
+-- the status after the outcome, if the sink does not fail
 abbrev pub status_for : Outcome → Status
 status_for (Answered answer form) = status.Done
 status_for (Refused reason) = refusal_status reason

@@ -6,11 +6,11 @@ use Rattle.sym_model.specs.PrintedForm.{PrintedForm, as_block, as_line}
 use Rattle.calc_replies.specs.declared.form.Form.{Form}
 use Rattle.calc_replies.specs.declared.form.Form.TheVariants.{Block, Line}
 
--- the form over plain bases
+-- the printed form of the model
 abbrev pub plain_form : Form → PrintedForm
 plain_form Block = as_block
 plain_form (Line basis) = as_line (basis_of basis)
 
--- one line with the atoms of the basis, where that is asked for, and otherwise the block
+-- one line with the atoms of the basis, if that is asked for, and otherwise the block
 abbrev pub form_asked : Bool → Basis → Form
 form_asked one_line basis = cond one_line (Line basis) Block

@@ -1,4 +1,4 @@
-//! What is put for an outcome, and the status that goes with it.
+//! The text that is written for an outcome, and the status of the outcome.
 
 ghost use Rattle.std.specs.Prelude.{◌≡◌, ◌++◌, true};
 ghost use Rattle.calc_base.specs.Puts.{Puts};
@@ -11,8 +11,8 @@ use crate::tableau_answer::put_told;
 use calc_base::{Sink, Status, WordsFault};
 use expansion_printer::{print_large, print_refusal};
 
-/// Puts a text that stands in front, and after it the block of the answer, or the line of the
-/// refusal, and answers whether all went well.
+/// Writes the text `front` and then the block of the answer or the line of the refusal. It returns
+/// whether all calls of the sink succeeded.
 pub fn put_text<K: Sink>(front: &[u8], outcome: &mut Outcome, sink: &mut K) -> bool
     requires { HasText outcome.old }
     ensures goes { Puts true (K.seen sink.old) result (K.seen sink.new)
@@ -27,15 +27,14 @@ pub fn put_text<K: Sink>(front: &[u8], outcome: &mut Outcome, sink: &mut K) -> b
     }
 }
 
-/// Puts the text that stands in front, and answers whether all went well.
-/// An empty text is not put.
+/// Writes the text `front`, unless it is empty, and returns whether the sink did not fail.
 fn put_front<K: Sink>(front: &[u8], sink: &mut K) -> bool
     ensures { Puts true (K.seen sink.old) result (K.seen sink.new) front.now }
 {
     front.is_empty() || sink.put(front).is_ok()
 }
 
-/// The status at the end, where the sink does not fail.
+/// The status at the end, if the sink does not fail.
 pub fn status_if_put(outcome: &Outcome) -> Status
     ensures { result ≡ status_for outcome.now }
 {

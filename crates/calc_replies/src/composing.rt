@@ -6,22 +6,22 @@ ghost use Rattle.sym_model.specs.Expression.{cleared_value, degree, denominator}
 ghost use Rattle.sym_model.specs.ListWeight.{IsBounded};
 ghost use Rattle.sym_model.specs.Plethysm.{plethysm as plethysm_of, plethysm_weight};
 ghost use Rattle.sym_model.specs.Weight.{numerator};
-ghost use Rattle.whole_lists.specs.LabelSizes.{AreWithin};
+ghost use Rattle.sparse_polys.specs.LabelSizes.{AreWithin};
 ghost use Rattle.expression_reading.specs.Trees.{basis_of, tree_of};
 ghost use Rattle.calc_words.specs.WrittenLimits.{KeepsLimits};
 ghost use Rattle.calc_replies.specs.Computed.{IsReplyTo};
 
 use crate::outcome::{Outcome, as_block};
+use basis_expand::to_monomial;
 use calc_base::{NoMemory, SumFault, Weight};
 use calc_language::{Basis, Formula};
 use coeff_rings::Frac;
-use expand_in_monomials::to_monomial;
 use expansion_printer::Answer;
 use linear_combinations::{Lin, Terms};
 use partitions::Partition;
 use std::alloc::Global;
 
-/// The bound of a list without terms.
+/// The bound for a list without terms.
 const NOTHING: Weight = Weight { num: 1, den: 1 };
 
 /// The plethysm of two formulas in the target basis.
@@ -65,7 +65,7 @@ fn composition(
     Ok(terms)
 }
 
-/// The plethysm in the target, in no order.
+/// The plethysm in the target, unordered.
 fn in_target(
     alloc: Global,
     target: Basis,
@@ -93,8 +93,7 @@ fn in_target(
     substituted(alloc, target, outer, &list, bound, inner)
 }
 
-/// The plethysm of a formula of positive degree,
-/// of which this is the expansion in m with its bound.
+/// The plethysm of a formula of positive degree, given its expansion in m with the bound.
 fn substituted(
     alloc: Global,
     target: Basis,

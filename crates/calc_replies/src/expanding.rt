@@ -5,24 +5,23 @@ ghost use Rattle.sym_model.specs.Expansion.{IsExpansionOf};
 ghost use Rattle.sym_model.specs.Expression.{cleared_value, degree, denominator};
 ghost use Rattle.sym_model.specs.ExpressionOffence.{degree_limit};
 ghost use Rattle.sym_model.specs.Weight.{weight};
-ghost use Rattle.whole_lists.specs.Families.{basis_in};
+ghost use Rattle.sparse_polys.specs.Families.{basis_in};
 ghost use Rattle.expression_reading.specs.Trees.{basis_of, tree_of};
 ghost use Rattle.calc_replies.specs.Computed.{IsReplyTo};
 
 use crate::form::asked_form;
 use crate::outcome::Outcome;
+use basis_change::to_basis;
+use basis_expand::{to_monomial, to_monomial_by_schurs, to_schur};
 use calc_base::{NoMemory, SumFault};
 use calc_language::{Basis, Formula};
-use change_from_monomials::to_basis;
 use coeff_rings::Frac;
 use expand_in_families::to_family;
-use expand_in_monomials::to_monomial;
-use expand_in_schurs::{to_monomial_by_schurs, to_schur};
 use expansion_printer::Answer;
 use linear_combinations::{Lin, Terms};
 use partitions::Partition;
+use sparse_polys::Family;
 use std::alloc::Global;
-use whole_lists::Family;
 
 /// The expansion of a formula in the target basis.
 pub(crate) fn expanded(
@@ -61,7 +60,7 @@ fn expansion(
     Ok(terms)
 }
 
-/// The expansion in the target, in no order.
+/// The expansion in the target, unordered.
 fn in_target(
     alloc: Global,
     target: Basis,
@@ -82,8 +81,8 @@ fn in_target(
     }
 }
 
-/// The expansion in e, h or p, in no order: node by node in the target,
-/// and where that is too large by way of m.
+/// The expansion in e, h or p, unordered: node by node in the target, and if that is too large by
+/// way of m.
 fn by_family(
     alloc: Global,
     target: Basis,
@@ -104,7 +103,7 @@ fn by_family(
     }
 }
 
-/// The expansion in the target by way of that in m, in no order.
+/// The expansion in the target by way of that in m, unordered.
 fn by_monomials(
     alloc: Global,
     target: Basis,

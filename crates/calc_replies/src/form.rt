@@ -10,7 +10,7 @@ ghost use Rattle.calc_replies.specs.Forms.{plain_form, form_asked};
 use calc_base::{Basis, Sink};
 use expansion_printer::{Answer, print_after, print_one_line_after};
 
-/// How an answer is printed.
+/// The printed form of an answer.
 #[derive(Clone, Copy, Debug)]
 pub enum Form {
     /// As a block, with a line for each term.
@@ -19,7 +19,7 @@ pub enum Form {
     Line { basis: Basis },
 }
 
-/// The one-line form with the atoms of the basis, where it is asked for, and otherwise the block.
+/// The one-line form with the atoms of the basis, if it is asked for, and otherwise the block.
 pub(crate) fn asked_form(one_line: bool, basis: Basis) -> Form
     ensures { result ≡ form_asked one_line basis }
 {
@@ -30,8 +30,8 @@ pub(crate) fn asked_form(one_line: bool, basis: Basis) -> Form
     }
 }
 
-/// Puts a text that stands in front, and after it the answer in the form,
-/// and answers whether all went well.
+/// Writes the text `front` and then the answer in the form. It returns whether all calls of the
+/// sink succeeded.
 pub(crate) fn put_answer<K: Sink>(front: &[u8], answer: &Answer, form: Form, sink: &mut K) -> bool
     ensures goes { Puts true (K.seen sink.old) result (K.seen sink.new)
         (front.now ++ answer_text_in (plain_form form) (plain_answer answer.now)) }

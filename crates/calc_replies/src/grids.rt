@@ -21,7 +21,7 @@ pub(crate) fn growth(alloc: Global, perm: &Perm) -> Result<Outcome, NoMemory>
     Ok(told(TableauAnswer::Grown { grid }))
 }
 
-/// Puts the lines of a growth grid, as long as all goes well.
+/// Writes the lines of a growth grid until the sink fails; returns whether it did not.
 pub(crate) fn put_grid<K: Sink>(grid: &Grid, sink: &mut K) -> bool
     ensures { Puts true (K.seen sink.old) result (K.seen sink.new) (grid_text grid.now) }
 {

@@ -1,6 +1,6 @@
 //! The answers to `rsk`, `unrsk` and `rect`.
 ghost use Rattle.sym_model.specs.Command as commands;
-ghost use Rattle.calc_commands.specs.Pairs.{IsPair};
+ghost use Rattle.calc_words.specs.Pairs.{IsPair};
 ghost use Rattle.calc_words.specs.WrittenLimits.{KeepsLimits};
 ghost use Rattle.calc_replies.specs.Computed.{IsReplyTo};
 
@@ -21,7 +21,7 @@ pub(crate) fn rsk(alloc: Global, letters: &Word) -> Result<Outcome, NoMemory>
     Ok(told(TableauAnswer::Paired { p, q }))
 }
 
-/// The word of a pair of tableaux.
+/// The word whose insertion gives a pair of tableaux.
 pub(crate) fn unrsk(alloc: Global, p: &Tableau, q: &Standard) -> Result<Outcome, NoMemory>
     requires { IsPair p.now q.now }
     ensures { IsReplyTo (commands.unrsk p.now.rows q.now.rows) result }

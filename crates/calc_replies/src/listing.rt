@@ -1,4 +1,4 @@
-//! The list of `tab`, which is put as it is listed.
+//! The list of `tab`, of which each tableau is written when it is found.
 ghost use Rattle.std.specs.Prelude.{◌≡◌, ◌≤◌, true, length, IfOk};
 ghost use Rattle.std.specs.List.{flat_map};
 ghost use Rattle.calc_base.specs.Puts.{Puts};
@@ -24,12 +24,12 @@ use tableau_iter::{Lattice, ResumeFault};
 pub struct Listing {
     /// The skew shape, as its tableaux are printed.
     pub order: ReadingOrder,
-    /// The column readings of the tableaux that are still to come.
+    /// The column readings of the tableaux that have not been listed yet.
     pub lattice: Lattice,
 }
 
-/// A lister of the lattice tableaux of a shape: of all of them, or of those after the one with this
-/// column reading, which is one of them.
+/// A lister of the lattice tableaux of a shape: of all of them, or of those after the tableau with
+/// the column reading `after`, which must be in the list.
 fn listed(alloc: Global, shape: &Skew, after: &Option<Word>) -> Result<Lattice, NoMemory>
     requires small { size shape.now.0 ≤ 512 }
     requires listed { IsInList shape.now.0 shape.now.1 after.now }
@@ -47,9 +47,9 @@ fn listed(alloc: Global, shape: &Skew, after: &Option<Word>) -> Result<Lattice, 
     }
 }
 
-/// The lattice tableaux of a shape over another one, from after the one with this column reading
-/// where one is given, which is one of them. Where the second shape is not contained in the first
-/// there are none.
+/// The lattice tableaux of shape outer/inner: all of them, or those after the tableau with the
+/// column reading `after`, which must be in the list. If the outer shape does not contain the inner
+/// one, there is no tableau.
 pub(crate) fn tab(
     alloc: Global,
     outer: &Partition,
@@ -69,7 +69,8 @@ pub(crate) fn tab(
     }))
 }
 
-/// Puts what is listed: a line for each tableau, and the line `0` where there is none.
+/// Writes the list: a line for each tableau, or the line `0` if there is none. It returns whether
+/// all calls of the sink succeeded.
 pub(crate) fn put_listed<K: Sink>(list: &mut Option<Listing>, sink: &mut K) -> bool
     ensures { Puts true (K.seen sink.old) result (K.seen sink.new) (listing_text list.old) }
 {
@@ -79,7 +80,7 @@ pub(crate) fn put_listed<K: Sink>(list: &mut Option<Listing>, sink: &mut K) -> b
     }
 }
 
-/// Puts the lines of the tableaux, or the line `0` where there is none.
+/// Writes the lines of the tableaux, or the line `0` if there is none.
 fn put_listing<K: Sink>(list: &mut Listing, sink: &mut K) -> bool
     ensures { Puts true (K.seen sink.old) result (K.seen sink.new)
         (readings_text list.old.order.0 list.old.order.1 list.old.lattice.rest) }
@@ -91,7 +92,7 @@ fn put_listing<K: Sink>(list: &mut Listing, sink: &mut K) -> bool
     put_lines(well, &list.order, &mut list.lattice, sink)
 }
 
-/// Puts a line for each tableau that is still to come, as long as all goes well.
+/// If `well`, writes a line for each tableau not listed yet, until the sink fails.
 fn put_lines<K: Sink>(well: bool, order: &ReadingOrder, lattice: &mut Lattice, sink: &mut K) -> bool
     ensures { Puts well (K.seen sink.old) result (K.seen sink.new)
         (flat_map (λ w. tableau_line (filling_of order.now.0 order.now.1 w)) lattice.old.rest) }

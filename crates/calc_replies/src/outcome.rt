@@ -1,9 +1,9 @@
-//! The outcome of the words of a command, before anything is put.
+//! The outcome of the words of a command, before anything is written.
 ghost use Rattle.std.specs.Prelude.{◌≡◌, ℕ, Some, map, string_bytes};
 ghost use Rattle.sym_model.specs.Command.{Command as PlainCommand};
 ghost use Rattle.sym_model.specs.CommandOffence.{Offence};
 ghost use Rattle.sym_model.specs.Entry.{SpellsWithoutOffence, HasFirstOffence};
-ghost use Rattle.calc_commands.specs.Commands.{IsSound};
+ghost use Rattle.calc_words.specs.Commands.{IsSound};
 ghost use Rattle.calc_language.specs.BuiltCommands.{command_entries};
 ghost use Rattle.sym_model.specs.SyntaxPlace.{IsSyntaxPlace};
 ghost use Rattle.calc_language.specs.Reading.{command_of, IsWithinItsLimits};
@@ -29,12 +29,12 @@ pub enum Outcome {
     Refused { fault: WordsFault },
     /// The answer is too large.
     Large,
-    /// What a command on tableaux answers.
+    /// The answer of a command on tableaux.
     Told { lines: TableauAnswer },
 }
 
-// Written out, so that a function that drops an outcome calls this one: its own proof then does not
-// go through all that an answer can hold.
+// `Drop` is written out, so that a function that drops an outcome calls it, and the proof of that
+// function need not unfold the type of answers.
 impl Drop for Outcome {
     fn drop(self) {
         match self {
@@ -46,18 +46,18 @@ impl Drop for Outcome {
     }
 }
 
-/// What is to be done for the words of a command.
+/// The task for the words of a command.
 #[derive(Drop)]
 pub enum Task {
     /// The lines of the input are to be run.
     Lines,
-    /// So many lines of the generator are to be run.
+    /// Lines of the generator are to be run: `lines` of them, from the seed on.
     Workload { lines: u16, seed: u32 },
-    /// The outcome of the words is to be put.
+    /// The outcome of the words is to be written.
     Put { outcome: Outcome },
 }
 
-/// The outcome that this answer is printed as a block.
+/// The outcome of an answer that is printed as a block.
 pub(crate) fn as_block(answer: Answer) -> Outcome
     ensures { result ≡ Outcome.Answered answer Form.Block }
 {
@@ -67,8 +67,8 @@ pub(crate) fn as_block(answer: Answer) -> Outcome
     }
 }
 
-/// The outcome of a command that names an expansion: its answer, which is printed in the form,
-/// or that this is too large.
+/// The outcome of a command that names an expansion: its answer, which is printed in the form, or
+/// that the answer is too large.
 pub(crate) fn answered(answer: Result<Answer, SumFault>, form: Form) -> Result<Outcome, NoMemory>
     ensures { result ≡ reply_of answer form }
 {
@@ -79,8 +79,8 @@ pub(crate) fn answered(answer: Result<Answer, SumFault>, form: Form) -> Result<O
     }
 }
 
-/// What is to be done for the words: the whole answer is there, or why there is none,
-/// or lines are to be run.
+/// The task for the words: the whole answer or the refusal to be written, or lines to be run. Fails
+/// only if memory runs out.
 pub fn task_of(alloc: Global, words: &[String]) -> Result<Task, NoMemory>
     ensures computes { IsTaskFor (map string_bytes words.now) result }
     ensures accepts { (command : PlainCommand)
@@ -96,7 +96,7 @@ pub fn task_of(alloc: Global, words: &[String]) -> Result<Task, NoMemory>
     match read_words(alloc, words) {
         Ok(command) => {
             let task = task_for(alloc, &command);
-            // By a call, so that the proof does not go through all that a command can hold.
+            // Dropped by a call, so that the proof need not unfold the type of commands.
             drop(command);
             task
         }
@@ -107,7 +107,7 @@ pub fn task_of(alloc: Global, words: &[String]) -> Result<Task, NoMemory>
     }
 }
 
-/// What is to be done for a command.
+/// The task of a command.
 fn task_for(alloc: Global, command: &Command) -> Result<Task, NoMemory>
     requires limits { IsWithinItsLimits command.now }
     requires sound { IsSound command.now }
@@ -126,7 +126,8 @@ fn task_for(alloc: Global, command: &Command) -> Result<Task, NoMemory>
     }
 }
 
-/// The outcome of a command of a line, of which Schubert polynomials are kept.
+/// The outcome of a command of a line, with a store of Schubert polynomials of earlier lines. Fails
+/// only if memory runs out.
 pub fn reply_by(alloc: Global, memo: &mut Memo, command: &Command) -> Result<Outcome, NoMemory>
     requires limits { IsWithinItsLimits command.now }
     requires sound { IsSound command.now }
@@ -139,7 +140,7 @@ pub fn reply_by(alloc: Global, memo: &mut Memo, command: &Command) -> Result<Out
     }
 }
 
-/// The outcome of a command: its answer, or that this is too large.
+/// The outcome of a command: its answer, or that it is too large. Fails only if memory runs out.
 pub fn reply_to(alloc: Global, command: &Command) -> Result<Outcome, NoMemory>
     requires limits { IsWithinItsLimits command.now }
     requires sound { IsSound command.now }

@@ -21,7 +21,7 @@ pub(crate) fn schubert(alloc: Global, perm: &Perm) -> Result<Outcome, NoMemory>
     }
 }
 
-/// The Schubert polynomial of a permutation, which may be kept already.
+/// The Schubert polynomial of a permutation, taken from the store if it is there.
 pub(crate) fn schubert_by(memo: &mut Memo, perm: &Perm) -> Result<Outcome, NoMemory>
     ensures { IsReplyTo (commands.schubert perm.now) result }
 {

@@ -11,8 +11,7 @@ use lr_product::mult_all;
 use partitions::{Factors, Partition};
 use std::alloc::Global;
 
-/// The product of Schur functions, in as many variables as there are rows where a number of rows is
-/// given.
+/// The product of Schur functions, in `rows` variables if a number of rows is given.
 pub(crate) fn mult(
     alloc: Global,
     rows: Option<u16>,
@@ -28,8 +27,7 @@ pub(crate) fn mult(
     )
 }
 
-/// A skew Schur function in Schur functions, in as many variables as there are rows where a number
-/// of rows is given.
+/// A skew Schur function in Schur functions, in `rows` variables if a number of rows is given.
 pub(crate) fn skew(
     alloc: Global,
     rows: Option<u16>,

@@ -1,4 +1,4 @@
-//! What the commands on tableaux answer, and how it is put.
+//! The answers of the commands on tableaux, and their text.
 ghost use Rattle.std.specs.Prelude.{◌≡◌, true};
 ghost use Rattle.calc_base.specs.Puts.{Puts};
 ghost use Rattle.sym_model.specs.TableauText.{tableau_line, pair_text};
@@ -12,10 +12,10 @@ use expansion_printer::{print_letters, print_tableau};
 use growth_diagrams::Grid;
 use skew_shapes::{Standard, Tableau};
 
-/// What a command on tableaux answers, which names no expansion.
+/// The answer of a command on tableaux, which names no expansion.
 #[derive(Drop)]
 pub enum TableauAnswer {
-    /// The tableaux that are listed; none where the shape is no skew shape.
+    /// The tableaux to be listed; `None` if the shape is not a skew shape.
     Listed { list: Option<Listing> },
     /// The insertion tableau and the recording tableau of a word.
     Paired { p: Tableau, q: Standard },
@@ -27,14 +27,14 @@ pub enum TableauAnswer {
     Grown { grid: Grid },
 }
 
-/// The outcome that this is put.
+/// The outcome with these lines.
 pub(crate) fn told(lines: TableauAnswer) -> Outcome
     ensures { result ≡ Outcome.Told lines }
 {
     Outcome::Told { lines }
 }
 
-/// Puts the lines.
+/// Writes the lines, and returns whether all calls of the sink succeeded.
 pub(crate) fn put_told<K: Sink>(lines: &mut TableauAnswer, sink: &mut K) -> bool
     ensures { Puts true (K.seen sink.old) result (K.seen sink.new) (lines_text lines.old) }
 {
@@ -47,7 +47,7 @@ pub(crate) fn put_told<K: Sink>(lines: &mut TableauAnswer, sink: &mut K) -> bool
     }
 }
 
-/// Puts the lines of two tableaux, with their names in front.
+/// Writes the lines of two tableaux, each with its name in front.
 fn put_pair<K: Sink>(p: &Tableau, q: &Tableau, sink: &mut K) -> bool
     ensures { Puts true (K.seen sink.old) result (K.seen sink.new)
         (pair_text p.now.rows q.now.rows) }
@@ -58,7 +58,7 @@ fn put_pair<K: Sink>(p: &Tableau, q: &Tableau, sink: &mut K) -> bool
     put_tableau(second, q, sink)
 }
 
-/// Puts the line of a tableau, where all went well so far.
+/// Writes the line of a tableau if all calls of the sink succeeded so far.
 fn put_tableau<K: Sink>(well: bool, tableau: &Tableau, sink: &mut K) -> bool
     ensures { Puts well (K.seen sink.old) result (K.seen sink.new) (tableau_line tableau.now.rows) }
 {

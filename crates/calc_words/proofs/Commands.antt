@@ -1,4 +1,4 @@
--- Words that have been read: which command they are, and the first error of two lists.
+-- Words that have been read: the command that they spell, and the first error of two lists.
 use Rattle.std.proofs.Common.{◌≡◌, ℕ, ◌+◌, ◌-◌, map, arith, Option, List, [], ◌∷◌, ◌++◌, length, sym, ap, ◌∙◌, subst, Some, None, Result, Ok, Err, inl}
 use Rattle.std.proofs.lemmas.List.{length-map}
 use Rattle.sym_model.specs.PrintedBlock.{decimal_value}
@@ -13,8 +13,8 @@ use Rattle.word_laws.specs.Words.{Words}
 pub use Rattle.word_laws.proofs.CutParts.{may_be, singles}
 use Rattle.calc_base.specs.declared.words.WordsFault.{WordsFault}
 use Rattle.calc_base.specs.declared.words.WordsFault.TheVariants.{Syntax, Literal, Range, Shape, NoMemory}
-use Rattle.calc_commands.specs.Commands.{command_of, IsSound, StandsFor}
-use Rattle.calc_commands.specs.declared.command.Command.{Command as Read}
+use Rattle.calc_words.specs.Commands.{command_of, IsSound, StandsFor}
+use Rattle.calc_words.specs.declared.command.Command.{Command as Read}
 use Rattle.calc_words.proofs.FirstOffences.{within, AllBefore, first-append, none-append}
 use Rattle.calc_words.specs.Reading.{IsRead, IsRefusal, IsJudged, IsFirst}
 
@@ -27,7 +27,8 @@ first_refused e words has (Range at) h = inl (record { has = has; first_is = sym
 first_refused e words has (Shape at) h = inl (record { has = has; first_is = sym h })
 first_refused e words has NoMemory h = tt
 
--- words of the form whose errors have been judged: by what the command stands for, by the command itself, and of a part of it
+-- The result of reading words of the form, if their errors have been judged: `said` is the plain command that the
+-- result stands for, or x is the command that is read.
 pub read_standing : (e : Entry) (words : Words) (has : Has e.form words) (said : Command) → said ≡ e.says has.written → (r : Result Read WordsFault)
     → IsJudged (StandsFor said) (first_offence (e.offends has.written)) r → IsRead (e ∷ []) words r
 read_standing e words has said is (Ok command) h = (inl (record { has = has; says_it = h.0.0 ∙ is; no_offence = h.1 }), h.0.1)
@@ -39,7 +40,7 @@ read_judged e words has x is sound (Ok command) h =
     (inl (record { has = has; says_it = ap command_of h.0 ∙ is; no_offence = h.1 }), subst IsSound (sym h.0) sound)
 read_judged e words has x is sound (Err fault) h = first_refused e words has fault h
 
--- what offends first in one list does in another
+-- if a fault is the refusal of one first error, it is that of an equal first error
 pub judged_on : (first later : Option Offence) (fault : WordsFault) → ((o : Offence) → first ≡ Some o → later ≡ Some o)
     → IsFirst first fault → IsFirst later fault
 judged_on first later (Syntax at) f h = h
@@ -48,7 +49,7 @@ judged_on first later (Range at) f h = f (at.word, at.byte, range) h
 judged_on first later (Shape at) f h = f (at.word, at.byte, shape) h
 judged_on first later NoMemory f h = h
 
--- two lists, one after the other
+-- two lists of errors, the second one later: the refusal of the first error of the first list is that of both
 pub judged_err : (xs ys : List Offence) (fault : WordsFault) → AllBefore xs ys
     → IsFirst (first_offence xs) fault → IsFirst (first_offence (xs ++ ys)) fault
 judged_err xs ys fault b h = judged_on (first_offence xs) (first_offence (xs ++ ys)) fault (λ o e. first-append xs ys o e b) h
@@ -68,14 +69,14 @@ parts_before k left right p q m n =
     let l = length-map left decimal_value in
     omega (arith, a.1, b.0, l)
 
--- the first of two partitions offends
+-- if the first of two partitions has an error, it is the first error of both
 pub first_faulty : (k : ℕ) (left right : Words) (fault : WordsFault)
     → IsFirst (first_offence (part_offences k (numbers left))) fault
     → IsFirst (first_offence (two_partitions k left right)) fault
 first_faulty k left right fault h =
     judged_err (part_offences k (numbers left)) (part_offences (k + length left + 1) (numbers right)) fault (parts_before k left right) h
 
--- two partitions of which the first has no error
+-- if the first of two partitions has no error, the first error of the second is the first of both
 pub second_faulty : (k m : ℕ) (left right : Words) (fault : WordsFault) → m ≡ k + length left + 1 → first_offence (part_offences k (numbers left)) ≡ None
     → IsFirst (first_offence (part_offences m (numbers right))) fault → IsFirst (first_offence (two_partitions k left right)) fault
 second_faulty k m left right fault e n h =
@@ -88,6 +89,6 @@ both_fine k m left right e n h =
     none-append (part_offences k (numbers left)) (part_offences (k + length left + 1) (numbers right)) n
     ∙ (ap (λ j. first_offence (part_offences j (numbers right))) (sym e) ∙ h)
 
--- the place of the second of two lists
+-- the second list begins at the same word, whether the words of the first list or their texts are counted
 pub second_place : {A : Type 0} (f : A → List ℕ) (k : ℕ) (ws : List A) → k + length ws + 1 ≡ k + length (map f ws) + 1
 second_place f k ws = ap (λ n. k + n + 1) (sym (length-map ws f))

@@ -1,4 +1,4 @@
--- Words that have been cut into the parts of a command: which command they are, and what they offend by.
+-- Words that have been cut into the parts of a command: the command that they spell, and its errors.
 use Rattle.std.proofs.Common.{◌≡◌, ℕ, true, ◌+◌, List, [], ◌∷◌, ◌++◌, append_assoc, drop, length, refl, sym, ap, ◌∙◌, subst, arith, Ok, flat_map}
 use Rattle.std.proofs.lemmas.List.{append-nil, length-map}
 use Rattle.sym_model.specs.Command.{Command}
@@ -10,8 +10,8 @@ use Rattle.sym_model.specs.WordForms.{optional, rows_words, form_words, permutat
 use Rattle.word_laws.specs.Words.{Words}
 use Rattle.word_laws.proofs.CutParts.{singles}
 use Rattle.calc_base.specs.declared.words.WordsFault.{WordsFault}
-use Rattle.calc_commands.specs.Commands.{command_of, IsSound}
-use Rattle.calc_commands.specs.declared.command.Command.{Command as Read}
+use Rattle.calc_words.specs.Commands.{command_of, IsSound}
+use Rattle.calc_words.specs.declared.command.Command.{Command as Read}
 use Rattle.calc_words.specs.Reading.{IsRead, IsRefusal, IsFirst}
 use Rattle.calc_words.specs.Parts.{form_of_part, form_of, command_form, parts_offend, IsCut, written_of, AreCut, IsFirstOf, AreFine, are_bounded}
 use Rattle.calc_words.specs.declared.word_parts.Part.{Part}
@@ -20,7 +20,7 @@ use Rattle.calc_words.proofs.CutWords.{dropped}
 use Rattle.calc_words.proofs.Commands.{first_refused, read_judged}
 use Rattle.calc_words.proofs.PartOffences.{parts_faulty, parts_fine}
 
--- what is written by the words of a command
+-- the values that the words of a command write, from those of its parts
 abbrev pub said_of : (name : List ℕ) (ps : List Part) → Written (form_of ps) → Written (command_form name ps)
 said_of name [] x = tt
 said_of name (p ∷ ps) x = (tt, x)
@@ -62,7 +62,7 @@ has_of name ps places words k = record {
       ∙ said_spelled name ps (written_of ps 0 1 places words k.parts);
 }
 
--- a part has the first error
+-- if some part has an error, the words are refused by the first one
 pub faulty : (name : List ℕ) (ps : List Part) (places : List ℕ) (words : Words) (k : AreCut name ps places words)
     (says : Written (command_form name ps) → Command) (offends : Written (command_form name ps) → List Offence) (fault : WordsFault)
     → offends (said_of name ps (written_of ps 0 1 places words k.parts)) ≡ parts_offend ps 1 (written_of ps 0 1 places words k.parts)
@@ -72,7 +72,7 @@ faulty name ps places words k says offends fault o b h =
     first_refused (record { name = name; form = command_form name ps; says = says; offends = offends }) words (has_of name ps places words k) fault
     (subst (λ os. IsFirst (first_offence os) fault) (sym o) (parts_faulty ps 1 (written_of ps 0 1 places words k.parts) fault b h))
 
--- no part has one
+-- if no part has an error, the words spell the command
 pub fine : (name : List ℕ) (ps : List Part) (places : List ℕ) (words : Words) (k : AreCut name ps places words)
     (says : Written (command_form name ps) → Command) (offends : Written (command_form name ps) → List Offence) (c d : Read)
     → offends (said_of name ps (written_of ps 0 1 places words k.parts)) ≡ parts_offend ps 1 (written_of ps 0 1 places words k.parts)
@@ -82,7 +82,7 @@ fine name ps places words k says offends c d o h e s i =
     read_judged (record { name = name; form = command_form name ps; says = says; offends = offends }) words (has_of name ps places words k) d s i (Ok c)
     (e, ap first_offence o ∙ parts_fine ps 1 (written_of ps 0 1 places words k.parts) h)
 
--- ---- errors of commands, part by part
+-- ---- the errors of each command are those of its parts
 
 counts : (a b : ℕ) → 1 + (a + b) ≡ 1 + a + b
 counts a b = omega arith
@@ -120,7 +120,7 @@ reduction_parts name rows bound x =
     append_assoc (offences_by rows_rule 1 (decimal_value rows ∷ [])) (offences_by rows_rule 2 (decimal_value bound ∷ []))
     (factor_offences 0 3 (factor_numbers x))
 
--- two permutations of which at most that number of letters may be written
+-- the errors of two permutations are those of the first and then those of the second
 two_permutations : (most : ℕ) (left right : Written permutation_words)
     → permutation_offences_within most 1 (letters left) ++ permutation_offences_within most (2 + length (letters left)) (letters right)
     ≡ permutation_offences_within most 1 (letters left)

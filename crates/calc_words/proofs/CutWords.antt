@@ -26,7 +26,7 @@ use Rattle.calc_words.specs.Reading.{IsRefusal}
 use Rattle.calc_words.specs.declared.word_parts.Part.{Part}
 use Rattle.calc_words.specs.declared.word_parts.Part.TheVariants.{Expression}
 
--- words that are kept in another form
+-- the number of words is the number of their texts
 pub counted : {A : Type 0} (f : A → List ℕ) (g : Form) (words : List A) → StopsIn g (map f words) (length (map f words)) → StopsIn g (map f words) (length words)
 counted f g words w = subst (StopsIn g (map f words)) (length-map words f) w
 
@@ -37,7 +37,7 @@ empty_map f (x ∷ xs) h = absurd (omega (arith, h))
 pub first_text : (t u : List ℕ) (ts us : Words) → t ∷ ts ≡ u ∷ us → t ≡ u
 first_text t u ts us e = cc
 
--- words of parts there are
+-- each part has words of its form
 can_be_part : (p : Part) → can_be (form_of_part p) ≡ true
 can_be_part Expression = refl
 can_be_part p = refl
@@ -47,12 +47,12 @@ can_be_parts [] = refl
 can_be_parts (p ∷ []) = can_be_part p
 can_be_parts (p ∷ q ∷ ps) = and_from (can_be (form_of_part p)) (can_be (form_of (q ∷ ps))) (can_be_part p) (can_be_parts (q ∷ ps))
 
--- after the words of a part it awaits no expression
+-- after the words of a part, its form does not wait for an expression
 settled : (p : Part) (piece rest words : Words) → IsTaken (form_of_part p) piece rest words → IsSettled (form_of_part p) piece
 settled Expression piece rest words t us a = let k = sym (ap (λ ws. ws ++ us) t.piece_is) ∙ a in cc
 settled p piece rest words t us a = none_awaited (form_of_part p) (piece ++ us) refl a
 
--- ---- part by part
+-- ---- words cut part by part
 
 part_apart : (p q : Part) (ps : List Part) → is_clear (p ∷ q ∷ ps) ≡ true → are_apart (continuing (form_of_part p)) (firsts (form_of (q ∷ ps))) ≡ true
 part_apart p q ps h = (and_parts (are_apart (continuing (form_of_part p)) (firsts (form_of (q ∷ ps)))) (is_clear (q ∷ ps)) h).0
@@ -153,7 +153,7 @@ pub cut_done : (parts : List Part) (i at : ℕ) (places : List ℕ) (words : Wor
 cut_done parts i at places words s l e =
     s.cut places (λ j k. refl) (subst (λ ps. IsCut ps i at places words) (sym (drop_of_length-le parts l)) (drop_of_length-le words e))
 
--- ---- the name, and the parts
+-- ---- words cut into the name of a command and its parts
 
 refused : (e : Entry) (name : List ℕ) (ps : List Part) (words : Words) (left byte place : ℕ) (fault : WordsFault) → e.form ≡ command_form name ps
     → IsWrongAt (command_form name ps) words left byte → place ≡ length words - left → fault ≡ Syntax (record { word = place; byte = byte })
@@ -193,7 +193,7 @@ parts_refused e name ps words rest left byte place fault f n w k h =
     by [] w = left_over_at (the name) (name ∷ []) rest words left byte taken awaited w
     by (p ∷ ps) w = wrong_at_right (the name) (form_of (p ∷ ps)) (name ∷ []) rest words left byte refl taken awaited w
 
--- ---- an expression that is not looked at
+-- ---- words whose last part is an expression, which is not read here
 
 pub some_part : (ps : List Part) → drop (length ps - 1) ps ≡ Expression ∷ [] → 0 < length ps
 some_part [] e = cc
@@ -254,7 +254,7 @@ unread name ps at places words s all five n one = record { at = at; text = t; pi
         (subst (λ us. IsWrongAt (word formula) us 1 byte) (sym last.1) (stops.0, here))))
         (omega (arith, one)) refl
 
--- as many words are left as there are at most
+-- the words left after the first wrong one are no more than all words
 pub left_within : {A : Type 0} (f : A → List ℕ) (g : Form) (words : List A) (left byte : ℕ) → IsWrongAt g (drop 1 (map f words)) left byte → left ≤ length words
 left_within f g words left byte (w, b) =
     let a = ap length w.words_are in
@@ -264,7 +264,7 @@ left_within f g words left byte (w, b) =
     let e = w.left_is in
     omega (arith, a, b, c, d, e)
 
--- the words of a part, of words that are kept in another form
+-- the words of the i-th part are a slice of the words of the command, also if those are kept in another form
 pub piece_is : {A : Type 0} (f : A → List ℕ) (words : List A) (places : List ℕ) (i k at end : ℕ) (us : Words) → IsPiece places (map f words) i k us
     → slice_index_or places i 0 ≡ at → slice_index_or places (i + 1) 0 ≡ end
     → (at ≤ end) × (end ≤ length words) × (at ≡ k) × (map f (take (end - at) (drop at words)) ≡ us)

@@ -15,7 +15,7 @@ use Rattle.calc_words.proofs.FirstOffences.{within, AllBefore, first-head, no_la
 use Rattle.calc_words.proofs.Commands.{judged_err, judged_next}
 use Rattle.calc_words.specs.ReadProducts.{ninth_offences}
 
--- the error in front of the ninth factor
+-- the only error in front of a factor is that of a ninth factor
 the_ninth : (ninth : Bool) (o p : Offence) → Among p (cond ninth (o ∷ []) []) → p ≡ o
 the_ninth true o p (inl e) = e
 the_ninth true o p (inr m) = absurd m
@@ -24,7 +24,7 @@ the_ninth false o p m = absurd m
 ninth_word : (count word : ℕ) (p : Offence) → Among p (ninth_offences count word) → p.0 ≡ word
 ninth_word count word p m = ap (λ (q : Offence). q.0) (the_ninth (count == most_factors) (word, 0, range) p m)
 
--- the errors of factors stand after the word in front of the first
+-- the errors of factors are not before the word in front of the first factor
 factor_within : (count k : ℕ) (ns : List (List ℕ)) (p : Offence) → Among p (factor_offences count k ns) → k ≤ p.0 + 1
 factor_within count k [] p m = absurd m
 factor_within count k (n ∷ ns) p m =
@@ -40,7 +40,7 @@ factor_within count k (n ∷ ns) p m =
     by (inl a) r = here (Among_from_append p (ninth_offences count (k - 1)) (part_offences k n) a)
     by (inr a) r = let w = r a in omega (arith, w)
 
--- and those of all factors from the first word on
+-- the errors of all factors are not before the first word
 pub factors_from : (k : ℕ) (n : List ℕ) (ns : List (List ℕ)) (p : Offence) → Among p (factor_offences 0 k (n ∷ ns)) → k ≤ p.0
 factors_from k n ns p m = by (Among_from_append p (part_offences k n) (factor_offences 1 (k + length n + 1) ns) m)
   where
@@ -48,7 +48,7 @@ factors_from k n ns p m = by (Among_from_append p (part_offences k n) (factor_of
     by (inl a) = (within part_rule [] k n p a).0
     by (inr a) = let w = factor_within 1 (k + length n + 1) ns p a in omega (arith, w)
 
--- the next factor, after the word
+-- the errors of the next factor, which follows the word `at`
 abbrev next_offences : ℕ → ℕ → Words → List Offence
 next_offences count at list = ninth_offences count at ++ part_offences (at + 1) (numbers list)
 
@@ -71,14 +71,14 @@ next_is count at list more =
     let e : at + 1 - 1 ≡ at = omega arith in
     ap (λ w. (ninth_offences count w ++ part_offences (at + 1) (numbers list)) ++ rest_offences count at list more) e
 
--- the ninth factor offends at the word in front of it
+-- a ninth factor has its error at the word in front of it
 pub ninth_first : (count at : ℕ) (list : Words) → (count == most_factors) ≡ true → first_offence (next_offences count at list) ≡ Some (at, 0, range)
 ninth_first count at list h =
     ap (λ b. first_offence (cond b ((at, 0, range) ∷ []) [] ++ part_offences (at + 1) (numbers list))) h
     ∙ first-head (at, 0, range) (part_offences (at + 1) (numbers list))
     (λ p m. no_later_word (at, 0, range) p (let w = within part_rule [] (at + 1) (numbers list) p m in let l = w.0 in omega (arith, l)))
 
--- the next factor offends
+-- an error of the next factor is the first error of it and the later factors
 pub next_faulty : (count at : ℕ) (list : Words) (more : List Words) (fault : WordsFault)
     → IsFirst (first_offence (next_offences count at list)) fault
     → IsFirst (first_offence (factor_offences count (at + 1) (map numbers (list ∷ more)))) fault
@@ -86,7 +86,7 @@ next_faulty count at list more fault h =
     subst (λ os. IsFirst (first_offence os) fault) (sym (next_is count at list more))
     (judged_err (next_offences count at list) (rest_offences count at list more) fault (next_before count at list more) h)
 
--- the next factor has no error
+-- if the next factor has no error, the result is that of the later factors
 pub next_fine : (factors next : List (List ℕ)) (at after : ℕ) (list : Words) (more : List Words) (r : Result (List (List ℕ)) WordsFault)
     → next ≡ factors ++ partition list ∷ [] → after ≡ at + 1 + length list → first_offence (next_offences (length factors) at list) ≡ None
     → IsJudged (λ f. f ≡ next ++ map partition more) (first_offence (factor_offences (length next) (after + 1) (map numbers more))) r
@@ -104,7 +104,7 @@ next_fine factors next at after list more r e f n h =
     (subst (λ m. IsJudged Q (first_offence (factor_offences m (after + 1) (map numbers more))) r) c
     (subst (λ (fs : List (List ℕ)). IsJudged (λ (g : List (List ℕ)). g ≡ fs) (first_offence (factor_offences (length next) (after + 1) (map numbers more))) r) whole h))))
 
--- the first two factors
+-- the errors of the factors are those of the first two and those of the others
 pub two_are : (at : ℕ) (first second : Words) (others : List Words)
     → factor_offences 0 at (numbers first ∷ numbers second ∷ map numbers others)
     ≡ two_partitions at first second ++ factor_offences 2 (at + length first + 1 + length second + 1) (map numbers others)

@@ -9,7 +9,7 @@ use Rattle.calc_words.proofs.WrittenLists.{written}
 use Rattle.word_laws.proofs.NoOffences.{none_first}
 use Rattle.calc_words.specs.ReadProducts.{ninth_offences}
 
--- the factors so far are counted, and have at most these cells and rows
+-- factors within their limits have together at most 512 cells and 64 rows for each factor
 bounded : (ps : List (List ℕ)) → EachOf IsWritten ps → (cells_of ps ≤ 512 * length ps) × (rows_of ps ≤ 64 * length ps)
 bounded [] e = (omega arith, omega arith)
 bounded (p ∷ ps) e =
@@ -32,7 +32,7 @@ pub fits_more : (ps : List (List ℕ)) (p : List ℕ) → EachOf IsWritten ps �
 fits_more ps p e w n h =
     let l = length-append ps (p ∷ []) in fits (ps ++ p ∷ []) (each_more ps p e w) (omega (arith, n, l)) h
 
--- these factors and the next one, where it has no error
+-- if the next factor has no error, the factors with it appended are within their limits
 pub next_written : (factors : List (List ℕ)) (count at : ℕ) (list : List (List ℕ)) → EachOf IsWritten factors
     → first_offence (ninth_offences count at ++ part_offences (at + 1) (numbers list)) ≡ None → EachOf IsWritten (factors ++ partition list ∷ [])
 next_written factors count at list e h =

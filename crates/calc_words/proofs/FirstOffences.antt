@@ -1,4 +1,4 @@
--- The first error of a list of numbers, and of two lists, the second of which stands after the first.
+-- The first error of a list of numbers, and of two lists, the second of which is later in the words.
 use Rattle.std.proofs.Common.{◌≡◌, ℕ, ◌+◌, ◌<◌, ◌≤◌, ◌==◌, nat_le, nat_lt, Bool, true, false, ◌&&◌, ◌||◌, cond, List, [], ◌∷◌, ◌++◌, append_assoc, map, length, refl, sym, ap, ◌∙◌, subst, arith, Option, Some, None, ◌⊎◌, inl, inr, eq-eqb}
 use Rattle.std.proofs.lemmas.Bool.{lt-ltb}
 use Rattle.sym_model.specs.Sum.{Among}
@@ -8,7 +8,7 @@ use Rattle.sym_model.specs.CommandOffence.{Offence, is_no_later, earlier_of, fir
 use Rattle.word_laws.proofs.FirstOffences.{first-among, first_none}
 use Rattle.word_laws.proofs.JudgedRows.{of_kind}
 
--- an error before which none of the others comes
+-- if no error of os is before o, the first error of o and os is o
 pub first-head : (o : Offence) (os : List Offence) → ((p : Offence) → Among p os → is_no_later o p ≡ true) → first_offence (o ∷ os) ≡ Some o
 first-head o os h = by (first_offence os) refl
   where
@@ -29,7 +29,7 @@ no_later_kind k a b h =
     ∙ ap (λ x. nat_lt k k || x) h
     ∙ or_true (nat_lt k k)
 
--- each error stands after the word
+-- each error is after the word k
 abbrev pub Behind : ℕ → List Offence → Type 0
 Behind k os = (p : Offence) → Among p os → k < p.0
 
@@ -45,7 +45,7 @@ first-kind k kind kinds rest h l =
         subst (λ q. is_no_later (k, 0, kind) q ≡ true) (sym b.2) (no_later_kind k kind b.0 (h b.0 b.1))
     by p (inr a) = no_later_word (k, 0, kind) p (l p a)
 
--- the first of three kinds by which a number may offend, or what follows
+-- the error of the number at word k: `literal` if x, otherwise `range` if y, otherwise `shape` if z; if none holds, that of the rest
 abbrev pub first_of_three : ℕ → Bool → Bool → Bool → Option Offence → Option Offence
 first_of_three k x y z rest =
     cond x (Some (k, 0, literal)) (cond y (Some (k, 0, range)) (cond z (Some (k, 0, shape)) rest))
@@ -73,7 +73,7 @@ three_kinds_left k x y z rest l =
     ap (λ kinds. first_offence (map (of_kind k) kinds ++ rest)) (append_assoc (when x literal) (when y range) (when z shape))
     ∙ three_kinds k x y z rest l
 
--- the errors of a list stand at its words
+-- the errors of a list of numbers are at its words
 pub within : (rule : Rule) (before : List ℕ) (k : ℕ) (ns : List ℕ) (p : Offence) → Among p (offences_after rule before k ns)
     → (k ≤ p.0) × (p.0 < k + length ns)
 within rule before k [] p m = absurd m
@@ -90,7 +90,7 @@ within rule before k (a ∷ ns) p m =
         (omega (arith, e), omega (arith, e))
     by (inr x) r = let w = r x in (omega arith, omega arith)
 
--- each error of the one list stands before each of the other
+-- each error of xs is at an earlier word than each error of ys
 abbrev pub AllBefore : List Offence → List Offence → Type 0
 AllBefore xs ys = (p q : Offence) → Among p xs → Among q ys → p.0 < q.0
 

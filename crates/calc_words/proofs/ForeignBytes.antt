@@ -1,4 +1,4 @@
--- Words are read as the same words with `?` in the place of bytes past ASCII.
+-- Words are read like the same words with `?` in the place of each byte outside ASCII.
 use Rattle.std.proofs.Common.{◌≡◌, ℕ, zero, suc, ◌<◌, ◌≤◌, ◌==◌, nat_lt, Bool, true, false, not, ◌&&◌, cond, List, [], ◌∷◌, ◌++◌, map, length, length-append, take, refl, sym, ap, ◌∙◌, subst, arith, ◌⊎◌, inl, inr, Result, Ok, Err}
 use Rattle.std.specs.Prelude.{slice_index_or}
 use Rattle.std.proofs.lemmas.Bool.{ltb-true, ltb-false}
@@ -11,13 +11,13 @@ use Rattle.sym_model.specs.SyntaxPlace.{IsExpressionWord, IsSyntaxByte, IsSyntax
 use Rattle.word_laws.specs.Words.{Words}
 use Rattle.calc_base.specs.declared.words.WordsFault.{WordsFault}
 use Rattle.calc_base.specs.declared.words.WordsFault.TheVariants.{Syntax, Literal, Range, Shape, NoMemory}
-use Rattle.calc_commands.specs.Commands.{command_of}
-use Rattle.calc_commands.specs.declared.command.Command.{Command as Read}
+use Rattle.calc_words.specs.Commands.{command_of}
+use Rattle.calc_words.specs.declared.command.Command.{Command as Read}
 use Rattle.calc_words.specs.LineBytes.{seen_byte, seen}
 use Rattle.calc_words.specs.Reading.{IsRead}
 use Rattle.calc_words.proofs.PlainBytes.{is_plain, are_plain, all_plain, entries_plain, not_plain, not_all_plain, expression_plain, begins_plain, spells_plain, freely_plain, first_plain}
 
--- ---- longest prefixes of lists that are the same up to a place after which no prefix has the property
+-- ---- if two lists agree up to a place and no longer prefix of either has a property, the longest prefixes with the property agree
 
 abbrev Stops : {A : Type 0} → (List A → Type 0) → List A → A → Type 0
 Stops {A} P pre x = (ys : List A) → P (pre ++ x ∷ ys) → ⊥
@@ -53,7 +53,7 @@ longest_same P pre x y xs ys k s t h =
           h.longest j (let n = length-append pre (x ∷ xs) in omega (arith, m, n)) (subst P (same_front pre (y ∷ ys) (x ∷ xs) j m) b);
     }
 
--- ---- where words first fail
+-- ---- the place where words first fail
 
 stops_words : (entries : List Entry) (before : Words) (w : List ℕ) → entries_plain entries ≡ true → (are_plain w ≡ true → ⊥) → Stops (BeginsCommand entries) before w
 stops_words entries before w p n ys h = not_all_plain before ys w n (begins_plain entries (before ++ w ∷ ys) p h)
@@ -92,7 +92,7 @@ moved_byte before u v x b c rest more k byte n m h l = by (at_most k (length bef
         subst (λ t. IsLongestPrefix BeginsExpression t byte) (sym new)
         (longest_same BeginsExpression u b c v x byte (stops_bytes u b n) (stops_bytes u c m) (subst (λ t. IsLongestPrefix BeginsExpression t byte) old l))
 
--- words with the same front first fail at the same place
+-- if two lists of words agree up to a byte that is plain in neither, they first fail at the same place
 moved_place : (entries : List Entry) → entries_plain entries ≡ true → (before : Words) (u v x : List ℕ) (b c : ℕ) (rest more : Words) (k byte : ℕ)
     → is_plain b ≡ false → is_plain c ≡ false → IsSyntaxPlace entries (before ++ (u ++ b ∷ v) ∷ rest) k byte
     → IsSyntaxPlace entries (before ++ (u ++ c ∷ x) ∷ more) k byte
@@ -111,7 +111,7 @@ moved_place entries p before u v x b c rest more k byte n m h =
         inl (moved_word entries before (u ++ b ∷ v) (u ++ c ∷ x) rest more k few e.0, moved_byte before u v x b c rest more k byte n m few e.1)
     by few (inr e) = inr ((λ w. e.0 (moved_word entries before (u ++ c ∷ x) (u ++ b ∷ v) more rest k few w)), e.1)
 
--- ---- words as they are kept
+-- ---- words that have a byte of at least 128, and words that have none
 
 record Foreign (w : List ℕ) : Type 0 where
   front : List ℕ
@@ -193,7 +193,7 @@ foreign_place entries p words f k byte h =
     (moved_place entries p f.before g.front (seen g.behind) g.behind 63 g.byte (map seen f.rest) f.rest k byte refl (not_ascii g.byte g.foreign)
     (subst (λ ws. IsSyntaxPlace entries ws k byte) (seen_words words f) h))
 
--- what is read of the words as they are kept, is read of the words
+-- a result of reading the words as they are kept is a result of reading the words themselves
 pub seen_read : (entries : List Entry) → entries_plain entries ≡ true → (words : Words) (r : Result Read WordsFault)
     → IsRead entries (map seen words) r → IsRead entries words r
 seen_read entries p words r h = by (told_words words)

@@ -1,4 +1,4 @@
--- A command among others: what its words are when it stands alone, they are among all commands, where the names tell them apart.
+-- A command in a list of commands with different names: its words are read for the list as they are read for it.
 use Rattle.std.proofs.Common.{◌≡◌, ℕ, zero, suc, ◌≤◌, List, [], ◌∷◌, ◌++◌, length, take, ap, ◌∙◌, subst, arith, Option, Some, Result, Ok, Err, inl, inr}
 use Rattle.sym_model.specs.Sum.{Among}
 use Rattle.sym_model.specs.Form.{Form, sequence, SomeOf, Has, Begins, Awaits, words_of}
@@ -12,12 +12,12 @@ use Rattle.sym_model.specs.ExpressionOffence.{literal, range, shape}
 use Rattle.word_laws.specs.Words.{Words}
 use Rattle.calc_base.specs.declared.words.WordsFault.{WordsFault}
 use Rattle.calc_base.specs.declared.words.WordsFault.TheVariants.{Syntax, Literal, Range, Shape, NoMemory}
-use Rattle.calc_commands.specs.Commands.{command_of}
-use Rattle.calc_commands.specs.declared.command.Command.{Command as Read}
+use Rattle.calc_words.specs.Commands.{command_of}
+use Rattle.calc_words.specs.declared.command.Command.{Command as Read}
 use Rattle.calc_words.specs.Joined.{Joined}
 use Rattle.calc_words.specs.Reading.{IsRead}
 
--- a form that begins with a word
+-- words of a form that begins with a text are this text and further words
 pub first_spells : (text : List ℕ) (g : Form) (words : Words) → Has (sequence (the text) g) words → (rest : Words) × (words ≡ text ∷ rest)
 first_spells text g words h = (words_of g h.written.1, h.spelled)
 
@@ -28,7 +28,8 @@ first_awaits text g words (inr h) = (h.1, h.2 ∙ ap (λ ws. ws ++ h.1) h.3.spel
 same_first : (a b : List ℕ) (xs ys words : Words) → words ≡ a ∷ xs → words ≡ b ∷ ys → b ≡ a
 same_first a b xs ys words h k = cc
 
--- what some command has is what this one has
+-- a property that some command of the list has, and that implies that the words begin with its name, holds of this
+-- command
 own : (e : Entry) (entries : List Entry) → Joined e entries → (P : Entry → Type 0) (words rest : Words) → words ≡ e.name ∷ rest
     → ((f : Entry) → Among f entries → P f → (more : Words) × (words ≡ f.name ∷ more)) → SomeOf P entries → P e
 own e entries j P words rest w n s =
@@ -104,7 +105,7 @@ longest_of_all e entries j words rest word w l zero k b = omega arith
 longest_of_all e entries j words rest word w l (suc n) k b =
     l (suc n) k (own_begins e entries j (take (suc n) words) (take n rest) (ap (take (suc n)) w) b)
 
--- words that begin with the name of a command first fail among all commands where they first fail for that one
+-- words that begin with the name of a command have the same place of first failure for the list as for that command
 pub joined_syntax : (e : Entry) (entries : List Entry) → Joined e entries → (words rest : Words) (word byte : ℕ) → words ≡ e.name ∷ rest
     → IsSyntaxPlace (e ∷ []) words word byte → IsSyntaxPlace entries words word byte
 joined_syntax e entries j words rest word byte w p = record {
@@ -117,7 +118,7 @@ joined_syntax e entries j words rest word byte w p = record {
   byte_is = joined_byte e entries j words rest word byte w p.byte_is;
 }
 
--- what is read alone is read among all
+-- a result of reading words for one command is one of reading them for the list
 pub joined_read : (e : Entry) (entries : List Entry) → Joined e entries → (words rest : Words) → words ≡ e.name ∷ rest
     → (r : Result Read WordsFault) → IsRead (e ∷ []) words r → IsRead entries words r
 joined_read e entries j words rest w (Ok command) h = (joined_freely e entries j words (command_of command) h.0, h.1)

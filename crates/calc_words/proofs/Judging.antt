@@ -16,7 +16,8 @@ use Rattle.calc_words.specs.Reading.{IsFirst}
 use Rattle.calc_words.proofs.FirstOffences.{first_of_three, three_kinds_left, within}
 use Rattle.word_laws.proofs.JudgedRows.{of_kind}
 
--- what is kept of the first numbers of a list that begins at the word `at`: these have been heard, the last one first
+-- the state after the first i numbers of a list that begins at the word `at`: `heard` has these numbers, the last one
+-- first
 pub record Judging (at : ℕ) (ns : List ℕ) (i cells : ℕ) (last : Option ℕ) (parts : List ℕ) : Type 0 where
   pub heard : List ℕ
   pub count_is : length heard ≡ i
@@ -28,14 +29,14 @@ pub record Judging (at : ℕ) (ns : List ℕ) (i cells : ℕ) (last : Option ℕ
   pub parts_are : take i parts ≡ take i ns
   pub room : length parts ≡ 64
 
--- the number at a place, where the words are those that are mapped
+-- the number at place i of the words f x is the value of the i-th word
 pub number_at : {A : Type 0} (f : A → List ℕ) (g : List ℕ → ℕ) (ws : List A) (i : ℕ) (x : A) → i < length ws → x ≡ get_or ws i x
     → get_or (map g (map f ws)) i 0 ≡ g (f x)
 number_at f g [] i x h e = absurd (omega (arith, h))
 number_at f g (w ∷ ws) zero x h e = ap (λ y. g (f y)) (sym e)
 number_at f g (w ∷ ws) (suc i) x h e = number_at f g ws i x (omega arith) e
 
--- the number next judged, by its three kinds
+-- the first error of the list is given by the three tests of the next number, or it is that of the numbers after it
 three : (at : ℕ) (ns : List ℕ) (i cells a : ℕ) (last : Option ℕ) (parts : List ℕ) (j : Judging at ns i cells last parts) → i < length ns → get_or ns i 0 ≡ a
     → first_offence (part_offences at ns)
     ≡ first_of_three (at + i) (is_wide a)
@@ -52,7 +53,7 @@ three at ns i cells a last parts j h e =
     (offences_after part_rule (a ∷ j.heard) (at + i + 1) (drop (suc i) ns))
     (λ p m. let w = within part_rule (a ∷ j.heard) (at + i + 1) (drop (suc i) ns) p m in omega arith)
 
--- the same by what is kept
+-- the first error of the list is given by the tests on the state: the number of numbers, their sum and the last of them
 pub judged : (at : ℕ) (ns : List ℕ) (i cells a : ℕ) (last : Option ℕ) (parts : List ℕ) (j : Judging at ns i cells last parts) → i < length ns → get_or ns i 0 ≡ a
     → first_offence (part_offences at ns)
     ≡ first_of_three (at + i) (is_wide a) ((i == most_parts) || nat_lt most_cells (cells + a)) (rises last a)
@@ -72,7 +73,7 @@ narrow_none a h = by (is_wide a) refl
     by true e = refl
     by false e = let k : None ≡ Some a = sym h ∙ ap (λ b. cond b None (Some a)) e in cc
 
--- a number that is too wide
+-- a number over 2^127 - 1 is the first error
 pub wide_first : (at : ℕ) (ns : List ℕ) (i cells a : ℕ) (last : Option ℕ) (parts : List ℕ) → Judging at ns i cells last parts → i < length ns → get_or ns i 0 ≡ a
     → narrow a ≡ None → (fault : WordsFault) → fault ≡ fault_of (at + i) Literal
     → IsFirst (first_offence (part_offences at ns)) fault
@@ -82,7 +83,7 @@ wide_first at ns i cells a last parts j h e w fault f =
     ∙ ap (λ b. first_of_three (at + i) b ((i == most_parts) || nat_lt most_cells (cells + a)) (rises last a)
     (first_offence (offences_after part_rule (a ∷ j.heard) (at + i + 1) (drop (suc i) ns)))) (narrow_none a w))
 
--- a number that is not, by its value
+-- if a number has a value in `narrow`, it is at most 2^127 - 1 and is its value
 pub narrow_some : (a v : ℕ) → Some v ≡ narrow a → (is_wide a ≡ false) × (v ≡ a)
 narrow_some a v h = by (is_wide a) refl
   where
@@ -90,7 +91,7 @@ narrow_some a v h = by (is_wide a) refl
     by true e = let k : Some v ≡ None = h ∙ ap (λ b. cond b None (Some a)) e in cc
     by false e = let k : Some v ≡ Some a = h ∙ ap (λ b. cond b None (Some a)) e in (e, cc)
 
--- a number that offends
+-- if a number has an error of a kind, it is refused as that kind
 pub kind_judged : (k : ℕ) (y z : Bool) (rest first : Option Offence) (kind : Kind) → first ≡ first_of_three k false y z rest
     → Some kind ≡ range_or_shape y z → IsFirst first (fault_of k kind)
 kind_judged k true z rest first kind h e = subst (λ x. IsFirst first (fault_of k x)) (sym (let g : kind ≡ Range = cc in g)) h
@@ -109,7 +110,7 @@ kind_first at ns i cells a v last parts j h e w kind k fault f =
     ∙ ap (λ b. first_of_three (at + i) b ((i == most_parts) || nat_lt most_cells (cells + a)) (rises last a) rest) n.0)
     (k ∙ ap (part_kind i cells last) n.1))
 
--- a number that does not
+-- if a number has no error, it exceeds no limit (y) and is at its place (z)
 pub none_kinds : (y z : Bool) → range_or_shape y z ≡ None → (y ≡ false) × (z ≡ false)
 none_kinds true z h = cc
 none_kinds false true h = cc
@@ -169,7 +170,7 @@ goes_on at ns i cells a v last parts j h e w k =
       room = length-set parts i v ∙ j.room;
     }
 
--- all of them
+-- when all numbers have been judged, the list has no error
 pub ends : (at : ℕ) (ns : List ℕ) (i cells : ℕ) (last : Option ℕ) (parts : List ℕ) → Judging at ns i cells last parts → length ns ≤ i
     → first_offence (part_offences at ns) ≡ None
 ends at ns i cells last parts j h = ap first_offence (j.rest_is ∙ ap (offences_after part_rule j.heard (at + i)) (drop_of_length-le ns h))
@@ -180,7 +181,7 @@ all_parts at ns i cells last parts j h k =
     let same : length ns ≡ i = omega arith in
     ap (λ n. take n parts) same ∙ j.parts_are ∙ take_all i ns h
 
--- a place among the words is one among their numbers
+-- the number of words is the number of their values
 pub counted : {A : Type 0} (f : A → List ℕ) (g : List ℕ → ℕ) (ws : List A) → length (map g (map f ws)) ≡ length ws
 counted f g [] = refl
 counted f g (w ∷ ws) = ap (λ n. suc n) (counted f g ws)

@@ -16,7 +16,8 @@ use Rattle.calc_words.proofs.FirstOffences.{first_of_three, three_kinds_left, wi
 use Rattle.word_laws.proofs.JudgedRows.{of_kind}
 use Rattle.calc_words.proofs.Judging.{narrow_none, narrow_some, kind_judged, no_kinds, none_kinds, or_both}
 
--- what is kept of the first letters of a list that begins at the word `at`: these have been heard, the last one first
+-- the state after the first i letters of a list that begins at the word `at`: `heard` has these letters, the last one
+-- first
 pub record Hearing (most at : ℕ) (ns : List ℕ) (i : ℕ) (letters : List ℕ) : Type 0 where
   pub heard : List ℕ
   pub count_is : length heard ≡ i
@@ -27,7 +28,7 @@ pub record Hearing (most at : ℕ) (ns : List ℕ) (i : ℕ) (letters : List ℕ
   pub length_is : length (take i letters) ≡ i
   pub room : length letters ≡ 16
 
--- the letter next judged, by its three kinds
+-- the first error of the list is given by the three tests of the next letter, or it is that of the letters after it
 judged : (most at : ℕ) (ns : List ℕ) (i a : ℕ) (letters : List ℕ) (j : Hearing most at ns i letters) → i < length ns → get_or ns i 0 ≡ a
     → first_offence (permutation_offences_within most at ns)
     ≡ first_of_three (at + i) (is_wide a) (nat_lt most a || (length (take i letters) == most))
@@ -44,7 +45,7 @@ judged most at ns i a letters j h e =
     ∙ ap (λ b. first_of_three (at + i) (is_wide a) (nat_lt most a || (length (take i letters) == most)) (is_outside (length ns) a || b) (first_offence more))
     (j.heard_are a)
 
--- a letter that is too wide
+-- a letter over 2^127 - 1 is the first error
 pub wide_letter : (most at : ℕ) (ns : List ℕ) (i a : ℕ) (letters : List ℕ) → Hearing most at ns i letters → i < length ns → get_or ns i 0 ≡ a
     → narrow a ≡ None → (fault : WordsFault) → fault ≡ fault_of (at + i) Literal
     → IsFirst (first_offence (permutation_offences_within most at ns)) fault
@@ -54,7 +55,7 @@ wide_letter most at ns i a letters j h e w fault f =
     ∙ ap (λ b. first_of_three (at + i) b (nat_lt most a || (length (take i letters) == most)) (is_outside (length ns) a || stands_in a (take i letters))
     (first_offence (offences_after (permutation_rule_within most (length ns)) (a ∷ j.heard) (at + i + 1) (drop (suc i) ns)))) (narrow_none a w))
 
--- a letter that offends otherwise
+-- a letter with an error of another kind is the first error
 pub letter_first : (most at : ℕ) (ns : List ℕ) (i a v : ℕ) (letters : List ℕ) → Hearing most at ns i letters → i < length ns → get_or ns i 0 ≡ a
     → Some v ≡ narrow a → (kind : Kind) → Some kind ≡ letter_kind most (length ns) (take i letters) v → (fault : WordsFault) → fault ≡ fault_of (at + i) kind
     → IsFirst (first_offence (permutation_offences_within most at ns)) fault
@@ -78,7 +79,7 @@ stands_last a v (x ∷ xs) = ap (λ b. (a == x) || b) (stands_last a v xs) ∙ t
     turned false true r = refl
     turned false false r = refl
 
--- a letter that does not
+-- after a letter without an error the state has one letter more
 pub letter_goes_on : (most at : ℕ) (ns : List ℕ) (i a v : ℕ) (letters : List ℕ) → most ≤ 16 → Hearing most at ns i letters → i < length ns → get_or ns i 0 ≡ a
     → Some v ≡ narrow a → letter_kind most (length ns) (take i letters) v ≡ None → Hearing most at ns (i + 1) (set letters i v)
 letter_goes_on most at ns i a v letters low j h e w k =
@@ -111,7 +112,7 @@ letter_goes_on most at ns i a v letters low j h e w k =
       room = length-set letters i v ∙ j.room;
     }
 
--- all of them
+-- when all letters have been judged, the list has no error
 pub letters_end : (most at : ℕ) (ns : List ℕ) (i : ℕ) (letters : List ℕ) → Hearing most at ns i letters → length ns ≤ i
     → first_offence (permutation_offences_within most at ns) ≡ None
 letters_end most at ns i letters j h =

@@ -8,12 +8,12 @@ use Rattle.sym_model.specs.NumberText.{split_at, before_first}
 use Rattle.word_laws.specs.Words.{Words}
 use Rattle.calc_words.specs.LineBytes.{seen_byte, seen, word_with_bytes, is_space}
 
--- the words of what is left of a line, where these bytes of a word have been read
+-- the words of the rest of a line, given the bytes `word` read of the current word
 abbrev pub words_from : List ℕ → List ℕ → Words
 words_from word [] = word_with_bytes word
 words_from word (byte ∷ line) = cond (is_space byte) (word_with_bytes word ++ words_from [] line) (words_from (word ++ byte ∷ []) line)
 
--- ---- the words as they are defined
+-- ---- the words read byte by byte are the words of the definition
 
 abbrev continued : List ℕ → Words → Words
 continued word [] = word ∷ []
@@ -31,14 +31,14 @@ split_some s (b ∷ line) = by (b == s) refl (split_some s line)
     by false e r =
         (b ∷ r.0, r.1, ap (λ x. cond x ([] ∷ split_at s line) (before_first b (split_at s line))) e ∙ ap (before_first b) r.2)
 
--- the first piece of a line
+-- the list of the pieces of a line has a first piece
 some_pieces : (line : List ℕ) → (p : List ℕ) × (ps : Words) × (pieces_of line ≡ p ∷ ps)
 some_pieces line =
     let r = split_some 32 line in
     let q = split_some 9 r.0 in
     (q.0, q.1 ++ flat_map (split_at 9) r.1, ap (flat_map (split_at 9)) r.2 ∙ ap (λ ps. ps ++ flat_map (split_at 9) r.1) q.2)
 
--- what a byte in front does to the pieces
+-- a space or tab in front of a line adds an empty piece
 space_pieces : (b : ℕ) (line : List ℕ) → is_space b ≡ true → pieces_of (b ∷ line) ≡ [] ∷ pieces_of line
 space_pieces b line h = by (b == 32) (b == 9) refl refl h
   where
@@ -118,7 +118,7 @@ words_read line =
     let s = some_pieces line in
     ap (filter is_some_text) (continued_nothing (pieces_of line) s.0 s.1 s.2) ∙ words_continued [] line
 
--- ---- the bytes that are kept
+-- ---- the bytes that are kept of the words
 
 some_seen : (w : List ℕ) → is_some_text (seen w) ≡ is_some_text w
 some_seen w = ap (λ n. nat_lt 0 n) (length-map w seen_byte)
@@ -154,11 +154,11 @@ words_seen w (b ∷ line) = ap (λ t. cond t (word_with_bytes (seen w) ++ words_
         ∙ sym (map-append seen (word_with_bytes w) (words_from [] line))
     by false r q = ap (λ v. words_from v (seen line)) (sym (map-append seen_byte w (b ∷ []))) ∙ q
 
--- the words of a line as they are kept
+-- the words of `seen line` are the words of the line, each with its bytes as they are kept
 pub kept_words : (line : List ℕ) → words_from [] (seen line) ≡ map seen (words_of_line line)
 kept_words line = words_seen [] line ∙ ap (map seen) (sym (words_read line))
 
--- ---- one byte after another
+-- ---- reading a line one byte after another
 
 get_seen : (line : List ℕ) (i : ℕ) → i < length line → get_or (seen line) i 0 ≡ seen_byte (get_or line i 0)
 get_seen [] i h = absurd (omega (arith, h))
@@ -171,7 +171,7 @@ byte_at line i h =
     ∙ ap (λ b. b ∷ drop (suc i) (seen line)) (get_seen line i h)
     ∙ ap (λ j. seen_byte (get_or line i 0) ∷ drop j (seen line)) (let e : suc i ≡ i + 1 = omega arith in e)
 
--- the words so far, and what is left
+-- `words` are the words that end before place i of the line, and `word` is the part before it of the word that goes on there
 abbrev pub AreWordsSo : List ℕ → ℕ → Words → List ℕ → Type 0
 AreWordsSo line i words word = words_from [] (seen line) ≡ words ++ words_from word (drop i (seen line))
 
@@ -204,7 +204,7 @@ all_read line i words more word h m a =
     ∙ sym a
     ∙ kept_words line
 
--- ---- a carriage return at the end
+-- ---- a carriage return at the end of a line is dropped
 
 pub return_dropped : (front : List ℕ) (last : ℕ) → (last == 13) ≡ true → without_return (front ++ last ∷ []) ≡ front
 return_dropped [] last h = ap (λ t. cond t [] (last ∷ [])) h

@@ -10,18 +10,18 @@ use Rattle.expression_laws.proofs.PhraseRuns.{one_phrase}
 use Rattle.calc_base.specs.declared.words.Place.{Place}
 use Rattle.calc_base.specs.declared.words.WordsFault.{WordsFault}
 use Rattle.calc_base.specs.declared.words.WordsFault.TheVariants.{Syntax, Literal, Range, Shape, NoMemory}
-use Rattle.calc_commands.specs.Commands.{command_of}
-use Rattle.calc_commands.specs.declared.command.Command.{Command as Read}
+use Rattle.calc_words.specs.Commands.{command_of}
+use Rattle.calc_words.specs.declared.command.Command.{Command as Read}
 use Rattle.calc_words.specs.Reading.{IsRead, Accepts, Refuses, GoesWrong}
 use Rattle.word_laws.specs.OneReading.{are_unambiguous}
 use Rattle.word_laws.specs.Reading.{forms_of}
 use Rattle.word_laws.proofs.EntryLists.{one_command, one_offence, one_place}
 
--- words of the commands are read in one way
+-- no words are of the forms of two of the commands, or of one form in two ways
 abbrev pub Clear : List Entry → Type 0
 Clear entries = are_unambiguous (forms_of entries) ≡ true
 
--- what is without error is a command, and what offends is one too
+-- words without an error spell a command, and so do words with a first error
 freely_spells : (entries : List Entry) (words : Words) (c : Command) → SpellsWithoutOffence entries words c → SpellsCommand entries words c
 freely_spells [] words c h = h
 freely_spells (e ∷ entries) words c (inl x) = inl (record { has = x.has; says_it = x.says_it })
@@ -43,7 +43,7 @@ none_some entries u words o h k = let e = one_offence one_phrase entries u words
 same_first : (entries : List Entry) → Clear entries → (words : Words) (o p : Offence) → HasFirstOffence entries words (Some o) → HasFirstOffence entries words (Some p) → o ≡ p
 same_first entries u words o p h k = let e = one_offence one_phrase entries u words (Some o) (Some p) h k in cc
 
--- what is accepted
+-- words without an error are accepted
 pub accepts : (entries : List Entry) → Clear entries → (words : Words) (r : Result Read WordsFault)
     → IsRead entries words r → (c : Command) → SpellsWithoutOffence entries words c → Accepts c r
 accepts entries u words (Ok k) h c s =
@@ -54,7 +54,7 @@ accepts entries u words (Err (Range at)) h c s = none_some entries u words _ (fr
 accepts entries u words (Err (Shape at)) h c s = none_some entries u words _ (freely_none entries words c s) h
 accepts entries u words (Err NoMemory) h c s = refl
 
--- what offends
+-- words with a first error are refused with it
 pub refuses : (entries : List Entry) → Clear entries → (words : Words) (r : Result Read WordsFault)
     → IsRead entries words r → (o : Offence) → HasFirstOffence entries words (Some o) → Refuses o r
 refuses entries u words (Ok k) h o s = none_some entries u words o (freely_none entries words (command_of k) h.0) s
@@ -68,7 +68,7 @@ same_syntax : (at : Place) (w b : ℕ) → at.word ≡ w → at.byte ≡ b → S
 same_syntax at w b h k =
     ap (λ n. Syntax (record { word = n; byte = at.byte })) h ∙ ap (λ n. Syntax (record { word = w; byte = n })) k
 
--- where words first fail
+-- words that are no command are refused at the place of their first failure
 pub goes_wrong : (entries : List Entry) → Clear entries → (words : Words) (r : Result Read WordsFault)
     → IsRead entries words r → (w b : ℕ) → IsSyntaxPlace entries words w b → GoesWrong w b r
 goes_wrong entries u words (Ok k) h w b s = s.no_command (command_of k) (freely_spells entries words (command_of k) h.0)

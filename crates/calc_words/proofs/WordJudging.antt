@@ -25,7 +25,8 @@ two_kinds k true y rest l = first-kind k literal (when y range) rest (λ q m. lo
 two_kinds k false true rest l = first-kind k range [] rest (λ q m. absurd m) l
 two_kinds k false false rest l = refl
 
--- what is kept of the first letters of a list that begins at the word `at`: these have been heard, the last one first
+-- the state after the first i letters of a list that begins at the word `at`: `heard` has these letters, the last one
+-- first
 pub record Spelling (at : ℕ) (ns : List ℕ) (i : ℕ) (letters : List ℕ) : Type 0 where
   pub heard : List ℕ
   pub count_is : length heard ≡ i
@@ -97,7 +98,7 @@ word_goes_on at ns i a v letters j h e w o =
       room = length-set letters i v ∙ j.room;
     }
 
--- ---- the limits of letters without an error
+-- ---- letters without an error are within the limits
 
 record Fit (before ns : List ℕ) : Type 0 where
   letters : (b : ℕ) → Among b ns → (1 ≤ b) × (b ≤ greatest_letter)

@@ -27,7 +27,7 @@ use Rattle.calc_words.proofs.WrittenExpressions.{no_signs}
 use Rattle.calc_words.proofs.WrittenLists.{written, two_written, row_number, lines_number, seed_number}
 use Rattle.word_laws.proofs.NoOffences.{none_append, none_first, none_judged, not_past, none_in_word, within_limit, within_degree}
 
--- what the words of the entry say where they have no error
+-- if the words of the entry have no error, their command is within the limits
 abbrev pub Keeps : Entry → Type 0
 Keeps e = (x : Written e.form) → first_offence (e.offends x) ≡ None → KeepsLimits (e.says x)
 
@@ -38,12 +38,12 @@ limit_kept : (k : ℕ) (x : Written (optional rows_words)) → first_offence (ro
 limit_kept k (inl x) h = tt
 limit_kept k (inr x) h = row_number (k + 1) (decimal_value x.1) h
 
--- the error in front of the ninth factor
+-- if there is no error in front of a factor, it is not the ninth
 pub not_ninth : (ninth : Bool) (o : Offence) → cond ninth (o ∷ []) [] ≡ [] → ninth ≡ false
 not_ninth true o h = cc
 not_ninth false o h = refl
 
--- factors after others, which are counted
+-- further factors without an error are within the limits, and at most eight with those before
 factors_keep : (count k : ℕ) (ns : List (List ℕ)) → count ≤ 8 → factor_offences count k ns ≡ []
     → (count + length ns ≤ 8) × EachOf IsWritten (map without_last_zeros ns)
 factors_keep count k [] c h = (omega arith, tt)
@@ -99,7 +99,7 @@ quantum_keeps (name, (rows, (columns, x))) h = reduction_keeps rows columns x h
 fusion_keeps : Keeps fusion_entry
 fusion_keeps (name, (rows, (level, x))) h = reduction_keeps rows level x h
 
--- the tableau after which a list goes on
+-- the tableau after which a list continues is in the list
 last_kept : (k : ℕ) (outer inner : List ℕ) (after : Written (optional from_words)) → first_offence (not_listed k outer inner after) ≡ None
     → IsInList outer inner (last_reading outer inner after)
 last_kept k outer inner (inl x) h = tt
@@ -127,7 +127,7 @@ expand_keeps bases (name, (form, (basis, phrase))) h =
     let k = 2 + length (words_of (optional form_words) form) in
     within_degree k (degree_limit basis) phrase h
 
--- expressions of which neither offends by its degree, nor the two together
+-- the expressions of a plethysm without an error are within the limits of degree, and so is their product
 plethysm_keeps : (bases : List Basis) → Keeps (plethysm_entry bases)
 plethysm_keeps bases (name, (basis, (outer, inner))) h =
     let first = offences_in_word 2 (offences_within plethysm_degree_limit outer) in
@@ -180,7 +180,7 @@ work_keeps (name, (lines, seed)) h =
     let l = lines_number 1 (decimal_value lines) p.0 in
     (l.0, l.1, seed_number 2 (decimal_value seed) p.1)
 
--- what each entry of a list keeps, words that are spelled by one of them keep
+-- if each entry of a list keeps the limits, so do the commands that words without an error spell
 pub some_keeps : (entries : List Entry) → EachOf Keeps entries → (words : Words) (c : Command) → SpellsWithoutOffence entries words c → KeepsLimits c
 some_keeps [] k words c h = absurd h
 some_keeps (e ∷ entries) k words c (inl h) = kept e k.0 words c h

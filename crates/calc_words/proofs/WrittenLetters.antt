@@ -1,4 +1,4 @@
--- What letters without an error are: those of a permutation of at most that number of letters.
+-- Letters without an error are those of a permutation of at most `most` letters.
 use Rattle.std.proofs.Common.{◌≡◌, ℕ, ◌+◌, ◌<◌, ◌≤◌, ◌==◌, nat_lt, false, ◌||◌, List, [], ◌∷◌, ◌++◌, length, refl, ap, ◌∙◌, arith, None, inl, inr, eq-eqb}
 use Rattle.std.proofs.lemmas.Bool.{eqb-false}
 use Rattle.sym_model.specs.Sum.{Among, Once}
@@ -14,7 +14,7 @@ use Rattle.calc_words.proofs.WrittenLists.{inside}
 use Rattle.word_laws.proofs.NoOffences.{none_append, none_next, not_when}
 use Rattle.schubert_laws.proofs.Members.{fewer_kept}
 
--- letters that stand after others, none of which they are
+-- letters from 1 to `count` that differ from each other and from those before
 record AreLetters (most count : ℕ) (before ns : List ℕ) : Type 0 where
   letters : (b : ℕ) → Among b ns → (1 ≤ b) × (b ≤ count)
   new : (b : ℕ) → Among b ns → stands_in b before ≡ false
@@ -53,7 +53,7 @@ letters_fine most count before k (a ∷ ns) f h =
     itself : stands_in a (a ∷ before) ≡ false → ⊥
     itself e = let x = (or_both (a == a) (stands_in a before) e).0 in let y = eq-eqb a a refl in cc
 
--- letters of a permutation without an error, of which at most that number of may be written
+-- written letters without an error are those of a permutation of at most `most` letters
 pub short_within : (most k : ℕ) (ns : List ℕ) → most ≤ 16 → 0 < length ns → first_offence (permutation_offences_within most k ns) ≡ None
     → IsShortPermutation ns × (length ns ≤ most)
 short_within most k ns m s h =
@@ -61,7 +61,7 @@ short_within most k ns m s h =
     let few = f.few in
     (record { one_line = record { letters = f.letters; once = f.once }; some = s; few = omega (arith, m, few) }, omega (arith, few))
 
--- the permutation that is kept of them
+-- the permutation that is kept of letters without an error is within the limits
 pub letters_within : (most k : ℕ) (ns : List ℕ) → most ≤ 16 → 0 < length ns → first_offence (permutation_offences_within most k ns) ≡ None
     → IsPermutationWithin most (kept ns)
 letters_within most k ns m s h = let l = short_within most k ns m s h in

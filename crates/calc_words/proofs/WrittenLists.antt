@@ -1,4 +1,4 @@
--- What lists of numbers without an error are: partitions and numbers within their limits.
+-- Lists of numbers without an error are partitions, and numbers, within their limits.
 use Rattle.std.proofs.Common.{◌≡◌, ℕ, ◌+◌, ◌≤◌, ◌==◌, nat_le, nat_lt, false, ◌&&◌, ◌||◌, List, [], ◌∷◌, ◌++◌, length, sym, ap, ◌∙◌, arith, None}
 use Rattle.std.proofs.lemmas.Bool.{le-leb, ltb-false, eqb-false}
 use Rattle.sym_model.specs.Partition.{size, without_last_zeros, FallsFrom}
@@ -16,7 +16,7 @@ use Rattle.word_laws.proofs.NoOffences.{none_append, none_first, none_next, not_
 use Rattle.calc_words.specs.WrittenLimits.{IsWritten, IsRowNumber}
 use Rattle.expression_reading.proofs.BuildRuns.{falls-next, falls-none}
 
--- ---- partitions
+-- ---- the numbers of a partition without an error
 
 record Fits (before ns : List ℕ) : Type 0 where
   falls : FallsFrom (left_of before) ns
@@ -45,7 +45,7 @@ fits before k (a ∷ ns) f s h =
       small = let x = r.small in omega (arith, x);
     }
 
--- numbers of a partition without an error
+-- numbers without an error are those of a partition within the limits
 pub written : (k : ℕ) (ns : List ℕ) → first_offence (part_offences k ns) ≡ None → IsWritten (without_last_zeros ns)
 written k ns h =
     let f = fits [] k ns (omega arith) (omega arith) (first_none (part_offences k ns) h) in
@@ -65,7 +65,7 @@ two_written k left right h =
     let p = none_first (part_offences k (numbers left)) (part_offences (k + length left + 1) (numbers right)) h in
     (written k (numbers left) p.0, written (k + length left + 1) (numbers right) p.1)
 
--- ---- numbers of rows, of lines, and seeds
+-- ---- numbers of rows and of lines, and seeds, without an error
 
 not_zero : (a : ℕ) → (a == 0) ≡ false → 1 ≤ a
 not_zero a h = let x = eqb-false a 0 h in omega (arith, x)

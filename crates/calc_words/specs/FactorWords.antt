@@ -3,11 +3,11 @@ use Rattle.std.specs.Prelude.{◌≡◌, ℕ, Bool, true, false, List, [], ◌�
 use Rattle.sym_model.specs.Form.{is_digit}
 use Rattle.calc_words.specs.NumberRuns.{IsNumber}
 
--- a number, or the word between two factors
+-- the word is a number, or the `-` between two factors
 abbrev pub IsPieceWord : List ℕ → Type 0
 IsPieceWord text = IsNumber text ⊎ (text ≡ codes "-")
 
--- further factors, each after a `-`
+-- the words of further factors, each after a `-`
 abbrev pub next_text : List (List (List ℕ)) → List (List ℕ)
 next_text [] = []
 next_text (list ∷ lists) = codes "-" ∷ (list ++ next_text lists)

@@ -1,4 +1,4 @@
--- A command among others, whose names tell them apart.
+-- A command in a list of commands that have different names.
 use Rattle.std.specs.Prelude.{◌≡◌, ℕ, List, ◌∷◌}
 use Rattle.sym_model.specs.Sum.{Among}
 use Rattle.sym_model.specs.Form.{Has, Awaits}
@@ -11,7 +11,7 @@ pub record Named (e : Entry) : Type 0 where
   pub awaits : (words : List (List ℕ)) → Awaits e.form words
       → (rest : List (List ℕ)) × (words ≡ e.name ∷ rest)
 
--- the command is one of these, and no other of them has its name
+-- the command is in the list, and no other command of the list has its name
 pub record Joined (e : Entry) (entries : List Entry) : Type 0 where
   pub among : Among e entries
   pub alone : (f : Entry) → Among f entries → f.name ≡ e.name → f ≡ e

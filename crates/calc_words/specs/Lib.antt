@@ -1,3 +1,5 @@
+pub mod Commands
+pub mod Pairs
 pub mod NumberRuns
 pub mod Reading
 pub mod Faults

@@ -1,21 +1,21 @@
--- The bytes of a line as they are kept in its words: those past ASCII, which stand in no word of a
--- command, as `?`, which does not either.
+-- The bytes of a line as they are kept in its words: a byte outside ASCII, which no word of a command has, is kept as
+-- `?`, which no word of a command has either.
 use Rattle.std.specs.Prelude.{ℕ, ◌==◌, nat_lt, Bool, true, false, ◌||◌, cond, List, [], ◌∷◌, map}
 use Rattle.sym_model.specs.BatchLine.{is_some_text}
 
--- the byte that is kept
+-- the byte that is kept for `byte`: `?` for one outside ASCII
 abbrev pub seen_byte : ℕ → ℕ
 seen_byte byte = cond (nat_lt byte 128) byte 63
 
--- the bytes that are kept
+-- the bytes that are kept for those of a text
 abbrev pub seen : List ℕ → List ℕ
 seen text = map seen_byte text
 
--- a word that has a byte, and no word otherwise
+-- the list of this word, or the empty list if the word has no byte
 abbrev pub word_with_bytes : List ℕ → List (List ℕ)
 word_with_bytes word = cond (is_some_text word) (word ∷ []) []
 
--- whether the byte stands between words: a space or a tab
+-- whether the byte separates words: a space or a tab
 abbrev pub is_space : ℕ → Bool
 is_space byte = (byte == 32) || (byte == 9)
 

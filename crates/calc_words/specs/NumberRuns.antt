@@ -3,6 +3,6 @@ use Rattle.std.specs.Prelude.{ℕ, cond, Option, Some, None}
 use Rattle.sym_model.specs.ExpressionOffence.{is_wide}
 pub use Rattle.word_laws.specs.FirstWords.{IsNumber, BeginsOtherwise}
 
--- the number, where it is no more than 2^127 - 1
+-- the number, if it is at most 2^127 - 1
 abbrev pub narrow : ℕ → Option ℕ
 narrow n = cond (is_wide n) None (Some n)

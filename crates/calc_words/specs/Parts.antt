@@ -1,5 +1,4 @@
--- The parts of the words of a command: their forms, what they offend by, and words that are cut
--- into them.
+-- The parts of the words of a command: their forms, their errors, and words that are cut into them.
 use Rattle.std.specs.Prelude.{◌≡◌, ◌⊎◌, ℕ, ◌≤◌, ◌<◌, ◌+◌, ◌-◌, Bool, true, false, ◌&&◌, List, []}
 use Rattle.std.specs.Prelude.{◌∷◌, ◌++◌, drop, length, codes, slice_index_or, None}
 use Rattle.sym_model.specs.PrintedBlock.{decimal_value}
@@ -59,13 +58,13 @@ abbrev pub command_form : List ℕ → List Part → Form
 command_form name [] = the name
 command_form name (p ∷ ps) = sequence (the name) (form_of (p ∷ ps))
 
--- whether each word after the words of a part tells that they end
+-- whether the first word after each part shows that the part has ended
 abbrev pub is_clear : List Part → Bool
 is_clear [] = true
 is_clear (p ∷ ps) = are_apart (continuing (form_of_part p)) (firsts (form_of ps)) && is_clear ps
 
--- what a part offends by that begins at the word; tableaux and expressions are judged together with
--- other parts, and have no error here
+-- the errors of a part that begins at word k; tableaux and expressions are judged together with other parts, and have
+-- no error here
 abbrev pub part_offends : (p : Part) → ℕ → Written (form_of_part p) → List Offence
 part_offends Rows k x = offences_by rows_rule (k + 1) (decimal_value x.1 ∷ [])
 part_offends MaybeRows k x = row_limit_offences k x
@@ -79,23 +78,22 @@ part_offends Doubled k x = permutation_offences_within most_doubled k (letters x
 part_offends Factors k x = factor_offences 0 k (factor_numbers x)
 part_offends p k x = []
 
--- what parts offend by, the first of which begins at the word
+-- the errors of parts, the first of which begins at word k
 abbrev pub parts_offend : (ps : List Part) → ℕ → Written (form_of ps) → List Offence
 parts_offend [] k x = []
 parts_offend (p ∷ []) k x = part_offends p k x
 parts_offend (p ∷ q ∷ ps) k x =
     part_offends p k x.0 ++ parts_offend (q ∷ ps) (k + length (words_of (form_of_part p) x.0)) x.1
 
--- the i-th part begins at the word and has these words; the places are those of the first words,
--- and of what stands after the last
+-- the i-th part begins at word k and has these words; the places are those of the first words of the parts, and of the
+-- word after the last
 abbrev pub IsPiece : List ℕ → List (List ℕ) → ℕ → ℕ → List (List ℕ) → Type 0
 IsPiece places words i k piece =
     (slice_index_or places i 0 ≡ k) × (slice_index_or places (i + 1) 0 ≡ k + length piece)
     × (k ≤ length words)
     × (rest : List (List ℕ)) × (drop k words ≡ piece ++ rest)
 
--- from this word on the words are of the parts,
--- and the places from the i-th on are those of the parts
+-- the words from word k on are words of the parts, and the places from the i-th on are those of the parts
 abbrev pub IsCut : List Part → ℕ → ℕ → List ℕ → List (List ℕ) → Type 0
 IsCut [] i k places words = drop k words ≡ []
 IsCut (p ∷ ps) i k places words =
@@ -103,7 +101,7 @@ IsCut (p ∷ ps) i k places words =
     × IsPiece places words i k (words_of (form_of_part p) x)
     × IsCut ps (i + 1) (k + length (words_of (form_of_part p) x)) places words
 
--- what is written by the words of the parts
+-- the values that the words of the parts write
 abbrev pub written_of : (ps : List Part) (i k : ℕ) (places : List ℕ) (words : List (List ℕ))
     → IsCut ps i k places words → Written (form_of ps)
 written_of [] i k places words h = tt
@@ -117,8 +115,7 @@ pub record AreCut (name : List ℕ) (ps : List Part) (places : List ℕ)
   pub named : words ≡ name ∷ drop 1 words
   pub parts : IsCut ps 0 1 places words
 
--- whether the errors of a part are known to stand at its own words,
--- and those of all but the last part
+-- whether a part has no errors outside its own words; `are_bounded` asks this for all parts but the last
 abbrev pub is_bounded : Part → Bool
 is_bounded Factors = false
 is_bounded p = true
@@ -128,7 +125,7 @@ are_bounded [] = true
 are_bounded (p ∷ []) = true
 are_bounded (p ∷ q ∷ ps) = is_bounded p && are_bounded (q ∷ ps)
 
--- the parts before one of them have no error, and the fault is the first one of that
+-- the fault is the first error of a part, and the parts before it have no error
 abbrev pub IsFirstOf : (ps : List Part) → ℕ → Written (form_of ps) → WordsFault → Type 0
 IsFirstOf [] k x fault = ⊥
 IsFirstOf (p ∷ []) k x fault = IsFirst (first_offence (part_offends p k x)) fault
@@ -145,8 +142,9 @@ AreFine (p ∷ q ∷ ps) k x =
     (first_offence (part_offends p k x.0) ≡ None)
     × AreFine (q ∷ ps) (k + length (words_of (form_of_part p) x.0)) x.1
 
--- parts have been read up to the i-th, which begins at the word, and their places are put: what is
--- wrong from there on is wrong in all, and where the rest is cut, all is cut
+-- The parts before the i-th have been read, and their places are stored; the i-th begins at word `at`. A first failure
+-- of the words from there on is the first failure of all words, and a cut of these words into the other parts gives a
+-- cut of all words.
 pub record IsCutTo (parts : List Part) (i at : ℕ) (places : List ℕ)
     (words : List (List ℕ)) : Type 0 where
   pub within : at ≤ length words
@@ -159,8 +157,8 @@ pub record IsCutTo (parts : List Part) (i at : ℕ) (places : List ℕ)
       → IsCut (drop i parts) i at q words
       → IsCut parts 0 1 q words
 
--- the words are the name of a command and its parts, if the last one spells an expression, and
--- otherwise are wrong in that
+-- if the last part spells an expression, the words are the name of a command and its parts; otherwise they first fail
+-- in the last part
 pub record IsUnread (name : List ℕ) (ps : List Part) (places : List ℕ)
     (words : List (List ℕ)) : Type 0 where
   pub at : ℕ

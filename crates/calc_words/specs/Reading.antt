@@ -1,4 +1,4 @@
--- What the words of a command are read as, for any list of commands.
+-- The reading of the words of a command, for any list of commands.
 use Rattle.std.specs.Prelude.{◌≡◌, ℕ, List, Option, Some, None, Result, Ok, Err, ◌⊎◌}
 use Rattle.sym_model.specs.ExpressionOffence.{literal, range, shape}
 use Rattle.sym_model.specs.Command.{Command as PlainCommand}
@@ -8,10 +8,10 @@ use Rattle.sym_model.specs.SyntaxPlace.{IsSyntaxPlace}
 use Rattle.calc_base.specs.declared.words.WordsFault.{WordsFault}
 use Rattle.calc_base.specs.declared.words.WordsFault.TheVariants.{Syntax, Literal, Range, Shape}
 use Rattle.calc_base.specs.declared.words.WordsFault.TheVariants.{NoMemory}
-use Rattle.calc_commands.specs.Commands.{command_of, IsSound}
-use Rattle.calc_commands.specs.declared.command.Command.{Command}
+use Rattle.calc_words.specs.Commands.{command_of, IsSound}
+use Rattle.calc_words.specs.declared.command.Command.{Command}
 
--- the words first fail or first offend at this place; running out of memory says nothing of them
+-- the words first fail at this place, or have their first error there; out of memory says nothing about them
 abbrev pub IsRefusal : List Entry → List (List ℕ) → WordsFault → Type 0
 IsRefusal entries words (Syntax at) = IsSyntaxPlace entries words at.word at.byte
 IsRefusal entries words (Literal at) =
@@ -20,14 +20,14 @@ IsRefusal entries words (Range at) = HasFirstOffence entries words (Some (at.wor
 IsRefusal entries words (Shape at) = HasFirstOffence entries words (Some (at.word, at.byte, shape))
 IsRefusal entries words NoMemory = Unit {0}
 
--- the words say this command without error, and it is sound,
--- or they are refused for what is wrong with them
+-- the words spell this command without error, and it is sound; or they are refused with their first error or the place
+-- of their first failure
 abbrev pub IsRead : List Entry → List (List ℕ) → Result Command WordsFault → Type 0
 IsRead entries words (Ok command) =
     SpellsWithoutOffence entries words (command_of command) × IsSound command
 IsRead entries words (Err fault) = IsRefusal entries words fault
 
--- the refusal is that of the first error; running out of memory says nothing
+-- the refusal is that of the first error; out of memory says nothing about it
 abbrev pub IsFirst : Option Offence → WordsFault → Type 0
 IsFirst first (Syntax at) = ⊥
 IsFirst first (Literal at) = first ≡ Some (at.word, at.byte, literal)
@@ -35,7 +35,7 @@ IsFirst first (Range at) = first ≡ Some (at.word, at.byte, range)
 IsFirst first (Shape at) = first ≡ Some (at.word, at.byte, shape)
 IsFirst first NoMemory = Unit {0}
 
--- the answer has the property and there is no error, or the refusal is that of the first one
+-- the answer has the property and there is no error, or the refusal is that of the first error
 abbrev pub IsJudged : {A : Type 0} → (A → Type 0) → Option Offence → Result A WordsFault → Type 0
 IsJudged P first (Ok answer) = P answer × (first ≡ None)
 IsJudged P first (Err fault) = IsFirst first fault

@@ -1,4 +1,4 @@
--- The limits that the words of a command keep where they have no error.
+-- The limits that a command keeps if its words have no error.
 use Rattle.std.specs.Prelude.{◌≡◌, ◌≤◌, ℕ, ◌*◌, true, List, length, Option, Some, None}
 use Rattle.sym_model.specs.Partition.{IsPartition, size, rows}
 use Rattle.sym_model.specs.GoodTableau.{is_among, lattice_readings}
@@ -21,12 +21,12 @@ pub record IsWritten (parts : List ℕ) : Type 0 where
   pub few : rows parts ≤ most_parts
   pub small : size parts ≤ most_cells
 
--- a permutation of at most that number of letters, as it is kept
+-- a permutation of at most `most` letters, without fixed letters at its end
 pub record IsPermutationWithin (most : ℕ) (w : List ℕ) : Type 0 where
   pub kept : IsKept w
   pub few : length w ≤ most
 
--- a permutation of at most 16 letters, as it is kept
+-- a permutation of at most 16 letters, without fixed letters at its end
 abbrev pub IsWrittenPermutation : List ℕ → Type 0
 IsWrittenPermutation w = IsPermutationWithin most_permuted w
 
@@ -40,12 +40,12 @@ pub record IsRowNumber (n : ℕ) : Type 0 where
   pub positive : 1 ≤ n
   pub small : n ≤ most_rows
 
--- a number of rows, where there is one
+-- if there is a number of rows, it is from 1 to 64
 abbrev pub IsRowLimit : Option ℕ → Type 0
 IsRowLimit None = Unit {0}
 IsRowLimit (Some n) = IsRowNumber n
 
--- the tableau after which a list goes on is one of the list, where there is one
+-- the tableau after which a list continues, if there is one, is in the list
 abbrev pub IsInList : List ℕ → List ℕ → Option (List ℕ) → Type 0
 IsInList outer inner None = Unit {0}
 IsInList outer inner (Some w) = is_among w (lattice_readings outer inner) ≡ true
@@ -56,7 +56,7 @@ pub record AreWrittenFactors (factors : List (List ℕ)) : Type 0 where
   pub few : length factors ≤ most_factors
   pub written : EachOf IsWritten factors
 
--- what a command names is within the limits of words
+-- the command is within the limits of words
 abbrev pub KeepsLimits : Command → Type 0
 KeepsLimits (mult limit one_line factors) = IsRowLimit limit × AreWrittenFactors factors
 KeepsLimits (skew limit one_line outer inner) = IsRowLimit limit × IsWritten outer × IsWritten inner

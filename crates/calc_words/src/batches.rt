@@ -3,14 +3,14 @@ ghost use Rattle.std.specs.Prelude.{[], ◌∷◌, map, string_bytes};
 ghost use Rattle.sym_model.specs.Grammar.{batch_entry, work_entry};
 ghost use Rattle.calc_words.specs.Reading.{IsRead};
 
+use crate::command::Command;
 use crate::command_cuts::{cut, piece_at};
 use crate::part_values::{lines_of, seed_of};
 use crate::word_parts::Part;
 use calc_base::WordsFault;
-use calc_commands::Command;
 
-/// Reads the words of `batch`, which is that word alone. Other words are refused as `Syntax`, at
-/// the word where they first fail.
+/// Reads the words of `batch`, which is only that word. Other words are refused as `Syntax`, at the
+/// word where they first fail.
 pub fn read_batch(words: &[String]) -> Result<Command, WordsFault>
     ensures { IsRead (batch_entry ∷ []) (map string_bytes words.now) result }
 {
@@ -21,9 +21,8 @@ pub fn read_batch(words: &[String]) -> Result<Command, WordsFault>
 /// Reads the words of `work`: that word, a number of lines and a seed.
 ///
 /// Words that are no such command are refused as `Syntax`, at the word where they first fail.
-/// Otherwise the first error is refused: a number past 2^127 - 1 as `Literal`; a number of lines
-/// that is not from 1 to 10,000, and a seed past 65,536, as
-/// `Range`.
+/// Otherwise the first error is refused: a number over 2^127 - 1 as `Literal`; a number of lines
+/// that is not from 1 to 10,000, and a seed over 65,536, as `Range`.
 pub fn read_work(words: &[String]) -> Result<Command, WordsFault>
     ensures { IsRead (work_entry ∷ []) (map string_bytes words.now) result }
 {

@@ -17,16 +17,17 @@ use calc_base::WordsFault;
 /// word after each part; no command has more than five.
 pub type Places = [usize; 6];
 
-/// Where words first fail.
+/// The place where words first fail.
 #[derive(Clone, Copy)]
 struct Wrong {
-    /// How many words are left from the wrong one on.
+    /// The number of words from the wrong one on.
     left: usize,
     /// The byte of that word.
     byte: u64,
 }
 
-/// The places of the first `count` parts of words after a name; else where the words first fail.
+/// The places of the first `count` parts of words after a name; otherwise the place of the first
+/// failure.
 #[inline(always)]
 fn places_of(words: &[String], parts: &[Part], count: usize) -> Result<Places, Wrong>
     requires some { 0 < length words.now }
@@ -55,8 +56,8 @@ fn places_of(words: &[String], parts: &[Part], count: usize) -> Result<Places, W
     Ok(places)
 }
 
-/// The places of the parts after the name of a command, where the words are the name and words of
-/// these parts; else the refusal of the words, at the one where they first fail.
+/// The places of the parts after the name of a command, if the words are the name and words of
+/// these parts; otherwise the refusal of the words, at the word where they first fail.
 pub fn cut(words: &[String], name: &str, parts: &[Part]) -> Result<Places, WordsFault>
     requires few { length parts.now ≤ 5 }
     requires clear { is_clear parts.now ≡ true }
@@ -79,8 +80,8 @@ pub fn cut(words: &[String], name: &str, parts: &[Part]) -> Result<Places, Words
     }
 }
 
-/// The same where the last part is an expression, which is left to its reader: where it is the one
-/// word that is left, it is not looked at.
+/// `cut` for parts of which the last is an expression. If one word is left for the expression, it
+/// is not read here, but by the reader of expressions.
 pub fn cut_unread(words: &[String], name: &str, parts: &[Part]) -> Result<Places, WordsFault>
     requires few { length parts.now ≤ 5 }
     requires clear { is_clear parts.now ≡ true }
@@ -110,9 +111,9 @@ pub fn cut_unread(words: &[String], name: &str, parts: &[Part]) -> Result<Places
 /// The words of a part.
 #[derive(Clone, Copy)]
 pub struct Piece<'a> {
-    /// The word at which it begins.
+    /// The index of the first word of the part among the words of the command.
     pub at: u64,
-    /// Its words.
+    /// The words of the part.
     pub words: &'a [String],
 }
 

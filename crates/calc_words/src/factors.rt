@@ -20,7 +20,7 @@ use std::alloc::Global;
 /// The most factors.
 const MOST_FACTORS: usize = 8;
 
-/// One more factor, for which there is room.
+/// Appends a factor; the list has at most seven before.
 fn pushed(factors: Factors, next: Partition) -> Result<Factors, WordsFault>
     requires room { length factors < 8 }
     requires written { EachOf IsWritten factors }
@@ -36,8 +36,8 @@ fn pushed(factors: Factors, next: Partition) -> Result<Factors, WordsFault>
     }
 }
 
-/// These factors and, after the word `at`, the next one, or its first error:
-/// the ninth one offends at that word.
+/// Adds the next factor, which follows word `at` of the command, or returns its first error; a
+/// ninth factor is an error at that word.
 fn next_factor(
     alloc: Global,
     at: u64,
@@ -59,8 +59,8 @@ fn next_factor(
     pushed(factors, next)
 }
 
-/// These factors and those after them, each after a `-`, the first of which is the word `at`,
-/// or the first error.
+/// Adds further factors, each after a `-`, or returns the first error; the first `-` is word `at`
+/// of the command.
 fn read_later(
     alloc: Global,
     at: u64,
@@ -83,7 +83,7 @@ fn read_later(
     read_later(alloc, after, factors, rest)
 }
 
-/// Two factors.
+/// The list of two factors.
 fn paired(alloc: Global, left: Partition, right: Partition) -> Result<Factors, WordsFault>
     requires left { IsWritten left }
     requires right { IsWritten right }
@@ -97,8 +97,8 @@ fn paired(alloc: Global, left: Partition, right: Partition) -> Result<Factors, W
     }
 }
 
-/// The factors of which the first begins at the word `at` and the others stand after a `-`,
-/// or the first error.
+/// Reads the first factor, which begins at word `at` of the command, and the later ones, each
+/// after a `-`, or returns the first error.
 pub(crate) fn read_factors(
     alloc: Global,
     at: u64,

@@ -7,7 +7,7 @@ ghost use Rattle.sym_model.specs.SyntaxPlace.{IsSyntaxPlace};
 ghost use Rattle.calc_words.specs.Joined.{Joined};
 
 /// Let a command be in a list of commands, and let no other command of the list have its name. Then
-/// words that begin with this name mean the same for the whole list as for that command alone, have
+/// words that begin with this name mean the same for the whole list as for that one command, have
 /// the same first error, and fail at the same place. A law: it does nothing when it runs.
 pub fn joined_commands_law()
     ensures says { (e : Entry) (entries : List Entry) → Joined e entries

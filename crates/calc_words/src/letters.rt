@@ -16,14 +16,14 @@ const MOST_LETTERS: usize = 256;
 
 const GREATEST_LETTER: u128 = 65_535;
 
-/// Whether a letter after that number of others exceeds a limit.
+/// Whether a letter after `count` others exceeds a limit.
 fn is_past(count: usize, value: u128) -> bool
     ensures { result ≡ (is_outside greatest_letter value || (count == most_letters)) }
 {
     value == 0 || value > GREATEST_LETTER || count == MOST_LETTERS
 }
 
-/// The letters that have been judged.
+/// The word of letters that have been judged.
 fn word_of(alloc: Global, letters: &[u16]) -> Result<Word, WordsFault>
     ensures ok { IfOk result (λ w. w ≡ letters.now) }
     ensures err { IfErr result (λ fault. fault ≡ WordsFault.NoMemory) }
@@ -31,7 +31,8 @@ fn word_of(alloc: Global, letters: &[u16]) -> Result<Word, WordsFault>
     Ok(Word::from_slice(alloc, letters)?)
 }
 
-/// The letters that are these words, the first of which is the word `at`, or their first error.
+/// Reads words as letters, or returns their first error; the first of them is word `at` of the
+/// command.
 pub(crate) fn read_letters(alloc: Global, at: u64, words: &[String]) -> Result<Word, WordsFault>
     requires { at + length words.now < 2 ^ 64 }
     ensures { IsJudged (λ w. w ≡ numbers_of (map string_bytes words.now))

@@ -1,4 +1,4 @@
-//! The limits of what words without an error name.
+//! The limits of a command whose words have no error.
 ghost use Rattle.std.specs.Prelude.{ℕ, List};
 ghost use Rattle.sym_model.specs.Command.{Command};
 ghost use Rattle.sym_model.specs.Entry.{SpellsWithoutOffence};
@@ -6,10 +6,10 @@ ghost use Rattle.sym_model.specs.Expansion.{Basis};
 ghost use Rattle.sym_model.specs.Grammar.{entries_of};
 ghost use Rattle.calc_words.specs.WrittenLimits.{KeepsLimits};
 
-/// What words without an error name is within the limits of its command: partitions of at most 64
-/// parts and 512 cells, two to eight factors, permutations of at most 16 letters, numbers of rows,
-/// columns and levels from 1 to 64, expressions within the degree of their target, from 1 to 10,000
-/// lines and seeds of at most 65,536. It does nothing when it runs.
+/// A command whose words have no error is within its limits: partitions of at most 64 parts and 512
+/// cells, two to eight factors, permutations of at most 16 letters, numbers of rows, columns and
+/// levels from 1 to 64, expressions within the degree of their target, from 1 to 10,000 lines and
+/// seeds of at most 65,536. A law: it does nothing when it runs.
 pub fn written_limits_law()
     ensures { (bases : List Basis) (words : List (List ℕ)) (command : Command)
         → SpellsWithoutOffence (entries_of bases) words command → KeepsLimits command }

@@ -7,22 +7,22 @@ ghost use Rattle.calc_words.specs.LineBytes.{is_space as is_space_byte, is_passe
 use calc_base::NoMemory;
 use std::alloc::Global;
 
-/// Whether the byte stands between words: a space or a tab.
+/// Whether the byte separates words: a space or a tab.
 fn is_space(byte: u8) -> bool
     ensures { result ≡ is_space_byte byte }
 {
     byte == b' ' || byte == b'\t'
 }
 
-/// The byte that is kept of one: those past ASCII stand in no word of a command,
-/// and `?` does not either.
+/// The byte that is kept for a byte: `?` for one outside ASCII, since no word of a command has
+/// either.
 fn kept_byte(byte: u8) -> u8
     ensures { result ≡ seen_byte byte }
 {
     if byte < 128 { byte } else { b'?' }
 }
 
-/// Adds the byte that is kept to a word.
+/// Appends the byte that is kept for `byte` to a word.
 fn add_byte(word: &mut String, byte: u8) -> Result<(), NoMemory>
     ensures { OnOk result (string_bytes word.new ≡ string_bytes word.old ++ seen_byte byte ∷ []) }
 {
@@ -30,7 +30,7 @@ fn add_byte(word: &mut String, byte: u8) -> Result<(), NoMemory>
     Ok(())
 }
 
-/// Adds the word to the others, where it has a byte.
+/// Appends the word to the others unless it is empty.
 fn end_word(words: &mut Vec<String>, word: String) -> Result<(), NoMemory>
     ensures { OnOk result (map string_bytes words.new.items
         ≡ map string_bytes words.old.items ++ word_with_bytes (string_bytes word)) }
@@ -41,8 +41,8 @@ fn end_word(words: &mut Vec<String>, word: String) -> Result<(), NoMemory>
     Ok(())
 }
 
-/// The words of a line, which stand between its spaces and tabs. Bytes past ASCII, which stand in
-/// no word of a command, are kept as `?`, which does not either.
+/// The words of a line, which are separated by spaces and tabs. Bytes outside ASCII, which no word
+/// of a command has, are kept as `?`, which no word of a command has either.
 pub fn line_words(alloc: Global, line: &[u8]) -> Result<Vec<String>, NoMemory>
     ensures { IfOk result (λ words. map string_bytes words.items
         ≡ map seen (words_of_line line.now)) }

@@ -24,7 +24,8 @@ fn is_outside(value: u128) -> bool
     value == 0 || value > MOST_ROWS
 }
 
-/// A number of rows, columns or a level that is this word, or its error.
+/// Checks the value of a word as a number of rows or columns, or a level, and returns it or its
+/// error.
 pub(crate) fn rows_number(word: u64, number: Option<u128>) -> Result<u16, WordsFault>
     ensures { (a : ℕ) → number ≡ narrow a
         → IsJudged (λ n. n ≡ a) (first_offence (offences_by rows_rule word (a ∷ []))) result }
@@ -38,7 +39,7 @@ pub(crate) fn rows_number(word: u64, number: Option<u128>) -> Result<u16, WordsF
     Ok(value as u16)
 }
 
-/// A number of lines that is this word, or its error.
+/// Checks the value of a word as a number of lines, and returns it or its error.
 pub(crate) fn lines_number(word: u64, number: Option<u128>) -> Result<u16, WordsFault>
     ensures { (a : ℕ) → number ≡ narrow a
         → IsJudged (λ n. n ≡ a) (first_offence (offences_by lines_rule word (a ∷ []))) result }
@@ -52,7 +53,7 @@ pub(crate) fn lines_number(word: u64, number: Option<u128>) -> Result<u16, Words
     Ok(value as u16)
 }
 
-/// A seed that is this word, or its error.
+/// Checks the value of a word as a seed, and returns it or its error.
 pub(crate) fn seed_number(word: u64, number: Option<u128>) -> Result<u32, WordsFault>
     ensures { (a : ℕ) → number ≡ narrow a
         → IsJudged (λ n. n ≡ a) (first_offence (offences_by seed_rule word (a ∷ []))) result }

@@ -26,7 +26,7 @@ pub fn is_number(word: &[u8]) -> bool
     !word.is_empty()
 }
 
-/// The value of a number word, where it is no more than 2^127 - 1.
+/// The value of a number word, or `None` if it exceeds 2^127 - 1.
 pub fn value_of(word: &[u8]) -> Option<u128>
     ensures { result ≡ narrow (decimal_value word.now) }
 {

@@ -4,14 +4,14 @@ ghost use Rattle.calc_words.specs.Faults.{fault_of};
 
 use calc_base::{Place, WordsFault};
 
-/// What a number offends by.
+/// The kind of the error of a number.
 #[derive(Clone, Copy, Debug)]
 pub enum Kind {
-    /// It exceeds 2^127 - 1.
+    /// The number exceeds 2^127 - 1.
     Literal,
-    /// It exceeds a limit.
+    /// The number exceeds a limit.
     Range,
-    /// It is not allowed in such a list.
+    /// The number is not allowed in the list: it is out of order, for example.
     Shape,
 }
 
@@ -24,7 +24,7 @@ pub fn syntax(word: u64, byte: u64) -> WordsFault
     }
 }
 
-/// The refusal of the number that is this word.
+/// The error of a number, at the word that has it.
 pub fn offence(word: u64, kind: Kind) -> WordsFault
     ensures { result ≡ fault_of word kind }
 {

@@ -1,4 +1,4 @@
-//! What the parts of a command name, or their first error.
+//! The values of the parts of a command, or their first error.
 ghost use Rattle.std.specs.Prelude.{◌≡◌, ◌≤◌, ◌<◌, ◌+◌, ◌^◌, [], ◌∷◌, ℕ, List, map, length};
 ghost use Rattle.std.specs.Prelude.{string_bytes, codes};
 ghost use Rattle.sym_model.specs.CommandOffence.{first_offence, most_permuted};
@@ -32,7 +32,7 @@ use partitions::{Factors, Partition};
 use perm_codes::Perm;
 use std::alloc::Global;
 
-/// Whether the word for the one-line form is there.
+/// Whether the word for the one-line form, `-m`, is present.
 pub fn maybe_form_of(words: &[String]) -> bool
     ensures { (x : Written (optional form_words))
         → map string_bytes words.now ≡ words_of (optional form_words) x → result ≡ is_one_line x }
@@ -62,7 +62,7 @@ pub fn text_of(words: &[String]) -> &[u8]
     }
 }
 
-/// The number of rows of `-r` and a number, which begin at the word `at`.
+/// Reads `-r` and a number of rows, of which `-r` is word `at` of the command.
 pub(crate) fn rows_of(at: u64, words: &[String]) -> Result<u16, WordsFault>
     requires { at + length words.now + 1 < 2 ^ 64 }
     ensures { (k : ℕ) (x : Written rows_words)
@@ -75,7 +75,7 @@ pub(crate) fn rows_of(at: u64, words: &[String]) -> Result<u16, WordsFault>
     rows_number(at + 1, value_of(digits.as_bytes()))
 }
 
-/// The number of rows, where it is there.
+/// The number of rows, if it is present.
 pub(crate) fn maybe_rows_of(at: u64, words: &[String]) -> Result<Option<u16>, WordsFault>
     requires { at + length words.now + 1 < 2 ^ 64 }
     ensures { (k : ℕ) (x : Written (optional rows_words))
@@ -89,7 +89,7 @@ pub(crate) fn maybe_rows_of(at: u64, words: &[String]) -> Result<Option<u16>, Wo
     Ok(Some(rows))
 }
 
-/// The number of rows or columns, or the level, that is the word `at`.
+/// Reads word `at` of the command as a number of rows or columns, or a level.
 pub(crate) fn bound_of(at: u64, words: &[String]) -> Result<u16, WordsFault>
     ensures { (k : ℕ) (x : Written (word number))
         → (at ≡ k) × (map string_bytes words.now ≡ words_of (word number) x)
@@ -101,7 +101,7 @@ pub(crate) fn bound_of(at: u64, words: &[String]) -> Result<u16, WordsFault>
     rows_number(at, value_of(digits.as_bytes()))
 }
 
-/// The number of lines that is the word `at`.
+/// Reads word `at` of the command as a number of lines.
 pub(crate) fn lines_of(at: u64, words: &[String]) -> Result<u16, WordsFault>
     ensures { (k : ℕ) (x : Written (word number))
         → (at ≡ k) × (map string_bytes words.now ≡ words_of (word number) x)
@@ -113,7 +113,7 @@ pub(crate) fn lines_of(at: u64, words: &[String]) -> Result<u16, WordsFault>
     lines_number(at, value_of(digits.as_bytes()))
 }
 
-/// The seed that is the word `at`.
+/// Reads word `at` of the command as a seed.
 pub(crate) fn seed_of(at: u64, words: &[String]) -> Result<u32, WordsFault>
     ensures { (k : ℕ) (x : Written (word number))
         → (at ≡ k) × (map string_bytes words.now ≡ words_of (word number) x)
@@ -125,7 +125,7 @@ pub(crate) fn seed_of(at: u64, words: &[String]) -> Result<u32, WordsFault>
     seed_number(at, value_of(digits.as_bytes()))
 }
 
-/// The partition of numbers, of which the first is the word `at`.
+/// Reads words as a partition; the first of them is word `at` of the command.
 pub(crate) fn shape_of(alloc: Global, at: u64, words: &[String]) -> Result<Partition, WordsFault>
     requires { at + length words.now + 1 < 2 ^ 64 }
     ensures { (k : ℕ) (x : Written partition_words)
@@ -135,7 +135,7 @@ pub(crate) fn shape_of(alloc: Global, at: u64, words: &[String]) -> Result<Parti
     read_partition(alloc, at, words)
 }
 
-/// The letters of a word, of which the first is the word `at`.
+/// Reads words as the letters of a word; the first of them is word `at` of the command.
 pub(crate) fn word_of(alloc: Global, at: u64, words: &[String]) -> Result<Word, WordsFault>
     requires { at + length words.now + 1 < 2 ^ 64 }
     ensures { (k : ℕ) (x : Written partition_words)
@@ -145,7 +145,7 @@ pub(crate) fn word_of(alloc: Global, at: u64, words: &[String]) -> Result<Word, 
     read_letters(alloc, at, words)
 }
 
-/// The permutation of letters, of which the first is the word `at`.
+/// Reads words as a permutation; the first of them is word `at` of the command.
 pub(crate) fn letters_of(alloc: Global, at: u64, words: &[String]) -> Result<Perm, WordsFault>
     requires { at + length words.now + 1 < 2 ^ 64 }
     ensures { (k : ℕ) (x : Written permutation_words)
@@ -159,7 +159,8 @@ pub(crate) fn letters_of(alloc: Global, at: u64, words: &[String]) -> Result<Per
     read_permutation(alloc, MOST_PERMUTED, at, words)
 }
 
-/// The same of a permutation whose double Schubert polynomial is a factor.
+/// Reads words as a permutation of at most 8 letters; the first of them is word `at` of the
+/// command.
 pub(crate) fn doubled_of(alloc: Global, at: u64, words: &[String]) -> Result<Perm, WordsFault>
     requires { at + length words.now + 1 < 2 ^ 64 }
     ensures { (k : ℕ) (x : Written permutation_words)
@@ -185,7 +186,7 @@ fn behind_first(words: &[String]) -> &[String]
     }
 }
 
-/// The factors, the first of which begins at the word `at`.
+/// Reads words as factors; the first of them is word `at` of the command.
 pub(crate) fn factors_of(alloc: Global, at: u64, words: &[String]) -> Result<Factors, WordsFault>
     requires { at + length words.now + 1 < 2 ^ 64 }
     ensures { (k : ℕ) (x : Written factors_words) → May factors_words x

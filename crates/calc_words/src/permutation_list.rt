@@ -18,18 +18,18 @@ use std::alloc::Global;
 /// The most letters of a permutation that is written, and the greatest of them.
 pub(crate) const MOST_PERMUTED: usize = 16;
 
-/// The same where its double Schubert polynomial is a factor.
+/// The most letters, and the greatest letter, if the double Schubert polynomial is a factor.
 pub(crate) const MOST_DOUBLED: usize = 8;
 
-/// Whether the letter is one of these.
+/// Whether the letter is among these letters.
 fn stands_in(letter: u16, letters: &[u16]) -> bool
     ensures { result ≡ stands_in_list letter letters.now }
 {
     letters.contains(&letter)
 }
 
-/// What a letter offends by that stands after these in a list of a given length,
-/// where at most `most` may be written.
+/// The error of a letter that follows the letters `before` in a list of `count` letters, of which
+/// at most `most` may be written.
 fn letter_offence(most: usize, count: usize, before: &[u16], value: u128) -> Option<Kind>
     requires { most ≤ 16 }
     ensures { result ≡ letter_kind most count before.now value }
@@ -52,8 +52,8 @@ fn permutation_of(alloc: Global, letters: &[u16]) -> Result<Perm, WordsFault>
     Ok(Perm::from_valid_letters(alloc, letters)?)
 }
 
-/// The permutation of the letters that are these words, the first of which is the word `at`, or
-/// their first error; at most that number of letters may be written.
+/// Reads words as a permutation of at most `most` letters, or returns their first error; the
+/// first of them is word `at` of the command.
 pub(crate) fn read_permutation(
     alloc: Global,
     most: usize,

@@ -5,19 +5,19 @@ ghost use Rattle.sym_model.specs.Grammar.{schubert_entry, growth_entry, schubmul
 ghost use Rattle.sym_model.specs.Grammar.{dschubmult_entry, stanley_entry, rsk_entry};
 ghost use Rattle.calc_words.specs.Reading.{IsRead};
 
+use crate::command::Command;
 use crate::command_cuts::{cut, piece_at};
 use crate::part_values::{doubled_of, letters_of, rows_of, word_of};
 use crate::word_parts::Part;
 use calc_base::WordsFault;
-use calc_commands::Command;
 use std::alloc::Global;
 
 /// Reads the words of `schubert`: that word and the letters of a permutation.
 ///
 /// Words that are no such command are refused as `Syntax`, at the word where they first fail.
-/// Otherwise the first error of the letters is refused: one past 2^127 - 1 as `Literal`; one past
-/// 16, or the 17th, as `Range`; one that is 0, past the number of letters, or stands earlier,
-/// as `Shape`.
+/// Otherwise the first error of the letters is refused: one over 2^127 - 1 as `Literal`; one over
+/// 16, or the 17th, as `Range`; one that is 0, greater than the number of letters, or equal to an
+/// earlier one, as `Shape`.
 pub fn read_schubert(alloc: Global, words: &[String]) -> Result<Command, WordsFault>
     ensures { IsRead (schubert_entry ∷ []) (map string_bytes words.now) result }
 {
@@ -39,8 +39,7 @@ pub fn read_growth(alloc: Global, words: &[String]) -> Result<Command, WordsFaul
 }
 
 /// Reads the words of `schubmult`: that word and two permutations with `-` between them. Words are
-/// refused as
-/// `read_schubert` says.
+/// refused as `read_schubert` says.
 pub fn read_schubmult(alloc: Global, words: &[String]) -> Result<Command, WordsFault>
     ensures { IsRead (schubmult_entry ∷ []) (map string_bytes words.now) result }
 {
@@ -54,8 +53,7 @@ pub fn read_schubmult(alloc: Global, words: &[String]) -> Result<Command, WordsF
 }
 
 /// Reads the words of `dschubmult`: that word and two permutations with `-` between them. Words are
-/// refused as
-/// `read_schubert` says, with 8 in the place of 16.
+/// refused as `read_schubert` says, with 8 in the place of 16.
 pub fn read_dschubmult(alloc: Global, words: &[String]) -> Result<Command, WordsFault>
     ensures { IsRead (dschubmult_entry ∷ []) (map string_bytes words.now) result }
 {
@@ -85,8 +83,8 @@ pub fn read_stanley(alloc: Global, words: &[String]) -> Result<Command, WordsFau
 /// Reads the words of `rsk`: that word and the letters of a word.
 ///
 /// Words that are no such command are refused as `Syntax`, at the word where they first fail.
-/// Otherwise the first error is refused: a letter past 2^127 - 1 as `Literal`; one that is 0 or
-/// past 65,535, and the 257th, as `Range`.
+/// Otherwise the first error is refused: a letter over 2^127 - 1 as `Literal`; one that is 0 or
+/// over 65,535, and the 257th, as `Range`.
 pub fn read_rsk(alloc: Global, words: &[String]) -> Result<Command, WordsFault>
     ensures { IsRead (rsk_entry ∷ []) (map string_bytes words.now) result }
 {

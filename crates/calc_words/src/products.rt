@@ -3,21 +3,21 @@ ghost use Rattle.std.specs.Prelude.{[], ◌∷◌, map, string_bytes};
 ghost use Rattle.sym_model.specs.Grammar.{mult_entry, skew_entry, coef_entry, coprod_entry};
 ghost use Rattle.calc_words.specs.Reading.{IsRead};
 
+use crate::command::Command;
 use crate::command_cuts::{cut, piece_at};
 use crate::part_values::{factors_of, maybe_form_of, maybe_rows_of, shape_of};
 use crate::word_parts::Part;
 use calc_base::WordsFault;
-use calc_commands::Command;
 use std::alloc::Global;
 
-/// Reads the words of `mult`: that word, `-r` and a number of rows where a bound is wanted, `-m`
-/// where the answer is wanted on one line, and two to eight partitions with `-` between them.
+/// Reads the words of `mult`: that word, `-r` and a number for a bound on the rows, `-m` for an
+/// answer on one line, and two to eight partitions with `-` between them.
 ///
 /// Words that are no such command are refused as `Syntax`, at the word where they first fail.
-/// Otherwise the first error is refused: a number past 2^127 - 1 as `Literal`; a number of rows
-/// that is not from 1 to 64, the 65th number of a partition, the one at which its sum passes 512,
-/// and the `-` in front of a ninth partition, as `Range`; a number of a partition greater than the
-/// one before it as `Shape`.
+/// Otherwise the first error is refused: a number over 2^127 - 1 as `Literal`; a number of rows
+/// that is not from 1 to 64, the 65th number of a partition, the one at which its sum exceeds 512,
+/// and the `-` before a ninth partition, as `Range`; a number of a partition greater than the one
+/// before it as `Shape`.
 pub fn read_mult(alloc: Global, words: &[String]) -> Result<Command, WordsFault>
     ensures { IsRead (mult_entry ∷ []) (map string_bytes words.now) result }
 {
@@ -36,12 +36,12 @@ pub fn read_mult(alloc: Global, words: &[String]) -> Result<Command, WordsFault>
     })
 }
 
-/// Reads the words of `skew`: that word, `-r` and a number of rows where a bound is wanted, `-m`
-/// where the answer is wanted on one line, and two partitions with `/` between them.
+/// Reads the words of `skew`: that word, `-r` and a number for a bound on the rows, `-m` for an
+/// answer on one line, and two partitions with `/` between them.
 ///
 /// Words that are no such command are refused as `Syntax`, at the word where they first fail.
-/// Otherwise the first error is refused: a number past 2^127 - 1 as `Literal`; a number of rows
-/// that is not from 1 to 64, the 65th number of a partition, and the one at which its sum passes
+/// Otherwise the first error is refused: a number over 2^127 - 1 as `Literal`; a number of rows
+/// that is not from 1 to 64, the 65th number of a partition, and the one at which its sum exceeds
 /// 512, as `Range`; a number of a partition greater than the one before it as `Shape`.
 pub fn read_skew(alloc: Global, words: &[String]) -> Result<Command, WordsFault>
     ensures { IsRead (skew_entry ∷ []) (map string_bytes words.now) result }

@@ -3,11 +3,11 @@ ghost use Rattle.std.specs.Prelude.{[], ◌∷◌, map, string_bytes};
 ghost use Rattle.sym_model.specs.Grammar.{quantum_entry, fusion_entry};
 ghost use Rattle.calc_words.specs.Reading.{IsRead};
 
+use crate::command::Command;
 use crate::command_cuts::{cut, piece_at};
 use crate::part_values::{bound_of, factors_of};
 use crate::word_parts::Part;
 use calc_base::WordsFault;
-use calc_commands::Command;
 use std::alloc::Global;
 
 /// Reads the words of `quantum`: that word, a number of rows, a number of columns, and two to eight

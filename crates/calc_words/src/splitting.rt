@@ -1,4 +1,4 @@
-//! Words at the front of others: one that is told, a number, numbers.
+//! Words at the front of others: a given word, a number, a list of numbers.
 ghost use Rattle.std.specs.Prelude.{◌≡◌, false, ◌++◌, ◌∷◌, map, string_bytes, MatchOption};
 ghost use Rattle.sym_model.specs.Form.{EachOf, is_letter_of};
 ghost use Rattle.sym_model.specs.Grammar.{all_bases};
@@ -12,7 +12,7 @@ ghost use Rattle.calc_words.specs.NumberRuns.{IsNumber, BeginsOtherwise};
 use crate::numbers::{is_digit_byte, is_number};
 use calc_base::Basis;
 
-/// The words after the first, where that is this one.
+/// The words after the first, if the first is `text`.
 pub fn behind<'a>(words: &'a [String], text: &str) -> Option<&'a [String]>
     ensures { MatchOption result (BeginsOtherwise (λ t. t ≡ text.now) (map string_bytes words.now))
         (λ rest. map string_bytes words.now ≡ text.now ∷ map string_bytes rest.now) }
@@ -30,7 +30,7 @@ pub fn behind<'a>(words: &'a [String], text: &str) -> Option<&'a [String]>
     Some(rest)
 }
 
-/// The first word and those after it, where it is a number.
+/// The first word, if it is a number, and the words after it.
 pub(crate) fn first_number(words: &[String]) -> Option<(&String, &[String])>
     ensures { MatchOption result (BeginsOtherwise IsNumber (map string_bytes words.now))
         (λ p. (map string_bytes words.now ≡ string_bytes p.0.now ∷ map string_bytes p.1.now)
@@ -45,7 +45,7 @@ pub(crate) fn first_number(words: &[String]) -> Option<(&String, &[String])>
     Some((first, rest))
 }
 
-/// The target of this letter.
+/// The target of this letter, if it is one.
 fn target_named(word: &str) -> Option<Basis>
     ensures { MatchOption result (is_letter_of all_bases word.now ≡ false)
         (λ target. word.now ≡ letter (basis_of target)) }
@@ -74,7 +74,7 @@ pub(crate) fn first_target(words: &[String]) -> Option<(Basis, &[String])>
     Some((target, rest))
 }
 
-/// The numbers at the front, and the words after them.
+/// The longest run of numbers at the front, and the words after it.
 pub fn numbers(words: &[String]) -> (&[String], &[String])
     ensures parts { map string_bytes words.now
         ≡ map string_bytes result.0.now ++ map string_bytes result.1.now }
@@ -89,7 +89,7 @@ pub fn numbers(words: &[String]) -> (&[String], &[String])
     words.split_at(words.len())
 }
 
-/// Whether the word begins with a digit, by which numbers are told from the `-` between them.
+/// Whether the word begins with a digit; numbers do, and the `-` between them does not.
 fn begins_with_digit(word: &[u8]) -> bool
     ensures { result ≡ begins_with_digit_of word.now }
 {
@@ -99,7 +99,7 @@ fn begins_with_digit(word: &[u8]) -> bool
     is_digit_byte(*byte)
 }
 
-/// The words at the front that begin with a digit, and those after them.
+/// The longest run of words at the front that begin with a digit, and the words after it.
 pub(crate) fn list_first(words: &[String]) -> (&[String], &[String])
     ensures parts { map string_bytes words.now
         ≡ map string_bytes result.0.now ++ map string_bytes result.1.now }

@@ -1,4 +1,4 @@
-//! The parts of the words of a command, and how many words at the front of others each of them
+//! The parts of the words of a command, and the number of words at the front of others that each
 //! takes.
 ghost use Rattle.std.specs.Prelude.{ℕ, ◌≡◌, ◌++◌, ◌<◌, map, length, string_bytes, IfOk, IfErr};
 ghost use Rattle.std.specs.Prelude.{IsTrue, ◌↔◌};
@@ -41,7 +41,7 @@ pub enum Part {
     Word,
     /// The letters of a permutation, one at least.
     Letters,
-    /// The same, of a permutation whose double Schubert polynomial is a factor.
+    /// The letters of a permutation whose double Schubert polynomial is a factor.
     Doubled,
     /// Two partitions or more, with `-` between each two.
     Factors,
@@ -55,7 +55,7 @@ pub enum Part {
     Expression,
 }
 
-/// Whether the first word is this one; else how many words are left from the wrong one on.
+/// One, if the first word is `text`. The error is the number of words from the wrong one on.
 fn the_word(words: &[String], text: &str) -> Result<usize, usize>
     ensures ok { IfOk result (λ n. Takes (the text.now) (map string_bytes words.now) n) }
     ensures wrong { IfErr result (λ left.
@@ -67,7 +67,7 @@ fn the_word(words: &[String], text: &str) -> Result<usize, usize>
     }
 }
 
-/// `-m`, or no word.
+/// Returns 1 if the first word is `-m`, and otherwise 0.
 fn maybe_form(words: &[String]) -> usize
     ensures { Takes (optional form_words) (map string_bytes words.now) result }
 {
@@ -77,7 +77,8 @@ fn maybe_form(words: &[String]) -> usize
     }
 }
 
-/// `-r` and a number.
+/// Two, if the words begin with `-r` and a number. The error is the number of words from the wrong
+/// one on.
 fn rows(words: &[String]) -> Result<usize, usize>
     ensures ok { IfOk result (λ n. Takes rows_words (map string_bytes words.now) n) }
     ensures wrong { IfErr result (λ left. StopsIn rows_words (map string_bytes words.now) left) }
@@ -91,7 +92,8 @@ fn rows(words: &[String]) -> Result<usize, usize>
     }
 }
 
-/// `-r` and a number, or no word.
+/// The number of words at the front that are `-r` and a number: two, or none if `-r` is not there.
+/// The error is the number of words from the wrong one on.
 fn maybe_rows(words: &[String]) -> Result<usize, usize>
     ensures ok { IfOk result (λ n. Takes (optional rows_words) (map string_bytes words.now) n) }
     ensures wrong { IfErr result (λ left.
@@ -106,7 +108,7 @@ fn maybe_rows(words: &[String]) -> Result<usize, usize>
     }
 }
 
-/// One number.
+/// One, if the first word is a number. The error is the number of words from the wrong one on.
 fn one_number(words: &[String]) -> Result<usize, usize>
     ensures ok { IfOk result (λ n. Takes (word number) (map string_bytes words.now) n) }
     ensures wrong { IfErr result (λ left. StopsIn (word number) (map string_bytes words.now) left) }
@@ -117,7 +119,7 @@ fn one_number(words: &[String]) -> Result<usize, usize>
     }
 }
 
-/// Numbers.
+/// The number of words at the front that are numbers.
 fn list(words: &[String]) -> usize
     ensures { Takes partition_words (map string_bytes words.now) result }
 {
@@ -125,7 +127,8 @@ fn list(words: &[String]) -> usize
     list.len()
 }
 
-/// Numbers, one at least.
+/// The number of words at the front that are numbers, at least one. The error is the number of
+/// words from the wrong one on.
 fn letters(words: &[String]) -> Result<usize, usize>
     ensures ok { IfOk result (λ n. Takes permutation_words (map string_bytes words.now) n) }
     ensures wrong { IfErr result (λ left.
@@ -145,7 +148,7 @@ fn is_piece(word: &String) -> bool
     is_number(word.as_bytes()) || word.as_str() == "-"
 }
 
-/// The numbers and `-` at the front, and the words after them.
+/// The longest run of numbers and `-` at the front, and the words after it.
 fn pieces(words: &[String]) -> (&[String], &[String])
     ensures parts { map string_bytes words.now
         ≡ map string_bytes result.0.now ++ map string_bytes result.1.now }
@@ -160,7 +163,8 @@ fn pieces(words: &[String]) -> (&[String], &[String])
     words.split_at(words.len())
 }
 
-/// Two lists of numbers or more, with `-` between each two.
+/// The number of words at the front that are two or more lists of numbers, with `-` between each
+/// two. The error is the number of words from the wrong one on.
 fn factors(words: &[String]) -> Result<usize, usize>
     ensures ok { IfOk result (λ n. Takes factors_words (map string_bytes words.now) n) }
     ensures wrong { IfErr result (λ left. StopsIn factors_words (map string_bytes words.now) left) }
@@ -173,7 +177,7 @@ fn factors(words: &[String]) -> Result<usize, usize>
     Ok(words.len() - rest.len())
 }
 
-/// The words after the row at the front; else how many words are left from the wrong one on.
+/// The words after the row at the front; otherwise the number of words from the wrong one on.
 fn behind_row(words: &[String]) -> Result<&[String], usize>
     ensures ok { IfOk result (λ rest.
         StandsBehind row_words (map string_bytes rest.now) (map string_bytes words.now)) }
@@ -190,7 +194,8 @@ fn behind_row(words: &[String]) -> Result<&[String], usize>
     Ok(rest)
 }
 
-/// The rows of a tableau. It is not inlined, so that `taken` stays small for the other parts.
+/// The number of words at the front that are the rows of a tableau. The error is the number of
+/// words from the wrong one on. It is not inlined, so that `taken` stays small for the other parts.
 #[inline(never)]
 fn tableau(words: &[String]) -> Result<usize, usize>
     ensures ok { IfOk result (λ n. Takes tableau_words (map string_bytes words.now) n) }
@@ -203,7 +208,8 @@ fn tableau(words: &[String]) -> Result<usize, usize>
     Ok(words.len() - rest.len())
 }
 
-/// `-from` and the rows of a tableau, or no word.
+/// The number of words at the front that are `-from` and the rows of a tableau, none if `-from` is
+/// not there. The error is the number of words from the wrong one on.
 fn maybe_from(words: &[String]) -> Result<usize, usize>
     ensures ok { IfOk result (λ n. Takes (optional from_words) (map string_bytes words.now) n) }
     ensures wrong { IfErr result (λ left.
@@ -216,7 +222,8 @@ fn maybe_from(words: &[String]) -> Result<usize, usize>
     Ok(1 + rows)
 }
 
-/// The letter of a target.
+/// One, if the first word is the letter of a target. The error is the number of words from the
+/// wrong one on.
 fn letter(words: &[String]) -> Result<usize, usize>
     ensures ok { IfOk result (λ n. Takes (word (target all_bases)) (map string_bytes words.now) n) }
     ensures wrong { IfErr result (λ left.
@@ -228,7 +235,7 @@ fn letter(words: &[String]) -> Result<usize, usize>
     }
 }
 
-/// An expression.
+/// Takes an expression.
 #[inline(never)]
 fn expression(words: &[String]) -> Result<usize, usize>
     ensures ok { IfOk result (λ n. Takes (word formula) (map string_bytes words.now) n) }
@@ -258,8 +265,8 @@ fn expression_byte(words: &[String]) -> u64
     }
 }
 
-/// The byte at which the first word is wrong where these words are not of the part:
-/// 0 if the part is no expression.
+/// The byte at which the first word fails, if these words are not of the part: 0 unless the part is
+/// an expression.
 #[inline(never)]
 pub(crate) fn byte_of(part: Part, words: &[String]) -> u64
     ensures { (left : ℕ) (w : StopsIn (form_of_part part) (map string_bytes words.now) left)
@@ -271,7 +278,8 @@ pub(crate) fn byte_of(part: Part, words: &[String]) -> u64
     }
 }
 
-/// How many words at the front are of the part; else how many words are left from the wrong one on.
+/// The number of words at the front that are of the part; otherwise the number of words from the
+/// wrong one on.
 pub(crate) fn taken(part: Part, words: &[String]) -> Result<usize, usize>
     ensures ok { IfOk result (λ n. Takes (form_of_part part) (map string_bytes words.now) n) }
     ensures wrong { IfErr result (λ left.

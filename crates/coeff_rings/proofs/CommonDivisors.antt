@@ -1,5 +1,5 @@
--- What divides a sum of two fractions over their least common denominator, and that denominator, divides the greatest
--- common divisor of their denominators (Knuth, The Art of Computer Programming, 4.5.1).
+-- A common divisor of the sum of two fractions over their least common denominator and of that denominator divides
+-- the greatest common divisor of the two denominators (Knuth, The Art of Computer Programming, 4.5.1).
 use Rattle.std.proofs.Common.{◌≡◌, ℕ, suc, ◌*◌, ◌/◌, ◌<◌, sym, refl, ap, ◌∙◌, subst, arith, ℤ, pos, negsuc, ◌+ℤ◌, ◌-ℤ◌, ◌*ℤ◌, neg_ℤ, unsigned_abs}
 use Rattle.std.specs.Int.{IsGcd, ◌∣◌}
 use Rattle.std.proofs.lemmas.Int.{ints, unsigned_abs-mul}
@@ -13,9 +13,9 @@ use Rattle.coeff_rings.specs.Proved.Divisors.{divides_other_factor, coprime_from
 use Rattle.coeff_rings.specs.Proved.Fractions.{unsigned_abs-negation}
 use Rattle.coeff_rings.specs.Proved.FractionAnswers.{greatest_common_divisor_comm}
 
--- ---- what divides two of three numbers
+-- ---- three numbers, one the sum or the difference of the others, and their common divisors
 
--- a number is a multiple of what divides its size
+-- z is a multiple of d
 record Multiple (z : ℤ) (d : ℕ) : Type 0 where
   times : ℤ
   is : z ≡ times *ℤ pos d
@@ -43,7 +43,7 @@ divides_sum d x y z e p q =
     let is : z ≡ x -ℤ neg_ℤ y = omega (arith, ints) in
     divides_difference d x (neg_ℤ y) z is p (subst (λ (n : ℕ). d ∣ n) (sym (unsigned_abs-negation y)) q)
 
--- what divides the total and one of two numbers divides the other
+-- a common divisor of total and left divides right, and one of total and right divides left
 pub record Balances (left right total : ℤ) : Type 0 where
   pub to_right : (d : ℕ) → d ∣ unsigned_abs total → d ∣ unsigned_abs left → d ∣ unsigned_abs right
   pub to_left : (d : ℕ) → d ∣ unsigned_abs total → d ∣ unsigned_abs right → d ∣ unsigned_abs left
@@ -60,9 +60,9 @@ Balances-difference left right total e = record {
   to_left = λ d p q. divides_sum d total right left (omega (arith, ints)) p q;
 }
 
--- ---- over the least common denominator
+-- ---- common divisors of the sum and the least common denominator
 
--- what divides the total and what is left of one denominator is 1
+-- a divisor d of u that divides left if it divides right is 1
 half : (n m den u v left right : ℕ) → IsGcd n den 1 → u ∣ den → IsGcd u v 1 → left ≡ n * v → right ≡ m * u
     → (d : ℕ) → d ∣ u → (d ∣ right → d ∣ left) → d ∣ 1
 half n m den u v left right lowest whole apart l r d p balances =
@@ -82,12 +82,12 @@ pub common_divisors : (a b : Fraction) (total : ℤ) → InLowestTerms a → InL
     → (d : ℕ) → d ∣ unsigned_abs total → d ∣ common_denominator a b → d ∣ greatest_common_divisor a.1 b.1
 common_divisors a b total la lb balances d p q =
     let g = greatest_common_divisor a.1 b.1 in
-    let is : IsGcd a.1 b.1 g = IsGcd-greatest a.1 b.1 lb.positive in
+    let is : IsGcd a.1 b.1 g = IsGcd-greatest a.1 b.1 in
     let u = a.1 / g in
     let v = b.1 / g in
     let apart : IsGcd u v 1 = coprime_without a.1 b.1 g (divisor_positive a.1 b.1 g lb.positive is) is in
     let left = abs_over a b g refl in
-    let right = abs_over b a g (greatest_common_divisor_comm b.1 a.1 lb.positive la.positive) in
+    let right = abs_over b a g (greatest_common_divisor_comm b.1 a.1) in
     let with_left : IsGcd d u 1 =
     coprime_from d u (λ e s t. half _ _ a.1 u v _ _ la.coprime (quotient_divides a.1 g is.0) apart left right e t (balances.to_left e (dvd_trans e s p))) in
     let with_right : IsGcd d v 1 =
@@ -99,10 +99,10 @@ common_divisors a b total la lb balances d p q =
 pub divisor_divides : (a b : Fraction) → 0 < b.1 → greatest_common_divisor a.1 b.1 ∣ common_denominator a b
 divisor_divides a b some =
     let g = greatest_common_divisor a.1 b.1 in
-    dvd_trans g (IsGcd-greatest a.1 b.1 some).0 (dvd-mul_right a.1 (b.1 / g))
+    dvd_trans g (IsGcd-greatest a.1 b.1).0 (dvd-mul_right a.1 (b.1 / g))
 
--- where all common divisors of a number and a denominator divide a factor of it, what the number shares with the factor
--- is what it shares with the denominator
+-- if all common divisors of a number and a denominator divide a factor of the denominator, the number has the same
+-- greatest common divisor with the factor as with the denominator
 pub IsGcd-by_factor : (n : ℤ) (size den factor g : ℕ) → size ≡ unsigned_abs n → factor ∣ den
     → ((d : ℕ) → d ∣ unsigned_abs n → d ∣ den → d ∣ factor) → IsGcd size factor g → IsGcd size den g
 IsGcd-by_factor n size den factor g e h common is =

@@ -1,4 +1,4 @@
--- What the functions of `Frac` answer, from what their steps compute.
+-- The results of the functions of `Frac`, from those of their steps.
 use Rattle.std.proofs.Common.{◌≡◌, ℕ, ◌*◌, ◌/◌, ◌<◌, ◌^◌, sym, refl, ap, ◌∙◌, subst, ℤ, pos, ◌+ℤ◌, ◌-ℤ◌, ◌*ℤ◌, unsigned_abs, Bool, true, false, FitsSigned, Option, Some, None}
 use Rattle.std.specs.Int.{w128, IsGcd}
 use native.Mathlib.Nat.{dvd_refl, div_self, mul-one}
@@ -18,7 +18,7 @@ sum_answers_fraction-from a b answer h k e = subst (AnswersSum (λ r. r) a b) (s
 pub difference_answers_fraction-from : (a b : Fraction) (answer : Option Fraction) → IsFraction a → IsFraction b → answer ≡ checked_fraction_difference a b → AnswersDifference (λ r. r) a b answer
 difference_answers_fraction-from a b answer h k e = subst (AnswersDifference (λ r. r) a b) (sym e) (difference_answers_fraction a b h k)
 
--- what comes over the least common denominator is what the four numbers let through
+-- if the numbers over the least common denominator fit, the reduced fraction is the checked result
 pub total-reached : (a b r : Fraction) (total : ℤ) → IsFraction a → IsFraction b → CommonFits a b → FitsSigned w128 total
     → lowest_terms total (common_denominator a b) ≡ r → checked_fraction (lowest_terms total (common_denominator a b)) ≡ where_fits (four_numbers_fit a b total) r
 total-reached a b r total h k c f e =
@@ -27,7 +27,7 @@ total-reached a b r total h k c f e =
     let four : FourNumbersFit a b total = record { left = c.left; right = c.right; total_fits = f; den = c.den } in
     where_fits-true (fits_fraction l) l (held-fits_fraction l held) ∙ ap Some e ∙ sym (where_fits-true (four_numbers_fit a b total) r (four_numbers_fit-true a b total four))
 
--- a number over the least common denominator, where the steps have their other names
+-- if t is the total and d the denominator, the checked fraction of t over d is that of the total over the denominator
 over_steps : (total t : ℤ) (den d : ℕ) (answer : Option Fraction) → total ≡ t → den ≡ d → answer ≡ checked_fraction (lowest_terms total den) → answer ≡ checked_fraction (lowest_terms t d)
 over_steps total t den d answer e f a =
     a ∙ ap (λ (z : ℤ). checked_fraction (lowest_terms z den)) e ∙ ap (λ (n : ℕ). checked_fraction (lowest_terms t n)) f
@@ -48,7 +48,7 @@ difference-reached a b left right total den answer h k c el er ed f t s =
     over_steps total (numerator_over_common a b -ℤ numerator_over_common b a) den (common_denominator a b) answer (t ∙ rest) ed s
     ∙ total-reached a b (fraction_difference a b) _ h k c (subst (FitsSigned w128) rest f) (difference_over_common a b h.lowest k.lowest)
 
--- where the three numbers or what they come to do not fit, the answer is refused
+-- if the four numbers do not fit, the sum returns None
 refused : (t : Bool) (r : Fraction) → (t ≡ true → ⊥) → None ≡ where_fits t r
 refused true r h = absurd (h refl)
 refused false r h = refl
@@ -62,19 +62,20 @@ difference-refused a b h = refused _ (fraction_difference a b) (λ t. h (FourNum
 pub CommonFits-from : (a b : Fraction) (total : ℤ) → FourNumbersFit a b total → CommonFits a b
 CommonFits-from a b total h = record { left = h.left; right = h.right; den = h.den }
 
--- the three numbers over the least common denominator, by their greatest common divisor
+-- if g is the greatest common divisor of the denominators, the numerators over the common denominator, and this
+-- denominator, are computed with g
 pub numerator-left : (a b : Fraction) (g : ℕ) → g ≡ greatest_common_divisor a.1 b.1 → a.0 *ℤ pos (b.1 / g) ≡ numerator_over_common a b
 numerator-left a b g e = ap (λ (n : ℕ). a.0 *ℤ pos (b.1 / n)) e
 
 pub numerator-right : (a b : Fraction) (g : ℕ) → 0 < a.1 → 0 < b.1 → g ≡ greatest_common_divisor a.1 b.1 → b.0 *ℤ pos (a.1 / g) ≡ numerator_over_common b a
-numerator-right a b g sa sb e = ap (λ (n : ℕ). b.0 *ℤ pos (a.1 / n)) (e ∙ greatest_common_divisor_comm a.1 b.1 sa sb)
+numerator-right a b g sa sb e = ap (λ (n : ℕ). b.0 *ℤ pos (a.1 / n)) (e ∙ greatest_common_divisor_comm a.1 b.1)
 
 pub denominator-common : (a b : Fraction) (g : ℕ) → g ≡ greatest_common_divisor a.1 b.1 → a.1 * (b.1 / g) ≡ common_denominator a b
 denominator-common a b g e = ap (λ (n : ℕ). a.1 * (b.1 / n)) e
 
--- ---- nothing to cancel
+-- ---- the greatest common divisor is 1, so nothing cancels
 
--- a whole number over one that it has nothing in common with is itself in lowest terms
+-- an integer over a coprime denominator is in lowest terms
 pub IsFraction-coprime : (z : ℤ) (d : ℕ) → FitsSigned w128 z → 0 < d → d < 2 ^ 127 → IsGcd (unsigned_abs z) d 1 → IsFraction (z, d)
 IsFraction-coprime z d f some small h = record { fits = f; small = small; lowest = record { positive = some; coprime = h } }
 
@@ -84,17 +85,17 @@ checked_fraction-coprime z d f some small h =
     let same : lowest_terms z d ≡ (z, d) = Stands-same _ _ _ _ _ _ (Stands-lowest_terms z d some) (Stands-itself (z, d) held.lowest) refl in
     sym (where_fits-true (fits_fraction (z, d)) (z, d) (held-fits_fraction (z, d) held)) ∙ sym (ap checked_fraction same)
 
--- ---- equal denominators
+-- ---- the two denominators are equal
 
 IsGcd-itself : (n : ℕ) → IsGcd n n n
 IsGcd-itself n = (dvd_refl n, dvd_refl n, λ d p q. p)
 
--- the greatest common divisor of equal denominators
+-- if the denominators of a and b are equal, their greatest common divisor is that denominator
 pub divisor-same : (a b : Fraction) → 0 < a.1 → a.1 ≡ b.1 → greatest_common_divisor a.1 b.1 ≡ a.1
 divisor-same a b some e =
-    ap (λ (n : ℕ). greatest_common_divisor a.1 n) (sym e) ∙ greatest_common_divisor-is a.1 a.1 a.1 some (IsGcd-itself a.1)
+    ap (λ (n : ℕ). greatest_common_divisor a.1 n) (sym e) ∙ greatest_common_divisor-is a.1 a.1 a.1 (IsGcd-itself a.1)
 
--- over its own denominator a fraction is what it is
+-- if the denominators of a and b are equal, the numerator of a is unchanged over the least common denominator
 pub numerator-same : (a b : Fraction) → 0 < a.1 → a.1 ≡ b.1 → numerator_over_common a b ≡ a.0
 numerator-same a b some e =
     ap (λ (n : ℕ). a.0 *ℤ pos (b.1 / n)) (divisor-same a b some e) ∙ ap (λ (n : ℕ). a.0 *ℤ pos (n / a.1)) (sym e)

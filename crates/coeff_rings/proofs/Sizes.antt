@@ -1,4 +1,4 @@
--- Fractions by sign and sizes: what the steps of the functions of `Frac` come to.
+-- Fractions by sign and absolute values: the results of the steps in the functions of `Frac`.
 use Rattle.std.proofs.Common.{◌≡◌, ◌≢◌, ℕ, zero, suc, ◌*◌, ◌/◌, ◌<◌, ◌≤◌, ◌^◌, sym, refl, ap, ◌∙◌, subst, arith, ℤ, pos, negsuc, ◌*ℤ◌, neg_ℤ, unsigned_abs, int_div, int_lt, Bool, true, false, FitsSigned, Option, Some, None, nat_lt, cond, IfSome, nat_eq, IsTrue, ◌↔◌, inl, inr, ◌⊎◌}
 use Rattle.std.specs.Int.{w128, cast_unsigned, IsGcd, ◌∣◌}
 use Rattle.std.specs.Ordering.{int_eq}
@@ -20,7 +20,7 @@ use Rattle.coeff_rings.specs.Proved.FractionLaws.{num-zero, reciprocal-lowest}
 use Rattle.coeff_rings.specs.Proved.Whole.{fits_from_test, where_fits-true}
 use Rattle.coeff_rings.specs.Proved.FractionAnswers.{checked_fraction-held}
 
--- ---- signs
+-- ---- integers as a sign and an absolute value
 
 pub unsigned_abs-signed : (s : Bool) (n : ℕ) → unsigned_abs (signed s n) ≡ n
 unsigned_abs-signed true zero = refl
@@ -36,7 +36,7 @@ signed_quotient true zero g = ap pos (zero-div g) ∙ sym (ap (λ (n : ℕ). neg
 signed_quotient true (suc n) g = refl
 signed_quotient false n g = refl
 
--- a number from its own sign and size
+-- an integer is determined by its sign and its absolute value
 pub signed_self : (z : ℤ) → signed (int_lt z (pos 0)) (unsigned_abs z) ≡ z
 signed_self (pos n) = not_below (int_lt (pos n) (pos 0)) n (λ t. let below : n < 0 = ltb-true n 0 t in omega arith)
   where
@@ -62,7 +62,7 @@ pub den-turned_over : (n : ℤ) (d : ℕ) → (turned_over n d).1 ≡ unsigned_a
 den-turned_over (pos n) d = refl
 den-turned_over (negsuc n) d = refl
 
--- ---- where sizes do not fit
+-- ---- absolute values that do not fit
 
 pub checked_fraction-num : (r : Fraction) → fits_128_bits r.0 ≡ false → None ≡ checked_fraction r
 checked_fraction-num r e = ap (λ (t : Bool). where_fits t r) (sym (and_left (fits_128_bits r.0) (nat_lt r.1 (2 ^ 127)) e))
@@ -70,7 +70,7 @@ checked_fraction-num r e = ap (λ (t : Bool). where_fits t r) (sym (and_left (fi
 pub checked_fraction-den : (r : Fraction) → 2 ^ 127 ≤ r.1 → None ≡ checked_fraction r
 checked_fraction-den r h = ap (λ (t : Bool). where_fits t r) (sym (and_right (fits_128_bits r.0) (nat_lt r.1 (2 ^ 127)) (le-ltb r.1 (2 ^ 127) h)))
 
--- a size past 2^127 does not fit, with either sign
+-- an absolute value over 2^127 does not fit, with either sign
 pub signed-large : (s : Bool) (n : ℕ) → 2 ^ 127 < n → fits_128_bits (signed s n) ≡ false
 signed-large s n h = false_from_ne_true (fits_128_bits (signed s n)) (λ t. too_large s n (fits_from_test (signed s n) t) h)
   where
@@ -83,9 +83,9 @@ checked_i128-some z w e =
     let parts = cond_some (fits_128_bits z) z w (sym e) in
     (sym parts.1, fits_from_test z parts.0)
 
--- ---- lowest terms of sizes
+-- ---- fractions in lowest terms, by sign and absolute values
 
--- the fraction of a sign and two sizes
+-- the fraction of a sign and two absolute values
 abbrev pub of_sizes : Bool → ℕ → ℕ → Fraction
 of_sizes s n d = (signed s n, d)
 
@@ -96,7 +96,7 @@ pub lowest_terms-sizes : (s : Bool) (n d g : ℕ) → 0 < d → IsGcd n d g → 
 unfolding lowest_terms
 lowest_terms-sizes s n d g some h =
     let divisor : greatest_common_divisor (unsigned_abs (signed s n)) d ≡ g =
-    ap (λ (m : ℕ). greatest_common_divisor m d) (unsigned_abs-signed s n) ∙ greatest_common_divisor-is n d g some h in
+    ap (λ (m : ℕ). greatest_common_divisor m d) (unsigned_abs-signed s n) ∙ greatest_common_divisor-is n d g h in
     let over : ℕ → Fraction = λ m. (int_div (signed s n) (pos m), d / m) in
     let with_num : ℤ → Fraction = λ z. (z, d / g) in
     ap with_num (sym (signed_quotient s n g)) ∙ ap over (sym divisor)
@@ -110,7 +110,8 @@ part_divides n g p = subst (λ (v : ℕ). n / g ∣ v) (div-mul_cancel g p) (dvd
 coprime-parts : (a b x y : ℕ) → IsGcd a b 1 → x ∣ a → y ∣ b → IsGcd x y 1
 coprime-parts a b x y c p q = coprime_from x y (λ k u v. c.2 k (dvd_trans k u p) (dvd_trans k v q))
 
--- what is left of two fractions in lowest terms when each numerator is cancelled with the other denominator
+-- two fractions in lowest terms, after each numerator is cancelled with the other denominator, have a product in
+-- lowest terms
 cancelled_parts : (n d m e g h : ℕ) → 0 < d → 0 < e → IsGcd n d 1 → IsGcd m e 1 → IsGcd n e g → IsGcd m d h
     → (0 < (d / h) * (e / g)) × IsGcd ((n / g) * (m / h)) ((d / h) * (e / g)) 1
 cancelled_parts n d m e g h sd se nd me ne md = (
@@ -144,7 +145,7 @@ IsFraction-sizes s n d w e f some small h = record {
   lowest = record { positive = some; coprime = subst (λ (m : ℕ). IsGcd m d 1) (sym (ap unsigned_abs e ∙ unsigned_abs-signed s n)) h };
 }
 
--- ---- the answers of the steps
+-- ---- the results of the steps of a product and of `Frac::new`
 
 pub product_num-large : (s : Bool) (n d m e g h : ℕ) → 0 < d → 0 < e → IsGcd n d 1 → IsGcd m e 1 → IsGcd n e g → IsGcd m d h
     → 2 ^ 127 < (n / g) * (m / h) → None ≡ checked_fraction (lowest_terms (signed s (n * m)) (d * e))
@@ -158,7 +159,7 @@ product_den-large s n d m e g h sd se nd me ne md large =
     checked_fraction-den (of_sizes s ((n / g) * (m / h)) ((d / h) * (e / g))) large
     ∙ ap checked_fraction (lowest_terms-product s n d m e g h sd se nd me ne md)
 
--- a fraction of two numbers by their signs and sizes
+-- a fraction is determined by the signs and the absolute values of its two numbers
 pub checked_fraction_of-sizes : (num den : ℤ) → den ≢ pos 0
     → checked_fraction (lowest_terms (signed (signs_differ num den) (unsigned_abs num)) (unsigned_abs den)) ≡ checked_fraction_of num den
 checked_fraction_of-sizes num den other =
@@ -178,7 +179,7 @@ quotient-sizes a b some =
     ap (λ (z : ℤ). lowest_terms z (a.1 * unsigned_abs b.0)) (signed_turned_over a.0 b.0 b.1 some)
     ∙ ap (λ (n : ℕ). lowest_terms (a.0 *ℤ (reciprocal b).0) (a.1 * n)) (sym (den-turned_over b.0 b.1))
 
--- the size of a numerator that is not 0
+-- if b is not 0, the absolute value of its numerator is positive
 pub size_positive : (b : Fraction) → InLowestTerms b → b ≢ whole (pos 0) → 0 < unsigned_abs b.0
 size_positive b l other = from b.0 (λ e. other (num-zero b l e))
   where
@@ -187,7 +188,7 @@ size_positive b l other = from b.0 (λ e. other (num-zero b l e))
     from (pos (suc n)) h = omega arith
     from (negsuc n) h = omega arith
 
--- the two numbers of a product, by what was computed
+-- num = (n/g)·(m/h) and den = (d/h)·(e/g) are coprime, and den is positive
 pub product-parts : (n d m e g h num den : ℕ) → 0 < d → 0 < e → IsGcd n d 1 → IsGcd m e 1 → IsGcd n e g → IsGcd m d h
     → num ≡ (n / g) * (m / h) → den ≡ (d / h) * (e / g) → (0 < den) × IsGcd num den 1
 product-parts n d m e g h num den sd se nd me ne md en ed =
@@ -202,7 +203,7 @@ product-answer s n d m e g h num den sd se nd me ne md en ed =
     ap (λ (k : ℕ). checked_fraction (of_sizes s k den)) en ∙ ap (λ (k : ℕ). checked_fraction (of_sizes s ((n / g) * (m / h)) k)) ed
     ∙ ap checked_fraction (lowest_terms-product s n d m e g h sd se nd me ne md)
 
--- the answers of a product and of a quotient, by what was computed
+-- if the steps of a product or a quotient compute these numbers, its result is the checked product or quotient
 pub product-steps : (a b : Fraction) (s : Bool) (n d m e : ℕ) (answer : Option Fraction) → s ≡ signs_differ a.0 b.0
     → n ≡ unsigned_abs a.0 → d ≡ a.1 → m ≡ unsigned_abs b.0 → e ≡ b.1
     → answer ≡ checked_fraction (lowest_terms (signed s (n * m)) (d * e)) → answer ≡ checked_fraction_product a b
@@ -225,7 +226,7 @@ quotient-steps a b s n d m e answer some ps pn pd pm pe is =
     ∙ ap (λ (x : ℕ). value t size a.1 x e) pm ∙ ap (λ (x : ℕ). value t size a.1 b.1 x) pe
     ∙ ap checked_fraction (quotient-sizes a b some)
 
--- a number whose bits are 0
+-- a number whose bits are all 0 is 0
 bits_zero : (z : ℤ) → FitsSigned w128 z → cast_unsigned w128 z ≡ 0 → z ≡ pos 0
 bits_zero (pos n) f e = ap pos e
 bits_zero (negsuc n) f e = absurd (omega (arith, f.sfits))
@@ -237,7 +238,7 @@ zero-tells n d r h e = (
   λ z. eq-eqb (cast_unsigned w128 n) 0 (ap (λ (q : Fraction). cast_unsigned w128 q.0) (e ∙ z)),
 )
 
--- the answer of `Frac::new`, by what was computed
+-- if the steps of `Frac::new` compute these numbers, its result is the checked fraction num/den
 pub new-steps : (num den : ℤ) (s : Bool) (n d : ℕ) (answer : Option Fraction) → (cast_unsigned w128 den ≡ 0 → ⊥) → s ≡ signs_differ num den
     → n ≡ unsigned_abs num → d ≡ unsigned_abs den → answer ≡ checked_fraction (lowest_terms (signed s n) d) → answer ≡ checked_fraction_of num den
 new-steps num den s n d answer other ps pn pd is =

@@ -1,5 +1,4 @@
--- What the types of scalars hold, and the answers of their checked operations:
--- a value where it fits.
+-- The values that the types of scalars hold, and the results of their checked operations: a value if it fits.
 use Rattle.std.specs.Prelude.{ℕ, ◌*◌, ◌/◌, ◌^◌, ◌<◌, Bool, ◌&&◌, ℤ, pos, ◌+ℤ◌, ◌-ℤ◌, ◌*ℤ◌, neg_ℤ}
 use Rattle.std.specs.Prelude.{nat_lt, FitsSigned, Option, Some, None, if◌then◌else◌}
 use Rattle.std.specs.Int.{w128}
@@ -10,31 +9,31 @@ use Rattle.coeff_rings.specs.Fractions.{whole, InLowestTerms, greatest_common_di
 use Rattle.coeff_rings.specs.Fractions.{fraction_difference, fraction_product, fraction_negation}
 use Rattle.coeff_rings.specs.Fractions.{fraction_quotient}
 
--- a value where a test of it holds, and None otherwise
+-- a value if a test of it holds, None otherwise
 abbrev pub where_fits : {A : Type 0} → Bool → A → Option A
 where_fits fits x = if fits then Some x else None
 
--- a whole number where it fits i128
+-- an integer if it fits i128
 abbrev pub checked_i128 : ℤ → Option ℤ
 checked_i128 z = where_fits (fits_128_bits z) z
 
--- a natural number where it fits u128
+-- a natural number if it fits u128
 abbrev pub checked_u128 : ℕ → Option ℕ
 checked_u128 n = where_fits (nat_lt n (2 ^ 128)) n
 
--- ---- fractions of i128
+-- ---- fractions whose numbers fit i128
 
--- what `Frac` holds: a numerator of i128 over a denominator below 2^127, in lowest terms
+-- the fractions of the type `Frac`: a numerator of i128 over a denominator below 2^127, in lowest terms
 pub record IsFraction (r : Fraction) : Type 0 where
   pub fits : FitsSigned w128 r.0
   pub small : r.1 < 2 ^ 127
   pub lowest : InLowestTerms r
 
--- both numbers of a fraction fit i128
+-- whether both numbers of a fraction fit i128
 abbrev pub fits_fraction : Fraction → Bool
 fits_fraction r = fits_128_bits r.0 && nat_lt r.1 (2 ^ 127)
 
--- a fraction where its numbers fit i128
+-- a fraction if its numbers fit i128
 abbrev pub checked_fraction : Fraction → Option Fraction
 checked_fraction r = where_fits (fits_fraction r) r
 
@@ -52,39 +51,39 @@ pub record CommonFits (a b : Fraction) : Type 0 where
   pub right : FitsSigned w128 (numerator_over_common b a)
   pub den : common_denominator a b < 2 ^ 127
 
--- whether the four numbers fit i128: both numerators over the least common denominator, what they
--- come to, and that denominator
+-- whether the four numbers fit i128: both numerators over the least common denominator, their sum or difference, and
+-- that denominator
 abbrev pub four_numbers_fit : Fraction → Fraction → ℤ → Bool
 four_numbers_fit a b total =
     fits_128_bits (numerator_over_common a b) && fits_128_bits (numerator_over_common b a)
     && fits_128_bits total && fits_128_bits (pos (common_denominator a b))
 
--- the sum, refused where one of its four numbers does not fit i128
+-- the sum; None if one of its four numbers does not fit i128
 abbrev pub checked_fraction_sum : Fraction → Fraction → Option Fraction
 checked_fraction_sum a b =
     where_fits (four_numbers_fit a b (numerator_over_common a b +ℤ numerator_over_common b a))
     (fraction_sum a b)
 
--- the difference, refused where one of its four numbers does not fit i128
+-- the difference; None if one of its four numbers does not fit i128
 abbrev pub checked_fraction_difference : Fraction → Fraction → Option Fraction
 checked_fraction_difference a b =
     where_fits (four_numbers_fit a b (numerator_over_common a b -ℤ numerator_over_common b a))
     (fraction_difference a b)
 
--- the product, refused where the reduced fraction does not fit
+-- the product; None if the reduced fraction does not fit
 abbrev pub checked_fraction_product : Fraction → Fraction → Option Fraction
 checked_fraction_product a b = checked_fraction (fraction_product a b)
 
--- the quotient, refused where the reduced fraction does not fit
+-- the quotient; None if the reduced fraction does not fit
 abbrev pub checked_fraction_quotient : Fraction → Fraction → Option Fraction
 checked_fraction_quotient a b = checked_fraction (fraction_quotient a b)
 
--- the negation, refused at the numerator -2^127 alone
+-- the negation; None only for the numerator -2^127
 abbrev pub checked_fraction_negation : Fraction → Option Fraction
 checked_fraction_negation a =
     if int_eq a.0 (neg_ℤ (pos (2 ^ 127))) then None else Some (fraction_negation a)
 
--- the fraction num/den, refused where den is 0 or the reduced fraction does not fit
+-- the fraction num/den; None if den is 0 or the reduced fraction does not fit
 abbrev pub checked_fraction_of : ℤ → ℤ → Option Fraction
 checked_fraction_of num den =
     if int_eq den (pos 0) then None else checked_fraction_quotient (whole num) (whole den)

@@ -1,10 +1,11 @@
--- Fractions of whole numbers, the values of scalars, and their arithmetic (school arithmetic).
-use Rattle.std.specs.Prelude.{ℕ, zero, suc, ◌*◌, ◌/◌, ◌%◌, ◌<◌, Bool, ◌&&◌, ℤ, pos, negsuc, neg_ℤ}
-use Rattle.std.specs.Prelude.{◌+ℤ◌, ◌-ℤ◌, ◌*ℤ◌, unsigned_abs, int_div, nat_eq, if◌then◌else◌}
+-- Fractions of integers, the values of scalars, and their arithmetic (school arithmetic).
+use Rattle.std.specs.Prelude.{ℕ, suc, ◌*◌, ◌/◌, ◌<◌, ℤ, pos, negsuc, neg_ℤ}
+use Rattle.std.specs.Prelude.{◌+ℤ◌, ◌-ℤ◌, ◌*ℤ◌, unsigned_abs, int_div}
 use Rattle.std.specs.Int.{IsGcd}
+use Rattle.sym_model.specs.Canonical.{gcd}
 use Rattle.sym_model.specs.Expansion.{Fraction}
 
--- a whole number as a fraction
+-- an integer as a fraction
 abbrev pub whole : ℤ → Fraction
 whole z = (z, 1)
 
@@ -12,30 +13,20 @@ whole z = (z, 1)
 abbrev pub whole_count : ℕ → Fraction
 whole_count n = whole (pos n)
 
--- a fraction times d, a multiple of its denominator: the whole number with the fraction cleared
+-- a fraction times d, an integer if d is a multiple of its denominator
 abbrev pub scaled : ℕ → Fraction → ℤ
 scaled d r = r.0 *ℤ pos (d / r.1)
 
--- the denominator is positive, and nothing but 1 divides both numbers
+-- the denominator is positive, and only 1 divides both numbers
 pub record InLowestTerms (r : Fraction) : Type 0 where
   pub positive : 0 < r.1
   pub coprime : IsGcd (unsigned_abs r.0) r.1 1
 
--- whether k divides both a and b
-abbrev pub divides_both : ℕ → ℕ → ℕ → Bool
-divides_both k a b = nat_eq (a % k) 0 && nat_eq (b % k) 0
-
--- the greatest number up to the first that divides both others
-unfoldable pub greatest_divisor_to : ℕ → ℕ → ℕ → ℕ
-greatest_divisor_to zero a b = 0
-greatest_divisor_to (suc k) a b =
-    if divides_both (suc k) a b then suc k else greatest_divisor_to k a b
-
--- the greatest common divisor of a number and a positive one
+-- the greatest common divisor of two numbers
 unfoldable pub greatest_common_divisor : ℕ → ℕ → ℕ
-greatest_common_divisor a b = greatest_divisor_to b a b
+greatest_common_divisor a b = gcd a b
 
--- a whole number over a positive one, in lowest terms
+-- an integer over a positive number, in lowest terms
 unfoldable pub lowest_terms : ℤ → ℕ → Fraction
 lowest_terms n d =
     let g = greatest_common_divisor (unsigned_abs n) d in
@@ -57,7 +48,7 @@ fraction_product a b = lowest_terms (a.0 *ℤ b.0) (a.1 * b.1)
 abbrev pub fraction_negation : Fraction → Fraction
 fraction_negation a = (neg_ℤ a.0, a.1)
 
--- n/d turned over: the two numbers change places, and the sign stays above
+-- d/n: numerator and denominator of n/d exchanged, with the sign in the numerator
 abbrev pub turned_over : ℤ → ℕ → Fraction
 turned_over (pos n) d = (pos d, n)
 turned_over (negsuc n) d = (neg_ℤ (pos d), suc n)
@@ -66,6 +57,6 @@ turned_over (negsuc n) d = (neg_ℤ (pos d), suc n)
 abbrev pub reciprocal : Fraction → Fraction
 reciprocal a = turned_over a.0 a.1
 
--- a quotient by what is not 0: the product with one over it
+-- a quotient by a fraction that is not 0: the product with one over it
 abbrev pub fraction_quotient : Fraction → Fraction → Fraction
 fraction_quotient a b = fraction_product a (reciprocal b)

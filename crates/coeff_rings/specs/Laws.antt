@@ -42,7 +42,7 @@ pub record RingLaws {A : Type 0} (held : A → Type 0) (value : A → Fraction) 
       × (scaled (d * e) (fraction_product (value a) (value b))
       ≡ scaled d (value a) *ℤ scaled e (value b))
 
--- a quotient by what is not 0, times what it was divided by, is back
+-- a quotient by b, which is not 0, times b is the dividend
 pub record FieldLaws {A : Type 0} (held : A → Type 0) (value : A → Fraction) : Type 0 where
   pub quotient_cancels : (a b : A) → held a → held b → value b ≢ whole (pos 0)
       → fraction_product (fraction_quotient (value a) (value b)) (value b) ≡ value a

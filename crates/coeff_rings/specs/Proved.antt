@@ -1,5 +1,5 @@
--- Proofs of the laws that the impls of the traits cite. They stand here since an impl's law may
--- cite no lemma of its own crate but one of specs/; no contract speaks of what stands here alone.
+-- Proofs of the laws that the implementations of the traits cite. They are here because a law of an implementation
+-- may cite only lemmas of specs/ of its own crate; no contract uses a definition that occurs only here.
 pub mod Divisors
 pub mod Fractions
 pub mod Cleared

@@ -1,5 +1,5 @@
--- Where a sum, a difference, a product, a quotient or a negation must be answered: its numbers,
--- with the fractions cleared, stay below 2^127.
+-- Conditions under which a sum, a difference, a product, a quotient or a negation must have a result: its numbers,
+-- with the fractions cleared, are below 2^127.
 use Rattle.std.specs.Prelude.{ℕ, ◌+◌, ◌*◌, ◌/◌, ◌^◌, ◌<◌, unsigned_abs}
 use Rattle.std.specs.Int.{◌∣◌}
 use Rattle.sym_model.specs.Expansion.{Fraction}
@@ -28,7 +28,7 @@ pub record HasRoomForProduct (d e : ℕ) (a b : Fraction) : Type 0 where
   pub right : b.1 ∣ e
   pub room : magnitude d a * magnitude e b < 2 ^ 127
 
--- the first and one over the second have room for a product
+-- a and 1/b have room for a product
 abbrev pub HasRoomForQuotient : ℕ → ℕ → Fraction → Fraction → Type 0
 HasRoomForQuotient d e a b = HasRoomForProduct d e a (reciprocal b)
 

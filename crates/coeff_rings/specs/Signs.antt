@@ -1,7 +1,7 @@
--- Signs and sizes of whole numbers.
+-- Signs and absolute values of integers.
 use Rattle.std.specs.Prelude.{ℕ, ℤ, pos, negsuc, neg_ℤ, Bool, true, false}
 
--- the whole number of a sign, true below 0, and a size
+-- the integer with the absolute value n, negative if the sign is true
 abbrev pub signed : Bool → ℕ → ℤ
 signed true n = neg_ℤ (pos n)
 signed false n = pos n

@@ -28,7 +28,7 @@ impl Model for Count {
 }
 
 impl Count {
-    /// The scalar of a number.
+    /// The scalar with the value `v`.
     pub fn new(v: u128) -> Count
         ensures { result ≡ v }
     {
@@ -42,7 +42,7 @@ impl Count {
         self.number
     }
 
-    /// The product, or `None` exactly where it is 2^128 or more.
+    /// The product; `None` if and only if it is 2^128 or more.
     pub fn mul(self, other: Count) -> Option<Count>
         ensures { result ≡ checked_u128 (self * other) }
     {

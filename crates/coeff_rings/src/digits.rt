@@ -5,7 +5,7 @@ ghost use Rattle.std.specs.Fmt.{signed_decimal};
 use itoa::Buffer;
 use std::marker::Model;
 
-/// The most bytes that the text of a scalar has: a sign, two numbers of 39 digits and a slash.
+/// The greatest length of the text of a scalar: a sign, two numbers of 39 digits and a slash.
 const CAPACITY: usize = 80;
 
 /// A buffer of 80 bytes with a length. A contract sees the bytes that it holds.
@@ -47,7 +47,7 @@ impl Digits {
         self.len = 0;
     }
 
-    /// Appends the number's decimal text, where it has room whatever the number is.
+    /// Appends the number's decimal text; there is room for every number.
     pub(crate) fn put_signed(&mut self, number: i128)
         requires { length self.old ≤ 40 }
         ensures text { self.new ≡ self.old ++ signed_decimal number }
@@ -57,7 +57,7 @@ impl Digits {
         self.put(buffer.format(number).as_bytes());
     }
 
-    /// Appends the number's decimal text, where it has room whatever the number is.
+    /// Appends the number's decimal text; there is room for every number.
     pub(crate) fn put_unsigned(&mut self, number: u128)
         requires { length self.old ≤ 41 }
         ensures text { self.new ≡ self.old ++ decimal number }

@@ -1,4 +1,4 @@
-//! Fractions of whole numbers of 128 bits, in lowest terms.
+//! Fractions of integers of 128 bits, in lowest terms.
 ghost use Rattle.std.specs.Prelude.{refl, ◌≡◌, ℕ, ℤ, pos, neg_ℤ, ◌+◌, ◌*◌, ◌<◌, ◌^◌, ◌*ℤ◌, Bool};
 ghost use Rattle.std.specs.Prelude.{unsigned_abs, FitsSigned, SomeIff, IfSome};
 ghost use Rattle.std.specs.Int.{w128, IsGcd, ◌∣◌};
@@ -53,7 +53,7 @@ impl Model for Frac {
 }
 
 impl Frac {
-    /// The fraction `num/den`, or `None` exactly where `den` is 0 or the reduced fraction with a
+    /// The fraction `num/den`; `None` if and only if `den` is 0 or the reduced fraction with a
     /// positive denominator does not fit.
     pub fn new(num: i128, den: i128) -> Option<Frac>
         ensures value { result ≡ checked_fraction_of num den }
@@ -85,7 +85,7 @@ impl Frac {
         self.den as i128
     }
 
-    /// The sizes of the two numbers.
+    /// The absolute value of the numerator, and the denominator.
     fn sizes(&self) -> Sizes
         ensures value { result ≡ record { num = unsigned_abs self.now.0; den = self.now.1 } }
         ensures lowest { (0 < result.den) × IsGcd result.num result.den 1 }
@@ -231,7 +231,7 @@ impl Field for Frac {
     ghost field_laws = { field_laws_fraction };
 }
 
-/// The sizes of a fraction's two numbers.
+/// The absolute value of the numerator, and the denominator, of a fraction.
 #[derive(Clone, Copy)]
 struct Sizes {
     num: u128,
@@ -270,7 +270,7 @@ fn differ_in_sign(a: i128, b: i128) -> bool
     (a < 0) != (b < 0)
 }
 
-/// The number times a factor below 2^127, where it fits.
+/// The number times a factor below 2^127; `None` if it does not fit.
 fn scaled(number: i128, factor: u128) -> Option<i128>
     requires { factor < 2 ^ 127 }
     ensures { SomeIff result (FitsSigned w128 (number *ℤ pos factor)) (number *ℤ pos factor) }
@@ -278,7 +278,8 @@ fn scaled(number: i128, factor: u128) -> Option<i128>
     CheckedMul::checked_mul(&number, &(factor as i128))
 }
 
-/// Two fractions over their least common denominator, where the three numbers fit.
+/// Two fractions over their least common denominator; `None` if one of the three numbers does not
+/// fit.
 #[inline(always)]
 fn over_common(a: Frac, b: Frac) -> Option<Common>
     ensures held { IsFraction a × IsFraction b }
@@ -314,7 +315,7 @@ fn over_common(a: Frac, b: Frac) -> Option<Common>
     })
 }
 
-/// The whole number of a sign and a size, where it fits.
+/// The integer with a sign and an absolute value; `None` if it does not fit.
 fn with_sign(negative: bool, size: u128) -> Option<i128>
     ensures { result ≡ checked_i128 (signed negative size) }
 {
@@ -328,7 +329,7 @@ fn with_sign(negative: bool, size: u128) -> Option<i128>
     None
 }
 
-/// The fraction of a sign and two sizes with no common divisor, where it fits.
+/// The fraction `num/den` with a sign, for coprime numbers; `None` if it does not fit.
 fn from_sizes(negative: bool, num: u128, den: u128) -> Option<Frac>
     requires positive { 0 < den }
     requires coprime { IsGcd num den 1 }
@@ -341,7 +342,7 @@ fn from_sizes(negative: bool, num: u128, den: u128) -> Option<Frac>
     Some(Frac { num, den })
 }
 
-/// The fraction of a sign and two sizes in lowest terms, where it fits.
+/// The fraction `num/den` with a sign, in lowest terms; `None` if it does not fit.
 fn reduced(negative: bool, num: u128, den: u128) -> Option<Frac>
     requires { 0 < den }
     ensures { result ≡ checked_fraction (lowest_terms (signed negative num) den) }
@@ -350,9 +351,9 @@ fn reduced(negative: bool, num: u128, den: u128) -> Option<Frac>
     from_sizes(negative, num / divisor, den / divisor)
 }
 
-/// A whole number over a positive one in lowest terms, where it fits. Each common divisor of the
-/// two divides `divisor`, so that nothing is left to cancel where that is 1,
-/// and little to search where it is small.
+/// The fraction `num/den` in lowest terms; `None` if it does not fit. Each common divisor of the
+/// two numbers divides `divisor`, so nothing can be cancelled if that is 1, and there is little to
+/// search if it is small.
 #[inline(always)]
 fn quotient(num: i128, den: u128, divisor: u128) -> Option<Frac>
     requires positive { 0 < den }
@@ -369,9 +370,9 @@ fn quotient(num: i128, den: u128, divisor: u128) -> Option<Frac>
     from_sizes(num < 0, size / shared, den / shared)
 }
 
-/// The product of two fractions of sizes, each in lowest terms, with a sign, where it fits. What
-/// can be cancelled is cancelled before the numbers are multiplied, so that no product is too large
-/// unless the answer is.
+/// The product of two fractions in lowest terms, given by their absolute values, with a sign;
+/// `None` if it does not fit. Common factors are cancelled before the numbers are multiplied, so a
+/// product is too large only if the answer is.
 fn product(negative: bool, left: Sizes, right: Sizes) -> Option<Frac>
     requires left { (0 < left.den) × IsGcd left.num left.den 1 }
     requires right { (0 < right.den) × IsGcd right.num right.den 1 }

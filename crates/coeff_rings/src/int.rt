@@ -1,4 +1,4 @@
-//! Whole numbers of 128 bits.
+//! Integers of 128 bits.
 ghost use Rattle.std.specs.Prelude.{refl, ◌≡◌, ℤ, pos, ◌+ℤ◌, ◌-ℤ◌, ◌*ℤ◌, neg_ℤ, FitsSigned};
 ghost use Rattle.std.specs.Int.{w128};
 ghost use Rattle.std.proofs.Common.{sym};
@@ -17,7 +17,7 @@ use crate::scalar::{Ring, Scalar};
 use num_traits::{CheckedAdd, CheckedMul, CheckedNeg, CheckedSub};
 use std::marker::Model;
 
-/// A whole number from -2^127 to 2^127 - 1. A contract sees the number.
+/// An integer from -2^127 to 2^127 - 1. A contract sees the number.
 #[derive(Clone, Copy, PartialEq, Eq, Debug)]
 pub struct Int {
     number: i128,
@@ -32,7 +32,7 @@ impl Model for Int {
 }
 
 impl Int {
-    /// The scalar of a number.
+    /// The scalar with the value `v`.
     pub fn new(v: i128) -> Int
         ensures { result ≡ v }
     {

@@ -1,21 +1,34 @@
 //! Exact coefficients: integers, counts and fractions of 128 bits. Each operation gives the exact
-//! value or `None`. Nothing here takes memory.
+//! value or `None`. The crate also has greatest common divisors, factorials, products, common
+//! denominators and quotients of integers. Nothing here takes memory.
 //!
 //! What is proved:
 //!
 //! `Int`, `Count` and `Frac`: each operation gives the sum, difference, product or quotient of the
-//! values, and `None` exactly if its documentation says so;
-//! the laws of room say when there is a result.
+//! values, and `None` if and only if its documentation says so; the laws of room state when there
+//! is a result.
+//!
+//! `gcd`, `factorial`, `common_denominator` and `denominator_product` are those of the definitions;
+//! the last two, and `product_of`, return an error if and only if the absolute value is 2^127 or
+//! more; `quotient_of` is the fraction in lowest terms.
 #![tactic(auto)]
 
 mod count;
+mod denominators;
 mod digits;
+mod divisors;
 mod frac;
 mod int;
+mod products;
+mod quotients;
 mod scalar;
 
 pub use count::Count;
+pub use denominators::{Common, common_denominator, denominator_product};
 pub use digits::Digits;
+pub use divisors::gcd;
 pub use frac::Frac;
 pub use int::Int;
+pub use products::{factorial, product_of};
+pub use quotients::quotient_of;
 pub use scalar::{Field, Ring, Scalar};

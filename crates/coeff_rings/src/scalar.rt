@@ -1,12 +1,11 @@
 //! Traits of coefficients. A scalar has a value, a fraction in lowest terms, and each of its
-//! operations gives the exact value or `None`. A contract says which by a ghost function of the
-//! scalars, such as
-//! `checked_sum`, so that code over any scalar can say when its ring refuses. The exact result,
-//! whether it fits or not, has a name too, such as `sum`.
+//! operations gives the exact value or `None`. A contract states which by a ghost function of the
+//! scalars, such as `checked_sum`, so that code over any scalar can state when its ring refuses.
+//! The exact result, whether it fits or not, has a name too, such as `sum`.
 //!
 //! The laws below a trait's functions are for code over any scalar. Some of them require `is_held`,
-//! which is true of every scalar in a program:
-//! each function states it of its arguments and of its result.
+//! which is true of every scalar in a program: each function states it of its arguments and of its
+//! result.
 ghost use Rattle.std.specs.Prelude.{◌≡◌, ◌≢◌, ◌↔◌, ℕ, ℤ, pos, List, Option, Some, IsTrue, IfSome};
 ghost use Rattle.sym_model.specs.Expansion.{Fraction};
 ghost use Rattle.coeff_rings.specs.Fractions.{whole, InLowestTerms, fraction_sum, fraction_product};
@@ -22,18 +21,18 @@ pub trait Scalar: Copy {
     // The value of a scalar, as a fraction.
     ghost value: { Self → Fraction };
 
-    // The scalars 0 and 1.
+    // The two constants 0 and 1 of the type.
     ghost zero: { Self };
 
     ghost one: { Self };
 
-    // What is true of every scalar of the type.
+    // A property of every scalar of the type in a program.
     ghost is_held: { Self → Type 0 };
 
     // The exact sum, whether it fits or not.
     ghost sum: { Self → Self → Self };
 
-    // The result of `add`.
+    // The result of `add`: `None` if the type cannot hold the sum.
     ghost checked_sum: { Self → Self → Option Self };
 
     /// The scalar 0.
@@ -53,8 +52,8 @@ pub trait Scalar: Copy {
         ensures zero { IsTrue result ↔ (value self.now ≡ whole (pos 0)) }
         ensures held { is_held self.now };
 
-    /// The sum, or `None` if the type cannot hold it. A sum with 0 is always given, and so is one
-    /// with room: over a common denominator below 2^127 with which the absolute values of the
+    /// The sum, or `None` if the type cannot hold it. A sum with 0 always has a result, and so has
+    /// a sum with room: over some common denominator below 2^127 the absolute values of the
     /// numerators add up to less than 2^127.
     fn add(self, other: Self) -> Option<Self>
         ensures sum { result ≡ checked_sum self other }
@@ -63,7 +62,7 @@ pub trait Scalar: Copy {
         ensures held_sum { IfSome result is_held };
 
     /// Replaces the contents of the buffer by the value's decimal text: `NUM/DEN` in lowest terms,
-    /// and a whole value without its denominator.
+    /// and an integer without a denominator.
     fn digits(&self, out: &mut Digits)
         ensures text { out.new ≡ decimal_text (value self.now) }
         ensures held { is_held self.now };
@@ -90,7 +89,7 @@ pub trait Scalar: Copy {
 
 /// Scalars that can also be negated, subtracted and multiplied.
 pub trait Ring: Scalar {
-    // The results of `neg`, `sub` and `mul`.
+    // The results of `neg`, of `sub` and of `mul`: `None` if the type cannot hold them.
     ghost checked_negation: { Self → Option Self };
 
     ghost checked_difference: { Self → Self → Option Self };
@@ -100,29 +99,30 @@ pub trait Ring: Scalar {
 
     ghost checked_product: { Self → Self → Option Self };
 
-    /// The scalar of a whole number.
+    /// The scalar of an integer.
     fn from_whole(v: i128) -> Self
         ensures value { Self.value result ≡ whole v }
         ensures held { Self.is_held result };
 
-    /// The negation, or `None` if the type cannot hold it. It is given if the absolute value times
-    /// its denominator is below 2^127.
+    /// The negation, or `None` if the type cannot hold it. It has a result if the absolute value
+    /// times its denominator is below 2^127.
     fn neg(self) -> Option<Self>
         ensures negation { result ≡ checked_negation self }
         ensures answer { AnswersNegation Self.value self result }
         ensures held { Self.is_held self }
         ensures held_negation { IfSome result Self.is_held };
 
-    /// The difference, or `None` if the type cannot hold it. It is given if a sum would have room.
+    /// The difference, or `None` if the type cannot hold it. It has a result if a sum would have
+    /// room.
     fn sub(self, other: Self) -> Option<Self>
         ensures difference { result ≡ checked_difference self other }
         ensures answer { AnswersDifference Self.value self other result }
         ensures held { Self.is_held self × Self.is_held other }
         ensures held_difference { IfSome result Self.is_held };
 
-    /// The product, or `None` if the type cannot hold it. It is given if it has room: over
-    /// multiples of the two denominators whose product is below 2^127, with which the product of
-    /// the absolute values of the numerators is below 2^127.
+    /// The product, or `None` if the type cannot hold it. It has a result if it has room: over some
+    /// multiples of the two denominators whose product is below 2^127, the product of the absolute
+    /// values of the numerators is below 2^127.
     fn mul(self, other: Self) -> Option<Self>
         ensures product { result ≡ checked_product self other }
         ensures answer { AnswersProduct Self.value self other result }
@@ -156,11 +156,11 @@ pub trait Ring: Scalar {
 
 /// A ring with quotients by scalars other than 0.
 pub trait Field: Ring {
-    // The result of `div`.
+    // The result of `div`: `None` if the type cannot hold it.
     ghost checked_quotient: { Self → Self → Option Self };
 
-    /// The quotient, or `None` if the type cannot hold it. It is given if the product of the first
-    /// and one over the second has room.
+    /// The quotient, or `None` if the type cannot hold it. There is a result if the product of
+    /// `self` and 1/`other` has room.
     fn div(self, other: Self) -> Option<Self>
         requires { Self.value other ≢ whole (pos 0) }
         ensures quotient { result ≡ checked_quotient self other }

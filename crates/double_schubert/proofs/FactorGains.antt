@@ -1,4 +1,4 @@
--- What a list of terms y^e·S_w gains by a product with x_r - y_c.
+-- The terms that a list of terms y^e·S_w gains by a product with x_r - y_c.
 use Rattle.std.proofs.Common.{◌≡◌, ℕ, ◌+◌, ◌*◌, ◌^◌, ◌≤◌, max, List, [], ◌∷◌, ◌++◌, length, refl, sym, ap, ap₂, ◌∙◌, subst, inl, inr, arith, ℤ, pos, negsuc, ◌*ℤ◌}
 use Rattle.std.specs.Prelude.{nat_abs, neg_ℤ, ◌&&◌}
 use Rattle.std.specs.Cmp.{IsEquivalence}
@@ -16,15 +16,14 @@ use Rattle.sym_model.proofs.Polynomials.{pair_ext, pair_factor, pair_total, pair
 use Rattle.sym_model.proofs.Ring.{product-one}
 use Rattle.sym_model.proofs.Sums.{total_among, total_ext}
 use Rattle.sym_model.proofs.WholeTerms.{pair_of_combined}
-use Rattle.double_schubert_laws.specs.Factors.{over_factor, acted}
-use Rattle.double_schubert_laws.proofs.ProductSteps.{product_identity}
+use Rattle.double_schubert_laws.specs.Factors.{over_factor}
 use Rattle.double_schubert_laws.proofs.ShiftedStep.{shifted_step}
 use Rattle.sparse_polys.specs.Labels.{same_pair}
 use Rattle.linear_combinations.specs.Gains.{over, mass, scaled, replaced, HaveLabels, Gains, Overflows}
 use Rattle.linear_combinations.proofs.Gains.{scaled_append, replaced_over, gains_both, overflows_both, overflows_more, overflows_as, overflows_alone, mass_at_append}
 use Rattle.linear_combinations.proofs.Masses.{mass_replaced, labels_replaced, labels_gained}
 use Rattle.linear_combinations.proofs.Totals.{term-among}
-use Rattle.transition_walk.proofs.Labels.{label_one_line, one_one_line}
+use Rattle.transition_walk.proofs.Labels.{label_one_line}
 use Rattle.double_schubert.specs.Shifts.{ShiftedSum, IsWithin, IsShiftedTable, equal, each_beside, factor_terms, greatest_length}
 use Rattle.double_schubert.specs.FactorLaws.{over_terms, mass_terms, labels_terms}
 use Rattle.sym_model.proofs.Integers.{product-neg_one}
@@ -44,7 +43,7 @@ scaled_beside : (k a : ℤ) (e : List ℕ) (vs : List (List ℕ)) → scaled k (
 scaled_beside k a e [] = refl
 scaled_beside k a e (v ∷ vs) = ap (λ (l : ShiftedSum). ((v, e), k *ℤ a) ∷ l) (scaled_beside k a e vs)
 
--- with the coefficients k and -k
+-- the terms with the coefficients k and -k
 abbrev pub added : ℤ → ℤ → List ℕ × List ℕ → List (List ℕ) → List (List ℕ) → List ℕ → List ℕ → ShiftedSum
 added k minus label up down more less =
     each_beside k label.1 up ++ (each_beside minus label.1 down ++ (((label.0, more), k) ∷ ((label.0, less), minus) ∷ []))
@@ -66,7 +65,7 @@ factor_scaled k minus r c letter_is label up down more less m l u d a b =
     rest : ShiftedSum
     rest = ((label.0, raised (letter label.0 r) label.1), pos 1) ∷ ((label.0, raised c label.1), negsuc 0) ∷ []
 
--- the four parts, one after another
+-- a table that gains the four parts of a term's product one after another gains the product
 module _ (k minus : ℤ) (label : List ℕ × List ℕ) (up down : List (List ℕ)) (more less : List ℕ) (s0 s1 s2 s3 : ShiftedSum) where
   pub added_gains : (s4 : ShiftedSum) → Gains s0 (each_beside k label.1 up) s1 → Gains s1 (each_beside minus label.1 down) s2
       → Gains s2 (((label.0, more), k) ∷ []) s3 → Gains s3 (((label.0, less), minus) ∷ []) s4 → Gains s0 (added k minus label up down more less) s4
@@ -97,7 +96,7 @@ module _ (k minus : ℤ) (label : List ℕ × List ℕ) (up down : List (List �
       (overflows_both equal s1 (each_beside minus label.1 down) s2 (((label.0, more), k) ∷ ((label.0, less), minus) ∷ []) b
       (overflows_both equal s2 (((label.0, more), k) ∷ []) s3 (((label.0, less), minus) ∷ []) c o))
 
--- a coefficient that has no negative is too large by itself
+-- if the absolute value of k is 2^127 or more, adding k times the terms overflows
 pub overflow_negative : (old : ShiftedSum) (k : ℤ) (r c : ℕ) (label : List ℕ × List ℕ) → 2 ^ 127 ≤ nat_abs (neg_ℤ k) → Overflows equal old (scaled k (factor_terms r c label))
 overflow_negative old k r c label large =
     let a = overflows_alone label_laws same_pair old (label.0, raised c label.1) (neg_ℤ k) large in
@@ -110,13 +109,13 @@ overflow_negative old k r c label large =
     let q = mass_at_append equal x (each_beside (neg_ℤ k) label.1 (covers_down r label.0)) (((label.0, raised (letter label.0 r) label.1), k) ∷ ((label.0, raised c label.1), neg_ℤ k) ∷ []) in
     omega arith) a)
 
--- ---- permutations beside a monomial, in pieces
+-- ---- the terms of a list of permutations beside one monomial, appended
 
 pub beside_append : (k : ℤ) (e : List ℕ) (vs ws : List (List ℕ)) → each_beside k e (vs ++ ws) ≡ each_beside k e vs ++ each_beside k e ws
 beside_append k e [] ws = refl
 beside_append k e (v ∷ vs) ws = ap (λ (l : ShiftedSum). ((v, e), k) ∷ l) (beside_append k e vs ws)
 
--- ---- the product of a list
+-- ---- the product of a list and x_r - y_c
 
 module _ (r c : ℕ) (first : 1 ≤ r) (list : ShiftedSum) where
   pub over_product : (φ : List ℕ × List ℕ → ℤ) → over φ (replaced (factor_terms r c) list) ≡ over (over_factor r c φ) list
@@ -138,7 +137,7 @@ module _ (r c : ℕ) (first : 1 ≤ r) (list : ShiftedSum) where
       labels_gained label_laws same_pair old (replaced (factor_terms r c) list) new is gains (IsWithin (letters + 1) (degree + 1)) was
       (labels_replaced (factor_terms r c) (IsWithin (letters + 1) (degree + 1)) list (λ t m. labels_terms r c letters degree t.0 first last (within t m)))
 
-  -- the sums of the product, by Monk's rule at each label
+  -- if each label of the list is multiplied by Monk's rule, the result is the list's polynomial times x_r - y_c
   pub pair_product : (n : ℕ) (φ : List ℕ → ℤ) → IsShiftedTable list
       → over (over_factor r c (λ label. pair (shifted_in label n) φ)) list ≡ pair (times (difference_in r c n) (combined (λ label. shifted_in label n) list)) φ
   pair_product n φ is =
@@ -155,7 +154,7 @@ module _ (r c : ℕ) (first : 1 ≤ r) (list : ShiftedSum) where
       (sym (pair_times (difference_in r c n) (shifted_in t.0 n) φ)
       ∙ shifted_step n r c t.0.0 t.0.1 φ (one_line is t m) first)))
 
--- no permutation has more letters than the greatest number
+-- each permutation of the list has at most max(r, m) letters, m the greatest number of letters in the list
 pub longest : (list : ShiftedSum) (r letters degree : ℕ) → HaveLabels (IsWithin letters degree) list → HaveLabels (IsWithin (max r (greatest_length list)) degree) list
 longest [] r letters degree h t m = absurd m
 longest (u ∷ list) r letters degree h t (inl e) =
@@ -166,9 +165,3 @@ longest (u ∷ list) r letters degree h t (inr m) =
     let l = longest list r letters degree (λ v i. h v (inr i)) t m in
     let a = l.short in
     record { short = omega arith; small = l.small }
-
--- the identity leaves the list
-pub alone : (n : ℕ) (φ : List ℕ → ℤ) (list : ShiftedSum) → over (λ label. pair (shifted_in label n) φ) list ≡ over (acted n φ (1 ∷ [])) list
-alone n φ list =
-    total_ext (λ (t : (List ℕ × List ℕ) × ℤ). t.1 *ℤ pair (shifted_in t.0 n) φ) (λ (t : (List ℕ × List ℕ) × ℤ). t.1 *ℤ acted n φ (1 ∷ []) t.0)
-    (λ t. ap (λ z. t.1 *ℤ z) (sym (product_identity n φ (1 ∷ []) t.0.0 t.0.1 one_one_line refl))) list

@@ -1,4 +1,4 @@
--- What the impls of `TimesFactor` cite: a product under the transition rule,
+-- Lemmas that the implementations of `Factor` and `Rule` by `TimesFactor` cite: a product under the transition rule,
 -- and the terms of its factor.
 use Rattle.std.proofs.Common.{◌≡◌, ℕ, ◌+◌, ◌≤◌, max, true, List, [], ◌∷◌, ◌++◌, length, refl, sym}
 use Rattle.std.proofs.Common.{ap, ◌∙◌, subst, inl, inr, arith, ℤ, pos, negsuc, ◌+ℤ◌, ◌*ℤ◌}
@@ -6,24 +6,27 @@ use Rattle.std.specs.Prelude.{nat_abs}
 use Rattle.std.proofs.lemmas.Bool.{and_parts}
 use Rattle.std.proofs.lemmas.Int.{ints}
 use Rattle.sym_model.specs.DividedDifference.{raised}
+use Rattle.sym_model.specs.DoubleSchubert.{shifted_in}
 use Rattle.sym_model.specs.LabelLimits.{is_permutation_label, is_monomial_label, is_shifted_label}
 use Rattle.sym_model.specs.Partition.{size}
 use Rattle.sym_model.specs.Permutation.{IsOneLine, IsTransition, letter, times_swap, covers_up}
 use Rattle.sym_model.specs.Permutation.{covers_down}
+use Rattle.sym_model.specs.Polynomial.{pair}
 use Rattle.sym_model.specs.Sum.{Among, total}
 use Rattle.sym_model.proofs.Ring.{ring}
 use Rattle.schubert_laws.proofs.Members.{place_within}
 use Rattle.schubert_laws.proofs.Ranks.{letter_counts}
 use Rattle.double_schubert_laws.specs.Factors.{over_factor, acted}
 use Rattle.double_schubert_laws.proofs.DoubleFromOne.{letter_small}
-use Rattle.double_schubert_laws.proofs.ProductSteps.{product_step}
+use Rattle.double_schubert_laws.proofs.ProductSteps.{product_identity, product_step}
 use Rattle.sparse_polys.proofs.Raising.{size-raised}
 use Rattle.linear_combinations.specs.Gains.{over, mass, HaveLabels}
 use Rattle.linear_combinations.proofs.Gains.{over_append}
-use Rattle.linear_combinations.proofs.Masses.{mass_append, labels_append}
+use Rattle.sym_model.proofs.WholeTerms.{labels_append}
+use Rattle.linear_combinations.proofs.Masses.{mass_append}
 use Rattle.transition_walk.specs.Transitions.{IsShort}
 use Rattle.transition_walk.proofs.Covers.{count_covers, up_within, down_within}
-use Rattle.transition_walk.proofs.Labels.{label_one_line}
+use Rattle.transition_walk.proofs.Labels.{label_one_line, one_one_line}
 use Rattle.transition_walk.specs.Growth.{GrowsBy}
 use Rattle.double_schubert.specs.Shifts.{IsWithin, IsFactor, each_beside, factor_terms}
 use lib.IntN.{*ℤ-zero}
@@ -85,7 +88,7 @@ mass_terms r c label h =
     let n = count_covers r label.0 h in
     omega arith
 
--- each label has a letter and a degree more at most
+-- a term of the factor has at most one letter and one degree more than the label w, e
 pub labels_terms : (r c letters degree : ℕ) (label : List ℕ × List ℕ) → 1 ≤ r → r ≤ letters
     → IsWithin letters degree label
     → HaveLabels (IsWithin (letters + 1) (degree + 1)) (factor_terms r c label)
@@ -130,6 +133,10 @@ label_of : (label : List ℕ × List ℕ) → is_shifted_label label ≡ true �
 label_of label is =
     label_one_line label.0 (and_parts (is_permutation_label label.0)
     (is_monomial_label label.1) is).0
+
+pub factor_start : (n : ℕ) (φ : List ℕ → ℤ) (label : List ℕ × List ℕ)
+    → acted n φ (1 ∷ []) label ≡ pair (shifted_in label n) φ
+factor_start n φ label = product_identity n φ (1 ∷ []) label.0 label.1 one_one_line refl
 
 pub factor_step : (n r s : ℕ) (φ : List ℕ → ℤ) (w : List ℕ) (label : List ℕ × List ℕ) → IsOneLine w
     → IsTransition w r s → is_shifted_label label ≡ true

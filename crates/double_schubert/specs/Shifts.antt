@@ -10,16 +10,16 @@ use Rattle.sym_model.specs.Permutation.{letter, covers_up, covers_down}
 use Rattle.linear_combinations.specs.Entries.{IsCombination}
 use Rattle.linear_combinations.specs.Gains.{WholeTermsOf}
 
--- a sum of terms y^e·S_w: a list of labels (w, e) with whole coefficients
+-- a sum of terms y^e·S_w: a list of labels (w, e) with integer coefficients
 abbrev pub ShiftedSum : Type 0
 ShiftedSum = WholeTermsOf (List ℕ × List ℕ)
 
--- a permutation of at most that number of letters beside a monomial of at most such a degree
+-- a permutation of at most `letters` letters and a monomial of at most the degree `degree`
 pub record IsWithin (letters degree : ℕ) (label : List ℕ × List ℕ) : Type 0 where
   pub short : length label.0 ≤ letters
   pub small : size label.1 ≤ degree
 
--- x_r - y_c has places from 1 to 254
+-- the places r and c of x_r - y_c are from 1 to 254
 pub record IsFactor (r c : ℕ) : Type 0 where
   pub first : 1 ≤ r
   pub last : r ≤ 254
@@ -35,16 +35,16 @@ greatest_length (t ∷ terms) = max (length t.0.0) (greatest_length terms)
 abbrev pub equal : List ℕ × List ℕ → List ℕ × List ℕ → Bool
 equal a b = pointwise nat_eq a.0 b.0 && pointwise nat_eq a.1 b.1
 
--- the list is one that a table holds
+-- the list is a table: no label occurs twice, and no coefficient is 0
 abbrev pub IsShiftedTable : ShiftedSum → Type 0
 IsShiftedTable terms = IsCombination equal is_shifted_label whole terms
 
--- permutations beside one monomial y^e, each with the coefficient k
+-- the labels of permutations and one monomial y^e, each with the coefficient k
 abbrev pub each_beside : ℤ → List ℕ → List (List ℕ) → ShiftedSum
 each_beside k e [] = []
 each_beside k e (v ∷ vs) = ((v, e), k) ∷ each_beside k e vs
 
--- the product of a term and x_r - y_c, by Monk's rule
+-- the product of the term y^e·S_w of the label (w, e) and x_r - y_c, by Monk's rule
 abbrev pub factor_terms : ℕ → ℕ → List ℕ × List ℕ → ShiftedSum
 factor_terms r c label =
     each_beside (pos 1) label.1 (covers_up r label.0)

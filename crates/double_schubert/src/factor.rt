@@ -17,12 +17,12 @@ use sparse_polys::{Monomial, Shifted};
 use std::alloc::Global;
 use transition_walk::Factor;
 
-/// A list of terms y^e·S_w with whole coefficients.
+/// A list of terms y^e·S_w with integer coefficients.
 pub(crate) type Shifts = Lin<Shifted, Int>;
 
-/// The factor x_r - y_c: by Monk's rule (x_r - y_c)·y^e·S_w is the sum of the y^e·S_v over the
-/// covers v = w·t_rj with j > r, and of y_w(r)·y^e·S_w, less that of the y^e·S_v over the covers v
-/// = w·t_ir with i < r, and less y_c·y^e·S_w.
+/// The rule that multiplies by x_r - y_c: by Monk's rule, (x_r - y_c)·y^e·S_w is the sum of the
+/// y^e·S_v over the covers v = w·t_rj with j > r, and of y_w(r)·y^e·S_w, less that of the y^e·S_v
+/// over the covers v = w·t_ir with i < r, and less y_c·y^e·S_w.
 #[derive(Drop)]
 pub(crate) struct TimesFactor {
     pub(crate) r: u16,
@@ -49,7 +49,7 @@ impl Rule<Shifted, Shifted> for TimesFactor {
     }
 }
 
-/// Adds a coefficient at a permutation beside the monomial y.
+/// Adds the coefficient `k` at the label of a permutation and the monomial `y`.
 fn add_one(sum: &mut Shifts, perm: &Perm, y: Monomial, k: Int) -> Result<(), SumFault>
     ensures gains { OnOk result (Gains sum.old (((perm.now, y), k) ∷ []) sum.new) }
     ensures large { IsErrOf result SumFault.Large
@@ -59,7 +59,7 @@ fn add_one(sum: &mut Shifts, perm: &Perm, y: Monomial, k: Int) -> Result<(), Sum
     sum.add_owned(Shifted { perm, y }, k)
 }
 
-/// Adds a coefficient at each of some permutations beside the monomial y.
+/// Adds the coefficient `k` at the label of each permutation and the monomial `y`.
 fn add_beside(sum: &mut Shifts, perms: &[Perm], y: &Monomial, k: Int) -> Result<(), SumFault>
     ensures gains { OnOk result (Gains sum.old (each_beside k y.now perms.now) sum.new) }
     ensures large { IsErrOf result SumFault.Large
@@ -73,10 +73,11 @@ fn add_beside(sum: &mut Shifts, perms: &[Perm], y: &Monomial, k: Int) -> Result<
 
 impl Factor<Shifted> for TimesFactor {
     ghost use Rattle.std.specs.Prelude.{length, max};
+    ghost use Rattle.sym_model.specs.DoubleSchubert.{shifted_in};
     ghost use Rattle.sym_model.specs.Partition.{size};
     ghost use Rattle.sym_model.specs.Permutation.{letter};
     ghost use Rattle.double_schubert_laws.specs.Factors.{acted};
-    ghost use Rattle.double_schubert.specs.FactorLaws.{factor_step, factor_grows};
+    ghost use Rattle.double_schubert.specs.FactorLaws.{factor_start, factor_step, factor_grows};
 
     ghost made = { λ r v. record { r = r; c = letter v r } };
 
@@ -86,6 +87,8 @@ impl Factor<Shifted> for TimesFactor {
 
     ghost extra = { 2 };
 
+    ghost polynomial = { λ n label. shifted_in label n };
+
     ghost product = { acted };
 
     fn at(r: u16, lower: &Perm) -> TimesFactor {
@@ -94,6 +97,8 @@ impl Factor<Shifted> for TimesFactor {
             c: lower.letter(r),
         }
     }
+
+    ghost start = { factor_start };
 
     ghost step = { factor_step };
 
@@ -105,8 +110,8 @@ impl Factor<Shifted> for TimesFactor {
 /// each permutation has at most 254 letters, and each monomial in y a degree below 32,385.
 ///
 /// With m the greater of r and the greatest number of letters of a permutation, the weight of the
-/// product is at most that of the list times m + 2. It is refused as `Large` only where that bound
-/// is 2^127 or more.
+/// product is at most that of the list times m + 2. Returns `Large` only if that bound is 2^127 or
+/// more.
 pub fn times_factor(
     alloc: Global,
     list: Lin<Shifted, Int>,

@@ -22,7 +22,7 @@ use transition_walk::product_of;
 /// The product of the double Schubert polynomials of two permutations of at most 8 letters, as a
 /// sum of terms y^e·S_w in the printed order of their labels.
 ///
-/// It is refused as `Large` only where the weight of the pair is 2^127 or more.
+/// Returns `Large` only if the weight of the pair is 2^127 or more.
 pub fn dschubmult(alloc: Global, u: &Perm, v: &Perm) -> Result<Terms<Shifted, Int>, SumFault>
     requires first { length u.now ≤ 8 }
     requires second { length v.now ≤ 8 }
@@ -37,8 +37,8 @@ pub fn dschubmult(alloc: Global, u: &Perm, v: &Perm) -> Result<Terms<Shifted, In
     }
 }
 
-/// The product, where the transition rule works off the first permutation on the polynomial of the
-/// second.
+/// The product, by the transition rule on `w` with the double Schubert polynomial of `other` as its
+/// label.
 fn act(alloc: Global, w: &Perm, other: &Perm) -> Result<Terms<Shifted, Int>, SumFault>
     requires { max (length w.now) (length other.now) + inversions w.now ≤ 255 }
     ensures value { IfOk result (λ terms. (n : ℕ)

@@ -1,5 +1,5 @@
--- Double Schubert polynomials in any number of variables: however many places they are made with, they are the same, and
--- what is dropped passes products and sums.
+-- Double Schubert polynomials in n variables of each kind: they do not depend on the number of places that they are
+-- made with, and restriction to fewer variables is compatible with products and sums.
 use Rattle.std.proofs.Common.{◌≡◌, ℕ, zero, suc, ◌+◌, ◌<◌, ◌≤◌, List, [], ◌∷◌, ◌++◌, ◌==◌, ◌&&◌, take, drop, length, replicate, refl, sym, ◌∙◌, ap, ap₂, subst, arith, inl, inr, ◌⊎◌, cond, Bool, true, false, None, ℤ, pos, ◌-ℤ◌, ◌*ℤ◌, filter}
 use Rattle.std.proofs.lemmas.List.{replicate-append-replicate}
 use lib.IntN.{*ℤ-zero}
@@ -17,7 +17,7 @@ use Rattle.sym_model.specs.DoubleSchubert.{difference_product, double_schubert, 
 use Rattle.double_schubert_laws.proofs.DiagramProducts.{less, row, diagram}
 use Rattle.double_schubert_laws.proofs.DoubleDominant.{pair_double_ascent, pair_difference_product, In_double}
 
--- ---- the test function of what is left
+-- ---- the test function after restriction to fewer variables
 
 abbrev pub both : ℕ → ℕ → (List ℕ → ℤ) → List ℕ → ℤ
 both m n φ α = cond (fits_in n (take m α) && fits_in n (drop m α)) (φ (resize n (take m α) ++ resize n (drop m α))) (pos 0)
@@ -112,7 +112,7 @@ diagram_wide m r (suc k) φ h α e =
     diagram_wide m (suc r) k (row r (suc m) k φ) (omega arith) α e
     ∙ diagram_in (m + m) m (suc r) (staircase k) (λ β. row r (suc m) k φ (wide m β)) (row r m k (λ β. φ (wide m β))) (row_wide m r m k φ (omega arith) (omega arith) (omega arith)) α e
 
--- ---- the same polynomial
+-- ---- the double Schubert polynomial does not depend on the number of places
 
 wider_within : (n m : ℕ) (w : List ℕ) (φ : List ℕ → ℤ) → rising_pairs w < n → length w ≤ m → pair (double_schubert w (suc m)) φ ≡ pair (double_schubert w m) (λ α. φ (wide m α))
 wider_within zero m w φ b h = absurd (omega arith)
@@ -172,7 +172,7 @@ wider m n w h =
     ∙ pair_in (m + m) (double_schubert w m) (λ α. both (suc m) n φ (wide m α)) (both m n φ) (In_double m w) (λ α l. both_wide m n φ α (omega arith))
     ∙ sym (pair_restrict_both m n (double_schubert w m) φ))
 
--- with any number of places from the length on
+-- the polynomial does not depend on the number of places, if that is at least the length
 pub in_any : (d m n : ℕ) (w : List ℕ) → m ≡ d + length w → Same (restrict_both m n (double_schubert w m)) (double_schubert_in w n)
 in_any zero m n w e = let f : m ≡ length w = omega arith in subst (λ i. Same (restrict_both i n (double_schubert w i)) (double_schubert_in w n)) (sym f) (λ α. refl)
 in_any (suc d) zero n w e = absurd (omega arith)
@@ -180,7 +180,7 @@ in_any (suc d) (suc m) n w e =
     Same_trans (restrict_both (suc m) n (double_schubert w (suc m))) (restrict_both m n (double_schubert w m)) (double_schubert_in w n)
     (wider m n w (omega arith)) (in_any d m n w (omega arith))
 
--- ---- what is dropped passes products
+-- ---- restriction is compatible with products
 
 take-join : (m : ℕ) (α β : List ℕ) → length α ≡ length β → take m (join α β) ≡ join (take m α) (take m β)
 take-join zero α β e = refl
@@ -202,7 +202,7 @@ join_append [] β (c ∷ γ) δ e = absurd (omega arith)
 join_append (a ∷ α) β [] δ e = absurd (omega arith)
 join_append (a ∷ α) β (c ∷ γ) δ e = ap (λ l. (a + c) ∷ l) (join_append α β γ δ (omega arith))
 
--- a test, and what it lets through
+-- whether exponents are in n variables of each kind
 abbrev fits : ℕ → ℕ → List ℕ → Bool
 fits m n α = fits_in n (take m α) && fits_in n (drop m α)
 

@@ -1,5 +1,5 @@
--- Products with differences of two variables, as they act on test functions.
---     less r s φ            what φ gives on (x - y)·x^α, for the variables x at place r and y at place s
+-- Products with differences of two variables, as operators on test functions.
+--     less r s φ            the pairing of φ with (x - y)·x^α, for the variables x at place r and y at place s
 --     row r s c φ           the same for the product of x - y over c variables y from place s on
 --     diagram s r cs φ      the same for a product of rows, one for each variable from place r on
 use Rattle.std.proofs.Common.{◌≡◌, ℕ, zero, suc, ◌+◌, ◌<◌, List, [], ◌∷◌, ◌++◌, length, get_or, replicate, refl, sym, ◌∙◌, ap, ap₂, arith, ℤ, pos, ◌+ℤ◌, ◌-ℤ◌, neg_ℤ}
@@ -20,7 +20,7 @@ abbrev pub diagram : ℕ → ℕ → List ℕ → (List ℕ → ℤ) → List �
 diagram s r [] φ = φ
 diagram s r (c ∷ cs) φ = diagram s (suc r) cs (row r s c φ)
 
--- ---- they commute
+-- ---- raising exponents in two orders gives the same
 
 raise_raise : (r s : ℕ) (α : List ℕ) → raise r (raise s α) ≡ raise s (raise r α)
 raise_raise r s [] = refl
@@ -60,7 +60,7 @@ diagram_less s r (c ∷ cs) p q φ α =
     diagram_ext s (suc r) cs (row r s c (less p q φ)) (less p q (row r s c φ)) (row_less r s c p q φ) α
     ∙ diagram_less s (suc r) cs p q (row r s c φ) α
 
--- ---- one factor more
+-- ---- a row with one more factor, and a diagram with one more empty row
 
 pub row_last : (r s c : ℕ) (φ : List ℕ → ℤ) (α : List ℕ) → row r s (suc c) φ α ≡ less r (s + c) (row r s c φ) α
 row_last r s zero φ α = let e : s ≡ s + 0 = omega arith in ap (λ t. less r t φ α) e
@@ -78,12 +78,12 @@ diagram_raise s r zero i (c ∷ cs) φ α h e =
     ∙ ap (λ p. less p (s + c) (diagram s (suc r) cs (row r s c φ)) α) d
 diagram_raise s r (suc k) i (c ∷ cs) φ α h e = diagram_raise s (suc r) k i cs (row r s c φ) α (omega arith) (omega arith)
 
--- an empty row added
+-- an empty row added at the end changes nothing
 pub diagram_added : (s r : ℕ) (cs : List ℕ) (φ : List ℕ → ℤ) (α : List ℕ) → diagram s r (cs ++ (0 ∷ [])) φ α ≡ diagram s r cs φ α
 diagram_added s r [] φ α = refl
 diagram_added s r (c ∷ cs) φ α = diagram_added s (suc r) cs (row r s c φ) α
 
--- ---- divided differences of them
+-- ---- divided differences of products of x_i - y_j
 
 -- place r is neither k nor k + 1
 abbrev pub Apart : ℕ → ℕ → Type 0
@@ -127,7 +127,7 @@ pub along_less : (k r s : ℕ) (φ : List ℕ → ℤ) (α : List ℕ) → Apart
 along_less k r s φ α p q =
     along_minus k (λ γ. φ (raise r γ)) (λ γ. φ (raise s γ)) α ∙ ap₂ ◌-ℤ◌ (along_raised k r φ α p) (along_raised k s φ α q)
 
--- x·y and x + y pass, where x and y are the variables at places k and k + 1
+-- multiplication by x·y and by x + y commutes with ∂, for the variables x and y at places k and k + 1
 along_both : (k : ℕ) (φ : List ℕ → ℤ) (α : List ℕ) → along k (λ γ. φ (raise k (raise (suc k) γ))) α ≡ along k φ (raise k (raise (suc k) α))
 along_both zero φ [] = refl
 along_both (suc k) φ [] = refl
@@ -149,7 +149,7 @@ along_either zero φ (a ∷ b ∷ α) =
     omega (arith, ints)
 along_either (suc k) φ (a ∷ α) = along_either k (λ β. φ (a ∷ β)) α
 
--- and so do two factors with one y
+-- multiplying by both factors x_k - y and x_(k+1) - y with one y commutes with ∂ along k
 along_two : (k s : ℕ) (φ : List ℕ → ℤ) (α : List ℕ) → Apart k s → along k (less (suc k) s (less k s φ)) α ≡ less (suc k) s (less k s (along k φ)) α
 along_two k s φ α p =
     let b = along_both k φ α in
@@ -189,9 +189,9 @@ diagram_along k s r (c ∷ cs) φ α h l =
     diagram_ext s (suc r) cs (row r s c (along k φ)) (along k (row r s c φ)) (λ γ. row_along k r s c φ γ (apart_after k r h) l) α
     ∙ diagram_along k s (suc r) cs (row r s c φ) α (omega arith) l
 
--- ---- one factor less
+-- ---- ∂ takes one factor out of a diagram
 
--- two equal rows, and one more in the first of them
+-- two equal rows can be taken out of ∂, so that one more factor in the first of them is left in it
 along_rows : (s r c : ℕ) (cs : List ℕ) (φ : List ℕ → ℤ) (α : List ℕ) → suc r < s
     → diagram s r (suc c ∷ c ∷ cs) (along r φ) α ≡ less r (s + c) (along r (diagram s r (c ∷ c ∷ cs) φ)) α
 along_rows s r c cs φ α h =
@@ -220,7 +220,7 @@ along_diagram s r (suc k) i (a ∷ c) (b ∷ d) φ α u e h =
     ∙ diagram_ext s (suc r) d (row r s a (along i φ)) (along i (row r s a φ)) (λ γ. row_along i r s a φ γ (apart_before i r (omega arith)) h) α
     ∙ along_diagram s (suc r) k i c d (row r s a φ) α u.1 (omega arith) h
 
--- ---- at the exponents 0
+-- ---- the value of a divided difference at the exponents 0
 
 along_none : (k n : ℕ) (φ : List ℕ → ℤ) → along k φ (replicate n 0) ≡ pos 0
 along_none zero zero φ = refl
@@ -242,7 +242,7 @@ less_along k s n φ h l =
     let c = along_none k n (λ γ. φ (raise s γ)) in
     omega (arith, ints)
 
--- one factor less: the diagram of the code of a list whose ascent is exchanged, along ∂
+-- if d is the code of a list with an ascent exchanged and c that of the list, ∂ takes the diagram of d to that of c
 pub diagram_one_up : (s k n : ℕ) (c d : List ℕ) (φ : List ℕ → ℤ) → IsOneUp k c d → suc k < s → suc k < n → diagram s 0 d (along k φ) (replicate n 0) ≡ diagram s 0 c φ (replicate n 0)
 diagram_one_up s k n c d φ u h l =
     along_diagram s 0 k k c d φ (replicate n 0) u (omega arith) h

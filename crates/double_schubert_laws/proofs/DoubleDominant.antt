@@ -47,8 +47,7 @@ pair_less N r s f φ i h l =
     let g = pair_minus f (λ α. φ (raise r α)) (λ α. φ (raise s α)) in
     omega (arith, ints)
 
--- x_i - y_j as it stands in the definition
--- the exponents of x_(r+1), in m variables
+-- the exponents of x_(r+1) in m variables
 abbrev pub unit : ℕ → ℕ → List ℕ
 unit r m = resize m (replicate r 0 ++ (1 ∷ []))
 
@@ -64,7 +63,7 @@ pair_variable_in r m φ h =
     ∙ ap (λ i. cond (fits_in m (replicate i 0 ++ (1 ∷ []))) (φ (resize m (replicate i 0 ++ (1 ∷ [])))) (pos 0)) e
     ∙ ap (λ b. cond b (φ (unit r m)) (pos 0)) (fits_in_length m (replicate r 0 ++ (1 ∷ [])) (omega arith))
 
--- what φ gives on x_(r+1) - y_(s+1)
+-- the pairing of φ with x_(r+1) - y_(s+1) is the difference of its values at the two variables
 pub pair_difference_in : (r s m : ℕ) (φ : List ℕ → ℤ) → r < m → s < m
     → pair (difference_in (suc r) (suc s) m) φ ≡ φ (unit r m ++ replicate m 0) -ℤ φ (replicate m 0 ++ unit s m)
 pair_difference_in r s m φ h l =
@@ -133,7 +132,7 @@ pair_factors m r i j (suc c) fs φ d h l n =
     ∙ pair_factors m r i (j + 1) c fs (less r (m + j) φ) d h (omega arith) n
     ∙ ap (λ x. pair (product_of (m + m) fs) (row r x c (less r (m + j) φ))) s
 
--- the factors of the rows after row r, k of them, where row i has c i factors
+-- the factors of the k rows after row r; row i has c i factors
 abbrev rows_from : ℕ → (ℕ → ℕ) → ℕ → ℕ → List Poly
 rows_from m c r k = flat_map (λ i. map (λ j. difference_in i j m) (after 0 (c i))) (after r k)
 
@@ -167,7 +166,7 @@ In_difference_product m n = In_rows m (λ i. n - i) 0 n
 pub In_double : (m : ℕ) (w : List ℕ) → In (m + m) (double_schubert w m)
 In_double m w = In_descended (difference_product (length w) m) (m + m) (rising_pairs w) w (In_difference_product m (length w))
 
--- ---- dominant lists
+-- ---- the polynomial of a dominant list is the product of its diagram
 
 pub pair_double_ascent : (m : ℕ) (w : List ℕ) (k : ℕ) (φ : List ℕ → ℤ) → Rises k w → pair (double_schubert w m) φ ≡ pair (double_schubert (exchange_at k w) m) (along k φ)
 pair_double_ascent m w k φ r =
@@ -200,7 +199,7 @@ pub double_dominant : (m : ℕ) (w : List ℕ) (φ : List ℕ → ℤ) → lengt
     → pair (double_schubert w m) φ ≡ diagram m 0 (code w) φ (replicate (m + m) 0)
 double_dominant m w φ h o f = double_dominant_within (suc (rising_pairs w)) m w φ (omega arith) h o f
 
--- ---- a last letter that is greater than all others
+-- ---- a last letter that is greater than all others does not change the polynomial
 
 last_within : (n m p : ℕ) (w : List ℕ) (φ : List ℕ → ℤ) → rising_pairs w < n → length w < m → Once w → ((a : ℕ) → Among a w → a < p)
     → pair (double_schubert (w ++ (p ∷ [])) m) φ ≡ pair (double_schubert w m) φ
@@ -258,7 +257,7 @@ pair_cells m cs φ h b =
         let y : get_or γ (a + 1 - 1) 0 - 0 ≡ c = omega arith in
         ap₂ ◌∷◌ y (parts_after γ (a + 1) β (λ i. let d : a + 1 + i ≡ a + suc i = omega arith in ap (λ k. get_or γ k 0) d ∙ e (suc i)))
 
--- an entry of a code is at most as long as the list
+-- an entry of a code is at most the length of the list
 entry_small : (w : List ℕ) (i : ℕ) → get_or (code w) i 0 ≤ length w
 entry_small [] i = omega arith
 entry_small (a ∷ w) zero = let s = (code_is_code (a ∷ w)).0 in let l = length-code w in omega arith

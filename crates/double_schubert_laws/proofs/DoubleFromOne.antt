@@ -27,7 +27,7 @@ use Rattle.double_schubert_laws.proofs.DoubleDominant.{last_letter_double, In_do
 use Rattle.double_schubert_laws.proofs.DoubleMonk.{minus_y, monk_double_last}
 use Rattle.double_schubert_laws.proofs.CoverSums.{IsStable, kept_value, at_swap, covers_sum, only_up}
 
--- ---- fixed letters
+-- ---- the polynomial of a permutation with fixed letters added
 
 pub double_added : (m k : ℕ) (w : List ℕ) (φ : List ℕ → ℤ) → IsOneLine w → length w + k ≤ m → pair (double_schubert (w ++ after (length w) k) m) φ ≡ pair (double_schubert w m) φ
 double_added m zero w φ o h = ap (λ v. pair (double_schubert v m) φ) (append-nil w)
@@ -37,7 +37,7 @@ double_added m (suc k) w φ o h =
     ∙ double_added m k (w ++ ((length w + 1) ∷ [])) φ (one_line_next w o) (omega arith)
     ∙ pair_determined (double_schubert (w ++ ((length w + 1) ∷ [])) m) (double_schubert w m) φ (last_letter_double m (length w + 1) w (omega arith) o.once (below_next w o))
 
--- what φ gives on the double Schubert polynomial of a list
+-- the pairing of φ with the double Schubert polynomial of a list
 abbrev pub paired : ℕ → (List ℕ → ℤ) → List ℕ → ℤ
 paired m φ w = pair (double_schubert w m) φ
 
@@ -56,7 +56,7 @@ letter_longer w k q h =
     let lb = length_after (length w) (k + 1) in
     get_or-any (longer w k) q 0 (suc q) (omega arith) ∙ ap (λ j. get_or (longer w k) j (suc q)) i ∙ letter_added (k + 1) w (suc q) (omega arith)
 
--- ---- Monk's rule
+-- ---- Monk's rule for a permutation in m variables of each kind
 
 -- the sum of the double Schubert polynomials of permutations
 abbrev pub doubles : ℕ → List (List ℕ) → Poly
@@ -85,7 +85,7 @@ letter_small w i o h = elim (cases_lt (i - 1) (length w)) [
   | inr l ↦ let p = get_past w (i - 1) i l in omega arith
 ]
 
--- the factor of Monk's rule as it stands in the definition
+-- the factor of Monk's rule is x_(q+1) - y_b
 factor_pairs : (m q a b : ℕ) (f : Poly) (φ : List ℕ → ℤ) → In (m + m) f → q < m → a ≡ b → 1 ≤ b → b ≤ m
     → pair (times (difference_in (suc q) b m) f) φ ≡ pair (times (plus (variable_after q) (minus_y m a)) f) φ
 factor_pairs m q a b f φ i h e c l =
@@ -113,7 +113,7 @@ pair_double_monk m q k w φ o e n =
 pub pair_doubles : (m : ℕ) (ws : List (List ℕ)) (φ : List ℕ → ℤ) → pair (doubles m ws) φ ≡ total (paired m φ) ws
 pair_doubles m ws φ = pair_each (λ (w : List ℕ). double_schubert w m) ws φ
 
--- ---- the transition rule
+-- ---- the transition rule for a permutation in m variables of each kind
 
 abbrev pub DoubleRule : ℕ → List ℕ → ℕ → List ℕ → Type 0
 DoubleRule m w r v = Same (double_schubert w m) (plus (times (difference_in r (letter v r) m) (double_schubert v m)) (doubles m (covers_down r v)))

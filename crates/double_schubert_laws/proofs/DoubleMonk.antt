@@ -24,7 +24,7 @@ use Rattle.sym_model.specs.DoubleSchubert.{difference_product, double_schubert}
 use Rattle.double_schubert_laws.proofs.DiagramProducts.{less, diagram, diagram_less, diagram_raise}
 use Rattle.double_schubert_laws.proofs.DoubleDominant.{pair_less, In_double, In_difference_product, double_dominant}
 
--- ---- a variable y passes a divided difference in x
+-- ---- multiplication by a variable y commutes with divided differences in x
 
 joined_zero : (c : ℕ) → 0 + c ≡ c
 joined_zero c = omega arith
@@ -133,7 +133,7 @@ monk_falling m n r v s h l k φ =
         let b = (s.letters (get_or v r 0) (among_get r 0 v q)).1 in
         omega arith
 
--- ---- Monk's rule, where the last letter is the greatest
+-- ---- Monk's rule, if the last letter is the greatest
 
 pub monk_double_last : (m n r : ℕ) (v : List ℕ) → IsStart n v → r < n → suc n ≤ m → IsMonk (difference_product (suc n) m) (minus_y m) (v ++ (suc n ∷ [])) r
 monk_double_last m n r v s h k =

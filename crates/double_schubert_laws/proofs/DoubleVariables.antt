@@ -100,7 +100,7 @@ difference_fewer r s m n h l =
     ∙ ap₂ ◌-ℤ◌ (both_x r m n φ h) (both_y s m n φ l)
     ∙ sym (pair_difference_any r s n φ))
 
--- ---- the covers are not much longer
+-- ---- bounds for the lengths of covers
 
 length_times_swap : (i j : ℕ) (w : List ℕ) → length (times_swap i j w) ≤ max (length w) j
 length_times_swap i j w =
@@ -132,7 +132,7 @@ down_length r w v m =
     let e = ap length c.2 in
     omega arith
 
--- ---- in n variables
+-- ---- double Schubert polynomials and their products in n variables, made with m places
 
 in_variables : (m n : ℕ) (w : List ℕ) (φ : List ℕ → ℤ) → length w ≤ m → pair (double_schubert w m) (both m n φ) ≡ pair (double_schubert_in w n) φ
 in_variables m n w φ h =
@@ -144,7 +144,7 @@ in_sum m n ws φ h =
     total_among (paired m (both m n φ)) (λ w. pair (double_schubert_in w n) φ) ws (λ w i. in_variables m n w φ (h w i))
     ∙ sym (pair_each (λ (w : List ℕ). double_schubert_in w n) ws φ)
 
--- the product with x_i - y_j, made with m places
+-- the product with x_i - y_j in n variables can be made with m places
 in_product : (r s m n : ℕ) (w : List ℕ) (φ : List ℕ → ℤ) → r < m → s < m → length w ≤ m
     → pair (times (difference_in (suc r) (suc s) n) (double_schubert_in w n)) φ ≡ pair (times (difference_in (suc r) (suc s) m) (double_schubert w m)) (both m n φ)
 in_product r s m n w φ h l k =
@@ -171,7 +171,7 @@ monk_in_letter q s n w o e =
     let g = pair_negate (double_schuberts_in (covers_down (suc q) w) n) φ in
     omega (arith, ints))
 
--- Monk's rule: (x_r - y_w(r))·S_w is the sum over the covers above less that over the covers below
+-- Monk's rule: (x_r - y_w(r))·S_w is the sum over the covers above minus that over the covers below
 pub double_monk_in : (r n : ℕ) (w : List ℕ) → IsOneLine w → 1 ≤ r
     → Same (times (difference_in r (letter w r) n) (double_schubert_in w n)) (plus (double_schuberts_in (covers_up r w) n) (negate (double_schuberts_in (covers_down r w) n)))
 double_monk_in zero n w o h = λ α. absurd (omega arith)
@@ -181,7 +181,7 @@ double_monk_in (suc q) n w o h =
     subst (λ x. Same (times (difference_in (suc q) x n) (double_schubert_in w n)) (plus (double_schuberts_in (covers_up (suc q) w) n) (negate (double_schuberts_in (covers_down (suc q) w) n)))) (sym e)
     (monk_in_letter q (letter w (suc q) - 1) n w o e)
 
--- ---- the transition rule
+-- ---- the transition rule in every number of variables
 
 transition_in_letter : (q l n r s : ℕ) (w v : List ℕ) → IsOneLine w → IsTransition w r s → r ≡ suc q → v ≡ times_swap r s w → letter v r ≡ suc l → suc l ≤ length w → length v ≤ length w → r ≤ length w
     → Same (double_schubert_in w n) (plus (times (difference_in (suc q) (suc l) n) (double_schubert_in v n)) (double_schuberts_in (covers_down r v) n))
@@ -198,7 +198,7 @@ transition_in_letter q l n r s w v o t e f g h k i =
     let z = pair_plus (times (difference_in (suc q) (suc l) n) (double_schubert_in v n)) (double_schuberts_in (covers_down r v) n) φ in
     omega (arith, ints))
 
--- S_w is (x_r - y_v(r))·S_v and the sum over the covers v·t_ir with i < r
+-- S_w is (x_r - y_v(r))·S_v plus the sum over the covers v·t_ir with i < r
 pub double_transition_in : (r s n : ℕ) (w : List ℕ) → IsOneLine w → IsTransition w r s
     → Same (double_schubert_in w n) (plus (times (difference_in r (letter (times_swap r s w) r) n) (double_schubert_in (times_swap r s w) n)) (double_schuberts_in (covers_down r (times_swap r s w)) n))
 double_transition_in r s n w o t =
@@ -239,7 +239,7 @@ kept_in w n o =
     ∙ pair_determined (double_schubert (kept w) (length w)) (double_schubert w (length w)) (both (length w) n φ) (double_kept (length w) w o (omega arith))
     ∙ in_variables (length w) n w φ (omega arith))
 
--- ---- the identity
+-- ---- the double Schubert polynomial of the identity is 1
 
 diagram_nothing : (s r k : ℕ) (φ : List ℕ → ℤ) (α : List ℕ) → diagram s r (replicate k 0) φ α ≡ φ α
 diagram_nothing s r zero φ α = refl

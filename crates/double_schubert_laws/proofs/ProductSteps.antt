@@ -1,8 +1,8 @@
--- The product of S_p and a term y^e·S_w, as the transition rule works it off.
---     factor_step        the term times x_r - y_c
---     product_step       what the rule makes of the product
---     product_identity   the identity leaves the term
---     product_start      where e is nothing, it is the product of two double Schubert polynomials
+-- The product of S_p and a term y^e·S_w, by the transition rule.
+--     factor_step        the product of the term with x_r - y_c
+--     product_step       the product as a sum of products, by the rule for p
+--     product_identity   if p is the identity, the product is the term
+--     product_start      if e is empty, it is the product of two double Schubert polynomials
 use Rattle.std.proofs.Common.{◌≡◌, ℕ, ◌+◌, ◌≤◌, List, [], ◌++◌, ◌&&◌, take, drop, length, replicate, cond, sym, ◌∙◌, ap, arith, length-append, None, ℤ, pos, ◌+ℤ◌, filter}
 use Rattle.std.proofs.lemmas.Int.{ints}
 use Rattle.std.proofs.lemmas.List.{replicate-append-replicate}

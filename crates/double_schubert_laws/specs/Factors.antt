@@ -1,5 +1,4 @@
--- Terms y^e·S_w, by their labels (w, e), as they are multiplied by x_r - y_c and by double Schubert
--- polynomials.
+-- Terms y^e·S_w, given by their labels (w, e), multiplied by x_r - y_c and by double Schubert polynomials.
 use Rattle.std.specs.Prelude.{ℕ, ◌+ℤ◌, ◌-ℤ◌, ℤ, List}
 use Rattle.sym_model.specs.Sum.{total}
 use Rattle.sym_model.specs.Polynomial.{times, pair}
@@ -7,7 +6,7 @@ use Rattle.sym_model.specs.Permutation.{letter, covers_up, covers_down}
 use Rattle.sym_model.specs.DividedDifference.{raised}
 use Rattle.sym_model.specs.DoubleSchubert.{double_schubert_in, shifted_in}
 
--- the sum of a test function over the terms of the product of a term and x_r - y_c, by Monk's rule
+-- the sum of a test function over the terms of the product of a term with x_r - y_c, by Monk's rule
 abbrev pub over_factor : ℕ → ℕ → (List ℕ × List ℕ → ℤ) → List ℕ × List ℕ → ℤ
 over_factor r c φ label =
     ((total (λ v. φ (v, label.1)) (covers_up r label.0)
@@ -15,6 +14,6 @@ over_factor r c φ label =
     +ℤ φ (label.0, raised (letter label.0 r) label.1))
     -ℤ φ (label.0, raised c label.1)
 
--- the pairing of the product of S_p and a term with a test function, in n variables of each
+-- the pairing of a test function with the product of S_p and a term, in n variables of each kind
 abbrev pub acted : ℕ → (List ℕ → ℤ) → List ℕ → List ℕ × List ℕ → ℤ
 acted n φ p label = pair (times (double_schubert_in p n) (shifted_in label n)) φ

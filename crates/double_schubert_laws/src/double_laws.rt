@@ -12,11 +12,12 @@ ghost use Rattle.sym_model.specs.DoubleSchubert.{product_of, difference_in, doub
 ghost use Rattle.sym_model.specs.DoubleSchubert.{double_schubert_in, restrict_both};
 
 /// Every path of divided differences in x gives the same: ∂_i takes S(w; x, y) to S(w·s_i; x, y)
-/// for each descent i of a list w. S(w; x, y) in m variables of each is a polynomial in 2m
+/// for each descent i of a list w. S(w; x, y) in m variables of each kind is a polynomial in 2m
 /// variables.
-/// Where the code of w falls, it is the product of the x_i - y_j over the cells (i, j) of the
-/// diagram of the code. However many variables it is made with, and however many fixed letters end
-/// w, it is the same polynomial in n variables of each; of the identity it is 1.
+///
+/// If the code of w is decreasing, S(w; x, y) is the product of the x_i - y_j over the cells (i, j)
+/// of the diagram of the code. In n variables of each kind it does not depend on the number of
+/// variables that it is made with, nor on fixed letters at the end of w; for the identity it is 1.
 ///
 /// Example: ∂_2 takes (x_1 - y_1)(x_1 - y_2)(x_2 - y_1) = S(3,2,1; x, y) to (x_1 - y_1)(x_1 - y_2)
 /// = S(3,1,2; x, y).

@@ -5,8 +5,8 @@
 //! What is proved:
 //!
 //! `double_schubert_law`: every path of divided differences in x gives the same double Schubert
-//! polynomial, fixed letters change nothing, and a falling code gives the product over its diagram.
-//! `double_monk_law`: Monk's rule with y, and transition.
+//! polynomial, fixed letters change nothing, and a decreasing code gives the product over its
+//! diagram. `double_monk_law`: Monk's rule with y, and transition.
 #![tactic(auto)]
 
 mod double_laws;

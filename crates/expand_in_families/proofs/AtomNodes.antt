@@ -7,14 +7,15 @@ use Rattle.sym_model.specs.Expansion.{Basis, elementaries, completes, power_sums
 use Rattle.sym_model.specs.Expression.{atom}
 use Rattle.sym_model.specs.Weight.{factorial, weight}
 use Rattle.expand_in_families.specs.declared.node.Node.{Node}
-use Rattle.whole_lists.specs.declared.family.Family.{Family}
-use Rattle.whole_lists.specs.declared.family.Family.TheVariants.{Elementary, Complete, PowerSum}
-use Rattle.whole_lists.specs.Families.{basis_in, polynomial_of}
+use Rattle.sparse_polys.specs.declared.family.Family.{Family}
+use Rattle.sparse_polys.specs.declared.family.Family.TheVariants.{Elementary, Complete, PowerSum}
+use Rattle.sparse_polys.specs.Families.{basis_in, polynomial_of}
 use Rattle.basis_change_laws.specs.JoinedLists.{Stands}
 use Rattle.expand_in_families.specs.Nodes.{ClearsTo}
 use Rattle.basis_change_laws.proofs.GrowthBounds.{grown}
 
--- in any basis, m and s too
+-- in any basis, also m and s, a node with the terms of an atom's polynomial, the denominator 1 and the label's
+-- degree clears the atom
 pub clears-atom : (P : ℕ → ℕ → Poly) (basis : Basis) (parts : List ℕ) (c : Node) → c.den ≡ 1 → c.degree ≡ size parts
     → Stands P (factorial (size parts)) (grown (size parts)) (size parts) (λ n. basis_polynomial basis parts n) c.terms → ClearsTo P (atom basis parts) c
 clears-atom P basis parts c d g s =
@@ -25,7 +26,7 @@ clears-atom P basis parts c d g s =
       stands = subst (λ m. Stands P (factorial (size parts)) m (size parts) (λ n. basis_polynomial basis parts n) c.terms) e s;
     }
 
--- the products over the parts are the polynomials of the basis
+-- the polynomials of the basis of a family are products over the parts, so a node for the product is one for the atom
 pub family-atom : (P : ℕ → ℕ → Poly) (family : Family) (parts : List ℕ) (c : Node) → c.den ≡ 1 → c.degree ≡ size parts
     → Stands P (factorial (size parts)) (grown (size parts)) (size parts) (product_over (polynomial_of family) parts) c.terms → ClearsTo P (atom (basis_in family) parts) c
 family-atom P Elementary parts c d g s = clears-atom P elementaries parts c d g s

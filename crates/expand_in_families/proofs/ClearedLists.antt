@@ -1,5 +1,5 @@
--- A list with fractions that a number clears, as a list with whole coefficients: what the change of basis of a partition in m or s
--- gives to the conversion.
+-- A list whose fractions a number clears, as a list with integer coefficients: the change of basis of a partition in
+-- m or s in the form that the conversion needs.
 use Rattle.std.proofs.Common.{◌≡◌, ℕ, ◌+◌, ◌*◌, ◌/◌, ◌%◌, ◌<◌, ◌≤◌, List, [], ◌∷◌, refl, sym, ap, ap₂, ◌∙◌, subst, arith, ℤ, pos, ◌*ℤ◌, inl, inr}
 use Rattle.std.specs.Prelude.{nat_abs}
 use Rattle.std.proofs.lemmas.Int.{ints}
@@ -24,13 +24,12 @@ use Rattle.sym_model.proofs.WholeTerms.{pair_of_combined}
 use Rattle.monomial_laws.specs.ExpressionTerms.{over}
 use Rattle.monomial_laws.proofs.DividedTerms.{IsDivided, over-there, over-missing}
 use Rattle.sparse_polys.proofs.Tables.{term-tests}
-use Rattle.whole_lists.specs.Tables.{IsFractionTable}
-use Rattle.whole_lists.proofs.WholeLists.{Once-keys}
-use Rattle.change_from_monomials.specs.ClearedAnswer.{IsClearedBy}
+use Rattle.sparse_polys.specs.Tables.{IsFractionTable}
+use Rattle.sparse_polys.proofs.WholeLists.{Once-keys}
+use Rattle.basis_change.specs.ClearedAnswer.{IsClearedBy}
 use Rattle.family_lists.proofs.Totals.{absolute-over}
 use Rattle.monomial_laws.proofs.DividedTerms.{value-divided}
 use Rattle.basis_change_laws.specs.JoinedLists.{IsLow, Stands}
-use Rattle.basis_change_laws.proofs.JoinedLists.{each-label}
 use Rattle.sym_model.proofs.Integers.{product_cancel}
 
 module _ (m most d : ℕ) (terms : Terms (List ℕ)) (is : IsFractionTable terms) (c : IsClearedBy m most d terms) where
@@ -62,8 +61,7 @@ module _ (m most d : ℕ) (terms : Terms (List ℕ)) (is : IsFractionTable terms
         ∙ pair_scale (pos m) (f n) φ;
     few = let x = absolute-over m terms in let y = c.few in omega arith;
     labels =
-        each-label (IsLow d) (over m terms)
-        (λ t n. one t (Among_from_map (λ (u : List ℕ × Fraction). (u.0, u.1.0 *ℤ pos (m / u.1.1))) t terms n));
+        λ t n. one t (Among_from_map (λ (u : List ℕ × Fraction). (u.0, u.1.0 *ℤ pos (m / u.1.1))) t terms n);
   }
     where
       one_times : (x : ℤ) → pos 1 *ℤ x ≡ x
@@ -83,7 +81,7 @@ module _ (m most d : ℕ) (terms : Terms (List ℕ)) (is : IsFractionTable terms
           subst (λ (v : List ℕ × ℤ). IsLow d v.0) (sym e)
           (record { partition = (is_label-tells u.0 (term-tests terms is u n).1).partition; low = c.within u n })
 
--- what is cleared over the factorial of d is cleared over that of a greater number, with the growth there
+-- a list cleared over d! is cleared over e! for e ≥ d, with the growth at e
 pub cleared-greater : (den num d e : ℕ) (terms : Terms (List ℕ)) → ((t : List ℕ × Fraction) → Among t terms → 0 < t.1.1) → d ≤ e → IsClearedBy (den * factorial d) (num * grown d) d terms → IsClearedBy (den * factorial e) (num * grown e) e terms
 cleared-greater den num d e terms p l c =
     let r = factorial e / factorial d in

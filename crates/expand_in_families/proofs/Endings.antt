@@ -1,4 +1,4 @@
--- The list divided at the end is the expression.
+-- The list, divided at the end, expands the expression.
 use Rattle.std.proofs.Common.{◌≡◌, ℕ, ◌*◌, ◌<◌, List, sym, ap, ◌∙◌, ℤ, pos, ◌*ℤ◌}
 use Rattle.sym_model.specs.Polynomial.{Poly, coefficient}
 use Rattle.sym_model.specs.Bases.{product_over}
@@ -7,8 +7,8 @@ use Rattle.sym_model.specs.WholeTerms.{WholeTerms, combined}
 use Rattle.sym_model.proofs.Ring.{ring}
 use Rattle.sym_model.proofs.Polynomials.{at_only, coefficient_pair, coefficient_scale}
 use Rattle.sym_model.proofs.WholeTerms.{pair_of_combined}
-use Rattle.whole_lists.specs.Tables.{IsFractionTable}
-use Rattle.whole_lists.proofs.Quotients.{Quotients, IsDivided-quotients}
+use Rattle.sparse_polys.specs.Tables.{IsFractionTable}
+use Rattle.sparse_polys.proofs.Quotients.{Quotients, IsDivided-quotients}
 use Rattle.monomial_laws.proofs.DividedTerms.{value-divided}
 use Rattle.basis_change_laws.specs.JoinedLists.{Stands}
 use Rattle.sym_model.proofs.Integers.{product_cancel}

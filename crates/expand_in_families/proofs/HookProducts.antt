@@ -1,8 +1,8 @@
 -- A Schur polynomial added up over the special rim hooks of its shape.
 --     hook-law         the polynomial is the sum over the hooks
---     hook-product     the part of one hook, as a list
---     hooks-next       one hook more
---     hooks-done       all of them
+--     hook-product     the summand of one hook, as a list
+--     hooks-next       one more hook
+--     hooks-done       all hooks
 use Rattle.std.proofs.Common.{◌≡◌, ℕ, zero, suc, ◌+◌, ◌-◌, ◌*◌, ◌^◌, ◌<◌, ◌≤◌, List, [], ◌∷◌, ◌++◌, map, length, get_or, take, drop, take_all, Some, slice_get, refl, sym, ap, ap₂, ◌∙◌, subst, inl, inr, arith, ℤ, pos, ◌*ℤ◌, append-nil, append_assoc, pow-suc, flat_map}
 use Rattle.std.specs.Prelude.{nat_abs, ◌≢◌}
 use Rattle.std.proofs.lemmas.Nat.{mul-le, pow-add}
@@ -20,12 +20,12 @@ use Rattle.basis_change_laws.specs.JoinedLists.{joined, Stands}
 use Rattle.basis_change_laws.proofs.GrowthBounds.{grown, grown-is}
 use Rattle.basis_change_laws.proofs.JoinedLists.{stands-product, stands-plus, stands-scale, stands-same, stands-weaken}
 use Rattle.basis_change_laws.proofs.NewtonLists.{scale-scale}
-use Rattle.special_hook_laws.specs.SpecialHooks.{SpecialHook, shortened, below_row, special_hooks}
-use Rattle.special_hook_laws.proofs.HookShapes.{IsRest, hook_rest, hook_number}
-use Rattle.special_hook_laws.proofs.HookSums.{complete_sum, elementary_sum}
-use Rattle.whole_lists.specs.declared.family.Family.{Family}
-use Rattle.whole_lists.specs.declared.family.Family.TheVariants.{Elementary, Complete, PowerSum}
-use Rattle.whole_lists.specs.Families.{polynomial_of}
+use Rattle.expand_in_families.specs.SpecialHooks.{SpecialHook, shortened, below_row, special_hooks}
+use Rattle.expand_in_families.proofs.HookShapes.{IsRest, hook_rest, hook_number}
+use Rattle.expand_in_families.proofs.HookSums.{complete_sum, elementary_sum}
+use Rattle.sparse_polys.specs.declared.family.Family.{Family}
+use Rattle.sparse_polys.specs.declared.family.Family.TheVariants.{Elementary, Complete, PowerSum}
+use Rattle.sparse_polys.specs.Families.{polynomial_of}
 use Rattle.expand_in_families.specs.SchurLists.{schur_in}
 use native.Mathlib.Nat.{mul-le-mul_left}
 
@@ -62,7 +62,7 @@ among-at (g ∷ hs) (suc i) h e = inr (among-at hs i h e)
 pub hook-rest : (parts : List ℕ) (i : ℕ) → IsPartition parts → i < length parts → IsRest parts (hook_of parts i)
 hook-rest parts i p h = hook_rest parts (hook_of parts i) p (among-at (special_hooks parts) i (hook_of parts i) (hook-at parts i h))
 
--- ---- the sum
+-- ---- the sum over the special rim hooks
 
 abbrev pub hook_term : Family → ℕ → SpecialHook → Poly
 hook_term family n h = scale h.sign (times (polynomial_of family h.cells n) (schur_in family h.rest n))
@@ -77,7 +77,7 @@ each-more f [] i h e = cc
 each-more f (g ∷ hs) zero h e = let same : g ≡ h = cc in append-nil (f g) ∙ ap f same
 each-more f (g ∷ hs) (suc i) h e = ap (λ l. f g ++ l) (each-more f hs i h e) ∙ sym (append_assoc (f g) (flat_map f (take i hs)) (f h))
 
--- ---- bounds: of d hooks, each with so much, there is no more than the growth
+-- ---- bounds: the sum over d hooks, each within its bound, is within the growth
 
 abbrev pub peeled : ℕ → ℕ
 peeled d = factorial d * (2 * (2 * d) ^ (d - 1))
@@ -119,7 +119,7 @@ peeled-part (suc j) s c h e =
     grouped : (c o x v y : ℕ) → c * ((o * (2 * x)) * (v * y)) ≡ (c * (o * v)) * (2 * (x * y))
     grouped c o x v y = omega arith
 
--- ---- lists
+-- ---- the lists of the summands of the hooks, added one by one
 
 module _ (P : ℕ → ℕ → Poly) (places : (n k : ℕ) → In n (P k n)) where
   pub hook-product : (k s c : ℕ) (σ z : ℤ) (f g : ℕ → Poly) (W V : WholeTerms) → 0 < k → nat_abs σ ≡ 1 → z ≡ pos c *ℤ σ → c * (factorial k * factorial s) ≡ factorial (k + s)
@@ -133,7 +133,7 @@ module _ (P : ℕ → ℕ → Poly) (places : (n k : ℕ) → In n (P k n)) wher
       (λ n. Same_sym (scale σ (times (f n) (g n))) (times (scale σ (f n)) (g n)) (scale-times σ (f n) (g n)))
       (stands-product P places (factorial k) (factorial k * 2 ^ k) k (factorial s) (grown s) s (factorial (k + s)) (peeled (k + s)) c (λ n. scale σ (f n)) g (scale σ W) V signed v e (peeled-part k s c some e))))
 
--- one hook more
+-- the sum over i + 1 hooks is that over the first i and the summand of h
 pub hooks-next : (P : ℕ → ℕ → Poly) (q B d : ℕ) (f : ℕ → SpecialHook → Poly) (hs : List SpecialHook) (i : ℕ) (h : SpecialHook) (S T : WholeTerms) → slice_get hs i ≡ Some h
     → Stands P q (i * B) d (λ n. flat_map (f n) (take i hs)) S → Stands P q B d (λ n. f n h) T → Stands P q ((i + 1) * B) d (λ n. flat_map (f n) (take (i + 1) hs)) (S ++ T)
 hooks-next P q B d f hs i h S T e s t =
@@ -145,7 +145,7 @@ hooks-next P q B d f hs i h S T e s t =
     one_more : (i x : ℕ) → i * x + x ≤ (i + 1) * x
     one_more i x = omega arith
 
--- all of them: there are no more hooks than cells
+-- there are at most as many hooks as cells
 pub hooks-done : (P : ℕ → ℕ → Poly) (family : Family) → family ≢ PowerSum → (parts : List ℕ) (i : ℕ) (S : WholeTerms) → IsPartition parts → 1 ≤ length parts → length parts ≡ i
     → Stands P (factorial (size parts)) (i * peeled (size parts)) (size parts) (λ n. flat_map (hook_term family n) (take i (special_hooks parts))) S
     → Stands P (factorial (size parts)) (grown (size parts)) (size parts) (schur_in family parts) S

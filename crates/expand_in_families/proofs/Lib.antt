@@ -1,3 +1,9 @@
+pub mod HookShapes
+pub mod HookHeights
+pub mod HookSigns
+pub mod HookStrips
+pub mod ConjugateStrips
+pub mod HookSums
 pub mod AtomNodes
 pub mod ClearedLists
 pub mod Nodes

@@ -18,15 +18,15 @@ use Rattle.sparse_polys.proofs.Tables.{term-tests}
 use Rattle.expression_reading.specs.Trees.{basis_of}
 use Rattle.basis_change_laws.specs.JoinedLists.{Stands}
 use Rattle.basis_change_laws.proofs.GrowthBounds.{grown}
-use Rattle.whole_lists.specs.Tables.{IsFractionTable, IsWholeTable}
-use Rattle.whole_lists.specs.LabelSizes.{AreWithin}
-use Rattle.whole_lists.proofs.Bounds.{greatest-within}
-use Rattle.whole_lists.specs.declared.family.Family.{Family}
-use Rattle.whole_lists.specs.declared.family.Family.TheVariants.{Elementary, Complete, PowerSum}
-use Rattle.whole_lists.specs.Families.{basis_in, polynomial_of}
-use Rattle.change_from_monomials.specs.ClearedAnswer.{IsClearedBy, IsMultiplied}
-use Rattle.change_from_monomials.specs.Limits.{most_cells}
-use Rattle.change_from_monomials.proofs.Bounds.{same_growth}
+use Rattle.sparse_polys.specs.Tables.{IsFractionTable, IsWholeTable}
+use Rattle.sparse_polys.specs.LabelSizes.{AreWithin}
+use Rattle.sparse_polys.proofs.Bounds.{greatest-within}
+use Rattle.sparse_polys.specs.declared.family.Family.{Family}
+use Rattle.sparse_polys.specs.declared.family.Family.TheVariants.{Elementary, Complete, PowerSum}
+use Rattle.sparse_polys.specs.Families.{basis_in, polynomial_of}
+use Rattle.basis_change.specs.ClearedAnswer.{IsClearedBy, IsMultiplied}
+use Rattle.sym_model.specs.ExpressionOffence.{degree_limit}
+use Rattle.basis_change.proofs.Bounds.{same_growth}
 use Rattle.expand_in_families.proofs.AtomNodes.{large-atom}
 use Rattle.expand_in_families.proofs.ClearedLists.{stands-cleared, cleared-greater}
 use Rattle.family_lists.proofs.TableLists.{table-stands}
@@ -47,21 +47,21 @@ multiplied Elementary = tt
 multiplied Complete = tt
 multiplied PowerSum = tt
 
-cells : (family : Family) → most_cells (basis_in family) ≡ 15
+cells : (family : Family) → degree_limit (basis_in family) ≡ 15
 cells Elementary = refl
 cells Complete = refl
 cells PowerSum = refl
 
--- so large are the labels that the change of basis takes
-pub within-cells : (family : Family) (letter : Letter) → basis_of letter ≡ basis_in family → (d : ℕ) (list : Terms (List ℕ)) → d ≤ 15 → AreWithin d list → AreWithin (most_cells (basis_of letter)) list
-within-cells family letter e d list h w t m = let k = ap most_cells e ∙ cells family in let s = w t m in omega arith
+-- if the labels of the list have at most d ≤ 15 cells, they are within the limit of the change of basis
+pub within-cells : (family : Family) (letter : Letter) → basis_of letter ≡ basis_in family → (d : ℕ) (list : Terms (List ℕ)) → d ≤ 15 → AreWithin d list → AreWithin (degree_limit (basis_of letter)) list
+within-cells family letter e d list h w t m = let k = ap degree_limit e ∙ cells family in let s = w t m in omega arith
 
--- a refusal on the way to m
+-- if the growth of the label into m is at least 2^127, so is the weight of the atom into h
 pub large-in_m : (basis : Basis) (label : List ℕ) → 2 ^ 127 ≤ growth monomials (size label) → 2 ^ 127 ≤ weight Basis.completes (atom basis label)
 large-in_m basis label h = large-atom basis label (let g = growth-most monomials (size label) in let s = same_growth PowerSum (size label) in omega arith)
 
 module _ (target : Family) (letter : Letter) (e : basis_of letter ≡ basis_in target) (basis : Basis) (label : List ℕ) where
-  -- a refusal on the way from there
+  -- if the change from m to the target is refused, the weight of the atom into h is at least 2^127
   pub large-change : (list : Terms (List ℕ)) → AreWithin (size label) list → ((d : ℕ) → AreWithin d list → 2 ^ 127 ≤ 1 * 1 * growth (basis_of letter) d) → 2 ^ 127 ≤ weight Basis.completes (atom basis label)
   large-change list w large =
       large-atom basis label
@@ -88,11 +88,11 @@ module _ (target : Family) (letter : Letter) (e : basis_of letter ≡ basis_in t
         positive : (t : List ℕ × Fraction) → Among t answer → 0 < t.1.1
         positive t m = (is_reduced-tells t.1 (term-tests answer is t m).0).denominator
 
-    -- a refusal of the list with whole coefficients
+    -- if the absolute values of the cleared list add up to at least 2^127, so does the weight of the atom into h
     pub large-whole : 2 ^ 127 ≤ absolute_sum (factorial (size label)) answer → 2 ^ 127 ≤ weight Basis.completes (atom basis label)
     large-whole h = large-atom basis label (let f = is-cleared.few in omega arith)
 
-    -- that list
+    -- the cleared list is a list for the polynomial of the atom
     pub atom-stands : (terms : WholeTerms) → IsWholeTable terms → ((n : ℕ) → IsExpansionOf (basis_of letter) answer n (basis_polynomial basis label n) 1) → Same terms (over (factorial (size label)) answer)
         → Stands (polynomial_of target) (factorial (size label)) (grown (size label)) (size label) (λ n. basis_polynomial basis label n) terms
     atom-stands terms table h same =

@@ -9,7 +9,7 @@ use Rattle.sym_model.specs.Weight.{factorial, numerator, weight}
 use Rattle.sym_model.specs.WholeTerms.{WholeTerms, absolute_total}
 use Rattle.monomial_laws.specs.ExpressionTerms.{HasDenominators}
 use Rattle.monomial_laws.proofs.WeightBounds.{numerator-positive}
-use Rattle.whole_lists.specs.Large.{SumIsLarge}
+use Rattle.sparse_polys.specs.Large.{SumIsLarge}
 use Rattle.monomial_laws.proofs.Growths.{factorial-positive}
 use Rattle.expand_in_families.specs.declared.node.Node.{Node}
 use Rattle.basis_change_laws.specs.JoinedLists.{Stands}
@@ -23,7 +23,7 @@ use Rattle.expand_in_families.proofs.Nodes.{growth-within_weight, denominator-wi
 use Rattle.sym_model.proofs.WholeTerms.{absolute-append}
 use native.Mathlib.Nat.{mul-le-mul_left, mul-pos}
 
--- a sum that is refused is one of large numbers
+-- if the sum is refused, |p|·A + |q|·B is at least 2^127, for the sums A and B of the absolute values of both lists
 sum-large : (A B : WholeTerms) (p q : ℤ) → SumIsLarge A B p q → 2 ^ 127 ≤ nat_abs p * absolute_total A + nat_abs q * absolute_total B
 sum-large A B p q (inl l) =
     let a = coefficient-few (scale p A) l.label in let b = absolute-scale p A in let g = l.large in omega arith
@@ -37,7 +37,7 @@ sum-large A B p q (inr (inr l)) =
     let g = l.large in
     omega arith
 
--- one part of a sum of degree d: l·k times its list, k times its factorial being that of d
+-- if k·(degree e)! = d!, then l·k times the bound of e is at most l·N times the growth at d, N the numerator of e
 part-bound : (e : Tree) (l k d : ℕ) → degree e ≤ d → k * factorial (degree e) ≡ factorial d → (l * k) * (numerator e * grown (degree e)) ≤ (numerator e * l) * grown d
 part-bound e l k d h w =
     let g = grown-raised (degree e) d k h w in
@@ -63,7 +63,7 @@ part-stands P e c l k d h w i =
     grouped : (x y z : ℕ) → x * (y * z) ≡ (x * y) * z
     grouped x y z = omega arith
 
--- both parts
+-- a sum of e and f, whose nodes are multiplied by the factors k and j
 module _ (P : ℕ → ℕ → Poly) (e f : Tree) (c d : Node) (k j : ℕ) (he : HasDenominators e) (hf : HasDenominators f) (x : ClearsTo P e c) (y : ClearsTo P f d)
     (kw : k * factorial c.degree ≡ factorial (max c.degree d.degree)) (jw : j * factorial d.degree ≡ factorial (max c.degree d.degree)) where
   kd : k * factorial (degree e) ≡ factorial (max (degree e) (degree f))
@@ -100,7 +100,7 @@ module _ (P : ℕ → ℕ → Poly) (e f : Tree) (c d : Node) (k j : ℕ) (he : 
       spread : (a b g : ℕ) → a * g + b * g ≤ (a + b) * g
       spread a b g = omega arith
 
-  -- l·k times the one list and r·j times the other are no more than the weight
+  -- l·k times the left list and r·j times the right one are at most the weight
   met : (l r : ℕ) → l ≡ lcm (denominator e) (denominator f) / denominator e → r ≡ lcm (denominator e) (denominator f) / denominator f
       → (l * k) * (numerator e * grown (degree e)) + (r * j) * (numerator f * grown (degree f)) ≤ weight Basis.completes (sum e f)
   met l r li ri =

@@ -1,4 +1,4 @@
--- What nodes say of the expressions that they are made for.
+-- Nodes and the expressions for which they are made.
 use Rattle.std.proofs.Common.{◌≡◌, ℕ, ◌+◌, ◌*◌, ◌^◌, ◌≤◌, max, [], ◌∷◌, sym, ◌∙◌, ap, ap₂, refl, arith, ℤ, pos, negsuc, neg_ℤ, ◌*ℤ◌, ◌+ℤ◌}
 use Rattle.std.specs.Prelude.{nat_abs}
 use Rattle.std.proofs.lemmas.Int.{ints}
@@ -15,37 +15,38 @@ use Rattle.monomial_laws.proofs.WeightBounds.{denominator-positive, numerator-po
 use Rattle.sparse_polys.specs.MonomialProducts.{greatest_size}
 use Rattle.linear_combinations.specs.Gains.{Gains, Overflows}
 use Rattle.linear_combinations.proofs.Found.{gains_same}
-use Rattle.whole_lists.specs.Large.{HasLarge}
-use Rattle.whole_lists.specs.Tables.{equal}
+use Rattle.sparse_polys.specs.Large.{HasLarge}
+use Rattle.sparse_polys.specs.Tables.{equal}
 use Rattle.monomial_laws.proofs.Growths.{factorial-positive}
 use Rattle.expand_in_families.specs.declared.node.Node.{Node}
-use Rattle.basis_change_laws.specs.JoinedLists.{joined, Stands}
+use Rattle.basis_change_laws.specs.JoinedLists.{joined, IsLow, Stands}
 use Rattle.expand_in_families.specs.Nodes.{ClearsTo}
 use Rattle.basis_change_laws.proofs.JoinedLists.{absolute-scale, stands-product, stands-scale, stands-same}
 use Rattle.basis_change_laws.proofs.GrowthBounds.{grown, grown-product, factorial-within}
 use Rattle.family_lists.proofs.Totals.{coefficient-few}
+use Rattle.family_lists.proofs.PartLists.{one_label}
 use Rattle.family_lists.proofs.RowSteps.{large-products}
 use Rattle.family_lists.proofs.TableLists.{stands-greatest, table-stands}
 use native.Mathlib.Nat.{mul-le-mul_left, mul-le-mul_right}
 
--- ---- weights
+-- ---- the numbers of a node are at most the weight of its expression
 
 pub growth-within_weight : (e : Tree) → HasDenominators e → numerator e * grown (degree e) ≤ weight Basis.completes e
 growth-within_weight e h = mul-le (numerator e) (grown (degree e)) (numerator e * denominator e) (grown (degree e)) (times-more (numerator e) (denominator e) (denominator-positive e h)) (omega arith)
 
--- the number that the list is divided by at the end
+-- the denominator times the factorial of the degree, by which the list is divided at the end, is at most the weight
 pub denominator-within_weight : (e : Tree) → HasDenominators e → denominator e * factorial (degree e) ≤ weight Basis.completes e
 denominator-within_weight e h =
     let p : 1 * denominator e ≤ numerator e * denominator e = mul-le-mul_right (denominator e) (numerator-positive e h) in
     mul-le (denominator e) (factorial (degree e)) (numerator e * denominator e) (grown (degree e)) (omega arith) (factorial-within (degree e))
 
--- ---- numbers
+-- ---- the node of a number
 
 stands-number : (P : ℕ → ℕ → Poly) (a : ℕ) → Stands P 1 (max 1 a * 1) 0 (λ n. scale (pos a) (one n)) (([], pos a) ∷ [])
 stands-number P a = record {
   value = λ n φ. closing (pos a) (pair (one n) φ) (pair (scale (pos a) (one n)) φ) (pair_scale (pos a) (one n) φ);
   few = omega arith;
-  labels = (record { partition = record { falls = tt; positive = tt }; low = omega arith }, tt);
+  labels = one_label (IsLow 0) [] (pos a) (record { partition = record { falls = tt; positive = tt }; low = omega arith });
 }
   where
     closing : (a x y : ℤ) → y ≡ a *ℤ x → a *ℤ x +ℤ pos 0 ≡ pos 1 *ℤ y
@@ -57,7 +58,7 @@ clears-number P a c d g h = record { den_is = d; degree_is = g; stands = table-s
 pub clears-fraction : (P : ℕ → ℕ → Poly) (a b : ℕ) (c : Node) → c.den ≡ b → c.degree ≡ 0 → Same c.terms (([], pos a) ∷ []) → ClearsTo P (fraction a b) c
 clears-fraction P a b c d g h = record { den_is = d; degree_is = g; stands = table-stands c.terms (([], pos a) ∷ []) c.table h P 1 (max 1 a * 1) 0 (cleared_value (fraction a b)) (stands-number P a) }
 
--- ---- negations
+-- ---- the node of a negation
 
 negated-is : (f : Poly) → Same (scale (negsuc 0) f) (negate f)
 negated-is f α = coefficient_scale (negsuc 0) f α ∙ minus (coefficient f α) ∙ sym (coefficient_negate f α)
@@ -89,12 +90,12 @@ large-negation P e c d h l =
     let v : 1 * absolute_total c.terms ≡ absolute_total c.terms = omega arith in
     omega arith
 
--- ---- products
+-- ---- the node of a product
 
 pub node-greatest : (P : ℕ → ℕ → Poly) (e : Tree) (c : Node) → ClearsTo P e c → greatest_size c.terms ≤ degree e
 node-greatest P e c h = stands-greatest P (factorial (degree e)) (numerator e * grown (degree e)) (degree e) (cleared_value e) c.terms h.stands
 
--- the bounds of both factors, brought over the factorial of the sum
+-- the product of the bounds of both factors, brought over the factorial of the sum of the degrees, is within the bound of the product
 joined-bound : (e f : Tree) (k : ℕ) → k * (factorial (degree e) * factorial (degree f)) ≡ factorial (degree e + degree f)
     → k * ((numerator e * grown (degree e)) * (numerator f * grown (degree f))) ≤ (numerator e * numerator f) * grown (degree e + degree f)
 joined-bound e f k h =

@@ -1,14 +1,14 @@
--- The steps by which the list of a shape is made: what a hook leaves, and its part of the sum.
---     left-numbers, left-limits      what a hook leaves, as it is written down
---     left-rest                      it is a partition of the other cells
---     peeled-term, peeled-next, peeled-large      the part of the hook
+-- The steps that compute the list of a shape: the shape that remains after a hook, and the hook's summand.
+--     left-numbers, left-limits      the numbers of the remaining shape
+--     left-rest                      they are a partition of the other cells
+--     peeled-term, peeled-next, peeled-large      the summand of the hook
 use Rattle.std.proofs.Common.{◌≡◌, ℕ, zero, suc, ◌+◌, ◌-◌, ◌*◌, ◌^◌, ◌<◌, ◌≤◌, List, [], ◌∷◌, ◌++◌, map, length, get_or, take, drop, refl, sym, ap, ◌∙◌, subst, arith, ℤ, pos, ◌*ℤ◌, Ok, Err, flat_map}
 use Rattle.std.specs.Prelude.{nat_abs, ◌≢◌, Result, IfOk}
 use Rattle.calc_base.specs.declared.faults.SumFault.{SumFault}
 use Rattle.sym_model.specs.Conjugate.{conjugate}
 use Rattle.sym_model.specs.Schur.{schur}
 use Rattle.sym_model.proofs.Conjugates.{size-conjugate}
-use Rattle.special_hook_laws.proofs.ConjugateStrips.{conjugate_twice}
+use Rattle.expand_in_families.proofs.ConjugateStrips.{conjugate_twice}
 use Rattle.std.proofs.lemmas.Int.{unsigned_abs-mul}
 use Rattle.std.proofs.lemmas.Nat.{mul-le}
 use Rattle.sym_model.specs.Partition.{Falls, IsPartition, ArePositive, columns, size, in_front, without_last_zeros}
@@ -23,17 +23,17 @@ use Rattle.sym_model.proofs.SortedParts.{rows_within_size}
 use Rattle.partitions.specs.Limits.{IsWithinLimits}
 use Rattle.linear_combinations.specs.Gains.{Gains, Overflows}
 use Rattle.linear_combinations.proofs.Found.{gains_same}
-use Rattle.whole_lists.specs.Tables.{equal, IsWholeTable}
+use Rattle.sparse_polys.specs.Tables.{equal, IsWholeTable}
 use Rattle.basis_change_laws.specs.JoinedLists.{joined, Stands}
 use Rattle.basis_change_laws.proofs.GrowthBounds.{grown}
 use Rattle.basis_change_laws.proofs.JoinedLists.{stands-same}
 use Rattle.family_lists.proofs.RowSteps.{large-products}
-use Rattle.special_hook_laws.specs.SpecialHooks.{SpecialHook, shortened, special_hooks}
-use Rattle.special_hook_laws.proofs.HookShapes.{IsRest}
-use Rattle.whole_lists.specs.declared.family.Family.{Family}
-use Rattle.whole_lists.specs.declared.family.Family.TheVariants.{Elementary, Complete, PowerSum}
-use Rattle.whole_lists.specs.Families.{polynomial_of}
-use Rattle.whole_lists.proofs.Families.{In-family}
+use Rattle.expand_in_families.specs.SpecialHooks.{SpecialHook, shortened, special_hooks}
+use Rattle.expand_in_families.proofs.HookShapes.{IsRest}
+use Rattle.sparse_polys.specs.declared.family.Family.{Family}
+use Rattle.sparse_polys.specs.declared.family.Family.TheVariants.{Elementary, Complete, PowerSum}
+use Rattle.sparse_polys.specs.Families.{polynomial_of}
+use Rattle.sparse_polys.proofs.Families.{In-family}
 use Rattle.family_lists.specs.FactorLists.{list_at, AreFactors}
 use Rattle.expand_in_families.specs.SchurLists.{schur_in, IsSchurList}
 use Rattle.expand_in_families.proofs.HookProducts.{hook_of, hook-at, hook-rest, hook_term, peeled, peeled-all, peeled-part, hook-product, hooks-next}
@@ -43,7 +43,7 @@ use Rattle.family_lists.proofs.TableLists.{table-stands}
 use Rattle.sym_model.proofs.Integers.{sign_size}
 use native.Mathlib.Nat.{mul-le-mul_left, mul-le-mul_right}
 
--- ---- what a hook leaves
+-- ---- the shape that remains after a special rim hook is removed
 
 front-kept : (parts : List ℕ) (i : ℕ) (ys : List ℕ) → ArePositive parts → without_last_zeros (take i parts ++ ys) ≡ take i parts ++ without_last_zeros ys
 front-kept parts zero ys p = refl
@@ -53,14 +53,14 @@ front-kept (a ∷ parts) (suc i) ys p = ap (in_front a) (front-kept parts i ys p
 pub left-numbers : (parts : List ℕ) (i : ℕ) → IsPartition parts → without_last_zeros (take i parts ++ map (λ a. a - 1) (drop (i + 1) parts)) ≡ take i parts ++ shortened (drop (i + 1) parts)
 left-numbers parts i p = front-kept parts i (map (λ a. a - 1) (drop (i + 1) parts)) p.positive
 
--- the hook with what was written down
+-- the special rim hook that ends in row i, counted from 0, and leaves the shape `rest`
 abbrev pub left_by : List ℕ → ℕ → List ℕ → SpecialHook
 left_by parts i rest = record { sign = minus_one_to (length parts - 1 - i); cells = get_or parts i 0 + (length parts - 1 - i); rest = rest }
 
 pub left-rest : (parts : List ℕ) (i : ℕ) (rest : List ℕ) → IsPartition parts → i < length parts → rest ≡ take i parts ++ shortened (drop (i + 1) parts) → IsRest parts (left_by parts i rest)
 left-rest parts i rest p h e = subst (λ (r : List ℕ). IsRest parts (left_by parts i r)) (sym e) (hook-rest parts i p h)
 
--- its cells and those of what it leaves are all
+-- the numbers of cells of the hook and of the remaining shape add up to the size of the shape
 pub left-sized : (parts : List ℕ) (i : ℕ) (rest : List ℕ) → IsPartition parts → i < length parts → rest ≡ take i parts ++ shortened (drop (i + 1) parts)
     → get_or parts i 0 + (length parts - 1 - i) + size rest ≡ size parts
 left-sized parts i rest p h e = let s = (left-rest parts i rest p h e).sized in omega arith
@@ -74,7 +74,7 @@ left-limits parts i numbers p h low e =
     let s = r.sized in
     record { partition = r.partition; few = omega arith; small = omega arith }
 
--- ---- how long the hooks are
+-- ---- the numbers of cells of the hooks
 
 below-first : (parts : List ℕ) (i : ℕ) → Falls parts → get_or parts i 0 ≤ columns parts
 below-first [] i f = omega arith
@@ -111,7 +111,7 @@ left-columns (a ∷ parts) zero f h =
     omega arith
 left-columns (a ∷ parts) (suc i) f h = omega arith
 
--- what it leaves has no longer ones
+-- if the columns and rows of a shape are together at most m, so are those of the remaining shape
 pub left-within : (parts : List ℕ) (i m : ℕ) (rest : List ℕ) → IsPartition parts → i < length parts
     → rest ≡ take i parts ++ shortened (drop (i + 1) parts) → columns parts + length parts ≤ m
     → columns rest + length rest ≤ m
@@ -121,7 +121,7 @@ left-within parts i m rest p h e w =
     let s = ap columns e in
     omega arith
 
--- ---- the list of the hook's cells
+-- ---- the list of h_k or e_k for the k cells of the hook
 
 pub factor-at : (P : ℕ → ℕ → Poly) (family : Family) → family ≢ PowerSum → (lists : List WholeTerms) → AreFactors P family (length lists) lists → (k i : ℕ) (d W : WholeTerms) → 0 < k → k < length lists → i ≡ k → W ≡ get_or lists i d
     → Stands P (factorial k) (factorial k * 2 ^ k) k (λ n. polynomial_of family k n) W
@@ -134,7 +134,7 @@ factor-at P family f lists are k i d W some h e is =
     by Complete g a = a k some h
     by PowerSum g a = absurd (g refl)
 
--- ---- its part of the sum
+-- ---- the summand of the hook
 
 module _ (target family : Family) (newton : family ≢ PowerSum) (parts : List ℕ) (i c : ℕ) (z : ℤ) (rest : List ℕ) (W V : WholeTerms) (p : IsPartition parts) (lo : i < length parts)
     (e : rest ≡ take i parts ++ shortened (drop (i + 1) parts)) (many : c * (factorial (get_or parts i 0 + (length parts - 1 - i)) * factorial (size rest)) ≡ factorial (get_or parts i 0 + (length parts - 1 - i) + size rest))
@@ -164,7 +164,7 @@ module _ (target family : Family) (newton : family ≢ PowerSum) (parts : List �
       (hooks-next (polynomial_of target) (factorial (size parts)) (peeled (size parts)) (size parts) (hook_term family) (special_hooks parts) i (hook_of parts i) S (joined (scale z W) V)
       (hook-at parts i lo) s peeled-term)
 
-  -- it is refused only where the growth is too large
+  -- if adding the summand of the hook overflows, the growth at the size of the shape is 2^127 or more
   pub peeled-large : (S : WholeTerms) → absolute_total S ≤ i * peeled (size parts)
       → Overflows equal S (joined (scale z W) V) → 2 ^ 127 ≤ grown (size parts)
   peeled-large S s large =
@@ -189,7 +189,7 @@ module _ (target family : Family) (newton : family ≢ PowerSum) (parts : List �
       one_more : (i x : ℕ) → (i + 1) * x ≡ i * x + x
       one_more i x = omega arith
 
--- ---- no row
+-- ---- the list of the empty shape
 
 nothing-schur : (family : Family) (n : ℕ) → schur_in family [] n ≡ one n
 nothing-schur Elementary n = ap (λ (l : List ℕ). (l, pos 1) ∷ []) (map-zeros 0 n)
@@ -201,7 +201,7 @@ nothing-list P family [] terms e is h =
     stands-same P 1 1 0 (λ n. one n) (schur_in family []) terms (λ n. subst (Same (one n)) (sym (nothing-schur family n)) (Same_refl (one n))) (parts-none P P terms is h)
 nothing-list P family (a ∷ parts) terms e is h = absurd (omega arith)
 
--- ---- the conjugate shape
+-- ---- the list of a shape, read with e_k, is that of the conjugate shape
 
 pub conjugate-list : (P : ℕ → ℕ → Poly) (parts shape : List ℕ) (r : Result WholeTerms SumFault) → IsPartition parts → shape ≡ conjugate parts → IfOk r (IsSchurList P Elementary shape)
     → IfOk r (λ terms. Stands P (factorial (size parts)) (grown (size parts)) (size parts) (λ n. schur parts n) terms)

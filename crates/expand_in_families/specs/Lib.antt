@@ -1,3 +1,4 @@
+pub mod SpecialHooks
 pub mod Nodes
 pub mod SchurLists
 pub mod TargetLaws

@@ -1,4 +1,4 @@
--- When a node stands for an expression with its fractions cleared.
+-- The relation between nodes and expressions with their fractions cleared.
 use Rattle.std.specs.Prelude.{◌≡◌, ℕ, ◌*◌, ◌^◌, ◌≤◌, Result}
 use Rattle.calc_base.specs.declared.faults.SumFault.{SumFault}
 use Rattle.sym_model.specs.Polynomial.{Poly}
@@ -6,7 +6,7 @@ use Rattle.sym_model.specs.Expansion.{Basis}
 use Rattle.sym_model.specs.Expression.{Tree, denominator, degree, cleared_value}
 use Rattle.sym_model.specs.Weight.{factorial, growth, numerator, weight}
 use Rattle.basis_change_laws.specs.JoinedLists.{Stands}
-use Rattle.expression_evaluation.specs.Values.{IsMade}
+use Rattle.basis_expand.specs.Values.{IsMade}
 use Rattle.expand_in_families.specs.declared.node.Node.{Node}
 
 -- the list is the cleared value of the expression times the factorial of its degree,
@@ -18,9 +18,9 @@ pub record ClearsTo (P : ℕ → ℕ → Poly) (e : Tree) (c : Node) : Type 0 wh
       (degree e) (cleared_value e) c.terms
 
 -- the weight is 2^127 or more
-abbrev pub IsHeavy : Tree → Type 0
-IsHeavy e = 2 ^ 127 ≤ weight Basis.completes e
+abbrev pub IsHeavyInFamilies : Tree → Type 0
+IsHeavyInFamilies e = 2 ^ 127 ≤ weight Basis.completes e
 
--- the expression is converted, and refused for size only where it is heavy
+-- the expression is converted, and `Large` is returned only if it is heavy
 abbrev pub IsConverted : (ℕ → ℕ → Poly) → Tree → Result Node SumFault → Type 0
-IsConverted P e result = IsMade (ClearsTo P) IsHeavy e result
+IsConverted P e result = IsMade (ClearsTo P) IsHeavyInFamilies e result

@@ -9,17 +9,17 @@ use Rattle.sym_model.specs.Weight.{factorial, growth}
 use Rattle.sym_model.specs.WholeTerms.{WholeTerms}
 use Rattle.basis_change_laws.specs.JoinedLists.{Stands}
 use Rattle.family_lists.specs.KeptLists.{AreListsOf}
-use Rattle.whole_lists.specs.declared.family.Family.{Family}
-use Rattle.whole_lists.specs.declared.family.Family.TheVariants.{Elementary, Complete, PowerSum}
+use Rattle.sparse_polys.specs.declared.family.Family.{Family}
+use Rattle.sparse_polys.specs.declared.family.Family.TheVariants.{Elementary, Complete, PowerSum}
 
--- what a shape stands for by the family of its special rim hooks: its Schur polynomial where a hook
--- of k cells is read as h_k, that of its conjugate where it is read as e_k; no hook is read as p_k
+-- the polynomial of a shape if its special rim hooks of k cells are read as the polynomials of a family: s_shape for
+-- h_k, s of the conjugate shape for e_k; the case of p_k is never used
 abbrev pub schur_in : Family → List ℕ → ℕ → Poly
 schur_in Elementary shape = schur (conjugate shape)
 schur_in Complete shape = schur shape
 schur_in PowerSum shape = schur shape
 
--- the list is that polynomial times the factorial of the size, and is bounded by the growth
+-- the list is the polynomial `schur_in` times the factorial of the size, and is bounded by the growth
 abbrev pub IsSchurList : (ℕ → ℕ → Poly) → Family → List ℕ → WholeTerms → Type 0
 IsSchurList P family shape terms =
     Stands P (factorial (size shape)) (growth completes (size shape)) (size shape)

@@ -6,12 +6,12 @@ use Rattle.sym_model.specs.Expression.{Tree, negation, sum, difference, degree, 
 use Rattle.sym_model.specs.Weight.{factorial, growth, numerator}
 use Rattle.basis_change_laws.proofs.JoinedLists.{stands-same}
 use Rattle.basis_change_laws.proofs.GrowthBounds.{grown-mono}
-use Rattle.expression_evaluation.specs.Values.{IsNoHeavier}
-use Rattle.expression_evaluation.proofs.Laws.{difference-value, heavy-more}
+use Rattle.basis_expand.specs.Values.{IsNoHeavier}
+use Rattle.basis_expand.specs.TargetLaws.{difference-value, heavy-more}
 use Rattle.expand_in_families.specs.declared.node.Node.{Node}
-use Rattle.expand_in_families.specs.Nodes.{ClearsTo, IsHeavy}
+use Rattle.expand_in_families.specs.Nodes.{ClearsTo, IsHeavyInFamilies}
 
--- the sum with the negation is the difference
+-- a node for the sum with the negation is one for the difference
 pub clears-difference : (P : ℕ → ℕ → Poly) (e f : Tree) (c : Node)
     → ClearsTo P (sum e (negation f)) c → ClearsTo P (difference e f) c
 clears-difference P e f c h = record {
@@ -24,5 +24,5 @@ clears-difference P e f c h = record {
       (difference-value e f) h.stands;
 }
 
-pub heavy-whole : (e f : Tree) → IsNoHeavier e f → IsHeavy e → IsHeavy f
+pub heavy-whole : (e f : Tree) → IsNoHeavier e f → IsHeavyInFamilies e → IsHeavyInFamilies f
 heavy-whole e f h k = heavy-more Basis.completes grown-mono e f h k

@@ -7,8 +7,8 @@ ghost use Rattle.sym_model.specs.Partition.{IsPartition, size};
 ghost use Rattle.sym_model.specs.Schur.{schur};
 ghost use Rattle.sym_model.specs.Weight.{factorial, growth};
 ghost use Rattle.basis_change_laws.specs.JoinedLists.{Stands};
-ghost use Rattle.whole_lists.specs.Families.{basis_in, polynomial_of};
-ghost use Rattle.whole_lists.specs.Tables.{IsWholeTable};
+ghost use Rattle.sparse_polys.specs.Families.{basis_in, polynomial_of};
+ghost use Rattle.sparse_polys.specs.Tables.{IsWholeTable};
 ghost use Rattle.expression_reading.specs.Trees.{basis_of};
 ghost use Rattle.family_lists.specs.FactorLists.{over_number};
 ghost use Rattle.expand_in_families.specs.Nodes.{IsConverted};
@@ -16,18 +16,18 @@ ghost use Rattle.expand_in_families.specs.Nodes.{IsConverted};
 use crate::factorials::{binomial, rise};
 use crate::node::Node;
 use crate::schur_lists::schur_list;
+use basis_change::{to_basis, whole_of, whole_terms};
+use basis_expand::atom_to_monomial;
 use calc_base::{Basis, SumFault, Weight};
-use change_from_monomials::{to_basis, whole_of, whole_terms};
-use expand_in_monomials::atom_to_monomial;
+use coeff_rings::factorial;
 use family_lists::{add_products, factor_list};
 use linear_combinations::Lin;
 use partitions::Partition;
+use sparse_polys::{Family, Whole, single};
 use std::alloc::Global;
-use whole_lists::{Family, Whole, single};
-use whole_numbers::factorial;
 
-/// What the product of the list of k with a list over size! is multiplied by,
-/// to be over (k + size)!.
+/// The factor by which the list of k times a list over size! is multiplied to become a list over (k
+/// + size)!.
 fn ways(family: Family, k: u16, size: u16) -> u128
     requires { k + size ≤ 20 }
     ensures value { result * (over_number family k * factorial size) ≡ factorial (k + size) }
@@ -40,7 +40,7 @@ fn ways(family: Family, k: u16, size: u16) -> u128
     }
 }
 
-/// The product over the parts, times the factorial of their sum, and their sum.
+/// The product over the parts times the factorial of their sum, and their sum.
 fn over_parts(
     alloc: Global,
     target: Family,
@@ -87,7 +87,7 @@ fn by_parts(
     })
 }
 
-/// A partition in the target, whatever that is.
+/// A partition in the basis of the target itself, as the list of that one label.
 fn itself(alloc: Global, label: &Partition) -> Result<Node, SumFault>
     requires { size label.now ≤ 20 }
     ensures { (target : Family) → IsConverted (polynomial_of target)
@@ -102,7 +102,7 @@ fn itself(alloc: Global, label: &Partition) -> Result<Node, SumFault>
     })
 }
 
-/// A partition in e, h or p.
+/// A partition in e, h or p, as a list in the target.
 fn from_family(
     alloc: Global,
     target: Family,
@@ -129,8 +129,8 @@ fn letter_of(family: Family) -> Basis
     }
 }
 
-/// Whether the special rim hooks are read as e_k, those of the conjugate shape: into e, and into p
-/// where the shape has fewer columns than rows.
+/// Whether the special rim hooks are read as e_k, with those of the conjugate shape: for the target
+/// e, and for the target p if the shape has fewer columns than rows.
 fn is_by_columns(target: Family, label: &Partition) -> bool {
     match target {
         Family::Elementary => true,
@@ -139,8 +139,8 @@ fn is_by_columns(target: Family, label: &Partition) -> bool {
     }
 }
 
-/// A partition in s, by special rim hooks: read as h_k, those of its shape, or as e_k, those of the
-/// conjugate shape.
+/// A partition in s, by special rim hooks: read as h_k, with those of its shape, or as e_k, with
+/// those of the conjugate shape.
 fn by_hooks(alloc: Global, target: Family, label: &Partition) -> Result<Node, SumFault>
     requires { size label.now ≤ 15 }
     ensures { IsConverted (polynomial_of target) (atom schurs label.now) result }
@@ -154,7 +154,7 @@ fn by_hooks(alloc: Global, target: Family, label: &Partition) -> Result<Node, Su
     })
 }
 
-/// The list in the target of a Schur polynomial.
+/// The list of a Schur polynomial in the target.
 fn schur_terms(alloc: Global, target: Family, label: &Partition) -> Result<Whole, SumFault>
     requires partition { IsPartition label.now }
     requires low { size label.now ≤ 15 }
@@ -172,7 +172,7 @@ fn schur_terms(alloc: Global, target: Family, label: &Partition) -> Result<Whole
     schur_list(alloc, target, Family::Complete, label)
 }
 
-/// A partition in any basis, by way of m.
+/// A partition in any basis as a list in the target, by way of m.
 fn by_monomials(
     alloc: Global,
     target: Family,
@@ -193,7 +193,7 @@ fn by_monomials(
     })
 }
 
-/// A partition in a basis.
+/// A partition in any basis, as a list in the target.
 pub(crate) fn atom(
     alloc: Global,
     target: Family,

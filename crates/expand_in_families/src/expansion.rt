@@ -4,23 +4,22 @@ ghost use Rattle.sym_model.specs.Expansion.{IsExpansionOf};
 ghost use Rattle.sym_model.specs.Expression.{cleared_value, degree, denominator};
 ghost use Rattle.sym_model.specs.Weight.{weight};
 ghost use Rattle.expression_reading.specs.Trees.{tree_of};
-ghost use Rattle.whole_lists.specs.Families.{basis_in};
+ghost use Rattle.sparse_polys.specs.Families.{basis_in};
 
 use crate::operations::InFamily;
+use basis_expand::evaluate;
 use calc_base::SumFault;
-use coeff_rings::Frac;
-use expression_evaluation::evaluate;
+use coeff_rings::{Frac, denominator_product, factorial};
 use expression_reading::Formula;
 use linear_combinations::Lin;
 use partitions::Partition;
+use sparse_polys::{Family, divided};
 use std::alloc::Global;
-use whole_lists::{Family, divided};
-use whole_numbers::{denominator_product, factorial};
 
-/// The expansion of a formula of degree at most 15 in the basis of a family,
-/// in every number of variables.
+/// The expansion of a formula of degree at most 15 in the basis of a family, in every number of
+/// variables.
 ///
-/// It is refused as `Large` only where the weight for the target is 2^127 or more.
+/// Returns `Large` only if the weight for the target is 2^127 or more.
 ///
 /// Example: p_2 in e is e_1^2 - 2·e_2, and h_2 in p is (p_1^2 + p_2)/2.
 pub fn to_family(

@@ -2,7 +2,7 @@
 ghost use Rattle.std.specs.Prelude.{◌≡◌, ◌+◌, ◌*◌, ◌<◌, ◌≤◌, ◌^◌};
 ghost use Rattle.sym_model.specs.Weight.{factorial};
 
-use whole_numbers::factorial;
+use coeff_rings::factorial;
 
 /// The number of ways to choose a of a + b things.
 pub(crate) fn binomial(a: u16, b: u16) -> u128
@@ -13,7 +13,7 @@ pub(crate) fn binomial(a: u16, b: u16) -> u128
     factorial(a + b) / (factorial(a) * factorial(b))
 }
 
-/// The product of the numbers past a, up to d.
+/// d!/a!: the product of the numbers from a + 1 to d.
 pub(crate) fn rise(a: u16, d: u16) -> u128
     requires { (a ≤ d) × (d ≤ 20) }
     ensures value { result * factorial a ≡ factorial d }

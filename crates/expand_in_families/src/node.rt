@@ -1,9 +1,9 @@
 //! Expressions with their fractions cleared, as lists of terms in the target.
 ghost use Rattle.std.specs.Prelude.{◌<◌, ◌^◌};
 ghost use Rattle.std.proofs.Props.{props};
-ghost use Rattle.whole_lists.specs.Tables.{IsWholeTable};
+ghost use Rattle.sparse_polys.specs.Tables.{IsWholeTable};
 
-use whole_lists::Whole;
+use sparse_polys::Whole;
 
 /// A list of terms in the target that is an expression times its denominator and the factorial of
 /// its degree.

@@ -1,22 +1,21 @@
 //! The targets e, h and p: numbers, atoms, negations, sums and products as lists in the target.
 ghost use Rattle.std.specs.Prelude.{◌≡◌, ◌<◌, ◌≤◌, ◌^◌, ◌*ℤ◌, pos, nat_abs, MatchResult};
-ghost use Rattle.whole_lists.specs.Families.{polynomial_of};
-ghost use Rattle.expand_in_families.specs.Nodes.{ClearsTo, IsHeavy};
+ghost use Rattle.sparse_polys.specs.Families.{polynomial_of};
+ghost use Rattle.expand_in_families.specs.Nodes.{ClearsTo, IsHeavyInFamilies};
 ghost use Rattle.expand_in_families.specs.TargetLaws.{clears-difference, heavy-whole};
 
 use crate::atoms::atom;
 use crate::factorials::{binomial, rise};
 use crate::node::Node;
+use basis_change::whole_of;
+use basis_expand::Target;
 use calc_base::{Basis, Large, SumFault};
-use change_from_monomials::whole_of;
-use coeff_rings::Int;
-use expression_evaluation::Target;
+use coeff_rings::{Int, common_denominator, denominator_product, product_of};
 use family_lists::add_products;
 use linear_combinations::Lin;
 use partitions::Partition;
+use sparse_polys::{Family, single, sum_of};
 use std::alloc::Global;
-use whole_lists::{Family, single, sum_of};
-use whole_numbers::{common_denominator, denominator_product, product_of};
 
 /// The target of a family.
 #[derive(Clone, Copy)]
@@ -24,7 +23,7 @@ pub(crate) struct InFamily {
     pub(crate) family: Family,
 }
 
-/// A number times another. It is refused exactly where that is 2^127 or more.
+/// The product of two numbers. Returns an error if and only if its absolute value is 2^127 or more.
 fn times(from: i128, by: u128) -> Result<Int, Large>
     requires { by < 2 ^ 127 }
     ensures { MatchResult result (λ p. p ≡ from *ℤ pos by)
@@ -40,7 +39,7 @@ impl Target for InFamily {
 
     ghost stands = { λ t. ClearsTo (polynomial_of t.family) };
 
-    ghost heavy = { λ _. IsHeavy };
+    ghost heavy = { λ _. IsHeavyInFamilies };
 
     fn quotient(&self, alloc: Global, num: i128, den: u128) -> Result<Node, SumFault> {
         let terms = single(alloc, &[], num)?;
@@ -61,7 +60,7 @@ impl Target for InFamily {
         Ok(Node { terms, den, degree })
     }
 
-    /// Over the least common denominator and the factorial of the greater degree.
+    /// The sum, over the least common denominator and the factorial of the greater degree.
     fn added(&self, _: Global, left: Node, right: Node) -> Result<Node, SumFault> {
         let common = common_denominator(left.den, right.den)?;
         let degree = left.degree.max(right.degree);

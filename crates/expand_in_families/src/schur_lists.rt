@@ -1,5 +1,5 @@
-//! Schur polynomials as lists in e, h and p, by special rim hooks (Egecioglu and Remmel). A shape
-//! is peeled once: its list is kept in a store.
+//! Schur polynomials as lists in e, h and p, by special rim hooks (Egecioglu and Remmel). The list
+//! of each shape is computed once and kept in a store.
 ghost use Rattle.std.specs.Prelude.{◌≡◌, ◌≢◌, ℕ, ◌+◌, ◌-◌, ◌*◌, ◌<◌, ◌≤◌, ◌^◌, ◌*ℤ◌, ◌++◌, pos};
 ghost use Rattle.std.specs.Prelude.{length, take, drop, vec_len, IfOk, OnOk, IsErrOf};
 ghost use Rattle.sym_model.specs.Expansion.{completes};
@@ -7,9 +7,9 @@ ghost use Rattle.sym_model.specs.Partition.{IsPartition, columns, size};
 ghost use Rattle.sym_model.specs.PlaceOrders.{minus_one_to};
 ghost use Rattle.sym_model.specs.Weight.{factorial, growth};
 ghost use Rattle.basis_change_laws.specs.JoinedLists.{Stands};
-ghost use Rattle.special_hook_laws.specs.SpecialHooks.{shortened};
-ghost use Rattle.whole_lists.specs.Families.{polynomial_of};
-ghost use Rattle.whole_lists.specs.Tables.{IsWholeTable};
+ghost use Rattle.expand_in_families.specs.SpecialHooks.{shortened};
+ghost use Rattle.sparse_polys.specs.Families.{polynomial_of};
+ghost use Rattle.sparse_polys.specs.Tables.{IsWholeTable};
 ghost use Rattle.family_lists.specs.FactorLists.{AreFactors};
 ghost use Rattle.family_lists.specs.KeptLists.{StandsAt};
 ghost use Rattle.expand_in_families.specs.SchurLists.{AreSchurLists, IsSchurList};
@@ -20,11 +20,11 @@ use family_lists::{Lists, add_products, factor_lists, keep, list_at, place_of, s
 use indexmap::IndexMap;
 use linear_combinations::Lin;
 use partitions::Partition;
+use sparse_polys::{Family, Whole, single};
 use std::alloc::Global;
-use whole_lists::{Family, Whole, single};
 
-/// What the special rim hook that goes from a row, counted from 0, down to the last one leaves: the
-/// rows above, and each row below a cell shorter.
+/// The partition that remains after removing the special rim hook from a row, counted from 0, to
+/// the last row: the rows above, and each row below shortened by one cell.
 fn left_by_hook(alloc: Global, shape: &[u16], row: usize) -> Result<Partition, NoMemory>
     requires within { row < length shape.now }
     requires partition { IsPartition shape.now }
@@ -40,9 +40,9 @@ fn left_by_hook(alloc: Global, shape: &[u16], row: usize) -> Result<Partition, N
     Partition::from_valid_numbers(alloc, &parts)
 }
 
-/// The list of a shape: over its special rim hooks, the sum of the list of the hook's cells times
-/// that of what the hook leaves, with the hook's sign. Each summand is brought over the factorial
-/// of the size, and that of no rows is 1.
+/// The list of a shape: the sum over its special rim hooks of the list of the hook's number of
+/// cells times the list of the remaining shape, with the hook's sign. Each summand is brought over
+/// the factorial of the size. The list of the empty shape is 1.
 #[cycle(peeling)]
 fn list_of(
     alloc: Global,
@@ -80,7 +80,7 @@ fn list_of(
     Ok(sum)
 }
 
-/// The index of the list of a shape, which is made where it is not there.
+/// The index of the list of a shape, which is computed if it is not in the store.
 #[cycle(peeling)]
 fn index_of(
     alloc: Global,
@@ -106,9 +106,9 @@ fn index_of(
     Ok(keep(store, shape, list)?)
 }
 
-/// The list in the target of the Schur polynomial of a shape, where its special rim hooks are read
-/// as h_k; where they are read as e_k, it is that of the conjugate shape. It is refused as `Large`
-/// only where the growth is 2^127 or more.
+/// The list in the target of the Schur polynomial of a shape, if a special rim hook of k cells is
+/// read as h_k; if it is read as e_k, that of the conjugate shape. Returns `Large` only if the
+/// growth is 2^127 or more.
 pub(crate) fn schur_list(
     alloc: Global,
     target: Family,

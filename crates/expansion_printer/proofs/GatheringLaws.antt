@@ -1,5 +1,5 @@
--- How gathered texts join: `Gathers-then` for two, `Gathers-as` for an equal text, `Gathers-nothing`
--- where nothing was put, and `Gathers-prints` at a printer's end.
+-- Laws of collected texts: `Gathers-then` for two, `Gathers-as` for an equal text, `Gathers-nothing` for no text, and
+-- `Gathers-prints` for the end of a printer.
 use Rattle.std.proofs.Common.{◌≡◌, ℕ, List, [], ◌++◌, Bool, true, false, refl, sym, ◌∙◌, ap, subst, append_assoc, append-nil}
 use Rattle.std.specs.Prelude.{Result, is_ok}
 use Rattle.calc_base.specs.Puts.{Puts, Prints}
@@ -7,7 +7,7 @@ use Rattle.calc_base.specs.Sink.{SinkSeen}
 use Rattle.calc_base.proofs.PutsLaws.{Puts-then, Puts-as, Puts-nothing, Puts-prints}
 use Rattle.expansion_printer.specs.Gathering.{Waiting, HasPut, Gathers}
 
--- where it does not go well, the text does not matter
+-- if a write failed before, the text can be replaced by any other
 Puts-else : {before now : Bool} {old new : SinkSeen} {a b : List ℕ} → (before ≡ true → a ≡ b)
     → Puts before old now new a → Puts before old now new b
 Puts-else {before = before} {now = now} {old = old} {new = new} {b = b} same goes =
@@ -25,9 +25,9 @@ Puts-else {before = before} {now = now} {old = old} {new = new} {b = b} same goe
       ill = goes.ill;
     }
 
--- ---- the bytes that wait
+-- ---- the text so far: what was written to the sink, and the bytes in the buffer
 
--- at the start nothing was put
+-- at the start the text so far is empty
 HasPut-nothing : (start : SinkSeen)
     → HasPut start [] (record { bytes = []; well = true }) start
 HasPut-nothing start = record {
@@ -38,13 +38,13 @@ HasPut-nothing start = record {
   goes = Puts-nothing true start;
 }
 
--- the bytes that wait are put
+-- after the bytes in the buffer are written, the text so far was written whole
 HasPut-ends : {start sink new : SinkSeen} {text : List ℕ} {old : Waiting} {now : Bool}
     → HasPut start text old sink → Puts old.well sink now new old.bytes
     → Puts true start now new text
 HasPut-ends h goes = Puts-as h.joined (Puts-then h.goes (Puts-else h.waits goes))
 
--- a piece is kept after the bytes that wait
+-- if a piece was appended to the bytes in the buffer, it was collected
 pub Gathers-kept : {old new : Waiting} (sink : SinkSeen)
     {piece : List ℕ} → new ≡ record { bytes = old.bytes ++ piece; well = old.well } → Gathers old sink new sink piece
 Gathers-kept {old = old} {new = new} sink {piece = piece} kept = record {
@@ -59,7 +59,7 @@ Gathers-kept {old = old} {new = new} sink {piece = piece} kept = record {
       });
 }
 
--- the bytes that wait are put, and none waits
+-- if the bytes in the buffer were written and the buffer is empty, the empty text was collected
 pub Gathers-flushed : {old new : Waiting}
     {first second : SinkSeen} → new.bytes ≡ [] → Puts old.well first new.well second old.bytes
     → Gathers old first new second []
@@ -73,7 +73,7 @@ Gathers-flushed empty goes = record {
   };
 }
 
--- no byte waits, and a piece is put
+-- if the buffer is empty and a piece was written directly, the piece was collected
 pub Gathers-straight : {old new : Waiting}
     {first second : SinkSeen} {piece : List ℕ} → old.bytes ≡ [] → new.bytes ≡ []
     → Puts old.well first new.well second piece → Gathers old first new second piece
@@ -88,9 +88,9 @@ Gathers-straight {piece = piece} before_empty empty goes = record {
   };
 }
 
--- ---- texts, one after another
+-- ---- texts that are collected one after another
 
--- two texts
+-- if two texts were collected one after the other, the two together were collected
 pub Gathers-then : {old mid new : Waiting}
     {first second third : SinkSeen} {a b : List ℕ} → Gathers old first mid second a
     → Gathers mid second new third b → Gathers old first new third (a ++ b)
@@ -100,21 +100,21 @@ Gathers-then {new = new} {third = third} {a = a} {b = b} front back = record {
       subst P (append_assoc before a b) (back.behind start (before ++ a) (front.behind start before h));
 }
 
--- the same text, written otherwise
+-- if a text was collected, so was any text that is equal to it
 pub Gathers-as : {old new : Waiting}
     {first second : SinkSeen} {a b : List ℕ} → a ≡ b → Gathers old first new second a
     → Gathers old first new second b
 Gathers-as {old = old} {new = new} {first = first} {second = second} same goes =
     let P : List ℕ → Type 0 = λ t. Gathers old first new second t in subst P same goes
 
--- the same buffer at the start
+-- if `old` and `other` are equal buffers, what was collected after `other` was collected after `old`
 pub Gathers-from : {other old new : Waiting}
     {first second : SinkSeen} {text : List ℕ} → other ≡ old → Gathers other first new second text
     → Gathers old first new second text
 Gathers-from {new = new} {first = first} {second = second} {text = text} same goes =
     let P : Waiting → Type 0 = λ w. Gathers w first new second text in subst P same goes
 
--- nothing was put
+-- if nothing changes, the empty text was collected
 pub Gathers-nothing : (now : Waiting) (sink : SinkSeen)
     → Gathers now sink now sink []
 Gathers-nothing now sink = record {
@@ -122,7 +122,7 @@ Gathers-nothing now sink = record {
       let P : List ℕ → Type 0 = λ t. HasPut start t now sink in subst P (sym (append-nil before)) h;
 }
 
--- a printer that began with no byte, and put those that waited at its end
+-- a printer that begins with an empty buffer and writes the bytes in it at its end prints the text
 pub Gathers-prints : {E : Type 0} {old now : Waiting}
     {start sink new : SinkSeen} {text : List ℕ} (result : Result (Unit {0}) E) → old ≡ record { bytes = []; well = true }
     → Gathers old start now sink text → Puts now.well sink (is_ok result) new now.bytes

@@ -4,6 +4,5 @@ pub mod PrintableTerms
 pub mod RowTexts
 pub mod ReadingCells
 pub mod TableauRows
--- Lemmas of the crate.
 pub mod LineTexts
 pub mod GatheringLaws

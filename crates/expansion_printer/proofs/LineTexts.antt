@@ -17,7 +17,7 @@ not_unit num den size e other = by (is_unit (num, den)) refl
         absurd (other (e ∙ eqb-true (nat_abs num) 1 p.0) (eqb-true den 1 p.1))
     by false h = refl
 
--- a coefficient whose absolute value is not 1, as it is put
+-- the text written for a coefficient whose absolute value is not 1 is its text in a line
 pub coefficient-printed : (num : ℤ) (den size : ℕ) → size ≡ nat_abs num → (size ≡ 1 → den ≡ 1 → ⊥)
     → decimal size ++ (cond (eqb den 1) [] (47 ∷ decimal den) ++ codes "*") ≡ coefficient_text (num, den)
 coefficient-printed num den size e other =
@@ -30,7 +30,7 @@ coefficient-printed num den size e other =
     by true = refl
     by false = sym (append_assoc (decimal (nat_abs num)) (47 ∷ decimal den) (codes "*"))
 
--- a coefficient, as it is put
+-- the text written for a coefficient is that of the fraction
 pub fraction-printed : (num : ℤ) (den : ℕ)
     → sign_text true num ++ (decimal (nat_abs num) ++ cond (eqb den 1) [] (47 ∷ decimal den)) ≡ fraction_text (num, den)
 fraction-printed num den = by (eqb den 1) num
@@ -42,7 +42,7 @@ fraction-printed num den = by (eqb den 1) num
     by false (pos n) = refl
     by false (negsuc n) = refl
 
--- ---- terms one after another
+-- ---- the terms of a one-line form, one after another
 
 later_text-push : (basis : Basis) (terms : Terms (List ℕ)) (t : List ℕ × Fraction) → later_text basis terms ++ signed_text basis false t ≡ later_text basis (terms ++ t ∷ [])
 later_text-push basis [] t =
@@ -53,7 +53,7 @@ later_text-push basis (u ∷ terms) t =
     (append_assoc (unsigned_text basis u) (later_text basis terms) (signed_text basis false t)
     ∙ ap (λ text. unsigned_text basis u ++ text) (later_text-push basis terms t))
 
--- one more term
+-- the text of a list with one more term is the text of the list followed by the signed term
 pub signed_terms-push : (basis : Basis) (terms : Terms (List ℕ)) (is_first : Bool) (t : List ℕ × Fraction) → is_first ≡ is_empty terms
     → signed_terms basis terms ++ signed_text basis is_first t ≡ signed_terms basis (terms ++ t ∷ [])
 signed_terms-push basis [] is_first t e = ap (λ b. signed_text basis b t) e ∙ sym (append-nil (signed_text basis true t))
@@ -62,12 +62,12 @@ signed_terms-push basis (u ∷ terms) is_first t e =
     ∙ append_assoc (signed_text basis true u) (later_text basis terms) (signed_text basis false t)
     ∙ ap (λ text. signed_text basis true u ++ text) (later_text-push basis terms t)
 
--- where one was put, there is one
+-- a list to which a term was appended is not empty
 pub is_empty-push : (terms : Terms (List ℕ)) (t : List ℕ × Fraction) → false ≡ is_empty (terms ++ t ∷ [])
 is_empty-push [] t = refl
 is_empty-push (u ∷ terms) t = refl
 
--- the terms and the end of their line
+-- the signed terms and a line feed are the one-line form
 pub one_line-some : (basis : Basis) (terms : Terms (List ℕ)) → 0 < length terms → signed_terms basis terms ++ codes "\n" ≡ one_line basis terms
 one_line-some basis [] some = absurd (omega arith)
 one_line-some basis (t ∷ terms) some =

@@ -19,12 +19,12 @@ use Rattle.sparse_polys.proofs.Tables.{canonical-fractions}
 use Rattle.sparse_polys.proofs.ValueLists.{canonical_values}
 
 module _ {L : Type 0} where
-  -- whether each term has a coefficient that stands in a block, and a label of its type
+  -- whether each term has a coefficient that a block can have, and a label of its type
   abbrev are_proper : Bool → (L → Bool) → Terms L → Bool
   are_proper has_fractions is_label terms =
       each_term (λ (t : L × Fraction). is_coefficient has_fractions t.1 && is_label t.0) terms
 
-  -- ---- whole numbers of 128 bits
+  -- ---- terms with integers of 128 bits
 
   proper-whole : (is_label : L → Bool) (terms : List (L × ℤ))
       → are_proper false is_label (as_fractions terms)
@@ -42,7 +42,7 @@ module _ {L : Type 0} where
       (test_from_fits t.1 (All-head (λ (u : L × ℤ). FitsSigned w128 u.1) t terms all)) refl)
       (printable-whole terms (All-tail (λ (u : L × ℤ). FitsSigned w128 u.1) t terms all))
 
-  -- a canonical list with whole numbers of 128 bits
+  -- a canonical list with integers of 128 bits can be printed
   pub whole-printable : (order : L → L → Ordering) (is_label : L → Bool) (terms : List (L × ℤ))
       → All (λ (t : L × ℤ). FitsSigned w128 t.1) terms
       → is_canonical_list order is_label whole terms ≡ true
@@ -55,7 +55,7 @@ module _ {L : Type 0} where
         printable-whole terms all,
       )
 
-  -- ---- fractions of 128 bits
+  -- ---- terms with fractions of 128 bits
 
   printable-fractions : (terms : Terms L) → All (λ (t : L × Fraction). IsFraction t.1) terms
       → is_printable terms ≡ true
@@ -65,7 +65,7 @@ module _ {L : Type 0} where
       (held-fits_fraction t.1 (All-head (λ (u : L × Fraction). IsFraction u.1) t terms all))
       (printable-fractions terms (All-tail (λ (u : L × Fraction). IsFraction u.1) t terms all))
 
-  -- a canonical list with fractions of 128 bits
+  -- a canonical list with fractions of 128 bits can be printed
   pub fractions-printable : (order : L → L → Ordering) (is_label : L → Bool) (terms : Terms L)
       → All (λ (t : L × Fraction). IsFraction t.1) terms
       → is_canonical_list order is_label (λ (r : Fraction). r) terms ≡ true

@@ -1,4 +1,4 @@
--- The letter that a column reading puts into a cell.
+-- The letter that a column reading has for a cell.
 use Rattle.std.proofs.Common.{zero-add, ◌≡◌, ◌≢◌, ℕ, zero, suc, ◌+◌, ◌-◌, ◌≤◌, ◌<◌, inl, inr, ◌⊎◌, max, length, arith, Bool, true, false, ◌&&◌, List, [], ◌∷◌, ◌++◌, refl, sym, ◌∙◌, ap, ap₂, map, drop, cond, ◌==◌, nat_lt, nat_le, reverse, filter, flat_map}
 use Rattle.std.specs.Prelude.{slice_index}
 use Rattle.std.proofs.lemmas.Bool.{eq-eqb, ne_eqb, cases_eq, cond-true, cond-false, lt-ltb, le-leb, and_from, and_right}
@@ -17,19 +17,19 @@ use Rattle.expansion_printer.specs.ReadingPlaces.{HasReadingPlaces, before_in_ro
 use Rattle.expansion_printer.proofs.RowTexts.{after-push}
 use Rattle.expansion_printer.proofs.TableauRows.{parts-told}
 
--- how many cells of these rows of outer/inner are read before one
+-- the number of cells in these rows of outer/inner that are read before a cell
 abbrev pub cells_in_rows : List ℕ → List ℕ → ℕ → ℕ → List ℕ → ℕ
 cells_in_rows outer inner row column numbers =
     sum_by (λ i. before_in_row (part inner i) (part outer i) column (nat_lt i row)) numbers
 
--- how many cells of outer/inner are read before one
+-- the number of cells of outer/inner that are read before a cell
 abbrev pub cells_before : List ℕ → List ℕ → ℕ → ℕ → ℕ
 cells_before outer inner row column = cells_in_rows outer inner row column (after 0 (rows outer))
 
 one-add : (k : ℕ) → 1 + k ≡ suc k
 one-add k = omega arith
 
--- ---- sums
+-- ---- sums of natural numbers over lists
 
 sum_by-add : {A : Type 0} (f h : A → ℕ) (xs : List A) → sum_by (λ x. f x + h x) xs ≡ sum_by f xs + sum_by h xs
 sum_by-add f h [] = refl
@@ -52,9 +52,9 @@ length-select {A} test (x ∷ xs) = by (test x) (length-select test xs) ∙ sym 
     by true e = omega arith
     by false e = omega arith
 
--- ---- cells in a list
+-- ---- the letter of a cell in a list of cells
 
--- no cell is in the column
+-- none of the cells is in the column
 abbrev NotIn : ℕ → List (ℕ × ℕ) → Type 0
 NotIn column [] = Unit {0}
 NotIn column (c ∷ cells) = (c.1 ≢ column) × NotIn column cells
@@ -63,7 +63,7 @@ letter-nothing : (row column : ℕ) (cells : List (ℕ × ℕ)) → letter_of_ce
 letter-nothing row column [] = refl
 letter-nothing row column (c ∷ cells) = refl
 
--- cells of other columns are skipped
+-- if none of the cells in front is in the column, the letter of a cell of that column is found after their letters
 letter-past : (row column : ℕ) (cells others : List (ℕ × ℕ)) (w : List ℕ) → NotIn column cells
     → letter_of_cell row column (cells ++ others) w ≡ letter_of_cell row column others (drop (length cells) w)
 letter-past row column [] others w n = refl
@@ -77,16 +77,16 @@ not_in-column : (column j : ℕ) (is : List ℕ) → j ≢ column → NotIn colu
 not_in-column column j [] other = tt
 not_in-column column j (i ∷ is) other = (other, not_in-column column j is other)
 
--- how many rows above the cell's pass a test
+-- the number of rows above `row` that pass a test
 abbrev rows_above : ℕ → (ℕ → Bool) → List ℕ → ℕ
 rows_above row test = count_by (λ i. nat_lt i row && test i)
 
--- one row more in front
+-- if a row i is added in front, it counts if it is above `row` and passes the test
 rows_above-cons : (row : ℕ) (test : ℕ → Bool) (i : ℕ) (is : List ℕ)
     → rows_above row test (i ∷ is) ≡ cond (nat_lt i row && test i) 1 0 + rows_above row test is
 rows_above-cons row test i is = sum_by-cons (λ k. cond (nat_lt k row && test k) 1 0) i is
 
--- rows past the cell's do not count
+-- none of the rows from `row` on is above `row`
 rows_above-past : (row : ℕ) (test : ℕ → Bool) (a m : ℕ) → row ≤ a + 1 → rows_above row test (after a m) ≡ 0
 rows_above-past row test a zero far = refl
 rows_above-past row test a (suc m) far =
@@ -94,11 +94,11 @@ rows_above-past row test a (suc m) far =
     ∙ ap (λ b. cond (b && test (a + 1)) 1 0 + rows_above row test (after (a + 1) m)) (nat_lt-false (a + 1) row far)
     ∙ zero-add (rows_above row test (after (a + 1) m)) ∙ rows_above-past row test (a + 1) m (omega arith)
 
--- the cells of a column in the rows that pass a test, and others after them
+-- the cells of a column in the rows that pass a test, and then the others
 abbrev cells_then : ℕ → List ℕ → List (ℕ × ℕ) → List (ℕ × ℕ)
 cells_then column is others = map (λ (i : ℕ). (i, column)) is ++ others
 
--- the letter of a cell of a column, whose rows above it pass the test
+-- the letter of a cell of a column has as its place the number of rows above it that pass the test
 in-column : (row column : ℕ) (test : ℕ → Bool) (others : List (ℕ × ℕ)) (a m : ℕ) → a < row → row ≤ a + m → test row ≡ true → (w : List ℕ)
     → letter_of_cell row column (cells_then column (filter test (after a m)) others) w ≡ slice_index w (rows_above row test (after a m))
 in-column row column test others a zero high low h w = absurd (omega arith)
@@ -128,7 +128,7 @@ in-column row column test others a (suc m) high low h w =
 moved : (long before above : ℕ) → long + (before + above) ≡ (before + (0 + long)) + above
 moved long before above = omega arith
 
--- a place with a number is one of the list
+-- an index with a positive entry is below the length of the list
 inside : (k : ℕ) (xs : List ℕ) → 0 < slice_index xs k → k < length xs
 inside k [] some = absurd (omega arith)
 inside zero (x ∷ xs) some = omega arith
@@ -144,7 +144,7 @@ reverse-after k =
     ∙ ap (λ n. n ∷ reverse (after 0 k)) last
 
 module _ (outer inner : List ℕ) (row column : ℕ) (cell : IsCell outer inner row column) where
-  -- how many cells of the column stand above the cell
+  -- the number of cells of the column above the cell
   abbrev above : ℕ
   above = rows_above row (reaches outer inner column) (after 0 (rows outer))
 
@@ -204,7 +204,7 @@ one_column : (left right c : ℕ) → cond (nat_lt left (c + 1) && nat_le (c + 1
 one_column left right c = grind (arith, nat_tests)
 
 module _ (outer inner : List ℕ) where
-  -- how many cells stand right of a column
+  -- the number of cells right of column c
   abbrev right_of : ℕ → ℕ
   right_of c = sum_by (λ i. part outer i - max (part inner i) c) (after 0 (rows outer))
 
@@ -230,7 +230,7 @@ first_greatest (a ∷ []) falls (suc k) = omega arith
 first_greatest (a ∷ b ∷ parts) falls zero = omega arith
 first_greatest (a ∷ b ∷ parts) falls (suc k) = let h = first_greatest (b ∷ parts) falls.1 k in omega (arith, falls.0)
 
--- the letter of a cell stands in the reading after those of the cells before it
+-- the letter of a cell is in the reading after the letters of the cells before it
 pub letter-is : (outer inner : List ℕ) (row column : ℕ) → Falls outer → IsCell outer inner row column → (w : List ℕ)
     → slice_index w (cells_before outer inner row column) ≡ letter_of_cell row column (reading_cells outer inner) w
 letter-is outer inner row column falls cell w =
@@ -240,7 +240,7 @@ letter-is outer inner row column falls cell w =
     ∙ ap (slice_index w) (ap (λ n. n + above outer inner row column cell) (columns_long outer inner (columns outer - column) column every)
     ∙ sym (sum_by-add (λ i. part outer i - max (part inner i) column) (λ i. cond (nat_lt i row && reaches outer inner column i) 1 0) (after 0 (rows outer)))))
 
--- ---- the places of the cells
+-- ---- the place of a cell in the reading is its number
 
 before-few : (left right column : ℕ) (is_above : Bool) → before_in_row left right column is_above ≤ right
 before-few left right column false = grind (arith, nat_tests)
@@ -250,7 +250,7 @@ sum_by-size : (f : ℕ → ℕ) (xs : List ℕ) → sum_by f xs ≡ size (map f 
 sum_by-size f [] = refl
 sum_by-size f (x ∷ xs) = sum_by-cons f x xs ∙ ap (λ n. f x + n) (sum_by-size f xs)
 
--- the cells of one more row
+-- with one more row, the number of cells read before a cell increases by the cells of that row that are read before it
 pub cells_in_rows-more : (outer inner : List ℕ) (row column at : ℕ)
     → cells_in_rows outer inner row column (after 0 at) + before_in_row (part inner (at + 1)) (part outer (at + 1)) column (nat_lt (at + 1) row)
     ≡ cells_in_rows outer inner row column (after 0 (at + 1))
@@ -261,14 +261,14 @@ cells_in_rows-more outer inner row column at =
     ap (λ n. so_far + n) (sym (zero-add (count (at + 1)))) ∙ ap (λ i. so_far + (0 + count i)) here
     ∙ sym (sum_by-append count (after 0 at) ((0 + at + 1) ∷ [])) ∙ ap (sum_by count) (after-push 0 at)
 
--- no more cells are read before one than the outer partition has
+-- the number of cells read before a cell is at most the size of the outer partition
 before-within : (outer inner : List ℕ) (row column : ℕ) → cells_before outer inner row column ≤ size outer
 before-within outer inner row column =
     let most = sum_by-le-sum_by (λ i. before_in_row (part inner i) (part outer i) column (nat_lt i row)) (part outer) (after 0 (rows outer))
     (λ i. before-few (part inner i) (part outer i) column (nat_lt i row)) in
     omega (arith, most, sum_by-size (part outer) (after 0 (rows outer)) ∙ ap size (parts-told outer))
 
--- a filling whose column reading counts from 0 on
+-- a filling whose column reading is 0, 1, 2, .. has in each cell the place of the cell's letter
 pub places-told : (outer inner numbers : List ℕ) → Falls outer → ((i : ℕ) → i < size outer + 1 → slice_index numbers i ≡ i)
     → HasReadingPlaces (filled_with outer inner numbers)
 places-told outer inner numbers falls count = record {

@@ -14,13 +14,13 @@ use Rattle.expansion_printer.specs.Answers.{number_terms}
 use Rattle.sym_model.specs.PrintedBlock.{line_by, lines_by, block_by}
 use Rattle.sym_model.specs.TableauText.{separated}
 
--- numbers with commas between them
+-- the texts of numbers, with commas between them, are `numbers_text`
 pub numbers_text-separated : (numbers : List ℕ) → separated (codes ",") (map decimal numbers) ≡ numbers_text numbers
 numbers_text-separated [] = refl
 numbers_text-separated (a ∷ []) = refl
 numbers_text-separated (a ∷ b ∷ numbers) = ap (λ t. decimal a ++ (codes "," ++ t)) (numbers_text-separated (b ∷ numbers))
 
--- one more piece after some others
+-- appending a separator and a piece appends the piece to the separated pieces
 separated-behind : (separator piece : List ℕ) (first : List ℕ) (pieces : List (List ℕ))
     → separated separator (first ∷ pieces) ++ (separator ++ piece) ≡ separated separator ((first ∷ pieces) ++ piece ∷ [])
 separated-behind separator piece first [] = refl
@@ -29,7 +29,7 @@ separated-behind separator piece first (next ∷ pieces) =
     ∙ ap (λ t. first ++ t) (append_assoc separator (separated separator (next ∷ pieces)) (separator ++ piece)
     ∙ ap (λ t. separator ++ t) (separated-behind separator piece next pieces))
 
--- one more piece, after a separator but at the first place
+-- one piece appended to others; the separator is in front of it unless it is the first
 pub separated-push : (separator : List ℕ) (pieces : List (List ℕ)) (piece : List ℕ) (at : ℕ) → length pieces ≡ at
     → separated separator pieces ++ cond (at == 0) piece (separator ++ piece) ≡ separated separator (pieces ++ piece ∷ [])
 separated-push separator [] piece at first =
@@ -38,7 +38,7 @@ separated-push separator (other ∷ pieces) piece at later =
     ap (λ t. separated separator (other ∷ pieces) ++ t) (cond-false (at == 0) piece (separator ++ piece) (ne_eqb at 0 (λ e. omega arith)))
     ∙ separated-behind separator piece other pieces
 
--- one more item of a list
+-- one more item appends its text, after the separator unless it is the first item
 pub texts-more : {N : Type 0} (separator : List ℕ) (text : N → List ℕ) (items : List N) (at : ℕ) (item : N)
     → at < length items → item ≡ get_or items at item
     → separated separator (map text (take at items)) ++ cond (at == 0) (text item) (separator ++ text item)
@@ -49,7 +49,7 @@ texts-more separator text items at item below is =
     ∙ ap (separated separator) (sym (ap (map text) (take_more items at item below ∙ ap (λ y. take at items ++ y ∷ []) (sym is))
     ∙ map-append text (take at items) (item ∷ [])))
 
--- one more number of a list
+-- one more number appends its text, after the separator unless it is the first number
 pub numerals-more : {N : Type 0} (separator : List ℕ) (number : N → ℕ) (numbers : List N) (at : ℕ) (item : N)
     → at < length numbers → item ≡ get_or numbers at item
     → separated separator (map decimal (map number (take at numbers)))
@@ -61,17 +61,17 @@ numerals-more separator number numbers at item below is =
     ∙ texts-more separator (λ n. decimal (number n)) numbers at item below is
     ∙ ap (separated separator) (sym (map-map decimal number (take (at + 1) numbers)))
 
--- where no number is left, all are written
+-- when no number is left, the text has all numbers
 pub numerals-all : {N : Type 0} (separator : List ℕ) (number : N → ℕ) (numbers : List N) (at : ℕ) → length numbers ≤ at
     → separated separator (map decimal (map number (take at numbers))) ≡ separated separator (map decimal (map number numbers))
 numerals-all separator number numbers at all = ap (λ xs. separated separator (map decimal (map number xs))) (take_all at numbers all)
 
--- the numbers of a list that is read with no change are the list
+-- the identity maps a list of numbers to itself
 pub map_same : (numbers : List ℕ) → map (λ (n : ℕ). n) numbers ≡ numbers
 map_same [] = refl
 map_same (n ∷ numbers) = ap (λ ns. n ∷ ns) (map_same numbers)
 
--- one more line
+-- appending the line of a term to the lines of others gives the lines of the longer list
 pub lines_by-push : {Label : Type 0} (rules : LabelRules Label) (terms : Terms Label) (t : Label × Fraction)
     → lines_by rules terms ++ line_by rules t ≡ lines_by rules (terms ++ t ∷ [])
 lines_by-push rules [] t = sym (append-nil (line_by rules t))
@@ -79,19 +79,19 @@ lines_by-push rules (u ∷ terms) t =
     append_assoc (line_by rules u) (lines_by rules terms) (line_by rules t)
     ∙ ap (λ text. line_by rules u ++ text) (lines_by-push rules terms t)
 
--- the block of some terms is their lines
+-- the block of a list with a term is the lines of its terms
 pub block_by-some : {Label : Type 0} (rules : LabelRules Label) (terms : Terms Label) → 0 < length terms
     → lines_by rules terms ≡ block_by rules terms
 block_by-some rules [] some = absurd (omega arith)
 block_by-some rules (t ∷ terms) some = refl
 
--- the block of no terms
+-- the block of the empty list is the line `0`
 pub block_by-nothing : {Label : Type 0} (rules : LabelRules Label) (terms : Terms Label) → length terms ≡ 0
     → codes "0\n" ≡ block_by rules terms
 block_by-nothing rules [] none = refl
 block_by-nothing rules (t ∷ terms) none = absurd (omega arith)
 
--- the line of a number
+-- the line of a number is the text of its answer
 pub number_line : (value : ℤ) → signed_decimal value ++ codes "\n" ≡ answer_text (answer kinds.number (number_terms value))
 unfolding digits
 number_line (pos zero) = refl

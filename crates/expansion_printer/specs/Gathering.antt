@@ -1,15 +1,15 @@
--- A text that is gathered on its way to a sink.
+-- A text that is collected in a buffer on its way to a sink.
 use Rattle.std.specs.Prelude.{◌≡◌, ℕ, List, ◌++◌, Bool, true}
 use Rattle.calc_base.specs.Puts.{Puts}
 use Rattle.calc_base.specs.Sink.{SinkSeen}
 
--- the bytes that wait for the sink, and whether all went well so far
+-- the bytes in the buffer, and whether no write has failed so far
 pub record Waiting : Type 0 where
   pub bytes : List ℕ
   pub well : Bool
 
--- since the sink was `start`, a text was put to it but for its last part,
--- which waits where all went well
+-- Since the sink was `start`, the text was written to it except for its last part, and unless a write failed that part
+-- is in the buffer.
 pub record HasPut (start : SinkSeen) (text : List ℕ) (now : Waiting)
     (sink : SinkSeen) : Type 0 where
   pub front : List ℕ
@@ -18,7 +18,7 @@ pub record HasPut (start : SinkSeen) (text : List ℕ) (now : Waiting)
   pub waits : now.well ≡ true → now.bytes ≡ last
   pub goes : Puts true start now.well sink front
 
--- a text was gathered: whatever was put before, the text is put after it
+-- the text was collected: if some text before it had been collected, now that text followed by this one has been
 pub record Gathers (old : Waiting) (old_sink : SinkSeen) (new : Waiting) (new_sink : SinkSeen)
     (text : List ℕ) : Type 0 where
   pub behind : (start : SinkSeen) (before : List ℕ) → HasPut start before old old_sink

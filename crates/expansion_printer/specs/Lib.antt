@@ -2,6 +2,5 @@
 pub mod Answers
 pub mod Refusal
 pub mod ReadingPlaces
--- The definitions that the contracts cite.
 pub mod SignedTerms
 pub mod Gathering

@@ -12,8 +12,8 @@ pub record HasReadingPlaces (t : SkewFilling) : Type 0 where
       → slice_index w (slice_index (row_of t.rows row) (place_in_row t.inner row column))
       ≡ letter_of_cell row column (reading_cells t.outer t.inner) w
 
--- how many cells of a row, which go from column left + 1 to right, come before the cell in a column
--- of another row, which is below it or not
+-- the number of cells of a row that are read before a cell in the column `column` of another row; the row has the cells
+-- in columns left + 1 to right, and `is_above` says that it is above the other one
 abbrev pub before_in_row : (left right column : ℕ) → Bool → ℕ
 before_in_row left right column is_above =
     (right - max left column) + cond (is_above && (nat_lt left column && nat_le column right)) 1 0

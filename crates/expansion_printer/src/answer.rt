@@ -1,4 +1,4 @@
-//! What a command answers.
+//! Answers of commands.
 ghost use Rattle.std.specs.Prelude.{◌≡◌};
 ghost use Rattle.expansion_printer.specs.Answers.{kind_of, kind_of_answer};
 

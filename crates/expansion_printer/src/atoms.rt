@@ -10,7 +10,7 @@ use crate::numbers::put_separated;
 use crate::text_buffer::TextBuffer;
 use calc_base::{Basis, Sink};
 
-/// Puts the atom of these parts.
+/// Writes the atom of a basis with these parts.
 pub(crate) fn put_atom<K: Sink>(basis: Basis, parts: &[u16], text: &mut TextBuffer, sink: &mut K)
     ensures { Gathers text.old (K.seen sink.old) text.new (K.seen sink.new)
         (atom_text (basis_of basis) parts.now) }

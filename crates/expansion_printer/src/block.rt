@@ -18,11 +18,11 @@ use calc_base::{Sink, SinkFault};
 use coeff_rings::Int;
 use linear_combinations::Terms;
 
-/// Prints the block of the answer: a line for each term,
-/// and the line `0` where there is none. A number is one line.
+/// Prints the block of the answer: a line for each term, and the line `0` if there is none. A
+/// number is one line.
 ///
-/// `SinkFault` exactly where a put failed. It is the last one,
-/// and what was put is then a prefix of the block.
+/// Returns `SinkFault` if and only if a write failed. There is no write after that, and what was
+/// written is a prefix of the block.
 pub fn print<K: Sink>(answer: &Answer, sink: &mut K) -> Result<(), SinkFault>
     ensures prints { Prints (K.seen sink.old) (K.seen sink.new)
         (answer_text (plain_answer answer.now)) result }
@@ -33,16 +33,16 @@ pub fn print<K: Sink>(answer: &Answer, sink: &mut K) -> Result<(), SinkFault>
     print_after(b"", answer, sink)
 }
 
-/// Prints a text that stands in front, and after it the block of the answer.
-/// Where that text is empty, the sink is not called for it.
+/// Prints the text `front` and then the block of the answer. If `front` is empty, the sink is not
+/// called for it.
 ///
-/// `SinkFault` exactly where a put failed. It is the last one,
-/// and what was put is then a prefix of the two.
+/// Returns `SinkFault` if and only if a write failed. There is no write after that, and what was
+/// written is a prefix of the two texts.
 pub fn print_after<K: Sink>(front: &[u8], answer: &Answer, sink: &mut K) -> Result<(), SinkFault>
     ensures prints { Prints (K.seen sink.old) (K.seen sink.new)
         (front.now ++ answer_text (plain_answer answer.now)) result }
 
-    // As of `print`.
+    // The answer is printable, as `print` states.
     ensures printable { IsPrintable (plain_answer answer.now) }
 {
     let mut text = TextBuffer::new();
@@ -51,7 +51,7 @@ pub fn print_after<K: Sink>(front: &[u8], answer: &Answer, sink: &mut K) -> Resu
     text.finish(sink)
 }
 
-/// Puts the block of the answer.
+/// Writes the block of the answer.
 fn put_block<K: Sink>(answer: &Answer, text: &mut TextBuffer, sink: &mut K)
     ensures goes { Gathers text.old (K.seen sink.old) text.new (K.seen sink.new)
         (answer_text (plain_answer answer.now)) }
@@ -69,7 +69,7 @@ fn put_block<K: Sink>(answer: &Answer, text: &mut TextBuffer, sink: &mut K)
     }
 }
 
-/// Puts the line of a number.
+/// Writes the line of a number.
 fn put_value<K: Sink>(value: Int, text: &mut TextBuffer, sink: &mut K)
     ensures goes { Gathers text.old (K.seen sink.old) text.new (K.seen sink.new)
         (answer_text (answer number (number_terms value))) }
@@ -80,7 +80,7 @@ fn put_value<K: Sink>(value: Int, text: &mut TextBuffer, sink: &mut K)
     text.put_byte(b'\n', sink);
 }
 
-/// Puts the block of the terms.
+/// Writes the block of the terms.
 fn put_terms<L: Named, R: Ratio, K: Sink>(terms: &Terms<L, R>, text: &mut TextBuffer, sink: &mut K)
     ensures goes { Gathers text.old (K.seen sink.old) text.new (K.seen sink.new)
         (block_by L.line_rules (terms_of R.value terms.now)) }
@@ -95,7 +95,7 @@ fn put_terms<L: Named, R: Ratio, K: Sink>(terms: &Terms<L, R>, text: &mut TextBu
     }
 }
 
-/// Puts the line of a term: its coefficient and its label.
+/// Writes the line of a term: its coefficient and its label.
 fn put_line<L: Named, R: Ratio, K: Sink>(label: &L, c: R, text: &mut TextBuffer, sink: &mut K)
     ensures goes { Gathers text.old (K.seen sink.old) text.new (K.seen sink.new)
         (line_by L.line_rules (label.now, R.value c)) }

@@ -11,7 +11,7 @@ use crate::text_buffer::TextBuffer;
 use calc_base::Sink;
 use coeff_rings::{Frac, Int, Scalar};
 
-/// Coefficients that tell their two numbers.
+/// Coefficients that are given as a numerator and a denominator.
 pub(crate) trait Ratio: Scalar {
     /// The numerator and the denominator.
     fn parts(&self) -> (i128, u128)
@@ -32,8 +32,8 @@ impl Ratio for Frac {
     }
 }
 
-/// Puts the sign in front of a term: `-` of a negative numerator,
-/// `+` of another but that of the first term.
+/// Writes the sign in front of a term: `-` for a negative numerator, otherwise `+` except for the
+/// first term.
 pub(crate) fn put_sign<K: Sink>(is_first: bool, num: i128, text: &mut TextBuffer, sink: &mut K)
     ensures { Gathers text.old (K.seen sink.old) text.new (K.seen sink.new)
         (sign_text is_first num) }
@@ -47,7 +47,7 @@ pub(crate) fn put_sign<K: Sink>(is_first: bool, num: i128, text: &mut TextBuffer
     text.put_byte(b'+', sink);
 }
 
-/// Puts the absolute value of a coefficient and `*`, and nothing where that value is 1.
+/// Writes the absolute value of a coefficient and `*`, or nothing if that value is 1.
 pub(crate) fn put_coefficient<K: Sink>(num: i128, den: u128, text: &mut TextBuffer, sink: &mut K)
     ensures { Gathers text.old (K.seen sink.old) text.new (K.seen sink.new)
         (coefficient_text (num, den)) }
@@ -61,7 +61,7 @@ pub(crate) fn put_coefficient<K: Sink>(num: i128, den: u128, text: &mut TextBuff
     text.put_byte(b'*', sink);
 }
 
-/// Puts a coefficient: `NUM/DEN`, and a whole one without its denominator.
+/// Writes a coefficient: `NUM/DEN`, or a whole one without its denominator.
 pub(crate) fn put_fraction<K: Sink>(num: i128, den: u128, text: &mut TextBuffer, sink: &mut K)
     ensures { Gathers text.old (K.seen sink.old) text.new (K.seen sink.new)
         (fraction_text (num, den)) }
@@ -71,7 +71,7 @@ pub(crate) fn put_fraction<K: Sink>(num: i128, den: u128, text: &mut TextBuffer,
     put_denominator(den, text, sink);
 }
 
-/// Puts `/` and the denominator of a fraction, and nothing where that is 1.
+/// Writes `/` and the denominator of a fraction, or nothing if that is 1.
 fn put_denominator<K: Sink>(den: u128, text: &mut TextBuffer, sink: &mut K)
     ensures { Gathers text.old (K.seen sink.old) text.new (K.seen sink.new)
         (if den == 1 then [] else (codes "/" ++ decimal den)) }
@@ -83,7 +83,7 @@ fn put_denominator<K: Sink>(den: u128, text: &mut TextBuffer, sink: &mut K)
     put_number(den, text, sink);
 }
 
-/// Puts a number in decimal.
+/// Writes a number in decimal.
 fn put_number<K: Sink>(number: u128, text: &mut TextBuffer, sink: &mut K)
     ensures { Gathers text.old (K.seen sink.old) text.new (K.seen sink.new) (decimal number) }
 {

@@ -2,18 +2,19 @@
 //! one-line form, the line of a refusal, and the line of an answer that is too large; the lines of
 //! words, tableaux and shapes, and single labels.
 //!
-//! A printer gathers its text in a buffer of fixed size, which goes to the sink when it is full and
-//! at the end. Where a put fails none follows,
-//! and what was put is a prefix of the text. No memory is taken.
+//! A printer collects its text in a buffer of fixed size, which is written to the sink when it is
+//! full and at the end. After a write that fails there is no other, and what was written is a
+//! prefix of the text. No memory is allocated.
 //!
 //! What is proved:
 //!
-//! `print` puts the block of an answer of any kind, `print_refusal` and `print_large` the line of a
-//! refusal, `print_label`, `print_letters`, `print_shapes`, `print_reading`, `print_in_order` and
-//! `print_tableau` their lines: whole, or after a fault a prefix with no further put. Every answer
-//! is canonical with numbers of 128 bits. `print_one_line`: an expansion or a product on one line
-//! with the atoms of a basis, put to any sink, with the fault clauses of `print`; any other answer
-//! gets its block. `print_after`, `print_one_line_after`: the same, after a text that is given.
+//! `print` writes the block of an answer of any kind, `print_refusal` and `print_large` the line of
+//! a refusal, `print_label`, `print_letters`, `print_shapes`, `print_reading`, `print_in_order` and
+//! `print_tableau` their lines: the whole text, or after a fault a prefix, with no further write.
+//! Every answer is canonical with numbers of 128 bits. `print_one_line`: an expansion or a product
+//! on one line with the atoms of a basis, written to any sink, with the fault clauses of `print`;
+//! any other answer gets its block. `print_after`, `print_one_line_after`: the same after a given
+//! text.
 #![tactic(auto)]
 
 mod answer;

@@ -23,11 +23,11 @@ use linear_combinations::Terms;
 use partitions::Partition;
 
 /// Prints an expansion, or a product, on one line with the atoms of the basis, as
-/// `-1/3*p[3]+1/3*p[1,1,1]`: the terms in their order, and `0` where there is none. An answer of
-/// another kind, whose labels are no partitions, has no such line: its block is printed.
+/// `-1/3*p[3]+1/3*p[1,1,1]`: the terms in their order, and `0` if there is none. An answer of
+/// another kind, whose labels are not partitions, has no such line: its block is printed.
 ///
-/// `SinkFault` exactly where a put failed. It is the last one,
-/// and what was put is then a prefix of the line.
+/// Returns `SinkFault` if and only if a write failed. There is no write after that, and what was
+/// written is a prefix of the line.
 pub fn print_one_line<K: Sink>(answer: &Answer, basis: Basis, sink: &mut K) -> Result<(), SinkFault>
     ensures prints { Prints (K.seen sink.old) (K.seen sink.new)
         (answer_text_in (as_line (basis_of basis)) (plain_answer answer.now)) result }
@@ -38,11 +38,11 @@ pub fn print_one_line<K: Sink>(answer: &Answer, basis: Basis, sink: &mut K) -> R
     print_one_line_after(b"", answer, basis, sink)
 }
 
-/// Prints a text that stands in front, and after it what `print_one_line` prints.
-/// Where that text is empty, the sink is not called for it.
+/// Prints the text `front` and then what `print_one_line` prints. If `front` is empty, the sink is
+/// not called for it.
 ///
-/// `SinkFault` exactly where a put failed. It is the last one,
-/// and what was put is then a prefix of the two.
+/// Returns `SinkFault` if and only if a write failed. There is no write after that, and what was
+/// written is a prefix of the two texts.
 pub fn print_one_line_after<K: Sink>(
     front: &[u8],
     answer: &Answer,
@@ -52,7 +52,7 @@ pub fn print_one_line_after<K: Sink>(
     ensures prints { Prints (K.seen sink.old) (K.seen sink.new)
         (front.now ++ answer_text_in (as_line (basis_of basis)) (plain_answer answer.now)) result }
 
-    // As of `print_one_line`.
+    // The answer is printable, as `print_one_line` states.
     ensures printable { IsPrintable (plain_answer answer.now) }
 {
     match answer {
@@ -62,7 +62,7 @@ pub fn print_one_line_after<K: Sink>(
     }
 }
 
-/// Prints a text that stands in front, and after it the one-line form of the terms.
+/// Prints the text `front` and then the one-line form of the terms.
 fn print_terms<R: Ratio, K: Sink>(
     front: &[u8],
     basis: Basis,
@@ -80,7 +80,7 @@ fn print_terms<R: Ratio, K: Sink>(
     text.finish(sink)
 }
 
-/// Puts the one-line form of the terms.
+/// Writes the one-line form of the terms.
 fn put_line<R: Ratio, K: Sink>(
     basis: Basis,
     terms: &Terms<Partition, R>,
@@ -103,7 +103,7 @@ fn put_line<R: Ratio, K: Sink>(
     text.put_byte(b'\n', sink);
 }
 
-/// Puts a term with its sign, which a first term has only where it is negative.
+/// Writes a term with its sign; the first term has a sign only if it is negative.
 fn put_term<R: Ratio, K: Sink>(
     basis: Basis,
     is_first: bool,

@@ -12,12 +12,12 @@ use partitions::Partition;
 use perm_codes::Perm;
 use sparse_polys::{Monomial, Pair, Power, Shifted};
 
-/// Labels that stand on a line after its coefficient.
+/// Labels that follow a coefficient on a line.
 pub(crate) trait Named: Label {
-    // What a block has to know of them.
+    // The rules of a block for these labels.
     ghost line_rules: { LabelRules Self };
 
-    /// Puts the text of the label, with the blanks in front of it.
+    /// Writes the text of the label, with the spaces in front of it.
     fn put_name<K: Sink>(&self, text: &mut TextBuffer, sink: &mut K)
         ensures { Gathers text.old (K.seen sink.old) text.new (K.seen sink.new)
             (line_rules.text self.now) };
@@ -80,7 +80,7 @@ impl Named for Shifted {
     }
 }
 
-/// Puts the two spaces in front of a label.
+/// Writes the two spaces in front of a label.
 #[inline]
 fn put_spaces<K: Sink>(text: &mut TextBuffer, sink: &mut K)
     ensures { Gathers text.old (K.seen sink.old) text.new (K.seen sink.new) (codes "  ") }

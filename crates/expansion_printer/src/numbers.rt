@@ -8,7 +8,7 @@ use crate::text_buffer::TextBuffer;
 use calc_base::Sink;
 use itoa::{Buffer, Integer};
 
-/// Numbers of at most 64 bits.
+/// A number of at most 64 bits, as the list of a label has it.
 pub(crate) trait Numeral {
     ghost number: { Self → ℕ };
 
@@ -32,7 +32,7 @@ impl Numeral for u16 {
     }
 }
 
-/// Puts a label: the numbers in parentheses.
+/// Writes a label: the numbers in parentheses, with commas between them.
 pub(crate) fn put_label<N: Numeral, K: Sink>(numbers: &[N], text: &mut TextBuffer, sink: &mut K)
     ensures { Gathers text.old (K.seen sink.old) text.new (K.seen sink.new)
         (label_text (map N.number numbers.now)) }
@@ -42,7 +42,7 @@ pub(crate) fn put_label<N: Numeral, K: Sink>(numbers: &[N], text: &mut TextBuffe
     text.put_byte(b')', sink);
 }
 
-/// Puts the numbers with the separator between them.
+/// Writes the numbers with the separator between them.
 pub(crate) fn put_separated<N: Numeral, K: Sink>(
     separator: u8,
     numbers: &[N],
@@ -57,8 +57,8 @@ pub(crate) fn put_separated<N: Numeral, K: Sink>(
     }
 }
 
-/// Puts the number at a place, counted from 0,
-/// with the separator in front of it but at the first place.
+/// Writes the number at a place, counted from 0, and in front of it the separator, except at the
+/// first place.
 #[inline]
 pub(crate) fn put_piece<K: Sink>(
     separator: u8,
@@ -77,7 +77,7 @@ pub(crate) fn put_piece<K: Sink>(
     put_number(number, text, sink);
 }
 
-/// Puts a number in decimal.
+/// Writes a number in decimal.
 #[inline]
 pub(crate) fn put_number<K: Sink>(number: u64, text: &mut TextBuffer, sink: &mut K)
     ensures { Gathers text.old (K.seen sink.old) text.new (K.seen sink.new) (decimal number) }
@@ -92,7 +92,7 @@ pub(crate) fn put_number<K: Sink>(number: u64, text: &mut TextBuffer, sink: &mut
     put_long(number, text, sink);
 }
 
-/// Puts a number of any length in decimal.
+/// Writes a number of any length in decimal.
 #[inline(never)]
 pub(crate) fn put_long<I: Integer, K: Sink>(number: I, text: &mut TextBuffer, sink: &mut K)
     ensures { Gathers text.old (K.seen sink.old) text.new (K.seen sink.new) (I.text number) }

@@ -1,4 +1,4 @@
-//! Fillings that are told by their column readings.
+//! Fillings that are given by their column readings.
 ghost use Rattle.std.specs.Prelude.{◌≡◌, ◌≤◌, ◌<◌, ℕ, List, slice_index, IfOk};
 ghost use Rattle.sym_model.specs.Partition.{IsCell};
 ghost use Rattle.sym_model.specs.TableauList.{filling_of, letter_of_cell, reading_cells};
@@ -30,7 +30,7 @@ impl Model for ReadingOrder {
 }
 
 impl ReadingOrder {
-    /// The order of the cells of a shape. It fails for out of memory alone.
+    /// The order of the cells of a shape. Fails only if memory runs out.
     pub fn new(alloc: Global, shape: Skew) -> Result<ReadingOrder, NoMemory>
         ensures { IfOk result (λ order. order ≡ shape) }
     {
@@ -104,7 +104,8 @@ impl Entries for Reading<'_> {
     }
 }
 
-/// The same of a shape whose places are counted where they are needed, which takes no memory.
+/// The cells of a shape with the letters of a column reading, whose places are computed when they
+/// are needed. No memory is allocated.
 #[derive(Drop)]
 pub(crate) struct CountedReading<'a> {
     pub(crate) shape: &'a Skew,
@@ -151,8 +152,9 @@ fn place_of(shape: &Skew, row: u16, column: u16) -> usize
     before
 }
 
-/// How many cells of a row, which go from column `left + 1` to `right`, come before the cell in a
-/// column of another row, which is below it or not.
+/// The number of cells of a row that are read before a cell in the column `column` of another row.
+/// The row has the cells in columns `left + 1` to `right`; `is_above` says that it is above the
+/// other one.
 fn cells_before(left: u16, right: u16, column: u16, is_above: bool) -> u16
     ensures { result ≡ before_in_row left right column is_above }
 {

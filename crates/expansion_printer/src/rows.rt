@@ -34,7 +34,7 @@ pub(crate) trait Entries {
         ensures { result ≡ entry self.now row column };
 }
 
-/// Puts the rows from top to bottom, or a point where there is none.
+/// Writes the rows from top to bottom, or `.` if there is none.
 pub(crate) fn put_rows<E: Entries, K: Sink>(filling: &E, text: &mut TextBuffer, sink: &mut K)
     ensures { Gathers text.old (K.seen sink.old) text.new (K.seen sink.new)
         (tableau_text (E.rows filling.now)) }
@@ -48,7 +48,7 @@ pub(crate) fn put_rows<E: Entries, K: Sink>(filling: &E, text: &mut TextBuffer, 
     }
 }
 
-/// Puts the row at a place, counted from 0, with the separator in front of it but at the first
+/// Writes the row at a place, counted from 0, and in front of it the separator, except at the first
 /// place.
 fn put_next_row<E: Entries, K: Sink>(filling: &E, at: u16, text: &mut TextBuffer, sink: &mut K)
     requires { at < 65535 }
@@ -65,8 +65,8 @@ fn put_next_row<E: Entries, K: Sink>(filling: &E, at: u16, text: &mut TextBuffer
     put_row(filling, at, text, sink);
 }
 
-/// Puts the entries of the row at a place, counted from 0, with spaces between them,
-/// or a point where there is none.
+/// Writes the entries of the row at a place, counted from 0, with spaces between them, or `.` if
+/// there is none.
 fn put_row<E: Entries, K: Sink>(filling: &E, at: u16, text: &mut TextBuffer, sink: &mut K)
     requires { at < 65535 }
     ensures { Gathers text.old (K.seen sink.old) text.new (K.seen sink.new)
@@ -82,8 +82,7 @@ fn put_row<E: Entries, K: Sink>(filling: &E, at: u16, text: &mut TextBuffer, sin
     put_entries(filling, row, left, right, text, sink);
 }
 
-/// Puts the entries of a row in the columns right of `left` up to `right`,
-/// with spaces between them.
+/// Writes the entries of a row in columns `left + 1` to `right`, with spaces between them.
 fn put_entries<E: Entries, K: Sink>(
     filling: &E,
     row: u16,

@@ -36,8 +36,8 @@ impl Entries for Tableau {
 
 /// Prints the line of a tableau: its rows from top to bottom.
 ///
-/// `SinkFault` exactly where a put failed. It is the last one,
-/// and what was put is then a prefix of the line.
+/// Returns `SinkFault` if and only if a write failed. There is no write after that, and what was
+/// written is a prefix of the line.
 pub fn print_tableau<K: Sink>(t: &Tableau, sink: &mut K) -> Result<(), SinkFault>
     ensures { Prints (K.seen sink.old) (K.seen sink.new) (tableau_line t.now.rows) result }
 {
@@ -45,11 +45,11 @@ pub fn print_tableau<K: Sink>(t: &Tableau, sink: &mut K) -> Result<(), SinkFault
 }
 
 /// Prints the line of the filling of a shape with this column reading: the columns from the
-/// rightmost to the leftmost, each from top to bottom. Cells past the last letter have the number
+/// rightmost to the leftmost, each from top to bottom. Cells after the last letter have the number
 /// 0.
 ///
-/// `SinkFault` exactly where a put failed. It is the last one,
-/// and what was put is then a prefix of the line.
+/// Returns `SinkFault` if and only if a write failed. There is no write after that, and what was
+/// written is a prefix of the line.
 pub fn print_reading<K: Sink>(shape: &Skew, reading: &[u16], sink: &mut K) -> Result<(), SinkFault>
     ensures { Prints (K.seen sink.old) (K.seen sink.new)
         (tableau_line (filling_of shape.now.0 shape.now.1 reading.now)) result }
@@ -61,11 +61,11 @@ pub fn print_reading<K: Sink>(shape: &Skew, reading: &[u16], sink: &mut K) -> Re
     print_filling(&filling, sink)
 }
 
-/// Prints what `print_reading` prints, of the shape of the order, whose places are not counted
-/// again.
+/// Prints what `print_reading` prints for the shape of the order, without computing the places of
+/// its cells again.
 ///
-/// `SinkFault` exactly where a put failed. It is the last one,
-/// and what was put is then a prefix of the line.
+/// Returns `SinkFault` if and only if a write failed. There is no write after that, and what was
+/// written is a prefix of the line.
 pub fn print_in_order<K: Sink>(
     order: &ReadingOrder,
     reading: &[u16],

@@ -8,11 +8,11 @@ use arrayvec::ArrayVec;
 use calc_base::{Sink, SinkFault, put_if};
 use std::marker::Model;
 
-/// How many bytes a buffer has room for.
+/// The number of bytes that a buffer can hold.
 const CAPACITY: usize = 1024;
 
-/// Bytes that wait for a sink. They are put when a further piece finds no room, and at the end, and
-/// none is put after a fault. No memory is taken.
+/// Bytes that are to be written to a sink. They are written when a further piece does not fit, and
+/// at the end; after a fault nothing is written. No memory is allocated.
 #[derive(Drop)]
 pub(crate) struct TextBuffer {
     bytes: ArrayVec<u8, CAPACITY>,
@@ -36,7 +36,7 @@ impl TextBuffer {
         }
     }
 
-    /// Puts the byte after what was put before.
+    /// Appends the byte to the text.
     #[inline]
     pub(crate) fn put_byte<K: Sink>(&mut self, byte: u8, sink: &mut K)
         ensures { Gathers self.old (K.seen sink.old) self.new (K.seen sink.new) (byte ∷ []) }
@@ -47,7 +47,7 @@ impl TextBuffer {
         self.bytes.push(byte);
     }
 
-    /// Puts the piece after what was put before.
+    /// Appends the piece to the text.
     #[inline(never)]
     pub(crate) fn put<K: Sink>(&mut self, piece: &[u8], sink: &mut K)
         ensures { Gathers self.old (K.seen sink.old) self.new (K.seen sink.new) piece.now }
@@ -59,7 +59,7 @@ impl TextBuffer {
         self.put_first(piece, sink);
     }
 
-    /// Puts the bytes that wait, and tells whether all went well.
+    /// Writes the bytes in the buffer, and returns `SinkFault` if and only if a write has failed.
     pub(crate) fn finish<K: Sink>(self, sink: &mut K) -> Result<(), SinkFault>
         ensures { Puts self.well (K.seen sink.old) (is_ok result) (K.seen sink.new) self.bytes }
     {
@@ -69,7 +69,7 @@ impl TextBuffer {
         sink.put(self.bytes.as_slice())
     }
 
-    /// Keeps the piece where there is room for it, and tells whether there was.
+    /// Appends the piece to the buffer if it fits, and returns whether it did.
     fn keep(&mut self, piece: &[u8]) -> bool
         ensures kept { IsTrue result → self.new
             ≡ record { bytes = self.old.bytes ++ piece.now; well = self.old.well } }
@@ -79,7 +79,7 @@ impl TextBuffer {
         self.bytes.try_extend_from_slice(piece).is_ok()
     }
 
-    /// Hands the bytes that wait to the sink.
+    /// Writes the bytes in the buffer to the sink.
     fn flush<K: Sink>(&mut self, sink: &mut K)
         ensures goes { Gathers self.old (K.seen sink.old) self.new (K.seen sink.new) [] }
         ensures empty { self.new.bytes ≡ [] }
@@ -88,7 +88,7 @@ impl TextBuffer {
         self.bytes.clear();
     }
 
-    /// Puts a piece where no byte waits, past the buffer where it is too long for it.
+    /// Appends a piece when the buffer is empty: to the sink directly if the piece does not fit.
     fn put_first<K: Sink>(&mut self, piece: &[u8], sink: &mut K)
         requires { self.old.bytes ≡ [] }
         ensures { Gathers self.old (K.seen sink.old) self.new (K.seen sink.new) piece.now }

@@ -13,8 +13,8 @@ use partitions::Partition;
 /// Prints the line of a word: its letters with a space between them,
 /// and an empty line for the empty word.
 ///
-/// `SinkFault` exactly where a put failed. It is the last one,
-/// and what was put is then a prefix of the line.
+/// Returns `SinkFault` if and only if a write failed. There is no write after that, and what was
+/// written is a prefix of the line.
 pub fn print_letters<K: Sink>(w: &[u16], sink: &mut K) -> Result<(), SinkFault>
     ensures { Prints (K.seen sink.old) (K.seen sink.new) (word_line w.now) result }
 {
@@ -26,8 +26,8 @@ pub fn print_letters<K: Sink>(w: &[u16], sink: &mut K) -> Result<(), SinkFault>
 
 /// Prints the label of a partition, with no end of line.
 ///
-/// `SinkFault` exactly where a put failed. It is the last one,
-/// and what was put is then a prefix of the label.
+/// Returns `SinkFault` if and only if a write failed. There is no write after that, and what was
+/// written is a prefix of the label.
 pub fn print_label<K: Sink>(shape: &Partition, sink: &mut K) -> Result<(), SinkFault>
     ensures { Prints (K.seen sink.old) (K.seen sink.new) (label_text shape.now) result }
 {
@@ -36,11 +36,11 @@ pub fn print_label<K: Sink>(shape: &Partition, sink: &mut K) -> Result<(), SinkF
     text.finish(sink)
 }
 
-/// Prints the line of shapes: their labels with a space between them,
-/// and an empty line where there is none.
+/// Prints the line of shapes: their labels with a space between them, and an empty line if there is
+/// none.
 ///
-/// `SinkFault` exactly where a put failed. It is the last one,
-/// and what was put is then a prefix of the line.
+/// Returns `SinkFault` if and only if a write failed. There is no write after that, and what was
+/// written is a prefix of the line.
 pub fn print_shapes<K: Sink>(shapes: &[Partition], sink: &mut K) -> Result<(), SinkFault>
     ensures { Prints (K.seen sink.old) (K.seen sink.new) (shapes_line shapes.now) result }
 {
@@ -50,7 +50,7 @@ pub fn print_shapes<K: Sink>(shapes: &[Partition], sink: &mut K) -> Result<(), S
     text.finish(sink)
 }
 
-/// Puts the labels of the shapes with a space between them.
+/// Writes the labels of the shapes with a space between them.
 fn put_shapes<K: Sink>(shapes: &[Partition], text: &mut TextBuffer, sink: &mut K)
     ensures { Gathers text.old (K.seen sink.old) text.new (K.seen sink.new)
         (separated (codes " ") (map label_text shapes.now)) }
@@ -60,8 +60,8 @@ fn put_shapes<K: Sink>(shapes: &[Partition], text: &mut TextBuffer, sink: &mut K
     }
 }
 
-/// Puts the label of the shape at a place, counted from 0,
-/// with a space in front of it but at the first place.
+/// Writes the label of the shape at a place, counted from 0, and in front of it a space, except at
+/// the first place.
 fn put_next_shape<K: Sink>(at: usize, shape: &Partition, text: &mut TextBuffer, sink: &mut K)
     ensures { Gathers text.old (K.seen sink.old) text.new (K.seen sink.new)
         (if at == 0 then label_text shape.now else (codes " " ++ label_text shape.now)) }

@@ -13,12 +13,12 @@ use Rattle.expression_laws.proofs.PhrasePrefixes.{written_term, written_factor, 
 abbrev pub Marks : Type 0
 Marks = List (ℕ × Mark)
 
--- how many parentheses are open
+-- the number of parentheses that are open
 abbrev pub depth_of : Opened Phrase → ℕ
 depth_of outermost = 0
 depth_of (inside o t f) = depth_of o + 1
 
--- the byte at which the term, the factor and what is there of a factor begin
+-- the bytes at which the term, the factor and the part of a factor begin
 abbrev pub term_begin : Opened Phrase → ℕ
 term_begin o = length (written_opened o)
 
@@ -43,7 +43,7 @@ opened_marks (inside o t f) =
     opened_marks o ++ (term_marks (depth_of o) (term_begin o) t
     ++ (factor_marks (depth_of o) (factor_begin t o) f ++ (piece_begin t f o, opening (depth_of o + 1)) ∷ []))
 
--- the marks that are complete
+-- the marks of the numbers that are complete in the part of a factor that has been read
 abbrev pub piece_marks : ℕ → ℕ → Piece Phrase (List ℕ) → Marks
 piece_marks d b (after_slash n) = (b, value (decimal_value n)) ∷ []
 piece_marks d b (in_denominator n ds) = (b, value (decimal_value n)) ∷ []
@@ -63,7 +63,7 @@ abbrev pub last_value : Option ℕ → List (List ℕ) → Option ℕ
 last_value before [] = before
 last_value before (w ∷ ws) = last_value (Some (decimal_value w)) ws
 
--- the number that is being read
+-- the mark of the number that is being read, if there is one
 abbrev pub piece_mark : ℕ → Piece Phrase (List ℕ) → Option (ℕ × Mark)
 piece_mark b (in_number ds) = Some (b, value (decimal_value ds))
 piece_mark b (in_denominator n ds) = Some (b + length n + 1, denominator (decimal_value ds))
@@ -77,7 +77,7 @@ new_mark (at p t f o) (digit b) = None
 new_mark (at p t f o) opens = Some (piece_begin t f o, opening (depth_of o + 1))
 new_mark (at p t f o) _ = piece_mark (piece_begin t f o) p
 
--- one number word more in an atom's list
+-- the marks of an atom's list with one more number word
 entry_marks-snoc : (b k : ℕ) (before : Option ℕ) (ws : List (List ℕ)) (w : List ℕ)
     → entry_marks b k before (ws ++ w ∷ []) ≡ entry_marks b k before ws ++ (b + length (commas ws), entry (k + length ws) (last_value before ws) (decimal_value w)) ∷ []
 entry_marks-snoc b k before [] w =
@@ -97,7 +97,7 @@ entry_marks-next b ws w =
     entry_marks-snoc b 0 None ws w
     ∙ ap (λ n. entry_marks b 0 None ws ++ (b + length (commas ws), entry n (last_value None ws) (decimal_value w)) ∷ []) (omega arith)
 
--- the marks of what a factor ends
+-- the marks of a term that ends with the factor x are those of the text before x, followed by those of x
 marks-join_factor : (d b : ℕ) (f : BeforeFactor Phrase) (x : Phrase) → marks d b (join_factor phrases f x) ≡ factor_marks d b f ++ marks d (b + length (written_factor f)) x
 marks-join_factor d b no_factor x = ap (λ n. marks d n x) (omega arith)
 marks-join_factor d b (multiplying e) x = ap (λ n. marks d b e ++ marks d n x) (simp length-append (omega arith))
@@ -113,7 +113,7 @@ pub marks-join : (d b : ℕ) (t : BeforeTerm Phrase) (f : BeforeFactor Phrase) (
 marks-join d b t f x =
     marks-join_term d b t (join_factor phrases f x) ∙ ap (λ ms. term_marks d b t ++ ms) (marks-join_factor d (b + length (written_term t)) f x)
 
--- the state is dead, or these are its marks
+-- the reading is dead, or its marks are ms
 abbrev pub MarksAre : Marks → Reading → Type 0
 MarksAre ms dead = Unit {0}
 MarksAre ms (at p t f o) = state_marks (at p t f o) ≡ ms
@@ -127,7 +127,7 @@ begin-inside o t f = simp length-append (omega arith)
 regroup : (a t f r : Marks) (m : ℕ × Mark) → a ++ (t ++ (f ++ m ∷ r)) ≡ (a ++ (t ++ (f ++ m ∷ []))) ++ r
 regroup a t f r m = simp append_assoc
 
--- a symbol after a factor keeps the marks
+-- after a symbol that follows a factor the marks are the same
 after-factor : (s : Symbol) (x : Phrase) (t : BeforeTerm Phrase) (f : BeforeFactor Phrase) (o : Opened Phrase)
     → MarksAre (state_marks (at (closed x) t f o)) (after_factor phrases x t f o s)
 after-factor star x t f o =
@@ -245,7 +245,7 @@ marks-step closes_list (at (in_entry basis ws ds) t f o) = entry-next ws ds t f 
 marks-step _ (at (in_entry basis ws ds) t f o) = tt
 marks-step s (at (closed x) t f o) = in-closed s x t f o
 
--- the marks of a whole expression
+-- the marks of a whole expression are those of the state and the one that its end completes
 pub marks-found : (x : Reading) (e : Phrase) → found phrases x ≡ Some e → marks 0 0 e ≡ state_marks x ++ option_to_list (new_mark x other)
 marks-found dead e h = cc
 marks-found (at p t f (inside o t' f')) e h = cc

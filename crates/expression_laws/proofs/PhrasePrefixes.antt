@@ -1,4 +1,4 @@
--- A text that is read without a fault begins an expression, and is one where nothing is left to come.
+-- A text that is read without a fault begins an expression, and is one if the expression ends at its end.
 use Rattle.std.proofs.Common.{◌≡◌, ℕ, ◌==◌, nat_le, Bool, true, false, cond, ◌&&◌, List, [], ◌∷◌, ◌++◌, length-append, refl, sym, ap, ◌∙◌, subst, append_assoc, arith, Some}
 use Rattle.std.proofs.lemmas.Bool.{leb-true, eqb-true, and_parts}
 use Rattle.std.proofs.lemmas.List.{append-nil}
@@ -55,7 +55,7 @@ symbol-codes b =
     (choose b (b == 112) (letter_of power_sums) _ (λ e. one_letter b 112 (112 ∷ []) refl (same b 112 e))
     (choose b (b == 115) (letter_of schurs) other (λ e. one_letter b 115 (115 ∷ []) refl (same b 115 e)) tt))))))))))))))
 
--- the bytes that have been read
+-- the bytes that have been read of the part before a term
 abbrev pub written_term : BeforeTerm Phrase → List ℕ
 written_term no_term = []
 written_term negating = codes "-"
@@ -89,7 +89,7 @@ abbrev pub written : Reading → List ℕ
 written (at p t f o) = written_opened o ++ (written_term t ++ (written_factor f ++ written_piece p))
 written dead = []
 
--- the parts are phrases of the levels that they have to be
+-- the parts are phrases of the required levels
 abbrev pub SoundTerm : BeforeTerm Phrase → Type 0
 SoundTerm (adding e) = Is expression e
 SoundTerm (subtracting e) = Is expression e
@@ -122,7 +122,7 @@ abbrev pub Continues : List ℕ → Reading → Type 0
 Continues w dead = Unit {0}
 Continues w (at p t f o) = (written (at p t f o) ≡ w) × Sound (at p t f o)
 
--- joined parts
+-- the spelling of joined parts is the text before the factor and the spelling of the factor
 pub spelling-join_factor : (f : BeforeFactor Phrase) (x : Phrase) → spelling (join_factor phrases f x) ≡ written_factor f ++ spelling x
 spelling-join_factor no_factor x = refl
 spelling-join_factor (multiplying e) x = sym (append_assoc (spelling e) (codes "*") (spelling x))
@@ -177,7 +177,7 @@ joined w t f x e a ht hf h k =
       spelled = h ∙ sym (spelling-join t f x) ∙ ap spelling same;
     }
 
--- digits
+-- a digit is a number word, and so is a number word with one more digit
 one_digit : (c b : ℕ) → c ≡ b → IsDigit b → IsNumberWord (c ∷ [])
 one_digit c b e h = record { nonempty = omega arith; digits = (subst IsDigit (sym e) h, tt) }
 
@@ -191,7 +191,7 @@ IsNumberWord-snoc ds c b e h k = record {
   digits = AreDigits-snoc ds c k.digits (subst IsDigit (sym e) h);
 }
 
--- a byte after a factor
+-- a symbol after a factor continues the text that was read
 after-factor : (b : ℕ) (s : Symbol) (x : Phrase) (t : BeforeTerm Phrase) (f : BeforeFactor Phrase) (o : Opened Phrase) → Codes b s → Is factor x → SoundTerm t → SoundFactor f → SoundOpened o
     → Continues ((written_opened o ++ (written_term t ++ (written_factor f ++ spelling x))) ++ b ∷ []) (after_factor phrases x t f o s)
 after-factor b star x t f o e a ht hf ho =
@@ -204,7 +204,7 @@ after-factor b closes x t f (inside o t' f') e a ht hf ho =
     (simp (e, spelling-join, append_assoc), (Is-join t f x ht hf a, ho.1, ho.2, ho.0))
 after-factor b _ x t f o e a ht hf ho = tt
 
--- a byte where a factor is awaited
+-- a symbol that begins a factor, or a minus or a parenthesis before one, continues the text that was read
 before-factor : (b : ℕ) (s : Symbol) (t : BeforeTerm Phrase) (f : BeforeFactor Phrase) (o : Opened Phrase) → Codes b s → SoundTerm t → SoundFactor f → SoundOpened o
     → Continues ((written_opened o ++ (written_term t ++ (written_factor f ++ []))) ++ b ∷ []) (before_factor phrases t f o s)
 before-factor b (digit c) t f o e ht hf ho =
@@ -217,7 +217,7 @@ before-factor b minus_sign no_term no_factor o e ht hf ho =
     (simp (e, append-nil), (tt, tt, tt, ho))
 before-factor b _ t f o e ht hf ho = tt
 
--- number words, the last with no comma after it
+-- the text of number words and one more is the number words, each with a comma after it, followed by the last one
 pub comma_separated-snoc : (ws : List (List ℕ)) (w : List ℕ) → comma_separated (ws ++ w ∷ []) ≡ commas ws ++ w
 comma_separated-snoc [] w = refl
 comma_separated-snoc (v ∷ []) w = simp (append_assoc, append-nil)
@@ -233,7 +233,7 @@ AreNumberWords-snoc : (ws : List (List ℕ)) (w : List ℕ) → AreNumberWords w
 AreNumberWords-snoc [] w h k = (k, tt)
 AreNumberWords-snoc (v ∷ ws) w h k = (h.0, AreNumberWords-snoc ws w h.1 k)
 
--- a byte in an atom's list
+-- in an atom's list, the reading after a symbol has the text so far and its byte
 in-list : (b : ℕ) (s : Symbol) (basis : Basis) (ws : List (List ℕ)) (t : BeforeTerm Phrase) (f : BeforeFactor Phrase) (o : Opened Phrase) → Codes b s → AreNumberWords ws → SoundTerm t → SoundFactor f → SoundOpened o
     → Continues ((written_opened o ++ (written_term t ++ (written_factor f ++ (letter basis ++ (codes "[" ++ commas ws))))) ++ b ∷ []) (in_list_step phrases basis ws t f o s)
 in-list b (digit c) basis ws t f o e hw ht hf ho =
@@ -242,7 +242,7 @@ in-list b closes_list basis [] t f o e hw ht hf ho =
     (simp (e, append_assoc, append-nil), (tt, ht, hf, ho))
 in-list b _ basis ws t f o e hw ht hf ho = tt
 
--- a byte more
+-- if x is sound, reading one more byte b gives a reading whose text is that of x followed by b
 pub continues : (b : ℕ) (s : Symbol) (x : Reading) → Codes b s → Sound x → Continues (written x ++ b ∷ []) (step phrases x s)
 continues b s dead e h = tt
 continues b s (at awaited t f o) e h = before-factor b s t f o e h.1 h.2 h.3
@@ -273,7 +273,7 @@ pub read-dead : (w : List ℕ) → read_on w dead ≡ dead
 read-dead [] = refl
 read-dead (b ∷ w) = read-dead w
 
--- what has been read after a text
+-- if x is sound, reading a text w gives a reading whose text is that of x followed by w
 pub read-written : (w : List ℕ) (x : Reading) → Sound x → Continues (written x ++ w) (read_on w x)
 read-written [] dead h = tt
 read-written [] (at p t f o) h = (sym (append-nil (written (at p t f o))), h)
@@ -287,7 +287,7 @@ read-written (b ∷ w) x h =
         (ap (λ v. v ++ w) k.0 ∙ append_assoc (written x) (b ∷ []) w)
         (ih (at p t f o) k.1)
 
--- what would end the expression: the rest of a factor, and a parenthesis for each that is open
+-- a text that ends the expression: the rest of the factor, and a parenthesis for each that is open
 abbrev rest_of : Piece Phrase (List ℕ) → List ℕ
 rest_of awaited = codes "1"
 rest_of (in_number ds) = []
@@ -302,7 +302,7 @@ abbrev closers : Opened Phrase → List ℕ
 closers outermost = []
 closers (inside o t f) = codes ")" ++ closers o
 
--- the factor and the expression that come of it
+-- the factor and the expression that this text completes
 abbrev factor_from : Piece Phrase (List ℕ) → Phrase
 factor_from awaited = numeral (codes "1")
 factor_from (in_number ds) = numeral ds
@@ -385,14 +385,14 @@ live-or_dead (at p t f o) h = refl
 found-dead : (w : List ℕ) (x : Reading) (e : Phrase) → x ≡ dead → found phrases (read_on w x) ≡ Some e → ⊥
 found-dead w x e h k = let d = ap (λ y. found phrases (read_on w y)) h ∙ ap (found phrases) (read-dead w) in cc
 
--- and a text that begins an expression is read without a fault
+-- a text that begins an expression is read without a fault
 pub live-from_begins : (w : List ℕ) → BeginsExpression w → is_live (read_on w start) ≡ true
 live-from_begins w h =
     live-or_dead (read_on w start) (λ e.
     found-dead h.0 (read_on w start) h.1 e
     (ap (found phrases) (sym (read-append w h.0 start)) ∙ found-spelled (w ++ h.0) h.1 h.2))
 
--- what is found at the end is spelled by the text
+-- the text spells the expression that ends at its end
 whole : (w : List ℕ) (x : Reading) (e : Phrase) → Continues w x → found phrases x ≡ Some e → SpellsPhrase w e
 whole w dead e h k = cc
 whole w (at p t f (inside o t' f')) e h k = cc

@@ -1,4 +1,4 @@
--- A phrase that is read from the left is the phrase that is found, so a word spells one.
+-- Reading the spelling of a phrase from the left finds the phrase, so a word spells at most one.
 use Rattle.std.proofs.Common.{◌≡◌, ℕ, nat_le, Bool, true, cond, ◌&&◌, List, [], ◌∷◌, ◌++◌, refl, sym, ap, ◌∙◌, append_assoc, arith, Some, option_map}
 use Rattle.std.proofs.lemmas.Bool.{le-leb}
 use Rattle.std.proofs.lemmas.List.{append-nil}
@@ -8,7 +8,7 @@ use Rattle.sym_model.specs.NumberWord.{IsDigit, AreDigits, IsNumberWord, AreNumb
 use Rattle.sym_model.specs.Phrase.{Operator, plus, minus, times, Phrase, numeral, ratio, label, brackets, minus_first, operation, Level, expression, term, factor, Covers, level_of, Is, letter, spelling, SpellsPhrase}
 use Rattle.expression_laws.specs.LeftToRight.{Symbol, digit, plus_sign, minus_sign, star, slash, opens, closes, opens_list, closes_list, comma, letter_of, other, symbol, sign_symbol, BeforeTerm, no_term, negating, adding, subtracting, BeforeFactor, no_factor, multiplying, Opened, outermost, inside, Piece, awaited, in_number, after_slash, in_denominator, in_list, in_entry, closed, State, at, step, run, start, phrases, join, join_term, after_factor, factor_found, found}
 
--- a byte that is a digit is read as one
+-- if a byte is a digit, its symbol is that digit
 pub symbol-digit : (b : ℕ) → IsDigit b → symbol b ≡ digit b
 symbol-digit b h = by (nat_le 48 b) (nat_le b 57) (le-leb 48 b h.0) (le-leb b 57 h.1)
   where
@@ -21,12 +21,12 @@ Reading = State Phrase (List ℕ)
 abbrev pub read_on : List ℕ → Reading → Reading
 read_on w s = run phrases w s
 
--- two texts one after the other
+-- reading two texts, one after the other, is reading the two together
 pub read-append : (u v : List ℕ) (s : Reading) → read_on (u ++ v) s ≡ read_on v (read_on u s)
 read-append [] v s = refl
 read-append (b ∷ u) v s = read-append u v (step phrases s (symbol b))
 
--- a digit more
+-- reading a digit is a step with its symbol
 read-digit : (b : ℕ) (w : List ℕ) (s : Reading) → IsDigit b → read_on (b ∷ w) s ≡ read_on w (step phrases s (digit b))
 read-digit b w s h = ap (λ x. read_on w (step phrases s x)) (symbol-digit b h)
 
@@ -54,7 +54,7 @@ read-entry basis ws ds (b ∷ es) t f o h =
     read-digit b es (at (in_entry basis ws ds) t f o) h.0 ∙ read-entry basis ws (ds ++ b ∷ []) es t f o h.1
     ∙ ap (λ x. at (in_entry basis ws x) t f o) (snoc-cons ds b es)
 
--- a whole number word
+-- reading a number word gives the state in that number
 whole-number : (w : List ℕ) (t : BeforeTerm Phrase) (f : BeforeFactor Phrase) (o : Opened Phrase) → IsNumberWord w
     → read_on w (at awaited t f o) ≡ at (in_number w) t f o
 whole-number [] t f o h = absurd (omega (arith, h.nonempty))
@@ -73,7 +73,7 @@ whole-entry basis ws [] t f o h = absurd (omega (arith, h.nonempty))
 whole-entry basis ws (b ∷ ds) t f o h =
     read-digit b ds (at (in_list basis ws) t f o) h.digits.0 ∙ read-entry basis ws (b ∷ []) ds t f o h.digits.1
 
--- the rest of an atom's list
+-- reading the rest of an atom's list, with its bracket, completes the atom
 read-entries : (basis : Basis) (ws : List (List ℕ)) (w : List ℕ) (more : List (List ℕ)) (t : BeforeTerm Phrase) (f : BeforeFactor Phrase) (o : Opened Phrase) → AreNumberWords (w ∷ more)
     → read_on (comma_separated (w ∷ more) ++ codes "]") (at (in_list basis ws) t f o) ≡ at (closed (label basis (ws ++ w ∷ more))) t f o
 read-entries basis ws w [] t f o h =
@@ -85,7 +85,7 @@ read-entries basis ws w (v ∷ more) t f o h =
     ∙ read-entries basis (ws ++ w ∷ []) v more t f o h.1
     ∙ ap (λ x. at (closed (label basis x)) t f o) (append_assoc ws (w ∷ []) (v ∷ more))
 
--- a letter
+-- reading the letter of a basis is a step with its symbol
 symbol-letter : (basis : Basis) (w : List ℕ) (s : Reading) → read_on (letter basis ++ w) s ≡ read_on w (step phrases s (letter_of basis))
 symbol-letter monomials w s = refl
 symbol-letter elementaries w s = refl
@@ -100,25 +100,25 @@ read-label basis (w ∷ ws) t f o h =
     symbol-letter basis (codes "[" ++ (comma_separated (w ∷ ws) ++ codes "]")) (at awaited t f o)
     ∙ read-entries basis [] w ws t f o h
 
--- what is there of a factor that has been read
+-- the part of a factor that is left when the phrase, a factor, has been read: a number may go on, any other factor is complete
 abbrev pub piece_of : Phrase → Piece Phrase (List ℕ)
 piece_of (numeral ds) = in_number ds
 piece_of (ratio ds es) = in_denominator ds es
 piece_of e = closed e
 
--- where a term has been read
+-- the state after a term has been read
 abbrev pub ended_term : BeforeTerm Phrase → Opened Phrase → Phrase → Reading
 ended_term t o (operation times l r) = at (piece_of r) t (multiplying l) o
 ended_term t o e = at (piece_of e) t no_factor o
 
--- where an expression has been read
+-- the state after an expression has been read
 abbrev pub ended : Opened Phrase → Phrase → Reading
 ended o (minus_first e) = ended_term negating o e
 ended o (operation plus l r) = ended_term (adding l) o r
 ended o (operation minus l r) = ended_term (subtracting l) o r
 ended o e = ended_term no_term o e
 
--- the symbols that may follow a factor, and those that end a term
+-- the symbols that may follow a factor (star, plus, minus, closing parenthesis), and those of them that end a term
 abbrev pub Follows : Symbol → Type 0
 Follows star = Unit {0}
 Follows plus_sign = Unit {0}
@@ -157,13 +157,13 @@ after-denominator : (ds es : List ℕ) (t : BeforeTerm Phrase) (f : BeforeFactor
 after-denominator ds es t f o (digit b) h = absurd h
 after-denominator ds es t f o _ h = refl
 
--- no operator makes a factor
+-- no operator has the level of a factor
 pub factor_covers : (operator : Operator) → Covers factor (level_of operator) → ⊥
 factor_covers plus h = h
 factor_covers minus h = h
 factor_covers times h = h
 
--- a symbol after a factor
+-- the step for a symbol after a factor is `after_factor`
 after-piece : (e : Phrase) (t : BeforeTerm Phrase) (f : BeforeFactor Phrase) (o : Opened Phrase) (s : Symbol) → Follows s → Is factor e
     → step phrases (at (piece_of e) t f o) s ≡ after_factor phrases e t f o s
 after-piece (numeral ds) t f o s h a = after-number ds t f o s h
@@ -189,7 +189,7 @@ as_term l r t o comma h = absurd h
 as_term l r t o (letter_of b) h = absurd h
 as_term l r t o other h = absurd h
 
--- a symbol after a term
+-- the step for a symbol after a term is `after_factor` of the term
 after-term : (e : Phrase) (t : BeforeTerm Phrase) (o : Opened Phrase) (s : Symbol) → Follows s → Is term e
     → step phrases (ended_term t o e) s ≡ after_factor phrases e t no_factor o s
 after-term (numeral ds) t o s h a = after-number ds t no_factor o s h
@@ -217,7 +217,7 @@ as_expression t e o comma h = absurd h
 as_expression t e o (letter_of b) h = absurd h
 as_expression t e o other h = absurd h
 
--- a symbol after an expression
+-- the step for a symbol after an expression is `after_factor` of the expression
 after-expression : (e : Phrase) (o : Opened Phrase) (s : Symbol) → EndsTerm s → Is expression e
     → step phrases (ended o e) s ≡ after_factor phrases e no_term no_factor o s
 after-expression (numeral ds) o s h a = after-term (numeral ds) no_term o s (follows s h) a
@@ -229,7 +229,7 @@ after-expression (operation times l r) o s h a = after-term (operation times l r
 after-expression (operation plus l r) o s h a = after-term r (adding l) o s (follows s h) a.2 ∙ as_expression (adding l) r o s h
 after-expression (operation minus l r) o s h a = after-term r (subtracting l) o s (follows s h) a.2 ∙ as_expression (subtracting l) r o s h
 
--- what reading a phrase of a level comes to
+-- reading the spelling of a phrase of a level gives the state after that phrase
 abbrev pub Reads : Level → Phrase → Type 0
 Reads factor e = (t : BeforeTerm Phrase) (f : BeforeFactor Phrase) (o : Opened Phrase) → read_on (spelling e) (at awaited t f o) ≡ at (piece_of e) t f o
 Reads term e = (t : BeforeTerm Phrase) (o : Opened Phrase) → read_on (spelling e) (at awaited t no_factor o) ≡ ended_term t o e

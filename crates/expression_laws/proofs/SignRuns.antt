@@ -10,7 +10,7 @@ use Rattle.sym_model.specs.Phrase.{Operator, plus, minus, times, Phrase, numeral
 use Rattle.sym_model.specs.ExpressionOffence.{WordOffence, shape, rank, comes_first, earlier, first_of, minus_offences, sign_offences}
 use Rattle.expression_laws.specs.Signs.{first_sign}
 
--- the first of two, where it is there, else the second
+-- the first error of two, if there is one, otherwise the second
 abbrev or_else : Option WordOffence → Option WordOffence → Option WordOffence
 or_else None found = found
 or_else (Some o) found = Some o
@@ -23,7 +23,7 @@ or_else-none : (a : Option WordOffence) → or_else a None ≡ a
 or_else-none None = refl
 or_else-none (Some o) = refl
 
--- errors from one byte on and before another
+-- each of the errors is at a byte from `low` on and before `high`
 abbrev AreBetween : ℕ → ℕ → List WordOffence → Type 0
 AreBetween low high [] = Unit {0}
 AreBetween low high (o ∷ os) = ((low ≤ o.0) × (o.0 < high)) × AreBetween low high os
@@ -64,20 +64,20 @@ one_more m h o (Some p) b l k = by (comes_first o p)
     by true = refl
     by false = refl
 
--- the first of errors of which some stand before the others
+-- the first error of two lists, if those of the first list are before those of the second
 first-apart : (low m high : ℕ) (os ps : List WordOffence) → AreBetween low m os → AreBetween m high ps → first_of (os ++ ps) ≡ or_else (first_of os) (first_of ps)
 first-apart low m high [] ps a b = refl
 first-apart low m high (o ∷ os) ps a b =
     ap (earlier (Some o)) (first-apart low m high os ps a.1 b)
     ∙ one_more m high o (first_of os) (first_of ps) a.0.1 (first-between m high ps b)
 
--- how long an operation is
+-- the length of an operation is that of its operands plus 1
 pub joined-length : (operator : Operator) (l r : Phrase) → length (spelling (operation operator l r)) ≡ length (spelling l) + 1 + length (spelling r)
 joined-length plus l r = simp length-append (omega arith)
 joined-length minus l r = simp length-append (omega arith)
 joined-length times l r = simp length-append (omega arith)
 
--- the signs of a phrase stand at its bytes
+-- the errors by a sign of a phrase that begins at byte b are at bytes of the phrase
 minus-between : (m : ℕ) (operator : Operator) → AreBetween m (m + 1) (minus_offences m operator)
 minus-between m plus = tt
 minus-between m minus = ((omega arith, omega arith), tt)
@@ -105,7 +105,7 @@ signs-between b (operation operator l r) =
     (wider m (m + 1) b high (minus_offences m operator) (omega arith) (omega (arith, whole)) (minus-between m operator)))
     (wider (m + 1) (m + 1 + length (spelling r)) b high (sign_offences (m + 1) r) (omega arith) (omega (arith, whole)) (signs-between (m + 1) r))
 
--- the first sign of an operation
+-- the first sign of an operation is that of its left operand, its operator or its right operand
 first-joined : (b : ℕ) (operator : Operator) (l r : Phrase)
     → first_of (sign_offences b (operation operator l r))
     ≡ or_else (first_of (sign_offences b l))
@@ -128,7 +128,7 @@ first-minus b e =
     first-apart b (b + 1) (b + 1 + length (spelling e)) ((b, shape) ∷ []) (sign_offences (b + 1) e) ((omega arith, omega arith), tt)
     (signs-between (b + 1) e)
 
--- digits
+-- a digit passes the test of digits
 digit-test : (d : ℕ) → IsDigit d → is_digit d ≡ true
 digit-test d h = by (nat_le 48 d) (nat_le d 57) (le-leb 48 d h.0) (le-leb d 57 h.1)
   where
@@ -149,7 +149,7 @@ digits at s (d ∷ ds) rest h =
     digit-step at s d (ds ++ rest) h.0 ∙ digits (at + 1) s ds rest h.1
     ∙ ap (λ n. first_sign n s rest) (let e : at + 1 + length ds ≡ at + length (d ∷ ds) = omega arith in e)
 
--- what follows a phrase is no digit and no slash
+-- the text after a phrase begins with no digit and no slash
 abbrev Ends : List ℕ → Type 0
 Ends [] = Unit {0}
 Ends (byte ∷ bytes) = (is_digit byte ≡ false) × ((byte == 47) ≡ false)
@@ -165,7 +165,7 @@ any_start at s t (byte ∷ bytes) h = same (is_digit byte) (byte == 47) h.0 h.1
     same false true h e = cc
     same false false h e = refl
 
--- bytes with no sign, up to the end of an atom's list
+-- the bytes have no sign, and end an atom's list
 abbrev AreQuiet : List ℕ → Type 0
 AreQuiet [] = Unit {0}
 AreQuiet (byte ∷ bytes) = (((byte == 45) ≡ false) × ((byte == 47) ≡ false)) × AreQuiet bytes
@@ -210,7 +210,7 @@ quiet-run (x ∷ xs) at s rest h =
     by false false true h e r = cc
     by false false false h e r = r (at + 1)
 
--- the first sign of a phrase, and else the first one after it
+-- the first sign of a phrase, or otherwise the first one after it
 abbrev signed : ℕ → Phrase → List ℕ → Option WordOffence
 signed b e rest = or_else (first_of (sign_offences b e)) (first_sign (b + length (spelling e)) (b + length (spelling e)) rest)
 
@@ -278,13 +278,13 @@ phrase-run level b (operation operator l r) rest h k =
     regrouped : (x y z w : Option WordOffence) → or_else x (or_else y (or_else z w)) ≡ or_else (or_else x (or_else y z)) w
     regrouped x y z w = sym (or_else-assoc x (or_else y z) w ∙ ap (or_else x) (or_else-assoc y z w))
 
--- the first sign of a word
+-- the first sign that the search finds in a word is the first error of its phrase by a sign
 pub word-signs : (word : List ℕ) (phrase : Phrase) → SpellsPhrase word phrase → first_sign 0 0 word ≡ first_of (sign_offences 0 phrase)
 word-signs word phrase h =
     ap (first_sign 0 0) (h.spelled ∙ sym (append-nil (spelling phrase))) ∙ phrase-run expression 0 phrase [] h.allowed tt
     ∙ or_else-none (first_of (sign_offences 0 phrase))
 
--- the first sign stands at a byte of the phrase
+-- the first sign is at a byte of the phrase
 pub signs-below : (e : Phrase) (o : WordOffence) → first_of (sign_offences 0 e) ≡ Some o → o.0 < length (spelling e)
 signs-below e o h = by (first_of (sign_offences 0 e)) h (first-between 0 (0 + length (spelling e)) (sign_offences 0 e) (signs-between 0 e))
   where

@@ -1,13 +1,12 @@
--- An expression read byte by byte from the left: what is kept of the bytes so far,
--- and how the next one changes it.
--- A reader is proved by this; what an expression is, the grammar of Phrase says.
+-- An expression read byte by byte from the left: the state after the bytes so far, and the step for the next byte. A
+-- reader is proved correct by this machine; the grammar (Phrase) defines expressions.
 use Rattle.std.specs.Prelude.{ℕ, ◌==◌, nat_le, Bool, true, false, ◌&&◌, cond, List, [], ◌∷◌, ◌++◌}
 use Rattle.std.specs.Prelude.{Option, Some, None, option_map}
 use Rattle.sym_model.specs.Expansion.{Basis, monomials, elementaries, completes, power_sums, schurs}
 use Rattle.sym_model.specs.Phrase.{Operator, plus, minus, times, Phrase, numeral, ratio, label}
 use Rattle.sym_model.specs.Phrase.{brackets, minus_first, operation}
 
--- what a byte is to the grammar
+-- the symbol of the grammar for a byte
 pub data Symbol : Type 0 where
   digit : ℕ → Symbol
   plus_sign : Symbol
@@ -44,24 +43,24 @@ sign_symbol byte =
 abbrev pub symbol : ℕ → Symbol
 symbol byte = cond (nat_le 48 byte && nat_le byte 57) (digit byte) (sign_symbol byte)
 
--- what stands before a term: nothing, a minus at the front, or an expression and an operator
+-- the part before a term: nothing, a minus at the front, or an expression and an operator
 pub data BeforeTerm (A : Type 0) : Type 0 where
   no_term : BeforeTerm A
   negating : BeforeTerm A
   adding : A → BeforeTerm A
   subtracting : A → BeforeTerm A
 
--- what stands before a factor: nothing, or a term and a star
+-- the part before a factor: nothing, or a term and a star
 pub data BeforeFactor (A : Type 0) : Type 0 where
   no_factor : BeforeFactor A
   multiplying : A → BeforeFactor A
 
--- the parentheses that are open, the innermost outside, with what stands before each
+-- the open parentheses, with the parts before each; the innermost one is the outermost constructor
 pub data Opened (A : Type 0) : Type 0 where
   outermost : Opened A
   inside : Opened A → BeforeTerm A → BeforeFactor A → Opened A
 
--- what is there of a factor; an atom's list has the numbers that are followed by commas
+-- the part of a factor that has been read; an atom's list has the numbers that are followed by commas
 pub data Piece (A N : Type 0) : Type 0 where
   awaited : Piece A N
   in_number : N → Piece A N
@@ -72,12 +71,12 @@ pub data Piece (A N : Type 0) : Type 0 where
   in_entry : Basis → List N → N → Piece A N
   closed : A → Piece A N
 
--- what is kept of the bytes so far: the beginning of an expression, or that they begin none
+-- the state after some bytes: the beginning of an expression, or `dead` if the bytes begin none
 pub data State (A N : Type 0) : Type 0 where
   at : Piece A N → BeforeTerm A → BeforeFactor A → Opened A → State A N
   dead : State A N
 
--- what a reader makes of the parts of an expression
+-- the operations of a reader on the parts of an expression
 pub record Makes (A N : Type 0) : Type 0 where
   pub begin : ℕ → N
   pub extend : N → ℕ → N
@@ -88,23 +87,23 @@ pub record Makes (A N : Type 0) : Type 0 where
   pub minus_first_of : A → A
   pub operation_of : Operator → A → A → A
 
--- the term that a factor ends
+-- the term that ends with a factor
 abbrev pub join_factor : {A N : Type 0} → Makes A N → BeforeFactor A → A → A
 join_factor m no_factor x = x
 join_factor m (multiplying t) x = m.operation_of times t x
 
--- the expression that a term ends
+-- the expression that ends with a term
 abbrev pub join_term : {A N : Type 0} → Makes A N → BeforeTerm A → A → A
 join_term m no_term x = x
 join_term m negating x = m.minus_first_of x
 join_term m (adding e) x = m.operation_of plus e x
 join_term m (subtracting e) x = m.operation_of minus e x
 
--- the expression that a factor ends
+-- the expression that ends with a factor
 abbrev pub join : {A N : Type 0} → Makes A N → BeforeTerm A → BeforeFactor A → A → A
 join m t f x = join_term m t (join_factor m f x)
 
--- a byte after a whole factor
+-- the step for a symbol after a whole factor
 abbrev pub after_factor : {A N : Type 0} → Makes A N → A → BeforeTerm A → BeforeFactor A → Opened A
     → Symbol → State A N
 after_factor m x t f o star = at awaited t (multiplying (join_factor m f x)) o
@@ -113,7 +112,7 @@ after_factor m x t f o minus_sign = at awaited (subtracting (join m t f x)) no_f
 after_factor m x t f (inside o t' f') closes = at (closed (m.brackets_of (join m t f x))) t' f' o
 after_factor m x t f o _ = dead
 
--- a byte where a factor is awaited
+-- the step for a symbol at which a factor may begin
 abbrev pub before_factor : {A N : Type 0} → Makes A N → BeforeTerm A → BeforeFactor A → Opened A
     → Symbol → State A N
 before_factor m t f o (digit byte) = at (in_number (m.begin byte)) t f o
@@ -122,14 +121,14 @@ before_factor m t f o opens = at awaited no_term no_factor (inside o t f)
 before_factor m no_term no_factor o minus_sign = at awaited negating no_factor o
 before_factor m t f o _ = dead
 
--- a byte in an atom's list where a number may begin
+-- the step for a symbol in an atom's list at which a number may begin
 abbrev pub in_list_step : {A N : Type 0} → Makes A N → Basis → List N → BeforeTerm A
     → BeforeFactor A → Opened A → Symbol → State A N
 in_list_step m basis words t f o (digit byte) = at (in_entry basis words (m.begin byte)) t f o
 in_list_step m basis [] t f o closes_list = at (closed (m.label_of basis [])) t f o
 in_list_step m basis words t f o _ = dead
 
--- the next byte
+-- the step for the next symbol
 abbrev pub step : {A N : Type 0} → Makes A N → State A N → Symbol → State A N
 step m dead s = dead
 step m (at awaited t f o) s = before_factor m t f o s
@@ -151,16 +150,16 @@ step m (at (in_entry basis words n) t f o) closes_list =
 step m (at (in_entry basis words n) t f o) s = dead
 step m (at (closed x) t f o) s = after_factor m x t f o s
 
--- the bytes of a text, one after another
+-- the state after all bytes of a text
 abbrev pub run : {A N : Type 0} → Makes A N → List ℕ → State A N → State A N
 run m [] state = state
 run m (byte ∷ text) state = run m text (step m state (symbol byte))
 
--- before the first byte
+-- the state before the first byte
 abbrev pub start : {A N : Type 0} → State A N
 start = at awaited no_term no_factor outermost
 
--- the phrase itself, its numbers as their digits
+-- the operations that make the phrase itself, with numbers as their digits
 abbrev pub phrases : Makes Phrase (List ℕ)
 phrases = record {
   begin = λ byte. byte ∷ [];
@@ -178,14 +177,14 @@ abbrev pub is_live : {A N : Type 0} → State A N → Bool
 is_live dead = false
 is_live (at p t f o) = true
 
--- the factor that is there
+-- the factor that ends here, if one does
 abbrev pub factor_found : {A N : Type 0} → Makes A N → Piece A N → Option A
 factor_found m (in_number n) = Some (m.numeral_of n)
 factor_found m (in_denominator n k) = Some (m.ratio_of n k)
 factor_found m (closed x) = Some x
 factor_found m _ = None
 
--- the expression that is there
+-- the expression that ends here, if one does
 abbrev pub found : {A N : Type 0} → Makes A N → State A N → Option A
 found m dead = None
 found m (at p t f (inside o t' f')) = None

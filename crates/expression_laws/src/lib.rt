@@ -1,12 +1,12 @@
 //! Laws of expressions as words: a word has one reading, which is found byte by byte from the left,
-//! and the first error is one that none comes before.
+//! and the first error is an error with no other before it.
 //!
 //! A law function has an empty body: its contract is the law.
 //!
 //! What is proved:
 //!
 //! `grammar_law`: no word spells two expressions. `first_offence_law`: the first error is one of
-//! the errors, and none comes before it.
+//! the errors, and no other is before it.
 #![tactic(auto)]
 
 mod first_offence;

@@ -7,7 +7,7 @@ use Rattle.expression_reading.specs.declared.builder.Frame.{Frame}
 use Rattle.expression_reading.specs.Building.{Built, builds, terms_in, factors_in, opened_from, opened_in, AreEntries}
 use Rattle.sym_model.specs.Bounded.{AreAtMost}
 
--- the open parentheses with one more
+-- a frame appended to the frames is one more open parenthesis, inside the others
 pub opened-snoc : (o : Opened Built) (fs : List Frame) (f : Frame) → opened_from o (fs ++ f ∷ []) ≡ inside (opened_from o fs) (terms_in f.terms) (factors_in f.factors)
 opened-snoc o [] f = refl
 opened-snoc o (g ∷ fs) f = opened-snoc (inside o (terms_in g.terms) (factors_in g.factors)) fs f
@@ -50,7 +50,7 @@ Falls-cut (n ∷ m ∷ ns) f =
 pub falls_cut : (ns : List ℕ) → AreEntries ns → Falls (without_last_zeros ns)
 falls_cut ns h = Falls-cut ns h.falls
 
--- the open parentheses after an opening one
+-- at a closing parenthesis the factor is joined to the text before the parenthesis
 pub closes-step : (x e : Built) (t : BeforeTerm Built) (f : BeforeFactor Built) (items fs : List Frame) (g : Frame)
     → items ≡ fs ++ g ∷ [] → e ≡ join builds t f x
     → ◌≡◌ {A = State Built ℕ} (at (closed e) (terms_in g.terms) (factors_in g.factors) (opened_in fs)) (after_factor builds x t f (opened_in items) closes)

@@ -21,7 +21,7 @@ use Rattle.expression_reading.proofs.ScanRuns.{read-more, sound-digit, byte-symb
 use Rattle.expression_reading.proofs.FirstOffences.{small as not_wide}
 use Rattle.sym_model.specs.Bounded.{AreAtMost}
 
--- the trees of what has been read
+-- the tree of a phrase that has been read, without a sign
 abbrev pub tree_in : Phrase → Built
 tree_in e = (tree e, true)
 
@@ -109,7 +109,8 @@ entry-is k before n h =
       falls = first_false (rises before n) _ _ (rest_none (k == 64) _ _ rest);
     }
 
--- mild lists
+-- ---- lists of marks that are no errors (mild marks)
+
 mild-left : (ms ns : List (ℕ × Mark)) → AreMild (ms ++ ns) → AreMild ms
 mild-left [] ns h = tt
 mild-left (m ∷ ms) ns h = (h.0, mild-left ms ns h.1)
@@ -158,7 +159,7 @@ entries-mild b k before (w ∷ ws) h =
       low = (not_high (decimal_value w) h.0.1, rest.low);
     }
 
--- the state of the builder after a byte, if the marks are mild
+-- the marks of the reading x are mild, and so is the mark that the symbol s completes, if any
 abbrev Mild : Reading → Symbol → Type 0
 Mild x s = AreMild (state_marks x ++ option_to_list (new_mark x s))
 
@@ -267,7 +268,7 @@ build-step closes_list (in_entry basis ws ds) t f o b h =
 build-step _ (in_entry basis ws ds) t f o b h = refl
 build-step s (closed x) t f o b h = after_factor-state s x t f o
 
--- a number that ends is fine
+-- a number that ends has no error, if its mark is mild
 entries-fine : (basis : Basis) (ws : List (List ℕ)) (ds : List ℕ) (t : BeforeTerm Phrase) (f : BeforeFactor Phrase) (o : Opened Phrase)
     → AreMild (state_marks (at (in_entry basis ws ds) t f o))
     → AreMild ((piece_begin t f o + 2 + length (commas ws), entry (length ws) (last_value None ws) (decimal_value ds)) ∷ [])
@@ -328,7 +329,7 @@ rest-found w i e h k =
     ∙ ap (found phrases) (sym (read-append (take (i + 1) w) (drop (i + 1) w) start))
     ∙ ap (λ v. found phrases (read_on v start)) (take-append-drop (i + 1) w) ∙ k
 
--- each step of a word that can be built
+-- at the byte i of a word that can be built, the next step of the reading is not dead and its marks are mild
 pub record StepIs (w : List ℕ) (i : ℕ) : Type 0 where
   pub live : is_live (step phrases (read_on (take i w) start) (symbol (get_or w i 0))) ≡ true
   pub mild : AreMild (state_marks (read_on (take i w) start) ++ option_to_list (new_mark (read_on (take i w) start) (symbol (get_or w i 0))))
@@ -382,7 +383,7 @@ no-fault w i h b e =
     dead-live (step phrases (read_on (take i w) start) (symbol (get_or w i 0)))
     (ap tree_state (sym (read-more w i (get_or w i 0) h refl)) ∙ e) (step-is w i h b).live
 
--- the whole word
+-- all marks of a word that can be built are mild
 whole-mild : (w : List ℕ) (b : IsBuildable w) → AreMild (state_marks (read_on w start) ++ option_to_list (new_mark (read_on w start) other))
 whole-mild w b = subst AreMild (marks-found (read_on w start) b.0 (found-spelled w b.0 b.1)) b.2
 

@@ -7,7 +7,7 @@ use Rattle.sym_model.proofs.Numbers.{nat_le-trans, not_le-trans}
 use Rattle.expression_reading.specs.Offences.{first_kind}
 use Rattle.expression_reading.specs.ScanSteps.{capped, is_high, any_high, first_at}
 
--- a number for each error, by which they are in order
+-- a number for each error: an error is before another if its number is smaller
 abbrev key : WordOffence → ℕ
 key o = 3 * o.0 + rank o.1
 
@@ -30,7 +30,7 @@ not_first-all : (o p q : WordOffence) → comes_first o p ≡ false → comes_fi
 not_first-all o p q h k =
     comes_first-key o q ∙ not_le-trans (key o) (key p) (key q) (sym (comes_first-key o p) ∙ h) (sym (comes_first-key p q) ∙ k)
 
--- the first of three
+-- the first of three errors does not depend on the order in which they are compared
 first_of_three : (o p q : WordOffence) (a b : Bool) → comes_first o p ≡ a → comes_first p q ≡ b
     → earlier (earlier (Some o) (Some p)) (Some q) ≡ earlier (Some o) (earlier (Some p) (Some q))
 first_of_three o p q true true h k =
@@ -145,6 +145,6 @@ any_high-append [] ns = refl
 any_high-append (m ∷ ms) ns =
     ap (λ x. is_high m.1 || x) (any_high-append ms ns) ∙ sym (or_assoc (is_high m.1) (any_high ms) (any_high ns))
 
--- the value with one digit more, if values are capped at 2^127
+-- a digit may be appended to the capped value instead of the value: after capping, the result is the same
 pub capped-next : (n d : ℕ) → capped (10 * capped n + d) ≡ capped (10 * n + d)
 capped-next n d = omega arith

@@ -9,7 +9,7 @@ use Rattle.calc_base.specs.declared.words.Basis.{Basis as Letter}
 use Rattle.calc_base.specs.declared.words.Basis.TheVariants.{E, H, P}
 use Rattle.expression_reading.specs.Trees.{basis_of}
 use Rattle.monomial_laws.proofs.Growths.{factorial-positive}
-use Rattle.whole_numbers.proofs.CommonMultiples.{times-positive}
+use Rattle.coeff_rings.proofs.CommonMultiples.{times-positive}
 use Rattle.expression_reading.proofs.WeightFacts.{Positive, Wide}
 
 pub growth-positive : (b : Basis) (d : ℕ) → 0 < growth b d
@@ -20,7 +20,7 @@ growth-positive elementaries (suc d) = times-positive _ _ (factorial-positive (s
 growth-positive completes (suc d) = times-positive _ _ (factorial-positive (suc d)) (power-positive (2 * suc d) (suc d) (omega arith))
 growth-positive power_sums (suc d) = times-positive _ _ (factorial-positive (suc d)) (power-positive (2 * suc d) (suc d) (omega arith))
 
--- the growth into p, h and e
+-- the growth into p, h and e is d!·(2d)^d
 pub growth-with_factorial : (b : Basis) → (b ≡ power_sums) ⊎ (b ≡ completes) ⊎ (b ≡ elementaries) → (d : ℕ) → growth b d ≡ factorial d * (2 * d) ^ d
 growth-with_factorial b h zero = refl
 growth-with_factorial b (inl e) (suc d) = ap (λ x. growth x (suc d)) e

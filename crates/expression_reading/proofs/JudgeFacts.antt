@@ -29,7 +29,7 @@ use Rattle.expression_reading.specs.Building.{Built, built_of, AreMild}
 use Rattle.expression_reading.proofs.ScanFacts.{letter-length}
 use Rattle.expression_reading.proofs.FirstOffences.{earlier-assoc, first_of-append, first-append, first-one, any_high-append}
 
--- no error and no high number: the marks are mild
+-- ---- if there is no error and no high number, all marks are mild
 none_left : (a b : Option WordOffence) → earlier a b ≡ None → a ≡ None
 none_left None b h = refl
 none_left (Some o) None h = cc
@@ -120,7 +120,7 @@ nesting-within level (operation operator l r) h =
       nesting-within (level_after operator) r h.2,
     )
 
--- each mark is at a byte of the phrase
+-- each mark is at a byte below n
 abbrev AreBelow : ℕ → List (ℕ × Mark) → Type 0
 AreBelow n [] = Unit {0}
 AreBelow n (m ∷ ms) = (m.0 < n) × AreBelow n ms
@@ -179,7 +179,7 @@ marks-below level d b (operation operator l r) h =
     operation-below operator d b l r (marks-below (level_of operator) d b l h.1)
     (marks-below (level_after operator) d (b + length (spelling l) + 1) r h.2)
 
--- the first error is one of the two
+-- if an error is the first of two, it is one of them
 pub first_is : (a b : Option WordOffence) (o : WordOffence) → earlier a b ≡ Some o → (a ≡ Some o) ⊎ (b ≡ Some o)
 first_is None b o h = inr h
 first_is (Some p) None o h = inl h
@@ -201,7 +201,7 @@ first-below n (m ∷ ms) o h k =
     (λ later. first-below n ms o h.1 later)
     (first_is (first_of (flat_map offences_at (m ∷ []))) (first_of (flat_map offences_at ms)) o (sym (first-append (m ∷ []) ms) ∙ k))
 
--- the error of too many bytes
+-- the error of a word of n bytes, at byte 4096, if n is over 4096
 abbrev pub long_offence : ℕ → Option WordOffence
 long_offence n = cond (nat_lt 4096 n) (Some (4096, range)) None
 
@@ -214,7 +214,7 @@ first_of_whole false false x y = refl
 abbrev pub first_before_degree : Phrase → Option WordOffence
 first_before_degree e = earlier (first_of (flat_map offences_at (marks 0 0 e))) (long_offence (length (spelling e)))
 
--- the error of too high a degree
+-- the error of an expression whose degree is over the limit, at the end of the word
 abbrev high_offence : ℕ → Phrase → Option WordOffence
 high_offence limit e = cond (nat_lt limit (degree (tree e))) (Some (length (spelling e), range)) None
 
@@ -263,7 +263,7 @@ judge-none limit e h k =
     all_offences limit e ∙ ap (λ f. earlier f (high_offence limit e)) h
     ∙ ap (λ b. cond b (Some (length (spelling e), range)) None) (nat_lt-false limit (degree (tree e)) k)
 
--- without an error the degree is within the limit
+-- if an expression has no error, its degree is within the limit
 pub none-low : (limit : ℕ) (e : Phrase) → first_of (offences_within limit e) ≡ None → degree (tree e) ≤ limit
 none-low limit e h = by (nat_lt limit (degree (tree e))) refl (none_right (first_before_degree e) _ (sym (all_offences limit e) ∙ h))
   where
@@ -282,7 +282,7 @@ long_none n false h k = grind (arith, nat_tests)
 pub short : (e : Phrase) → first_before_degree e ≡ None → length (spelling e) ≤ 4096
 short e h = long_none (length (spelling e)) (nat_lt 4096 (length (spelling e))) refl (none_right (first_of (flat_map offences_at (marks 0 0 e))) _ h)
 
--- the first error that the reader keeps, before the degree
+-- the error of too many bytes that the reader keeps is that of the model
 long_kept : (b : Bool) → option_map offence_in (then_some b (record { byte = 4096; kind = Range })) ≡ cond b (Some (4096, range)) None
 long_kept true = refl
 long_kept false = refl
@@ -304,7 +304,7 @@ fault-judged limit w e o (Shape byte) h k l = (e, h, k ∙ ap Some l)
 fault-judged limit w e o (Syntax byte) h k l = absurd l
 fault-judged limit w e o NoMemory h k l = absurd l
 
--- an expression of a high degree, and one that is a formula
+-- if an expression has no other error and a degree over the limit, it is refused at the end of its word
 past-judged : (limit : ℕ) (w : List ℕ) (e : Phrase) (f : ExpressionFault) → SpellsPhrase w e → first_before_degree e ≡ None → limit < degree (tree e)
     → IsFaultOf (length w, range) f → IsReadBy (offences_within limit) w (Err f)
 past-judged limit w e f h k d l =
@@ -351,7 +351,7 @@ pub result-low : (limit : ℕ) (w : List ℕ) (r : Result Formula ExpressionFaul
 result-low limit w (Ok f) h = read-low limit w f h
 result-low limit w (Err e) h = tt
 
--- the first error is no later than the end of the word
+-- an error at the end of a word is no later than itself, and every other error is no later than it
 end-itself : (n : ℕ) → comes_first (n, range) (n, range) ≡ true
 end-itself n = grind (arith, nat_tests)
 

@@ -21,11 +21,11 @@ use Rattle.expression_reading.specs.Offences.{offence_in, mark_in}
 use Rattle.expression_reading.specs.ScanSteps.{capped, mode_after, mode_after_factor, mode_before_factor, depth_after, number_mark, mark_before, is_high, any_high, first_at, Sees}
 use Rattle.expression_reading.proofs.FirstOffences.{first-append, first-one, capped_mark, kind-capped, high-capped, any_high-append, capped-next}
 
--- the numbers of an atom's list that the state keeps
+-- the count and the last value of the numbers `ws` of an atom's list
 abbrev pub before_of : List (List ℕ) → Before
 before_of ws = record { count = length ws; last = option_map capped (last_value None ws) }
 
--- the mode of what has been read
+-- the mode of a scan, from the parts that have been read
 abbrev pub mode_of : Piece Phrase (List ℕ) → BeforeTerm Phrase → BeforeFactor Phrase → Opened Phrase → Mode
 mode_of awaited no_term no_factor o = Start
 mode_of awaited t f o = Operand
@@ -51,7 +51,7 @@ value_from-snoc n (d ∷ ds) c = value_from-snoc (10 * n + (d - 48)) ds c
 pub value-next : (ds : List ℕ) (c : ℕ) → capped (10 * capped (decimal_value ds) + (c - 48)) ≡ capped (decimal_value (ds ++ c ∷ []))
 value-next ds c = capped-next (decimal_value ds) (c - 48) ∙ ap capped (sym (value_from-snoc 0 ds c))
 
--- a symbol is a byte
+-- the symbol of a digit has a byte below 256
 abbrev pub IsByte : Symbol → Type 0
 IsByte (digit c) = c < 256
 IsByte _ = Unit {0}
@@ -164,7 +164,7 @@ agrees-list closes_list basis (w ∷ ws) t f o h =
     subst (λ m. Agrees m (Some (depth_of o)) dead) (sym (no_close w ws)) refl
 agrees-list _ basis ws t f o h = refl
 
--- the next mode and depth after a symbol
+-- the mode and depth after a symbol agree with the next state of the reading
 pub agrees : (s : Symbol) (p : Piece Phrase (List ℕ)) (t : BeforeTerm Phrase) (f : BeforeFactor Phrase) (o : Opened Phrase) → IsByte s
     → Agrees (mode_after (mode_of p t f o) (length (written (at p t f o))) s) (depth_after (depth_of o) s) (step phrases (at p t f o) s)
 agrees s awaited t f o h = agrees-awaited s _ t f o (awaited-length t f o) h
@@ -189,7 +189,7 @@ agrees closes_list (in_entry basis ws ds) t f o h = (refl, refl)
 agrees _ (in_entry basis ws ds) t f o h = refl
 agrees s (closed x) t f o h = agrees-after_factor s x t f o
 
--- the mark that a symbol completes
+-- a mark of the scan, as the grammar has it
 abbrev pub plain : ℕ × Mark → ℕ × PlainMark
 plain m = (m.0, mark_in m.1)
 

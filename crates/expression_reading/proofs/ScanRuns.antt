@@ -14,7 +14,7 @@ use Rattle.expression_laws.proofs.PhraseMarks.{depth_of, state_marks, new_mark, 
 use Rattle.sym_model.specs.Expansion.{Basis}
 use Rattle.expression_reading.specs.declared.scan.Scan.{Scan}
 use Rattle.expression_reading.specs.declared.scan.Mode.{Mode}
-use Rattle.expression_reading.specs.ScanSteps.{IsSoundDigit, HasRoom, mode_after, depth_after, number_mark, mark_before, Sees, StepsTo, has_factor, is_whole, IsScanned}
+use Rattle.expression_reading.specs.ScanSteps.{IsSoundDigit, CanCount, mode_after, depth_after, number_mark, mark_before, Sees, StepsTo, has_factor, is_whole, IsScanned}
 use Rattle.expression_reading.proofs.ScanFacts.{mode_of, Agrees, agrees, IsByte, same-mark, piece-mark, SameMark, plain, Finds, finds-next}
 
 none-spelled : (w : List ℕ) (phrase : Phrase) → read_on w start ≡ dead → SpellsPhrase w phrase → ⊥
@@ -25,7 +25,7 @@ abbrev pub Keeps : Scan → Reading → Type 0
 Keeps s dead = ⊥
 Keeps s (at p t f o) = (s.mode ≡ mode_of p t f o) × (s.depth ≡ depth_of o) × Finds s (state_marks (at p t f o))
 
--- a byte more is read
+-- the reading of i + 1 bytes is that of i bytes and one more step
 pub read-more : (w : List ℕ) (i b : ℕ) → i < length w → b ≡ get_or w i 0 → read_on (take (i + 1) w) start ≡ step phrases (read_on (take i w) start) (symbol b)
 read-more w i b h e =
     ap (λ v. read_on v start) (take_more w i 0 h)
@@ -35,7 +35,7 @@ read-more w i b h e =
 written-so_far : (w : List ℕ) → Continues w (read_on w start)
 written-so_far w = read-written w start (tt, tt, tt, tt)
 
--- the symbols of bytes
+-- the symbol of a byte is one that a byte can have
 pub byte-symbol : (b : ℕ) (s : Symbol) → b < 256 → Codes b s → IsByte s
 byte-symbol b (digit c) h k = omega (arith, k.0)
 byte-symbol b _ h k = tt
@@ -67,7 +67,7 @@ same-kept s k y p t f o h keep live =
     ∙ ap (λ n. mark_before (mode_of p t f o) (depth_of o) n y) (sym h) in
     ap (option_map plain) m ∙ same-mark y p t f o live
 
--- the steps of what is kept and of what has been read, after k bytes
+-- if the state s agrees with the reading after k bytes, they agree after one more symbol
 stepped : (s u : Scan) (k : ℕ) (y : Symbol) (p : Piece Phrase (List ℕ)) (t : BeforeTerm Phrase) (f : BeforeFactor Phrase) (o : Opened Phrase) (z : Reading)
     → step phrases (at p t f o) y ≡ z → length (written (at p t f o)) ≡ k → IsByte y
     → Keeps s (at p t f o) → StepsTo s k y (Some u) → Keeps u z
@@ -102,7 +102,7 @@ keeps-step w i b s u h e small keep steps =
     subst (Keeps u) (sym (read-more w i b h e))
     (kept-step w i b s u (read_on (take i w) start) h small (written-so_far (take i w)) keep steps)
 
--- a byte at fault
+-- if the mode or the depth is None, the reading is dead
 agrees-fault : (m : Option Mode) (d : Option ℕ) (z : Reading) → (m ≡ None) ⊎ (d ≡ None) → Agrees m d z → z ≡ dead
 agrees-fault None d z h a = a
 agrees-fault (Some m) None z h a = a
@@ -138,7 +138,7 @@ entry-within basis ws ds t f o = simp length-append (omega (arith, count-within 
 state-within : (p : Piece Phrase (List ℕ)) (t : BeforeTerm Phrase) (f : BeforeFactor Phrase) (o : Opened Phrase) → depth_of o ≤ length (written (at p t f o))
 state-within p t f o = simp length-append (omega (arith, depth-within o))
 
-mode-room : (p : Piece Phrase (List ℕ)) (t : BeforeTerm Phrase) (f : BeforeFactor Phrase) (o : Opened Phrase) → length (written (at p t f o)) + 1 < 2 ^ 64 → HasRoom (mode_of p t f o)
+mode-room : (p : Piece Phrase (List ℕ)) (t : BeforeTerm Phrase) (f : BeforeFactor Phrase) (o : Opened Phrase) → length (written (at p t f o)) + 1 < 2 ^ 64 → CanCount (mode_of p t f o)
 mode-room awaited no_term no_factor o h = tt
 mode-room awaited no_term (multiplying x) o h = tt
 mode-room awaited negating f o h = tt
@@ -152,16 +152,16 @@ mode-room (after_letter basis) t f o h = tt
 mode-room (in_list basis ws) t f o h = tt
 mode-room (closed x) t f o h = tt
 
-kept-room : (w : List ℕ) (i : ℕ) (s : Scan) (x : Reading) → i < length w → length w < 2 ^ 64 → Continues (take i w) x → Keeps s x → HasRoom s.mode × (s.depth + 1 < 2 ^ 64)
+kept-room : (w : List ℕ) (i : ℕ) (s : Scan) (x : Reading) → i < length w → length w < 2 ^ 64 → Continues (take i w) x → Keeps s x → CanCount s.mode × (s.depth + 1 < 2 ^ 64)
 kept-room w i s dead h small c keep = absurd keep
 kept-room w i s (at p t f o) h small c keep =
     let l = length-so_far w i (at p t f o) h c refl in
-    (subst HasRoom (sym keep.0) (mode-room p t f o (omega arith)), omega (arith, keep.1, state-within p t f o))
+    (subst CanCount (sym keep.0) (mode-room p t f o (omega arith)), omega (arith, keep.1, state-within p t f o))
 
-pub room : (w : List ℕ) (i : ℕ) (s : Scan) → i < length w → length w < 2 ^ 64 → Keeps s (read_on (take i w) start) → HasRoom s.mode × (s.depth + 1 < 2 ^ 64)
+pub room : (w : List ℕ) (i : ℕ) (s : Scan) → i < length w → length w < 2 ^ 64 → Keeps s (read_on (take i w) start) → CanCount s.mode × (s.depth + 1 < 2 ^ 64)
 room w i s h small keep = kept-room w i s (read_on (take i w) start) h small (written-so_far (take i w)) keep
 
--- if the state agrees with what was read, that begins an expression
+-- if the state agrees with the reading x, x is not dead: the bytes begin an expression
 live-kept : (s : Scan) (x : Reading) → Keeps s x → is_live x ≡ true
 live-kept s dead keep = absurd keep
 live-kept s (at p t f o) keep = refl
@@ -197,7 +197,8 @@ fault-scanned w i b s h e small keep steps =
       },
     )
 
--- an expression is complete if and only if the state says so
+-- ---- an expression is complete if and only if the state says so
+
 no_depth : (n : ℕ) → (n + 1 == 0) ≡ false
 no_depth n = ap (λ k. k == 0) (add-one n) ∙ eqb-suc-zero n
 

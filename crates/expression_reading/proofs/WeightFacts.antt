@@ -8,7 +8,7 @@ use Rattle.sym_model.specs.Canonical.{gcd}
 use Rattle.sym_model.specs.Expression.{Tree, sum, product, denominator, lcm}
 use Rattle.sym_model.specs.Weight.{numerator}
 use Rattle.sym_model.proofs.Numbers.{times-more}
-use Rattle.whole_numbers.proofs.CommonMultiples.{times-positive, parts_of, lcm-over_first, lcm-over_second, lcm-at_least_first, lcm-at_least_second}
+use Rattle.coeff_rings.proofs.CommonMultiples.{times-positive, parts_of, lcm-over_first, lcm-over_second, lcm-at_least_first, lcm-at_least_second}
 use Rattle.expression_reading.specs.declared.expr.Expr.{Expr, Number, Fraction, Atom, Negation', Sum', Difference', Product'}
 use Rattle.expression_reading.specs.Trees.{tree_of, has_no_signs}
 use Rattle.expression_reading.specs.Weights.{IsWeighed}
@@ -33,7 +33,7 @@ product-positive : (e f : Tree) → Positive e → Positive f → Positive (prod
 product-positive e f h k =
     (times-positive (numerator e) (numerator f) h.0 k.0, times-positive (denominator e) (denominator f) h.1 k.1)
 
--- the numbers of a sum, over the least common denominator
+-- n/d + m/k over the least common denominator of d and k: the numerator
 abbrev joined : ℕ → ℕ → ℕ → ℕ → ℕ
 joined n m d k = n * (lcm d k / d) + m * (lcm d k / k)
 
@@ -99,7 +99,7 @@ pub wide-joined_right : (e f : Tree) → Positive e → Positive f → Wide f �
 wide-joined_right e f h k (inl w) = inl (omega (arith, w, joined-at_least_second (numerator e) (numerator f) (denominator e) (denominator f) h.1 k.1))
 wide-joined_right e f h k (inr w) = inr (omega (arith, w, lcm-at_least_second (denominator e) (denominator f) h.1 k.1))
 
--- the answers of a weighing whose parts are those of a product, a sum or a difference
+-- neither l nor r has a number with a sign
 abbrev pub Signless : Expr → Expr → Type 0
 Signless l r = IsTrue (has_no_signs l && has_no_signs r)
 
@@ -131,7 +131,7 @@ none-joined_right answer l r h e w =
     subst (λ a. IsWeighed a (numerator (sum (tree_of l) (tree_of r))) (denominator (sum (tree_of l) (tree_of r)))) (sym e)
     (wide-joined_right (tree_of l) (tree_of r) (positive l s.0) (positive r s.1) w)
 
--- a part that was weighed
+-- the weight w has the numerator and the denominator of e, both below 2^127
 abbrev pub Gives : Expr → Weight → Type 0
 Gives e w =
     (w.num ≡ numerator (tree_of e)) × (w.den ≡ denominator (tree_of e)) × (numerator (tree_of e) < 2 ^ 127) × (denominator (tree_of e) < 2 ^ 127)

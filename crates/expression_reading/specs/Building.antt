@@ -50,14 +50,14 @@ builds = record {
   operation_of = λ operator x y. (join_trees operator x.0 y.0, x.1 && y.1);
 }
 
--- the text before a term
+-- the text before a term, with the trees that were built
 abbrev pub terms_in : LeadingTerms → BeforeTerm Built
 terms_in NoTerm = no_term
 terms_in Negating = negating
 terms_in (Adding e) = adding (built_of e.value)
 terms_in (Subtracting e) = subtracting (built_of e.value)
 
--- the text before a factor
+-- the text before a factor, with the tree that was built
 abbrev pub factors_in : LeadingFactors → BeforeFactor Built
 factors_in NoFactor = no_factor
 factors_in (Multiplying e) = multiplying (built_of e.value)
@@ -68,7 +68,7 @@ pub record AreEntries (numbers : List ℕ) : Type 0 where
   pub few : length numbers ≤ 64
   pub low : AreAtMost 20 numbers
 
--- the part of a factor that has been read
+-- the part of a factor that has been read, with its numbers as values
 abbrev pub part_in : Part → Piece Built ℕ
 part_in Awaited = awaited
 part_in (Number n) = in_number n
@@ -87,7 +87,7 @@ opened_from o (f ∷ fs) = opened_from (inside o (terms_in f.terms) (factors_in 
 abbrev pub opened_in : List Frame → Opened Built
 opened_in fs = opened_from outermost fs
 
--- the state of a builder
+-- the state of a builder as a state of the reading
 abbrev pub state_of : Builder → State Built ℕ
 state_of b =
     at (part_in b.part) (terms_in b.frame.terms) (factors_in b.frame.factors)
@@ -97,7 +97,8 @@ abbrev pub state_in : Option Builder → State Built ℕ
 state_in None = dead
 state_in (Some b) = state_of b
 
--- a number that ends before the symbol is no error
+-- no error at this symbol: a number that it ends is within its limit, and a digit is not below
+-- `0`
 abbrev pub IsFine : Piece Built ℕ → Symbol → Type 0
 IsFine p (digit byte) = 48 ≤ byte
 IsFine (in_number n) s = n < 2 ^ 127

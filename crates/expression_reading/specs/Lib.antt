@@ -1,4 +1,4 @@
--- Expressions of the calculator, and what a word is read as.
+-- The definitions that the contracts cite.
 pub mod Trees
 pub mod Weights
 pub mod Symbols

@@ -10,17 +10,17 @@ use Rattle.expression_reading.specs.declared.offence.Mark.TheVariants.{Value, De
 use Rattle.expression_reading.specs.declared.offence.Mark.TheVariants.{Opening}
 use Rattle.expression_reading.specs.declared.offence.Offence.{Offence}
 
--- the plain kind
+-- the kind of error of the model
 abbrev pub kind_in : Kind → PlainKind
 kind_in Literal = literal
 kind_in Range = range
 kind_in Shape = shape
 
--- the plain error
+-- the error as an error of the model
 abbrev pub offence_in : Offence → PlainOffence
 offence_in o = (o.byte, kind_in o.kind)
 
--- the plain mark
+-- the mark as a mark of the model
 abbrev pub mark_in : Mark → PlainMark
 mark_in (Value n) = value n
 mark_in (Denominator n) = denominator n

@@ -24,15 +24,15 @@ use Rattle.expression_reading.specs.declared.scan.Mode.TheVariants.{List as List
 abbrev pub capped : ℕ → ℕ
 capped n = min n (2 ^ 127)
 
--- a digit of the symbol is one
+-- if the symbol is a digit, its byte is at least 48
 abbrev pub IsSoundDigit : Symbol → Type 0
 IsSoundDigit (digit byte) = 48 ≤ byte
 IsSoundDigit _ = Unit {0}
 
--- one number more can be counted
-abbrev pub HasRoom : Mode → Type 0
-HasRoom (Entry before start value) = before.count + 1 < 2 ^ 64
-HasRoom _ = Unit {0}
+-- if the mode is an entry of a list, one more number can be counted below 2^64
+abbrev pub CanCount : Mode → Type 0
+CanCount (Entry before start value) = before.count + 1 < 2 ^ 64
+CanCount _ = Unit {0}
 
 -- the mode after a whole factor
 abbrev pub mode_after_factor : Symbol → Option Mode
@@ -101,7 +101,7 @@ abbrev pub is_high : PlainMark → Bool
 is_high (entry count before n) = nat_lt 20 n
 is_high _ = false
 
--- before the first byte
+-- the state before the first byte
 abbrev pub scan_start : Scan
 scan_start = record { mode = Start; depth = 0; first = None; is_high = false }
 

@@ -9,7 +9,7 @@ use Rattle.expression_reading.specs.declared.symbol.Symbol.TheVariants.{OpenList
 use Rattle.expression_reading.specs.declared.symbol.Symbol.TheVariants.{Letter, Other}
 use Rattle.expression_reading.specs.Trees.{basis_of}
 
--- the plain symbol
+-- the symbol as a symbol of the grammar
 abbrev pub symbol_in : Symbol → Plain
 symbol_in (Digit byte) = digit byte
 symbol_in Plus = plus_sign

@@ -105,8 +105,8 @@ pub(crate) struct Frame {
     pub(crate) factors: LeadingFactors,
 }
 
-/// The expression built so far: the part of a factor, the text before it, and the same for each
-/// open parenthesis.
+/// The expression built so far: the part of a factor, the text before it back to the last open
+/// parenthesis, and the text before each open parenthesis.
 #[derive(Drop)]
 pub(crate) struct Builder {
     pub(crate) part: Part,
@@ -114,8 +114,8 @@ pub(crate) struct Builder {
     pub(crate) opened: Vec<Frame>,
 }
 
-/// Drops what has been built when a symbol is invalid. It is a call of its own, so that the proof
-/// of a function that refuses a symbol does not go through all that has been built.
+/// Drops the parts that have been built when a symbol is invalid. It is a function of its own, so
+/// that the proof of a function that refuses a symbol need not unfold their types.
 fn refused(frame: Frame, opened: Vec<Frame>) -> Option<Builder>
     ensures { result ≡ None }
 {
@@ -124,7 +124,7 @@ fn refused(frame: Frame, opened: Vec<Frame>) -> Option<Builder>
     None
 }
 
-/// Drops what has been built when memory runs out.
+/// Drops the parts that have been built when memory runs out.
 fn let_go(frame: Frame, opened: Vec<Frame>) -> NoMemory {
     drop(frame);
     drop(opened);
@@ -194,7 +194,7 @@ fn boxed(alloc: Global, frame: Frame, factor: Expr) -> Result<Box<Expr>, NoMemor
     Ok(Box::new(alloc, whole)?)
 }
 
-/// After a star that follows a factor.
+/// The state after a star that follows a factor.
 fn multiplying(
     alloc: Global,
     factor: Expr,
@@ -300,7 +300,7 @@ fn after_factor(
     }
 }
 
-/// After a parenthesis that opens.
+/// The state after a parenthesis that opens.
 fn opening(frame: Frame, mut opened: Vec<Frame>) -> Result<Option<Builder>, NoMemory>
     ensures { IfOk result (λ b. state_in b
         ≡ before_factor builds (terms_in frame.terms) (factors_in frame.factors)
@@ -463,7 +463,7 @@ fn in_entry(
 }
 
 impl Builder {
-    /// Before the first byte.
+    /// The state before the first byte.
     fn start(alloc: Global) -> Builder
         ensures { state_of result ≡ start }
     {

@@ -7,8 +7,8 @@ ghost use Rattle.expression_reading.specs.Trees.{tree_of, has_no_signs};
 use calc_base::Basis;
 use partitions::Partition;
 
-/// An expression: a number, a fraction that need not be in lowest terms, an atom,
-/// and what is made of these.
+/// An expression: a number, a fraction that need not be in lowest terms, an atom, or a negation,
+/// sum, difference or product of expressions.
 #[derive(Debug)]
 pub enum Expr {
     /// A whole number.
@@ -27,8 +27,8 @@ pub enum Expr {
     Product { left: Box<Expr>, right: Box<Expr> },
 }
 
-// Written out: the tree of a sum of many terms is deep on the left,
-// so that side is let go in a loop.
+// `Drop` is written out: the tree of a sum of many terms is deep on the left, so the left sides are
+// dropped in a loop.
 impl Drop for Expr {
     #[cycle(letting_go)]
     fn drop(self) {
@@ -43,7 +43,7 @@ impl Drop for Expr {
 const HIGH: u16 = 21;
 
 impl Expr {
-    /// The left side, of which the rest is let go.
+    /// Returns the left operand, and drops everything else.
     #[cycle(letting_go)]
     fn into_left(self) -> Option<Expr>
         ensures { IfSome result (λ left. size-Expr left < size-Expr self) }

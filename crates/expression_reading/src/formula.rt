@@ -36,7 +36,7 @@ pub struct Formula {
 
 impl Formula {
     /// The formula of this tree. Returns the tree as an error if and only if it is not within the
-    /// bounds. It takes no memory.
+    /// bounds. No memory is allocated.
     pub fn from_tree(tree: Expr) -> Result<Formula, Expr>
         ensures { MatchResult result (λ f. (f.tree ≡ tree) × IsFormula tree)
             (λ e. (e ≡ tree) × ¬ IsFormula tree) }
@@ -56,16 +56,16 @@ impl Formula {
         &self.tree
     }
 
-    /// The degree: 0 of numbers, the size of an atom's label, the greater one of a sum or a
-    /// difference, the sum of those of a product.
+    /// The degree: 0 for a number or a fraction, the size of the partition for an atom, the greater
+    /// of the two degrees for a sum or a difference, and their sum for a product.
     pub fn degree(&self) -> u16
         ensures { result ≡ degree (tree_of self.now.tree) }
     {
         self.tree.capped_degree()
     }
 
-    /// The two numbers of the weight; None if and only if one of them is 2^127 or more. It takes no
-    /// memory.
+    /// The two numbers of the weight; None if and only if one of them is 2^127 or more. No memory
+    /// is allocated.
     pub fn weight(&self) -> Option<Weight>
         ensures { IsWeighed result (numerator (tree_of self.now.tree))
             (denominator (tree_of self.now.tree)) }
@@ -73,8 +73,8 @@ impl Formula {
         self.tree.weigh()
     }
 
-    /// Whether the weight for the target is below the limit,
-    /// which is at most 2^127. No memory is taken.
+    /// Whether the weight for the target is below the limit, which must be at most 2^127. No memory
+    /// is allocated.
     pub fn weight_below(&self, target: Basis, limit: u128) -> bool
         requires { limit ≤ 2 ^ 127 }
         ensures { IsTrue result ↔ (weight (basis_of target) (tree_of self.now.tree) < limit) }

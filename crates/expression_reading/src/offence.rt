@@ -33,7 +33,7 @@ pub(crate) enum Mark {
     Opening { depth: u64 },
 }
 
-/// Numbers are below this.
+/// Numbers of an expression must be below 2^127.
 pub(crate) const WIDE: u128 = 1 << 127;
 
 /// The first kind of error at a mark, if there is one.
@@ -66,7 +66,7 @@ pub(crate) fn kind_at(mark: Mark) -> Option<Kind>
 }
 
 impl Offence {
-    /// Whether this one comes first, or both are one.
+    /// Whether this error comes before the other one, or equals it.
     fn comes_first(self, other: Offence) -> bool
         ensures { result ≡ comes_first (offence_in self) (offence_in other) }
     {

@@ -34,7 +34,7 @@ pub enum ExpressionFault {
     /// A number of an atom greater than the one before it, or a denominator 0, is at this byte.
     #[error("a list out of shape, at byte {byte}")]
     Shape { byte: u64 },
-    /// Memory was refused.
+    /// Memory ran out.
     #[error("out of memory")]
     NoMemory,
 }
@@ -62,8 +62,8 @@ fn fault_of(offence: Offence) -> ExpressionFault
     }
 }
 
-/// The expression of a word that has been scanned, whose degree is to be at most the limit,
-/// or its first error.
+/// The expression of a word that has been scanned, or its first error. The degree must be at most
+/// the limit.
 fn judged(alloc: Global, limit: u16, word: &[u8], scan: Scan) -> Result<Formula, ExpressionFault>
     requires scanned { IsScanned word.now (Ok scan) }
     requires low { limit ≤ 20 }
@@ -96,7 +96,7 @@ fn judged(alloc: Global, limit: u16, word: &[u8], scan: Scan) -> Result<Formula,
 
 /// The byte of the first error of syntax in a word that is not an expression: the length of its
 /// longest prefix that begins one; None if the word is an expression, with or without other errors.
-/// It takes no memory.
+/// No memory is allocated.
 pub fn wrong_byte(word: &[u8]) -> Option<u64>
     ensures { MatchOption result ((phrase : Phrase) × SpellsPhrase word.now phrase)
         (IsWrongByte word.now) }
@@ -107,7 +107,7 @@ pub fn wrong_byte(word: &[u8]) -> Option<u64>
     }
 }
 
-/// Reads a word as an expression whose degree is to be at most the limit.
+/// Reads a word as an expression whose degree must be at most the limit.
 pub(crate) fn read_within(
     alloc: Global,
     limit: u16,

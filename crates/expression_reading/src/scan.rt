@@ -2,7 +2,7 @@
 //! expression, the length of its longest prefix that begins one, and its first error.
 ghost use Rattle.std.specs.Prelude.{◌≡◌, ℕ, ◌+◌, ◌-◌, ◌*◌, ◌^◌, ◌<◌, ◌≤◌, option_map};
 ghost use Rattle.expression_reading.specs.Symbols.{symbol_in};
-ghost use Rattle.expression_reading.specs.ScanSteps.{capped, IsSoundDigit, HasRoom};
+ghost use Rattle.expression_reading.specs.ScanSteps.{capped, IsSoundDigit, CanCount};
 ghost use Rattle.expression_reading.specs.ScanSteps.{mode_after_factor, mode_before_factor};
 ghost use Rattle.expression_reading.specs.ScanSteps.{mode_after, depth_after, number_mark};
 ghost use Rattle.expression_reading.specs.ScanSteps.{mark_before, is_high, scan_start, Sees};
@@ -61,7 +61,7 @@ pub(crate) fn extended(value: u128, digit: u8) -> u128
         .min(WIDE)
 }
 
-/// The mode after a factor.
+/// The mode after a symbol that follows a whole factor; None if the symbol may not follow it.
 fn after_factor(symbol: Symbol) -> Option<Mode>
     ensures { result ≡ mode_after_factor (symbol_in symbol) }
 {
@@ -131,7 +131,7 @@ impl Mode {
     /// The mode after a symbol at the byte `at`; None if the symbol is invalid.
     fn after(self, at: u64, symbol: Symbol) -> Option<Mode>
         requires digit { IsSoundDigit (symbol_in symbol) }
-        requires room { HasRoom self }
+        requires room { CanCount self }
         ensures { result ≡ mode_after self at (symbol_in symbol) }
     {
         match self {
@@ -242,7 +242,7 @@ fn is_high(mark: Mark) -> bool
 }
 
 impl Scan {
-    /// Before the first byte.
+    /// The state before the first byte.
     fn start() -> Scan
         ensures { result ≡ scan_start }
     {
@@ -254,7 +254,7 @@ impl Scan {
         }
     }
 
-    /// The same place, with what a mark adds to what was found.
+    /// The state in which the errors of the mark are recorded, too.
     fn with_mark(self, mark: Option<(u64, Mark)>) -> Scan
         ensures sees { Sees self mark result }
         ensures mode { result.mode ≡ self.mode }
@@ -274,7 +274,7 @@ impl Scan {
     /// The state after a symbol at the byte `at`; None if the symbol is invalid.
     fn after(self, at: u64, symbol: Symbol) -> Option<Scan>
         requires digit { IsSoundDigit (symbol_in symbol) }
-        requires room { HasRoom self.mode }
+        requires room { CanCount self.mode }
         requires depth { self.depth + 1 < 2 ^ 64 }
         ensures { StepsTo self at (symbol_in symbol) result }
     {

@@ -9,7 +9,7 @@ ghost use Rattle.expression_reading.specs.Weights.{IsWeighed};
 
 use crate::Expr;
 use calc_base::{Basis, Weight};
-use whole_numbers::{factorial, gcd};
+use coeff_rings::{factorial, gcd};
 
 /// The numbers of a weight are below this.
 const LIMIT: u128 = 1 << 127;

@@ -16,7 +16,7 @@ use Rattle.monomial_laws.specs.MonomialProduct.{splits}
 use Rattle.monomial_laws.proofs.Splits.{total_splits}
 use lib.IntN.{+ℤ_idr, +ℤ_idl, *ℤ-zero}
 
--- the sum of W at the sizes of both parts
+-- the sum of W(size of the first part, size of the second part) over these splits
 abbrev pub low_total : (ℕ → ℕ → ℤ) → List ℕ → ℤ
 low_total W α = total
     (λ (s : List ℕ × List ℕ). cond (at_most_one s.0) (W (size s.0) (size s.1)) (pos 0)) (splits α)
@@ -76,7 +76,7 @@ low_total-none α = total_none (λ (s : List ℕ × List ℕ). cond (at_most_one
     by true = refl
     by false = refl
 
--- by the first number
+-- the sum over the splits of c ∷ α is the sum over the splits of α with 0, or if c ≥ 1 also with 1, in the first part in place of c
 pub low_total-cons : (W : ℕ → ℕ → ℤ) (c : ℕ) (α : List ℕ)
     → low_total W (c ∷ α)
     ≡ low_total (λ a b. W (0 + a) (c - 0 + b)) α +ℤ cond (leb 1 c)
@@ -109,13 +109,13 @@ low_total-cons W c α =
     by true q z = refl
     by false q z = refl
 
--- ---- the sums that are needed
+-- ---- the sums for the values W that are needed
 
--- 1 where the size is 0
+-- 1 if the size is 0, else 0
 abbrev pub at_zero : ℕ → ℤ
 at_zero k = cond (k == 0) (pos 1) (pos 0)
 
--- of the sign
+-- the sum of the signs over the splits of α is 1 if α has size 0, else 0
 pub signs : (α : List ℕ) → low_total (λ a b. minus_one_to a) α ≡ at_zero (size α)
 signs [] = refl
 signs (c ∷ α) =
@@ -145,7 +145,7 @@ signs (c ∷ α) =
         cancels : (z : ℤ) → z +ℤ negsuc 0 *ℤ z ≡ pos 0
         cancels z = omega (arith, ints)
 
--- a positive number is the only one that is not 0 where it is the size
+-- the sum of c + 1 and the numbers of α is one of these numbers if and only if α adds up to 0
 only_number : (c : ℕ) (α : List ℕ) → (size α == 0) ≡ has (suc c + size α) (suc c ∷ α)
 only_number c α = by (cases_eq (size α) 0)
   where
@@ -155,7 +155,7 @@ only_number c α = by (cases_eq (size α) 0)
         ∙ sym (has_past (suc c + size α) (suc c) α (λ d. absurd (n (omega arith)))
         ∙ has_above_size (suc c + size α) α (omega arith))
 
--- of the sign times the size of the second part: there is exactly one number that is not 0
+-- the sum over the splits of the sign times the size of the second part is 1 if exactly one number of α is not 0, else 0
 pub signed_rests : (α : List ℕ) → 0 < size α → low_total (λ a b. minus_one_to a *ℤ pos b) α
     ≡ cond (has (size α) α) (pos 1) (pos 0)
 signed_rests [] h = absurd (omega arith)
@@ -244,7 +244,7 @@ signed_rests (c ∷ α) h =
             turned : (w : ℤ) → negsuc 0 *ℤ w ≡ neg_ℤ w
             turned w = omega (arith, ints)
 
--- 1 where the second part is 0
+-- the number of these splits of α with an empty second part is 1 if no number of α is above 1, else 0
 pub rests_none : (α : List ℕ) → low_total (λ a b. at_zero b) α
     ≡ cond (at_most_one α) (pos 1) (pos 0)
 rests_none [] = refl
@@ -274,7 +274,7 @@ rests_none (c ∷ α) = low_total-cons (λ a b. at_zero b) c α ∙ by c (rests_
         ∙ ap (λ (t : Bool). cond (t && at_most_one α) (pos 1) (pos 0))
         (sym (lt-leb (suc (suc c)) 1 (omega arith)))
 
--- 1 where the first part is 0
+-- the number of these splits of α with an empty first part is 1
 pub firsts_none : (α : List ℕ) → low_total (λ a b. at_zero a) α ≡ pos 1
 firsts_none [] = refl
 firsts_none (c ∷ α) =
@@ -291,7 +291,7 @@ firsts_none (c ∷ α) =
     by true = refl
     by false = refl
 
--- of the sign of the second part
+-- the sum of the sign of the size of the second part is 1 if α has size 0, else 0
 pub rest_signs : (α : List ℕ) → low_total (λ a b. minus_one_to b) α ≡ at_zero (size α)
 rest_signs [] = refl
 rest_signs (c ∷ α) =
@@ -326,7 +326,7 @@ rest_signs (c ∷ α) =
         cancels : (x z : ℤ) → neg_ℤ x *ℤ z +ℤ x *ℤ z ≡ pos 0
         cancels x z = simp ring (omega (arith, ints))
 
--- of the sign times the size of the first part
+-- the sum over the splits of the sign times the size of the first part is -1 if exactly one number of α is not 0, else 0
 pub signed_firsts : (α : List ℕ) → 0 < size α → low_total (λ a b. minus_one_to a *ℤ pos a) α
     ≡ neg_ℤ (cond (has (size α) α) (pos 1) (pos 0))
 signed_firsts [] h = absurd (omega arith)

@@ -1,7 +1,7 @@
--- How large the coefficients of the closed lists are together.
---     total-orders      l!/Π m_i! over the partitions of k + 1 comes to 2^k
---     total-sized       k·(l - 1)!/Π m_i! over those of k to 2^k - 1
---     total-cycles      k!/z_μ over those of k to k!
+-- The sums of the absolute values of the coefficients of the closed lists.
+--     total-orders      l!/Π m_i! over the partitions of k + 1 adds up to 2^k
+--     total-sized       k·(l - 1)!/Π m_i! over those of k adds up to 2^k - 1
+--     total-cycles      k!/z_μ over those of k adds up to k!
 use Rattle.std.proofs.Common.{◌≡◌, ℕ, zero, suc, ◌+◌, ◌-◌, ◌*◌, ◌^◌, ◌<◌, ◌≤◌, cond, List, [], length, refl, sym, ap, ap₂, ◌∙◌, arith, ℤ, pos, ◌+ℤ◌, ◌*ℤ◌, pow-suc}
 use Rattle.std.proofs.lemmas.Int.{ints}
 use Rattle.sym_model.specs.Sum.{total}
@@ -64,9 +64,9 @@ back_sum z f m =
     (λ i. ap (λ n. z (i + 1) *ℤ f n) (let e : suc m - (i + 1) ≡ m - i = omega arith in e))
     (after 0 m))
 
--- ---- the three sums
+-- ---- the three sums of absolute values
 
--- how many lists of positive numbers add up to k
+-- the number of lists of positive numbers with the sum k
 abbrev pub compositions : ℕ → ℕ
 compositions zero = 1
 compositions (suc k) = 2 ^ k

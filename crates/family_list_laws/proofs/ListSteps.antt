@@ -1,6 +1,6 @@
 -- Lists over the partitions of a number, from lists over those of smaller numbers.
 --     total-taken     a sum over the partitions of k - i is one over those of k with a part i
---     sum-step        the list of a sum of products with one part
+--     sum-step        the list of a sum of products, each with one part more
 use Rattle.std.proofs.Common.{◌≡◌, ℕ, ◌-◌, ◌<◌, ◌≤◌, Bool, true, false, cond, List, refl, sym, ap, ◌∙◌, arith, ℤ, pos, ◌*ℤ◌, filter}
 use Rattle.sym_model.specs.Sum.{total}
 use Rattle.sym_model.specs.Polynomial.{Poly, pair, join, times}

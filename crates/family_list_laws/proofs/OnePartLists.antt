@@ -1,4 +1,4 @@
--- The closed lists are lists of their polynomials.
+-- The lists of the closed coefficients expand e_k, h_k and p_k in the other families.
 use Rattle.std.proofs.Common.{◌≡◌, ℕ, ◌-◌, ◌*◌, ◌^◌, ◌<◌, ◌≤◌, List, [], ◌∷◌, map, length, refl, sym, ap, ap₂, ◌∙◌, subst, arith, ℤ, pos, ◌+ℤ◌, ◌*ℤ◌}
 use Rattle.std.specs.Prelude.{nat_abs}
 use Rattle.std.proofs.lemmas.Int.{ints, unsigned_abs-mul}
@@ -14,7 +14,6 @@ use Rattle.sym_model.proofs.Ring.{one-product}
 use Rattle.sym_model.proofs.Sums.{total_ext, total_map, Among_from_map}
 use Rattle.sym_model.proofs.PartitionLists.{partitions_of-tells}
 use Rattle.basis_change_laws.specs.JoinedLists.{IsLow, Stands}
-use Rattle.basis_change_laws.proofs.JoinedLists.{each-label}
 use Rattle.family_list_laws.specs.OnePartLists.{orders_of_parts, sized_orders, cycle_type_count, parity_sign, signed_orders, list_over}
 use Rattle.family_list_laws.proofs.ListSteps.{IsSumOver}
 use Rattle.family_list_laws.proofs.ListSizes.{compositions, compositions-few, total-orders, total-sized, total-cycles}
@@ -35,12 +34,11 @@ listed P q most k f c x m is abs sum few = record {
   value = λ n φ. total_map (λ (t : List ℕ × ℤ). t.1 *ℤ pair (product_over P t.0 n) φ)
       (λ (μ : List ℕ). (μ, c μ)) (partitions_of k) ∙ is n φ;
   few = let e = absolute-map c x abs (partitions_of k) ∙ sum in omega (arith, ints);
-  labels = each-label (IsLow k) (list_over c k)
-      (λ t m.
+  labels = λ t m.
       let r = Among_from_map (λ (μ : List ℕ). (μ, c μ)) t (partitions_of k) m in
       let s = partitions_of-tells k r.0 r.1 in
       subst (λ (u : List ℕ × ℤ). IsLow k u.0) (sym r.2)
-      (record { partition = s.0; low = omega (arith, s.1) }));
+      (record { partition = s.0; low = omega (arith, s.1) });
 }
 
 signed : (a x : ℕ) → nat_abs (minus_one_to a *ℤ pos x) ≡ x

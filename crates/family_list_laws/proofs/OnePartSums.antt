@@ -1,4 +1,4 @@
--- e_k, h_k and p_k as sums of the products of e_i with h_(k-i).
+-- e_k, h_k and p_k as sums of the products of e_i and h_(k-i).
 use Rattle.std.proofs.Common.{◌≡◌, ◌⊎◌, ℕ, zero, suc, ◌+◌, ◌-◌, ◌<◌, ◌≤◌, Bool, true, false, ◌&&◌, cond, ◌==◌, leb, List, length, refl, sym, ap, ap₂, ◌∙◌, inl, inr, arith, ℤ, pos, negsuc, neg_ℤ, ◌+ℤ◌, ◌*ℤ◌, flat_map}
 use Rattle.std.proofs.lemmas.Bool.{cases_eq, cases_lt, eq-eqb, ne_eqb, le-leb, lt-leb, eqb-true}
 use Rattle.std.proofs.lemmas.Int.{ints}
@@ -19,9 +19,9 @@ use Rattle.monomial_laws.proofs.Arrangements.{sizes-splits}
 use Rattle.family_list_laws.proofs.AlternatingSums.{low_total, low_total-ext, low_total-add, low_total-scale, at_zero, signs, rest_signs, rests_none, firsts_none, signed_rests, signed_firsts}
 use lib.IntN.{*ℤ-zero, +ℤ_idr}
 
--- ---- one product
+-- ---- the product of one e_a and one h_b
 
--- 1 where the sizes are a and b
+-- 1 if the sizes are a and b, else 0
 abbrev at_sizes : ℕ → ℕ → ℕ → ℕ → ℤ
 at_sizes a b p q = cond (p == a) (cond (q == b) (pos 1) (pos 0)) (pos 0)
 
@@ -55,9 +55,10 @@ product-sizes n a b α long =
     by false false true = refl
     by false false false = refl
 
--- ---- all of them, weighted
+-- ---- the sum of all products, with weights
 
--- a sum over i, each product weighted
+-- the weighted sum over i of the coefficients of the products of e and h at x^α is the sum of W over the splits of α,
+-- if α has the size k
 weighted : (n k : ℕ) (x y : ℕ → ℕ) (v : ℕ → ℤ) (W : ℕ → ℕ → ℤ) (α : List ℕ) → length α ≡ n
     → ((p q : ℕ) → p + q ≡ size α → total (λ (i : ℕ). v i *ℤ at_sizes (x i) (y i) p q) (after 0 k)
     ≡ cond (size α == k) (W p q) (pos 0))
@@ -101,7 +102,7 @@ weighted n k x y v W α long pick =
         none true = refl
         none false = refl
 
--- the index is one of both sizes, and the other is what is left: one number i counts
+-- the index i is one of the two sizes, and the other size is k - i: only one i has a summand that is not 0
 module _ (k : ℕ) (v : ℕ → ℤ) where
   picked : (m i₀ : ℕ) (f : ℕ → ℤ) → m ≡ k
       → ((i : ℕ) → Among i (after 0 k) → (i ≡ i₀ → ⊥) → f i ≡ pos 0)
@@ -167,7 +168,7 @@ module _ (k : ℕ) (v : ℕ → ℤ) where
       turned false true = refl
       turned false false = refl
 
--- ---- the four sums
+-- ---- e_k, h_k and p_k as four weighted sums of products
 
 -- a sum of products, each times a number
 abbrev pub scaled_products : (ℕ → ℤ) → (ℕ → ℕ → Poly) → (ℕ → ℕ → Poly) → ℕ → ℕ → Poly
@@ -197,7 +198,8 @@ all : (n i : ℕ) → In n (complete_of i n)
 all n i = In-monomials (λ β. true) n i
 
 module _ (k n : ℕ) (some : 0 < k) where
-  -- by the coefficients of the monomials of degree k
+  -- the coefficient at x^α of the monomials that pass a test is a weighted sum of those of products of e and h, if
+  -- the sum of W over the splits of α is 1 for α that pass the test, else 0
   summed : (test : List ℕ → Bool) (x y : ℕ → ℕ) (v : ℕ → ℤ) (W : ℕ → ℕ → ℤ) (α : List ℕ) → length α
       ≡ n
       → ((m p q : ℕ) → p + q ≡ m → total (λ (i : ℕ). v i *ℤ at_sizes (x i) (y i) p q) (after 0 k)
@@ -218,7 +220,7 @@ module _ (k n : ℕ) (some : 0 < k) where
       by true e = sym (value (eqb-true (size α) k e))
       by false e = refl
 
-  -- the sign by which a part of i counts
+  -- (-1)^(i-1) for i ≥ 1, and 0 for i = 0, is -(-1)^i, plus 1 at i = 0
   turned : (i : ℕ) → cond (leb 1 i) (minus_one_to (i - 1)) (pos 0)
       ≡ at_zero i +ℤ negsuc 0 *ℤ minus_one_to i
   turned zero = refl
@@ -260,7 +262,7 @@ module _ (k n : ℕ) (some : 0 < k) where
       ∙ without_last (cond (at_most_one α) (pos 1) (pos 0)))
       ∙ sym (coefficient-products (λ i. minus_one_to (i - 1)) elementary_of complete_of k n α))
 
-  -- the two factors exchanged
+  -- the two factors of each product may be exchanged
   exchanged : (v : ℕ → ℤ) (α : List ℕ)
       → total (λ (i : ℕ). v i *ℤ coefficient (times (elementary_of i n) (complete_of (k - i) n)) α)
       (after 0 k) ≡ coefficient (scaled_products v complete_of elementary_of k n) α
@@ -355,7 +357,7 @@ module _ (k n : ℕ) (some : 0 < k) where
           ∙ sym (ap (λ z. negsuc 0 *ℤ z) (negation-product (minus_one_to p) (pos (suc p)))
           ∙ again (minus_one_to p *ℤ pos (suc p)))
 
--- ---- the sums by pairs
+-- ---- pairings of a sum of products with a test function
 
 pub pair-products : (v : ℕ → ℤ) (G P : ℕ → ℕ → Poly) (k n : ℕ) (f : Poly)
     → Same f (scaled_products v G P k n) → (φ : List ℕ → ℤ)

@@ -24,9 +24,9 @@ use Rattle.family_list_laws.proofs.PartQuotients.{part-positive, taken-partition
 use Rattle.family_list_laws.proofs.OnePartSums.{scaled_products, pair-products, elementary-sum, complete-sum, power-complete-sum, power-elementary-sum}
 use lib.IntN.{+ℤ_idr}
 
--- ---- signs
+-- ---- the sign of a partition with a part removed
 
--- the sign with a part taken out
+-- removing a part i from μ multiplies the parity sign of μ by (-1)^(i-1)
 sign-taken : (i : ℕ) (μ : List ℕ) → IsPartition μ → has i μ ≡ true
     → minus_one_to (i - 1) *ℤ parity_sign (without_one i μ) ≡ parity_sign μ
 sign-taken i μ p e =
@@ -75,7 +75,7 @@ pub some_part : (k : ℕ) (μ : List ℕ) → 0 < k → size μ ≡ k → suc (l
 some_part k [] h e = absurd (omega arith)
 some_part k (a ∷ μ) h e = omega arith
 
--- over the numbers up to the size
+-- if μ has size k, a sum over 1, .., size μ is the sum over 1, .., k
 up_to : (k : ℕ) (μ : List ℕ) (f : ℕ → ℤ) → size μ ≡ k → total f (after 0 (size μ))
     ≡ total f (after 0 k)
 up_to k μ f e = ap (λ n. total f (after 0 n)) e
@@ -133,7 +133,7 @@ power-elementary-closed k μ h p e =
     ∙ up_to k μ (λ (i : ℕ). cond (has i μ)
     ((minus_one_to (i - 1) *ℤ pos i) *ℤ signed_orders (without_one i μ)) (pos 0)) e
 
--- with signs τ that are multiplied when a part is taken out
+-- if σ(i)·τ(μ without i) is τ(μ) for each part i of μ, then τ(μ)·k!/z_μ is a sum over the parts of μ
 cycles-closed : (σ : ℕ → ℤ) (τ : List ℕ → ℤ)
     → ((i : ℕ) (μ : List ℕ) → IsPartition μ → has i μ ≡ true → σ i *ℤ τ (without_one i μ) ≡ τ μ)
     → (k : ℕ) (μ : List ℕ) → 0 < k → IsPartition μ → size μ ≡ k
@@ -152,7 +152,7 @@ cycles-closed σ τ turn k μ h p e =
     ((σ i *ℤ pos (rise k i)) *ℤ (τ (without_one i μ) *ℤ pos (cycle_type_count (without_one i μ))))
     (pos 0)) e
 
--- ---- the lists
+-- ---- the closed lists of a family in another one
 
 nothing-left : (P : ℕ → ℕ → Poly) (n : ℕ) (c : List ℕ → ℤ) (f : Poly) → c [] ≡ pos 1
     → Same f (one n) → IsSumOver P n 0 c 1 f
@@ -160,7 +160,7 @@ unfolding partitions_within
 nothing-left P n c f e h φ = +ℤ_idr (c [] *ℤ pair (one n) φ)
     ∙ ap₂ ◌*ℤ◌ e (sym (pair_determined f (one n) φ h))
 
--- without denominators
+-- if f is the sum of v(i) times a product of G and P, the pairing of f is the sum of v(i) times the pairings of the products
 whole-sum : (v : ℕ → ℤ) (G P : ℕ → ℕ → Poly) (k n : ℕ) (f : Poly)
     → Same f (scaled_products v G P k n) → (φ : List ℕ → ℤ)
     → pos 1 *ℤ pair f φ
@@ -172,7 +172,7 @@ whole-sum v G P k n f e φ =
     (λ (i : ℕ). v i *ℤ (pos 1 *ℤ pair (times (G (k - i) n) (P i n)) φ))
     (λ i. ap (λ z. v i *ℤ z) (sym (one-product (pair (times (G (k - i) n) (P i n)) φ)))) (after 0 k)
 
--- a family in another one, by the lists of smaller numbers
+-- if G_0 is 1 and each G_k is the signed sum of the products of a G and a P, G_k has the coefficients `signed_orders` in the family P
 family-list : (G P : ℕ → ℕ → Poly) (n : ℕ) → Same (G 0 n) (one n)
     → ((k : ℕ) → 0 < k → Same (G k n) (scaled_products (λ i. minus_one_to (i - 1)) G P k n))
     → (d k : ℕ) → k ≤ d → IsSumOver P n k signed_orders 1 (G k n)
@@ -220,9 +220,9 @@ power-in-elementary k n h =
     (power-elementary-sum k n h))
     (λ μ p e. power-elementary-closed k μ h p e)
 
--- ---- in power sums
+-- ---- the closed lists of e_k and h_k in power sums
 
--- Newton's identities times (k - 1)!
+-- k!·G_k, paired with a test function, is the sum of Newton's identity for k, times (k - 1)!
 newton-sum : (G : ℕ → ℕ → Poly) (σ : ℕ → ℤ) → IsNewton G σ → (k n : ℕ) → 0 < k → (φ : List ℕ → ℤ)
     → pos (factorial k) *ℤ pair (G k n) φ
     ≡ total (λ (i : ℕ). (σ i *ℤ pos (rise k i)) *ℤ

@@ -1,4 +1,4 @@
--- The closed coefficients, from those of the partitions with a part less.
+-- The closed coefficients, from those of the partitions with one part less.
 use Rattle.std.proofs.Common.{◌≡◌, ◌⊎◌, ℕ, zero, suc, ◌+◌, ◌-◌, ◌*◌, ◌/◌, ◌<◌, ◌≤◌, Bool, true, false, cond, eqb, List, [], ◌∷◌, map, length, refl, sym, ap, ap₂, ◌∙◌, inl, inr, arith, ℤ, pos, ◌+ℤ◌, ◌*ℤ◌}
 use Rattle.std.proofs.lemmas.Bool.{cases_eq, cases_lt, eq-eqb, ne_eqb, both_ways, true≢false}
 use Rattle.std.proofs.lemmas.Int.{ints}
@@ -20,7 +20,7 @@ use Rattle.family_list_laws.specs.OnePartLists.{orders_of_parts, sized_orders, p
 use lib.IntN.{zero-*ℤ, *ℤ-zero}
 use native.Mathlib.Nat.{eq_of_mul-eq-mul_right, mul-pos}
 
--- ---- sums over the numbers up to k, each counted as often as it is a part
+-- ---- sums over the numbers up to k, each counted with its multiplicity
 
 pub total-parts : (y : ℕ → ℤ) (k : ℕ) (μ : List ℕ) → ((j : ℕ) → Among j μ → (0 < j) × (j ≤ k))
     → total (λ (i : ℕ). pos (times_in i μ) *ℤ y i) (after 0 k) ≡ total y μ
@@ -56,7 +56,7 @@ unfolding add_up
 total-add_up f [] = refl
 total-add_up f (i ∷ numbers) = let e = total-add_up f numbers in omega (arith, ints)
 
--- N/M as a sum of numbers, one for each different part, that come to N when multiplied by M
+-- if x(i)·M is m_i·y(i) for each different part i, and these add up to N, then N/M is the sum of the x(i)
 pub quotient-parts : (M N : ℕ) (x y : ℕ → ℕ) (μ : List ℕ) → 0 < M → IsPartition μ
     → ((i : ℕ) → has i μ ≡ true → x i * M ≡ times_in i μ * y i) → pos N
     ≡ total (λ (j : ℕ). pos (y j)) μ
@@ -108,7 +108,7 @@ quotient-parts M N x y μ some p each sum = (
     exact : N / M * M ≡ N
     exact = quotient-is all M N whole
 
--- ---- a part taken out
+-- ---- a partition with the part i removed
 
 module _ (i : ℕ) (μ : List ℕ) (p : IsPartition μ) (e : has i μ ≡ true) where
   pub part-positive : 0 < i
@@ -171,14 +171,14 @@ product-positive (a ∷ μ) p = mul-pos p.0 (product-positive μ p.1)
 pub centralizer-positive : (μ : List ℕ) → IsPartition μ → 0 < centralizer μ
 centralizer-positive μ p = mul-pos (product-positive μ p.positive) (multiplicities-positive μ)
 
--- ---- the three quotients
+-- ---- the three closed coefficients without signs, as sums over the parts
 
 scaled-sizes : (c : ℕ) (μ : List ℕ) → total (λ (j : ℕ). pos (j * c)) μ ≡ pos (size μ * c)
 scaled-sizes c [] = ap pos (let e : 0 ≡ 0 * c = omega arith in e)
 scaled-sizes c (j ∷ μ) = ap (λ z. pos (j * c) +ℤ z) (scaled-sizes c μ)
     ∙ ap pos (let e : j * c + size μ * c ≡ (j + size μ) * c = omega arith in e)
 
--- l!/Π m_i!
+-- l!/Π m_i! is the sum, over the different parts, of the numbers for μ without that part
 module _ (l : ℕ) (μ : List ℕ) (p : IsPartition μ) (long : length μ ≡ suc l)
     (before : (ρ : List ℕ) → IsPartition ρ → length ρ ≡ l
     → orders_of_parts ρ * multiplicity_factorials ρ ≡ factorial l) where
@@ -219,7 +219,8 @@ pub orders-sum : (l : ℕ) (μ : List ℕ) → IsPartition μ → length μ ≡ 
     (after 0 (size μ)) ≡ pos (orders_of_parts μ)
 orders-sum l μ p e = (orders-both l μ p e (orders-exact l)).0
 
--- k·(l - 1)!/Π m_i!
+-- `sized_orders` μ is the sum, over the parts i of μ, of i times the number of orders without i; times Π m_i! it is
+-- k·(l - 1)!, k the size, l the length
 pub sized-orders : (l : ℕ) (μ : List ℕ) → IsPartition μ → length μ ≡ suc l
     → (total (λ (i : ℕ). cond (has i μ) (pos (i * orders_of_parts (without_one i μ))) (pos 0))
     (after 0 (size μ)) ≡ pos (sized_orders μ))
@@ -245,7 +246,7 @@ sized-orders l μ p e =
 abbrev pub rise : ℕ → ℕ → ℕ
 rise k i = factorial (k - 1) / factorial (k - i)
 
--- k!/z_μ
+-- k!/z_μ is the sum, over the different parts of μ, of numbers from the partitions without that part
 module _ (l : ℕ) (μ : List ℕ) (p : IsPartition μ) (long : length μ ≡ suc l)
     (before : (ρ : List ℕ) → IsPartition ρ → length ρ ≡ l → cycle_type_count ρ * centralizer ρ
     ≡ factorial (size ρ)) where
@@ -299,7 +300,7 @@ pub cycles-sum : (l : ℕ) (μ : List ℕ) → IsPartition μ → length μ ≡ 
     (pos 0)) (after 0 (size μ)) ≡ pos (cycle_type_count μ)
 cycles-sum l μ p e = (cycles-both l μ p e (cycles-exact l)).0
 
--- ---- with signs
+-- ---- the closed coefficients with signs, as sums over the parts
 
 pub signed-sum : (μ : List ℕ) (σ : ℤ) (s : ℕ → ℤ) (before : List ℕ → ℤ) (x : ℕ → ℕ) (X : ℕ)
     → ((i : ℕ) → has i μ ≡ true → s i *ℤ before (without_one i μ) ≡ σ *ℤ pos (x i))
@@ -318,7 +319,7 @@ signed-sum μ σ s before x X h e =
     by i true f = sym (h i f)
     by i false f = *ℤ-zero σ
 
--- ---- the quotients are exact
+-- ---- the quotients l!/Π m_i!, k·(l - 1)!/Π m_i! and k!/z_μ are integers
 
 pub orders-whole : (μ : List ℕ) → IsPartition μ → orders_of_parts μ * multiplicity_factorials μ
     ≡ factorial (length μ)

@@ -8,8 +8,7 @@ use Rattle.sym_model.specs.WholeTerms.{WholeTerms}
 use Rattle.sym_model.specs.Weight.{factorial}
 use Rattle.basis_change_laws.specs.AugmentedMonomial.{multiplicity_factorials}
 
--- l!/Π m_i!, the m_i being the multiplicities of the l parts: how many different orders the parts
--- have
+-- l!/Π m_i!, for l parts with the multiplicities m_i: the number of distinct orders of the parts
 abbrev pub orders_of_parts : List ℕ → ℕ
 orders_of_parts μ = factorial (length μ) / multiplicity_factorials μ
 
@@ -26,15 +25,15 @@ product_of_parts (a ∷ μ) = a * product_of_parts μ
 abbrev pub centralizer : List ℕ → ℕ
 centralizer μ = product_of_parts μ * multiplicity_factorials μ
 
--- k!/z_μ: how many permutations of 1, .., k have the cycle type μ
+-- k!/z_μ: the number of permutations of 1, .., k with the cycle type μ
 abbrev pub cycle_type_count : List ℕ → ℕ
 cycle_type_count μ = factorial (size μ) / centralizer μ
 
--- (-1)^(k - l)
+-- (-1)^(k - l), for a partition of k with l parts
 abbrev pub parity_sign : List ℕ → ℤ
 parity_sign μ = minus_one_to (size μ - length μ)
 
--- (-1)^(k - l)·l!/Π m_i!
+-- (-1)^(k - l)·l!/Π m_i!, for a partition of k with l parts of the multiplicities m_i
 abbrev pub signed_orders : List ℕ → ℤ
 signed_orders μ = parity_sign μ *ℤ pos (orders_of_parts μ)
 

@@ -1,6 +1,6 @@
-//! Closed lists of one part of a family in another one.
+//! Closed lists of polynomials of one part in another family.
 //!
-//! A law function takes nothing, answers nothing and does no work when it runs: its contract is
+//! A law function takes no argument, returns nothing and does nothing at run time: its contract is
 //! the law.
 //!
 //! What is proved:

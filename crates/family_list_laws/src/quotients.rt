@@ -7,8 +7,8 @@ ghost use Rattle.basis_change_laws.specs.AugmentedMonomial.{multiplicity_factori
 ghost use Rattle.family_list_laws.specs.OnePartLists.{orders_of_parts, sized_orders, centralizer};
 ghost use Rattle.family_list_laws.specs.OnePartLists.{cycle_type_count};
 
-/// l!/Π m_i!, k·(l - 1)!/Π m_i! and k!/z_μ are whole numbers, for a partition μ of k with l parts
-/// of the multiplicities m_i; the second for l ≥ 1.
+/// l!/Π m_i!, k·(l - 1)!/Π m_i! and k!/z_μ are integers, for a partition μ of k with l parts of the
+/// multiplicities m_i; the second for l ≥ 1.
 pub fn exact_quotient_law()
     ensures orders { (μ : List ℕ) → IsPartition μ
         → orders_of_parts μ * multiplicity_factorials μ ≡ factorial (length μ) }

@@ -1,7 +1,7 @@
--- The lists of one part of a family in another one, by closed coefficients.
+-- The lists of polynomials of one part in another family, by closed coefficients.
 --     each_by-push, listed-fits     partition by partition
---     closed-stands                what the whole list is
---     scaled-low, sized-low, cycles-low, ..     how large the numbers are
+--     closed-stands                the polynomial of the whole list
+--     scaled-low, sized-low, cycles-low, ..     bounds for the numbers
 use Rattle.std.proofs.Common.{◌≡◌, ℕ, ◌-◌, ◌*◌, ◌<◌, ◌≤◌, ◌^◌, List, [], ◌∷◌, ◌++◌, length, refl, sym, ap, ap₂, ◌∙◌, subst, inl, inr, arith, ℤ, pos, cond, ◌+ℤ◌, ◌*ℤ◌, lit<}
 use Rattle.std.specs.Prelude.{FitsSigned, ◌≢◌}
 use Rattle.std.specs.Int.{w128}
@@ -28,18 +28,18 @@ use Rattle.basis_change_laws.proofs.JoinedLists.{stands-raised, stands-weaken}
 use Rattle.family_list_laws.specs.OnePartLists.{orders_of_parts, sized_orders, cycle_type_count, centralizer, parity_sign, signed_orders, list_over}
 use Rattle.family_list_laws.proofs.OnePartLists.{elementary-list, complete-list, power-complete-list, power-elementary-list, elementary-power-list, complete-power-list}
 use Rattle.family_list_laws.proofs.PartQuotients.{orders-whole, sized-whole, cycles-whole, multiplicities-positive, centralizer-positive}
-use Rattle.whole_lists.specs.Tables.{equal, IsWholeTable}
-use Rattle.whole_lists.specs.declared.family.Family.{Family}
-use Rattle.whole_lists.specs.declared.family.Family.TheVariants.{Elementary, Complete, PowerSum}
-use Rattle.whole_lists.specs.Families.{polynomial_of}
-use Rattle.whole_lists.proofs.WholeLists.{Finds, not_refused}
-use Rattle.whole_lists.proofs.PartitionTerms.{once_before}
+use Rattle.sparse_polys.specs.Tables.{equal, IsWholeTable}
+use Rattle.sparse_polys.specs.declared.family.Family.{Family}
+use Rattle.sparse_polys.specs.declared.family.Family.TheVariants.{Elementary, Complete, PowerSum}
+use Rattle.sparse_polys.specs.Families.{polynomial_of}
+use Rattle.sparse_polys.proofs.WholeLists.{Finds, not_refused}
+use Rattle.sparse_polys.proofs.PartitionTerms.{once_before}
 use Rattle.family_lists.specs.ClosedCoefficients.{closed_coefficient}
 use Rattle.family_lists.specs.FactorLists.{IsFactor}
 use Rattle.linear_combinations.specs.Gains.{each_by}
 use Rattle.family_lists.proofs.TableLists.{table-stands}
 
--- ---- partition by partition
+-- ---- the closed list, built partition by partition
 
 coefficient-absent : (c : List ℕ → ℤ) (labels : List (List ℕ)) (label : List ℕ)
     → (Among label labels → ⊥) → coefficient (each_by c labels) label ≡ pos 0
@@ -51,7 +51,7 @@ coefficient-absent c labels label n =
     ap (λ b. cond b (c μ) (pos 0))
     (same_apart μ label (λ e. n (subst (λ x. Among x labels) e m))))
 
--- the next one is never refused
+-- adding the coefficient of the next label to the table of the labels before it never overflows
 pub listed-fits : (c : List ℕ → ℤ) (k : ℕ) (before new : List (List ℕ)) (label key : List ℕ)
     (terms : WholeTerms) (z : ℤ)
     → Finds terms (each_by c before) → before ++ (label ∷ new) ≡ partitions_of k → key ≡ label
@@ -68,7 +68,7 @@ listed-fits c k before new label key terms z h e same r =
     (FallsLexicographically-partitions_within k k k)))))
     r
 
--- ---- what the whole list is
+-- ---- the closed list stands for its polynomial
 
 listed-same : (c d : List ℕ → ℤ) (labels : List (List ℕ))
     → ((μ : List ℕ) → Among μ labels → c μ ≡ d μ) → each_by c labels ≡ each_by d labels
@@ -77,7 +77,8 @@ listed-same c d (μ ∷ labels) h =
     ap₂ (λ (z : ℤ) (l : WholeTerms). (μ, z) ∷ l) (h μ (inl refl))
     (listed-same c d labels (λ ν m. h ν (inr m)))
 
--- e_k in h and h_k in e, times k!
+-- k! times the signed number of orders of μ, a partition of k, is its parity sign times k! times the number of
+-- orders
 times-orders : (k : ℕ) (μ : List ℕ) → size μ ≡ k
     → pos (factorial k) *ℤ signed_orders μ
     ≡ parity_sign μ *ℤ pos (factorial (size μ) * orders_of_parts μ)
@@ -104,7 +105,7 @@ exchanged-stands P k f s =
     (stands-raised P 1 (2 ^ k) (factorial k * 2 ^ k) k (factorial k) (factorial k) f
     (list_over signed_orders k) s one (omega arith))
 
--- e_k and h_k in p, times k!
+-- ---- e_k and h_k in p, times k!
 more : (k : ℕ) → factorial k ≤ factorial k * 2 ^ k
 more k = times-more (factorial k) (2 ^ k) (power-positive 2 k (omega arith))
 
@@ -141,7 +142,7 @@ closed-stands target family k terms n h is e =
     table-stands terms (each_by (closed_coefficient target family) (partitions_of k)) is e
     (polynomial_of target) _ _ k (λ n. polynomial_of family k n) (closed-list target family k n h)
 
--- ---- how large the numbers are
+-- ---- bounds for the closed coefficients
 
 pub some_row : (label : List ℕ) → 0 < size label → 0 < length label
 some_row [] h = absurd (omega arith)

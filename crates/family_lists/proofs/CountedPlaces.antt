@@ -1,6 +1,6 @@
 -- The factorials of the multiplicities of a partition, from its last place to the first.
---     counted-end, counted-next, counted-all     what is known at each place
---     multiplicities-low, centralizer-low        how large the products are
+--     counted-end, counted-next, counted-all     the invariant at each place
+--     multiplicities-low, centralizer-low        bounds for the products
 use Rattle.std.proofs.Common.{◌≡◌, ◌⊎◌, ℕ, zero, suc, ◌+◌, ◌*◌, ◌<◌, ◌≤◌, ◌^◌, List, [], ◌∷◌, length, get_or, drop, refl, sym, ap, ap₂, ◌∙◌, subst, inl, inr, arith, lit<, drop-cons}
 use Rattle.std.proofs.Math.ListN.{drop_of_length-le, get_or-eq_default}
 use Rattle.std.proofs.lemmas.List.{get_or-drop}
@@ -18,9 +18,9 @@ use Rattle.family_list_laws.specs.OnePartLists.{orders_of_parts, cycle_type_coun
 use Rattle.family_list_laws.proofs.PartQuotients.{multiplicities-positive, centralizer-positive, orders-whole, cycles-whole}
 use Rattle.family_lists.proofs.MergedLists.{positive-drop, falls-drop}
 
--- ---- how large they are
+-- ---- bounds for the products of factorials and of parts
 
--- a factor of a positive product
+-- a factor of a positive product is at most the product
 factor-low : (n m whole most : ℕ) → n * m ≡ whole → 0 < whole → whole ≤ most → m ≤ most
 factor-low zero m whole most e h l = absurd (let z : 0 * m ≡ 0 = omega arith in omega arith)
 factor-low (suc n) m whole most e h l =
@@ -48,7 +48,7 @@ product-low label p low =
     (multiplicities-positive label) in
     omega arith
 
--- ---- the rest of a partition
+-- ---- the parts of a partition from a place on
 
 size-drop : (i : ℕ) (parts : List ℕ) → size (drop i parts) ≤ size parts
 size-drop zero parts = omega arith
@@ -65,9 +65,9 @@ rest-low i parts p low =
     multiplicities-low (drop i parts)
     (rest-partition i parts p) (let s = size-drop i parts in omega arith)
 
--- ---- from the last place to the first
+-- ---- the invariant, from the last place to the first
 
--- a part above the first of falling parts is not one of them
+-- a number greater than all of some decreasing parts is not one of them
 none_above : (a : ℕ) (parts : List ℕ) → Falls parts → get_or parts 0 0 < a → times_in a parts ≡ 0
 none_above a [] f h = refl
 none_above a (b ∷ []) f h = times_in-other a b [] (λ e. omega arith)
@@ -75,7 +75,7 @@ none_above a (b ∷ c ∷ parts) f h =
     times_in-other a b (c ∷ parts) (λ e. omega arith)
     ∙ none_above a (c ∷ parts) f.1 (let g = f.0 in omega arith)
 
--- what is known at a place
+-- the invariant at a place: the product of the factorials so far, the part there and its multiplicity
 pub record Counted (parts : List ℕ) (product next times at : ℕ) : Type 0 where
   pub product_is : product ≡ multiplicity_factorials (drop at parts)
   pub next_is : next ≡ get_or parts at 0
@@ -139,7 +139,7 @@ module _ (parts : List ℕ) (product next times i at now : ℕ) (p : IsPartition
   pub counted-next : Counted parts (product * now) (get_or parts i 0) now i
   counted-next = record { product_is = counted-product; next_is = refl; times_is = now-is }
 
-  -- a product is small
+  -- the product of the factorials so far is below 2^128
   pub counted-fits : size parts ≤ 20 → product * now < 2 ^ 128
   counted-fits low =
       let r = rest-low i parts p low in
@@ -167,7 +167,7 @@ pub counted-all : (parts : List ℕ) (product next times at : ℕ) → at ≡ 0
 counted-all parts product next times at e inv =
     inv.product_is ∙ ap (λ k. multiplicity_factorials (drop k parts)) e
 
--- ---- the product of the parts
+-- ---- the product of the parts, place by place
 
 pub product-next : (product whole : ℕ) (parts : List ℕ) (at : ℕ) → at < length parts
     → product * product_of_parts (drop at parts) ≡ whole
@@ -179,7 +179,7 @@ product-next product whole parts at h e =
     grouped : (x y z : ℕ) → (x * y) * z ≡ x * (y * z)
     grouped x y z = omega arith
 
--- the part at a place is a factor
+-- the product of the parts up to a place is below 2^128
 pub product-fits : (product : ℕ) (parts : List ℕ) (at : ℕ) → IsPartition parts → size parts ≤ 20
     → at < length parts → product * product_of_parts (drop at parts) ≡ product_of_parts parts
     → product * get_or parts at 0 < 2 ^ 128

@@ -1,8 +1,8 @@
 -- The polynomials of one part as lists in the target (specs/FactorLists).
---     factor-loose, factors-loose     with the bounds of specs/FactorLists.AreFactors
---     own-stands                      in the family itself
---     factorial-below                 how large the numbers are
-use Rattle.std.proofs.Common.{◌≡◌, ℕ, ◌-◌, ◌*◌, ◌<◌, ◌≤◌, ◌^◌, List, [], ◌∷◌, arith, pos, pow-suc, zero, suc, lit<}
+--     factor-loose                    with a bound that is the same for each family
+--     own-stands                      the list in the family itself
+--     factorial-below                 a bound for the factorials
+use Rattle.std.proofs.Common.{◌≡◌, ℕ, ◌-◌, ◌*◌, ◌<◌, ◌≤◌, ◌^◌, [], ◌∷◌, arith, pos, pow-suc, zero, suc, lit<}
 use Rattle.sym_model.specs.Polynomial.{Poly, Same}
 use Rattle.sym_model.specs.Weight.{factorial}
 use Rattle.sym_model.specs.WholeTerms.{WholeTerms}
@@ -10,12 +10,12 @@ use Rattle.sym_model.proofs.Numbers.{power-positive, times-more}
 use Rattle.monomial_laws.proofs.Growths.{factorial-mono}
 use Rattle.basis_change_laws.specs.JoinedLists.{Stands}
 use Rattle.basis_change_laws.proofs.JoinedLists.{stands-weaken}
-use Rattle.whole_lists.specs.Tables.{IsWholeTable}
-use Rattle.whole_lists.specs.declared.family.Family.{Family}
-use Rattle.whole_lists.specs.declared.family.Family.TheVariants.{Elementary, Complete, PowerSum}
-use Rattle.whole_lists.specs.Families.{polynomial_of}
-use Rattle.whole_lists.proofs.Families.{In-family}
-use Rattle.family_lists.specs.FactorLists.{AreFactors, IsFactor, list_at, most_in, over_number}
+use Rattle.sparse_polys.specs.Tables.{IsWholeTable}
+use Rattle.sparse_polys.specs.declared.family.Family.{Family}
+use Rattle.sparse_polys.specs.declared.family.Family.TheVariants.{Elementary, Complete, PowerSum}
+use Rattle.sparse_polys.specs.Families.{polynomial_of}
+use Rattle.sparse_polys.proofs.Families.{In-family}
+use Rattle.family_lists.specs.FactorLists.{IsFactor, most_in, over_number}
 use Rattle.family_lists.proofs.PartLists.{stands-number}
 
 pub factorial-below : (n d : ℕ) → n ≡ factorial d → d ≤ 20 → n < 2 ^ 127
@@ -36,13 +36,6 @@ pub factor-loose : (P : ℕ → ℕ → Poly) (family : Family) (k : ℕ) (terms
 factor-loose P family k terms h =
     stands-weaken P (over_number family k) (most_in family k) (over_number family k * 2 ^ k) k k
     (λ n. polynomial_of family k n) terms h (loose family k) (omega arith)
-
--- those up to a number
-pub factors-loose : (target family : Family) (d : ℕ) (lists : List WholeTerms)
-    → ((k : ℕ) → 0 < k → k < d → IsFactor (polynomial_of target) family k (list_at lists k))
-    → AreFactors (polynomial_of target) family d lists
-factors-loose target family d lists are k some low =
-    factor-loose (polynomial_of target) family k (list_at lists k) (are k some low)
 
 own-few : (family : Family) (k : ℕ) → 0 < k → over_number family k ≤ most_in family k
 own-few Elementary k h = times-more (factorial k) (2 ^ k) (power-positive 2 k (omega arith))

@@ -1,7 +1,7 @@
 -- Two partitions merged from their first parts on.
---     merged-right, merged-left      the greatest part of both goes first
---     merged-end                     where one of them has ended
---     written                        and the rest of both is written
+--     merged-right, merged-left      the greatest part of both is next
+--     merged-end                     one of them has ended
+--     written                        the rest of both is appended
 use Rattle.std.proofs.Common.{◌≡◌, ◌⊎◌, ℕ, zero, suc, ◌+◌, ◌<◌, ◌≤◌, List, [], ◌∷◌, ◌++◌, length, get_or, take, drop, refl, sym, ap, ◌∙◌, subst, inl, inr, arith, ◌-◌, ap₂, append-nil, append_assoc}
 use Rattle.std.proofs.Math.ListN.{drop_of_length-le}
 use Rattle.std.proofs.lemmas.List.{take_all, length-drop}
@@ -11,7 +11,7 @@ use Rattle.sym_model.proofs.SortedParts.{insert_part_above, insert_part_below, F
 use Rattle.basis_change_laws.specs.JoinedLists.{merged}
 use Rattle.family_lists.proofs.PartLists.{columns-tail}
 
--- a part goes after one that is no smaller
+-- a part may be inserted after one that is at least as great
 insert-behind : (c b : ℕ) (parts : List ℕ) → 0 < c → c ≤ b → get_or parts 0 0 ≤ b → insert_part c (b ∷ parts) ≡ b ∷ insert_part c parts
 insert-behind zero b parts p h f = absurd (omega arith)
 insert-behind (suc a) b parts p h f = by (cases_lt (suc a) b)
@@ -39,7 +39,7 @@ falls-past : (b c : ℕ) (more : List ℕ) → c ≤ b → Falls (c ∷ more) �
 falls-past b c [] h f = tt
 falls-past b c (d ∷ more) h f = (let g = f.0 in omega arith, f.1)
 
--- a part that is no smaller than the others stays in front
+-- a part that is at least as great as the others stays in front
 merged-front : (more : List ℕ) (b : ℕ) (parts : List ℕ) → ArePositive more → Falls (b ∷ more) → get_or parts 0 0 ≤ b → merged more (b ∷ parts) ≡ b ∷ merged more parts
 merged-front [] b parts p f g = refl
 merged-front (c ∷ more) b parts p f g =
@@ -56,7 +56,7 @@ merged-nothing (c ∷ more) p f =
     insert-nothing zero more h = absurd (omega arith)
     insert-nothing (suc c) more h = refl
 
--- ---- by places
+-- ---- sorted lists and their merge from a place on
 
 pub positive-drop : (i : ℕ) (xs : List ℕ) → ArePositive xs → ArePositive (drop i xs)
 positive-drop zero xs p = p
@@ -76,7 +76,7 @@ drop-first (suc i) j (x ∷ xs) e h =
     drop-first i (i + 1) xs refl (omega arith) ∙ ap (λ k. get_or xs i 0 ∷ drop k (x ∷ xs)) k
 
 module _ (all more parts : List ℕ) (i j : ℕ) (p : IsPartition more) (q : IsPartition parts) (done : List ℕ) (so_far : done ++ merged (drop i more) (drop j parts) ≡ all) where
-  -- the next part of the second is greater
+  -- if the next part of `parts` is greater than that of `more`, it is the next part of the merged list
   pub merged-right : i < length more → j < length parts → get_or more i 0 < get_or parts j 0 → (done ++ get_or parts j 0 ∷ []) ++ merged (drop i more) (drop (j + 1) parts) ≡ all
   merged-right h k l =
       let x = drop-first i (i + 1) more refl h in
@@ -91,7 +91,7 @@ module _ (all more parts : List ℕ) (i j : ℕ) (p : IsPartition more) (q : IsP
       (subst (λ (ps : List ℕ). Falls (get_or parts j 0 ∷ ps)) (sym x) (omega arith, f)) (columns-tail (get_or parts j 0) (drop (j + 1) parts) (record { falls = g; positive = t }))))
       ∙ so_far
 
-  -- it is not
+  -- if the next part of `parts` is not greater than that of `more`, the latter is the next part of the merged list
   pub merged-left : i < length more → j < length parts → get_or parts j 0 ≤ get_or more i 0 → (done ++ get_or more i 0 ∷ []) ++ merged (drop (i + 1) more) (drop j parts) ≡ all
   merged-left h k l =
       let x = drop-first i (i + 1) more refl h in
@@ -110,7 +110,7 @@ module _ (all more parts : List ℕ) (i j : ℕ) (p : IsPartition more) (q : IsP
       in_front_of (suc k) [] o g = refl
       in_front_of (suc k) (d ∷ ps) o g = insert_part_above k d ps g
 
-  -- one of them has ended
+  -- if no part of `more`, or none of `parts`, is left, the rest of both is the rest of the merged list
   pub merged-end : (length more ≤ i) ⊎ (length parts ≤ j) → (done ++ drop i more) ++ drop j parts ≡ all
   merged-end (inl h) =
       let x = drop_of_length-le more h in
@@ -121,7 +121,7 @@ module _ (all more parts : List ℕ) (i j : ℕ) (p : IsPartition more) (q : IsP
       ap (λ l. (done ++ drop i more) ++ l) y ∙ append-nil (done ++ drop i more)
       ∙ ap (λ l. done ++ l) (sym (ap (merged (drop i more)) y ∙ merged-nothing (drop i more) (positive-drop i more p.positive) (falls-drop i more p.falls))) ∙ so_far
 
--- what is written at the end
+-- if the rest of `more` and then that of `parts` is appended at the end, the buffer is the merged list
 pub written : (new start mid more parts all : List ℕ) (i j : ℕ) → mid ≡ start ++ take (length more - i) (drop i more)
     → new ≡ mid ++ take (length parts - j) (drop j parts) → (start ++ drop i more) ++ drop j parts ≡ all → new ≡ all
 written new start mid more parts all i j e f g = f ∙ ap₂ (λ (a b : List ℕ). a ++ b) (e ∙ ap (λ l. start ++ l) (whole more i)) (whole parts j) ∙ g

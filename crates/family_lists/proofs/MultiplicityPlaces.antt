@@ -6,7 +6,7 @@ use Rattle.basis_change_laws.proofs.AugmentedMonomials.{multiplicity_factorials-
 use Rattle.family_list_laws.proofs.PartQuotients.{multiplicities-positive}
 use native.Mathlib.Nat.{mul-le-mul_left}
 
--- one place more: its number, times the factorials so far
+-- the part at a place multiplies the product by the number of its occurrences from there on
 pub multiplicity-next : (product times whole : ℕ) (parts : List ℕ) (at : ℕ) → at < length parts
     → product * multiplicity_factorials (drop at parts) ≡ whole
     → times ≡ times_in (get_or parts at 0) (drop at parts)

@@ -1,15 +1,15 @@
 -- Partitions in a family, factor by factor.
-use Rattle.std.proofs.Common.{◌≡◌, ℕ, ◌+◌, ◌*◌, ◌^◌, ◌<◌, ◌≤◌, List, [], ◌∷◌, ap, arith, ℤ, pos, ◌*ℤ◌}
+use Rattle.std.proofs.Common.{◌≡◌, ℕ, ◌+◌, ◌*◌, ◌^◌, ◌<◌, ◌≤◌, List, [], ◌∷◌, sym, ap, subst, inl, inr, arith, ℤ, pos, ◌*ℤ◌}
 use Rattle.std.specs.Prelude.{nat_abs}
 use Rattle.sym_model.specs.Polynomial.{Poly, Same, In, one, pair, scale, times}
 use Rattle.sym_model.specs.Partition.{IsPartition, columns, size}
 use Rattle.sym_model.specs.Bases.{product_over}
 use Rattle.sym_model.specs.Weight.{factorial}
 use Rattle.sym_model.specs.WholeTerms.{WholeTerms, absolute_total}
-use Rattle.linear_combinations.specs.Gains.{Gains, Overflows}
+use Rattle.linear_combinations.specs.Gains.{HaveLabels, Gains, Overflows}
 use Rattle.linear_combinations.proofs.Found.{gains_same}
-use Rattle.whole_lists.specs.Tables.{equal, IsWholeTable}
-use Rattle.basis_change_laws.specs.JoinedLists.{joined, Stands}
+use Rattle.sparse_polys.specs.Tables.{equal, IsWholeTable}
+use Rattle.basis_change_laws.specs.JoinedLists.{joined, IsLow, Stands}
 use Rattle.sym_model.proofs.PolynomialLaws.{times-one}
 use Rattle.basis_change_laws.proofs.JoinedLists.{stands-product, stands-same, stands-weaken}
 use Rattle.basis_change_laws.proofs.GrowthBounds.{grown, grown-joined}
@@ -18,13 +18,18 @@ use Rattle.family_lists.proofs.TableLists.{table-stands}
 use native.Mathlib.Nat.{mul-le-mul_left, mul-le-mul_right}
 use lib.IntN.{+ℤ_idr}
 
+-- if P holds of a label, it holds of each label of a list with only that label
+pub one_label : (P : List ℕ → Type 0) (label : List ℕ) (c : ℤ) → P label → HaveLabels P ((label, c) ∷ [])
+one_label P label c here t (inl e) = subst (λ (u : List ℕ × ℤ). P u.0) (sym e) here
+one_label P label c here t (inr m) = absurd m
+
 pub parts-none : (P F : ℕ → ℕ → Poly) (terms : WholeTerms) → IsWholeTable terms → Same terms (([], pos 1) ∷ []) → Stands P 1 1 0 (product_over F []) terms
 parts-none P F terms is h =
     table-stands terms (([], pos 1) ∷ []) is h P 1 1 0 (product_over F [])
     (record {
       value = λ n φ. +ℤ_idr (pos 1 *ℤ pair (one n) φ);
       few = omega arith;
-      labels = (record { partition = record { falls = tt; positive = tt }; low = omega arith }, tt);
+      labels = one_label (IsLow 0) [] (pos 1) (record { partition = record { falls = tt; positive = tt }; low = omega arith });
     })
 
 -- no part is greater than the first one
@@ -57,7 +62,7 @@ parts-large P F k c o rest W V z zi e w v large =
     grouped : (x y z : ℕ) → x * y * z ≡ x * (y * z)
     grouped x y z = omega arith
 
--- a partition in the target
+-- a list with the one label `parts` and the coefficient q is q times the product over the parts
 pub stands-itself : (P : ℕ → ℕ → Poly) (parts : List ℕ) (q A : ℕ) (terms : WholeTerms) → IsPartition parts → q ≤ A → IsWholeTable terms → Same terms ((parts, pos q) ∷ [])
     → Stands P q A (size parts) (product_over P parts) terms
 stands-itself P parts q A terms p few is h =
@@ -65,10 +70,10 @@ stands-itself P parts q A terms p few is h =
     (record {
       value = λ n φ. +ℤ_idr (pos q *ℤ pair (product_over P parts n) φ);
       few = omega arith;
-      labels = (record { partition = p; low = omega arith }, tt);
+      labels = one_label (IsLow (size parts)) parts (pos q) (record { partition = p; low = omega arith });
     })
 
--- the polynomial of one number
+-- a list with the one label (k) and the coefficient q is q times the polynomial of k
 pub stands-number : (P : ℕ → ℕ → Poly) → ((n k : ℕ) → In n (P k n)) → (k q A : ℕ) (terms : WholeTerms)
     → 0 < k → q ≤ A → IsWholeTable terms → Same terms ((k ∷ [], pos q) ∷ [])
     → Stands P q A k (λ n. P k n) terms

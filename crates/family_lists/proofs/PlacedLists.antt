@@ -1,5 +1,5 @@
--- Lists of lists, each at its place.
---     placed-push      one more keeps what is known of each
+-- Lists of lists, each at its index.
+--     placed-push      one more list keeps the properties of each
 use Rattle.std.proofs.Common.{◌≡◌, ◌⊎◌, ℕ, zero, suc, ◌+◌, ◌<◌, ◌≤◌, List, [], ◌∷◌, ◌++◌, length, get_or, refl, sym, ap, ◌∙◌, subst, inl, inr, arith}
 use Rattle.std.proofs.lemmas.Bool.{cases_lt}
 use Rattle.sym_model.specs.WholeTerms.{WholeTerms}

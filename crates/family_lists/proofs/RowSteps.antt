@@ -1,4 +1,4 @@
--- Products of lists label by label, and where they are refused.
+-- Products of lists label by label, and their refusals.
 use Rattle.std.proofs.Common.{◌≡◌, ℕ, zero, suc, ◌+◌, ◌*◌, ◌^◌, ◌≤◌, cond, List, [], ◌∷◌, ◌++◌, length, sym, ◌∙◌, ap, ap₂, refl, inl, arith, ℤ, pos, negsuc, ◌*ℤ◌}
 use Rattle.std.specs.Prelude.{nat_abs}
 use Rattle.std.proofs.lemmas.Int.{unsigned_abs-mul}
@@ -11,8 +11,8 @@ use Rattle.sym_model.proofs.SortedParts.{rows_within_size}
 use Rattle.partitions.specs.Limits.{IsWithinLimits}
 use Rattle.linear_combinations.specs.Gains.{Overflows, scaled, replaced}
 use Rattle.linear_combinations.proofs.Masses.{overflow_mass}
-use Rattle.whole_lists.specs.Tables.{equal, IsWholeTable}
-use Rattle.whole_lists.proofs.WholeLists.{equal_from, not_zero}
+use Rattle.sparse_polys.specs.Tables.{equal, IsWholeTable}
+use Rattle.sparse_polys.proofs.WholeLists.{equal_from, not_zero}
 use Rattle.basis_change_laws.specs.JoinedLists.{merged, row, joined}
 use Rattle.basis_change_laws.proofs.MergedParts.{IsPartition-merged, size-merged}
 use Rattle.basis_change_laws.proofs.JoinedLists.{absolute-scale, absolute-joined}
@@ -25,7 +25,7 @@ limits-merged left right p q h =
     let s = size-merged left right in
     record { partition = m; few = omega arith; small = omega arith }
 
--- ---- what is gained
+-- ---- the terms that a table gains by a product
 
 scaled-row : (k : List ℕ) (x c : ℤ) (V : WholeTerms) → scaled x (row k c V) ≡ row k (c *ℤ x) V
 scaled-row k x c [] = refl
@@ -35,14 +35,14 @@ scaled-row k x c (t ∷ V) =
 pub row-gained : (k : List ℕ) (x c : ℤ) (V : WholeTerms) → row k (x *ℤ c) V ≡ scaled x (row k c V)
 row-gained k x c V = ap (λ z. row k z V) (*ℤ_comm x c) ∙ sym (scaled-row k x c V)
 
--- row by row, the product
+-- the product is the sum of its rows
 pub products-gained : (c : ℤ) (W V : WholeTerms) → replaced (λ k. row k c V) W ≡ joined (scale c W) V
 products-gained c [] V = refl
 products-gained c (t ∷ W) V = ap₂ (λ (a b : WholeTerms). a ++ b) (scaled-row t.0 t.1 c V) (products-gained c W V)
 
--- ---- refusals
+-- ---- a product is refused only if it overflows
 
--- a row with a factor that is too large
+-- adding a row whose factor x·c is at least 2^127 in absolute value overflows
 pub large-row : (old : WholeTerms) (k : List ℕ) (x c : ℤ) (V : WholeTerms) → IsWholeTable V → (length V ≡ 0 → ⊥) → 2 ^ 127 ≤ nat_abs (x *ℤ c) → Overflows equal old (scaled x (row k c V))
 large-row old k x c [] is some h = absurd (some refl)
 large-row old k x c (t ∷ V) is some h =

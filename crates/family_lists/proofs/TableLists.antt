@@ -1,7 +1,7 @@
--- What a table says that holds the same as a list.
---     table-few        its absolute values add up to no more
---     table-stands     it stands for the same
---     stands-greatest  how large the labels are
+-- Properties of a list that hold for a table with the same coefficients.
+--     table-few        its absolute values add up to at most the same
+--     table-stands     it has the same polynomial
+--     stands-greatest  the sizes of its labels
 use Rattle.std.proofs.Common.{ℕ, ◌≤◌, [], sym, ◌∙◌, arith}
 use Rattle.std.specs.Cmp.Lexicographic.{nat_list_eq_equiv}
 use Rattle.sym_model.specs.Polynomial.{Poly, Same, pair}
@@ -12,12 +12,11 @@ use Rattle.linear_combinations.specs.Gains.{over}
 use Rattle.linear_combinations.specs.Labels.{same_partition}
 use Rattle.linear_combinations.proofs.Found.{sums_same}
 use Rattle.sparse_polys.specs.MonomialProducts.{greatest_size}
-use Rattle.whole_lists.specs.LabelSizes.{AreWithin}
-use Rattle.whole_lists.specs.Tables.{IsWholeTable}
-use Rattle.whole_lists.proofs.Bounds.{greatest-within}
-use Rattle.whole_lists.proofs.WholeLists.{labels-same}
+use Rattle.sparse_polys.specs.LabelSizes.{AreWithin}
+use Rattle.sparse_polys.specs.Tables.{IsWholeTable}
+use Rattle.sparse_polys.proofs.Bounds.{greatest-within}
+use Rattle.sparse_polys.proofs.WholeLists.{labels-same}
 use Rattle.basis_change_laws.specs.JoinedLists.{IsLow, Stands}
-use Rattle.basis_change_laws.proofs.JoinedLists.{each-label, label-among}
 use Rattle.linear_combinations.proofs.Weighed.{gains_mass}
 use lib.IntN.{+ℤ_idl}
 
@@ -33,13 +32,13 @@ module _ (terms W : WholeTerms) (is : IsWholeTable terms) (e : Same terms W) whe
   table-stands P q A d f h = record {
     value = λ n φ. pair_determined terms W (λ l. pair (product_over P l n) φ) e ∙ h.value n φ;
     few = let x = table-few in let y = h.few in omega arith;
-    labels = each-label (IsLow d) terms (labels-same (IsLow d) terms W is e (label-among (IsLow d) W h.labels));
+    labels = labels-same (IsLow d) terms W is e h.labels;
   }
 
--- ---- how large the labels are
+-- ---- the labels of a list have at most d cells
 
 pub stands-within : (P : ℕ → ℕ → Poly) (q A d : ℕ) (f : ℕ → Poly) (terms : WholeTerms) → Stands P q A d f terms → AreWithin d terms
-stands-within P q A d f terms h t m = (label-among (IsLow d) terms h.labels t m).low
+stands-within P q A d f terms h t m = (h.labels t m).low
 
 pub stands-greatest : (P : ℕ → ℕ → Poly) (q A d : ℕ) (f : ℕ → Poly) (terms : WholeTerms) → Stands P q A d f terms → greatest_size terms ≤ d
 stands-greatest P q A d f terms h = greatest-within d terms (stands-within P q A d f terms h)

@@ -1,6 +1,6 @@
--- The absolute values of the coefficients of a list, added up.
---     labels_few           those at different labels are no more than all terms
---     coefficient-few      nor is a single one
+-- Sums of the absolute values of the coefficients of a list.
+--     labels_few           those at different labels add up to at most that of all terms
+--     coefficient-few      a single coefficient is at most that
 use Rattle.std.proofs.Common.{◌≡◌, ◌⊎◌, ℕ, ◌+◌, ◌/◌, ◌≤◌, Bool, true, false, cond, List, [], ◌∷◌, map, ap, ap₂, subst, refl, inl, inr, arith, ℤ, pos, ◌+ℤ◌}
 use Rattle.std.specs.Prelude.{nat_abs}
 use Rattle.std.proofs.lemmas.Int.{ints, unsigned_abs-mul}
@@ -47,7 +47,7 @@ labels_more label z W (l ∷ ls) = let r = labels_more label z W ls in let s = o
     one true c = omega (arith, ints)
     one false c = omega (arith, ints)
 
--- the coefficients at different labels are no more than the terms
+-- the absolute values of the coefficients at different labels add up to at most those of all terms
 pub labels_few : (W : WholeTerms) (ls : List (List ℕ)) → Once ls → size (map (λ (l : List ℕ). nat_abs (coefficient W l)) ls) ≤ absolute_total W
 labels_few [] ls o = omega (arith, labels_zero ls)
 labels_few (t ∷ W) ls o =
@@ -56,12 +56,12 @@ labels_few (t ∷ W) ls o =
     let m = labels_more t.0 t.1 W ls in
     omega arith
 
--- times a number that clears it
+-- the absolute values of `over m terms` add up to the absolute sum of the terms over m
 pub absolute-over : (m : ℕ) (terms : Terms (List ℕ)) → absolute_total (over m terms) ≡ absolute_sum m terms
 absolute-over m [] = refl
 absolute-over m (t ∷ terms) = ap₂ ◌+◌ (unsigned_abs-mul t.1.0 (pos (m / t.1.1))) (absolute-over m terms)
 
--- no coefficient is greater than all together
+-- the absolute value of a coefficient is at most the sum of the absolute values of all terms
 pub coefficient-few : (W : WholeTerms) (ν : List ℕ) → nat_abs (coefficient W ν) ≤ absolute_total W
 coefficient-few [] ν = omega arith
 coefficient-few (t ∷ W) ν = let r = coefficient-few W ν in let s = one (same t.0 ν) (coefficient W ν) in omega arith

@@ -1,12 +1,12 @@
--- The closed coefficients of one part of a family in another one (Macdonald, I.2): those of p_k in
--- e and in h, and of e_k and h_k, times k!, in p and in one another.
+-- The closed coefficients of a polynomial of one part in another family (Macdonald, I.2): those of p_k in e and in h,
+-- and of e_k and h_k, times k!, in p and in one another.
 use Rattle.std.specs.Prelude.{ℕ, ◌-◌, ◌*◌, ℤ, pos, ◌*ℤ◌, List, length}
 use Rattle.sym_model.specs.Partition.{size}
 use Rattle.sym_model.specs.PlaceOrders.{minus_one_to}
 use Rattle.sym_model.specs.Weight.{factorial}
 use Rattle.family_list_laws.specs.OnePartLists.{orders_of_parts, sized_orders, cycle_type_count}
-use Rattle.whole_lists.specs.declared.family.Family.{Family}
-use Rattle.whole_lists.specs.declared.family.Family.TheVariants.{Complete, PowerSum}
+use Rattle.sparse_polys.specs.declared.family.Family.{Family}
+use Rattle.sparse_polys.specs.declared.family.Family.TheVariants.{Complete, PowerSum}
 
 -- the power of -1 in the coefficient of a partition of k with l parts, by the target and the
 -- family: l - 1 of p_k in h, none of h_k in p, and k - l of the others
@@ -15,14 +15,14 @@ sign_exponent Complete PowerSum μ = length μ - 1
 sign_exponent PowerSum Complete μ = 0
 sign_exponent target family μ = size μ - length μ
 
--- the absolute value of the coefficient
+-- the absolute value of the coefficient of the target's label μ in the polynomial of one part of the family
 abbrev pub absolute : Family → Family → List ℕ → ℕ
 absolute PowerSum family μ = cycle_type_count μ
 absolute target PowerSum μ = sized_orders μ
 absolute target family μ = factorial (size μ) * orders_of_parts μ
 
--- the coefficient of the target's label μ in k!·e_k, k!·h_k or p_k, by the family, where k is the
--- size of μ and the target is not the family
+-- the coefficient of the target's label μ of size k in p_k, or in k!·e_k or k!·h_k, by the family, for a target other
+-- than the family
 abbrev pub closed_coefficient : Family → Family → List ℕ → ℤ
 closed_coefficient target family μ =
     minus_one_to (sign_exponent target family μ) *ℤ pos (absolute target family μ)

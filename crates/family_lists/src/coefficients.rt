@@ -1,5 +1,5 @@
-//! The closed coefficients of one part of a family in another one, over the partitions of its size
-//! (Macdonald, I.2).
+//! The closed coefficients of a polynomial of one part in another family, over the partitions of
+//! its size (Macdonald, I.2).
 ghost use Rattle.std.specs.Prelude.{◌≡◌, ◌*◌, ◌<◌, ◌≤◌, ◌^◌, ◌*ℤ◌, pos, negsuc, cond};
 ghost use Rattle.sym_model.specs.Partition.{size};
 ghost use Rattle.sym_model.specs.PlaceOrders.{minus_one_to};
@@ -10,10 +10,9 @@ ghost use Rattle.family_lists.specs.ClosedCoefficients.{sign_exponent, absolute}
 ghost use Rattle.family_lists.specs.ClosedCoefficients.{closed_coefficient};
 
 use crate::multiplicities::{centralizer, multiplicity_factorials};
-use coeff_rings::Int;
+use coeff_rings::{Int, factorial};
 use partitions::Partition;
-use whole_lists::Family;
-use whole_numbers::factorial;
+use sparse_polys::Family;
 
 /// The number, or its negative.
 fn with_sign(is_negative: bool, number: u128) -> Int
@@ -28,7 +27,7 @@ fn with_sign(is_negative: bool, number: u128) -> Int
     }
 }
 
-/// The number times the power of -1.
+/// The number times (-1)^`exponent`.
 pub fn signed(exponent: u16, number: u128) -> Int
     requires { number < 2 ^ 127 }
     ensures { result ≡ minus_one_to exponent *ℤ pos number }
@@ -36,7 +35,7 @@ pub fn signed(exponent: u16, number: u128) -> Int
     with_sign(exponent % 2 == 1, number)
 }
 
-/// The power of -1 in the coefficient of a partition.
+/// The exponent of -1 in the coefficient of a partition.
 fn exponent(target: Family, family: Family, label: &Partition) -> u16
     requires { 0 < size label.now }
     ensures { result ≡ sign_exponent target family label.now }
@@ -57,7 +56,7 @@ fn exponent(target: Family, family: Family, label: &Partition) -> u16
     }
 }
 
-/// k! times the number of orders of the parts of a partition of k.
+/// k! times the number of distinct orders of the parts of a partition of k.
 fn scaled_orders(label: &Partition) -> u128
     requires { size label.now ≤ 20 }
     ensures number { result ≡ factorial (size label.now) * orders_of_parts label.now }
@@ -78,8 +77,7 @@ fn sized_orders(label: &Partition) -> u128
     u128::from(label.size()) * orders / multiplicity_factorials(label.parts())
 }
 
-/// How many permutations of 1, .., k have the parts of a partition of k as the lengths of their
-/// cycles.
+/// The number of permutations of 1, .., k whose cycle lengths are the parts of a partition of k.
 fn cycle_type_count(label: &Partition) -> u128
     requires { size label.now ≤ 20 }
     ensures number { result ≡ cycle_type_count label.now }
@@ -88,7 +86,7 @@ fn cycle_type_count(label: &Partition) -> u128
     factorial(label.size()) / centralizer(label.parts())
 }
 
-/// The absolute value of the coefficient of a partition in e and in h.
+/// The absolute value of the coefficient of a partition for the targets e and h.
 fn outside_p(family: Family, label: &Partition) -> u128
     requires some { 0 < size label.now }
     requires low { size label.now ≤ 20 }

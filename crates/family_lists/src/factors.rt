@@ -1,19 +1,19 @@
 //! The polynomials of one part of e, h and p as lists in e, h and p: p_k, and e_k and h_k times k!.
-ghost use Rattle.std.specs.Prelude.{◌≡◌, ◌≢◌, ℕ, ◌+◌, ◌<◌, ◌≤◌, pos, [], vec_len, IfOk, IsErrOf};
-ghost use Rattle.whole_lists.specs.Families.{polynomial_of};
+ghost use Rattle.std.specs.Prelude.{◌≡◌, ◌≢◌, ◌+◌, ◌<◌, ◌≤◌, pos, [], vec_len, IfOk, IsErrOf};
+ghost use Rattle.sparse_polys.specs.Families.{polynomial_of};
 ghost use Rattle.family_lists.specs.FactorLists.{AreFactors, ArePowers, IsFactor};
-ghost use Rattle.family_lists.specs.FactorLists.{list_at, over_number};
+ghost use Rattle.family_lists.specs.FactorLists.{over_number};
 
 use crate::coefficients::{coefficient, signed};
 use calc_base::{Lister, SumFault};
-use coeff_rings::{Int, Scalar};
+use coeff_rings::{Int, Scalar, factorial};
 use linear_combinations::Lin;
 use partitions::{Partition, PartitionsOf};
+use sparse_polys::{Family, Whole, single};
 use std::alloc::Global;
-use whole_lists::{Family, Whole, single};
-use whole_numbers::factorial;
 
-/// The number that the list of the polynomial of k is over.
+/// The factor by which the list of the polynomial of k is multiplied: k! for e_k and h_k, 1 for
+/// p_k.
 fn over(family: Family, k: u16) -> Int
     requires { k ≤ 20 }
     ensures { result ≡ pos (over_number family k) }
@@ -25,7 +25,7 @@ fn over(family: Family, k: u16) -> Int
     }
 }
 
-/// The polynomial of k of a family in the family itself.
+/// The polynomial of k of a family as a list in the family itself.
 fn own_list(alloc: Global, family: Family, k: u16) -> Result<Whole, SumFault>
     requires { (0 < k) × (k ≤ 20) }
     ensures value { IfOk result (IsFactor (polynomial_of family) family k) }
@@ -34,7 +34,8 @@ fn own_list(alloc: Global, family: Family, k: u16) -> Result<Whole, SumFault>
     single(alloc, &[k], over(family, k).get())
 }
 
-/// The polynomial of k of a family in another one, by closed coefficients of the partitions of k.
+/// The polynomial of k of a family as a list in another one, by closed coefficients of the
+/// partitions of k.
 fn closed_list(alloc: Global, target: Family, family: Family, k: u16) -> Result<Whole, SumFault>
     requires other { target ≢ family }
     requires low { (0 < k) × (k ≤ 20) }
@@ -52,7 +53,7 @@ fn closed_list(alloc: Global, target: Family, family: Family, k: u16) -> Result<
 }
 
 /// The polynomial of k of a family as a list in the target: p_k, or e_k or h_k times k!; the empty
-/// list for k = 0. It is never refused as `Large`.
+/// list for k = 0. It never returns `Large`.
 ///
 /// Example: 2!·h_2 in p is p_1^2 + p_2.
 pub fn factor_list(alloc: Global, target: Family, family: Family, k: u16) -> Result<Whole, SumFault>
@@ -70,7 +71,7 @@ pub fn factor_list(alloc: Global, target: Family, family: Family, k: u16) -> Res
     closed_list(alloc, target, family, k)
 }
 
-/// The lists of 1, .., d, each at its place.
+/// The lists of 1, .., d, each at its index; the list at index 0 is empty.
 fn lists_up_to(
     alloc: Global,
     target: Family,
@@ -79,8 +80,8 @@ fn lists_up_to(
 ) -> Result<Vec<Whole>, SumFault>
     requires { d ≤ 20 }
     ensures length { IfOk result (λ lists. vec_len lists ≡ d + 1) }
-    ensures ok { IfOk result (λ lists. (k : ℕ) → 0 < k → k < d + 1
-        → IsFactor (polynomial_of target) family k (list_at lists.items k)) }
+    ensures ok { IfOk result (λ lists.
+        AreFactors (polynomial_of target) family (d + 1) lists.items) }
     ensures small { ¬ IsErrOf result SumFault.Large }
 {
     let mut lists = Vec::with_capacity(alloc, usize::from(d) + 1)?;
@@ -91,8 +92,7 @@ fn lists_up_to(
     Ok(lists)
 }
 
-/// p_1, .., p_d in the target, each at its place,
-/// for d of at most 20. It is never refused as `Large`.
+/// p_1, .., p_d in the target, each at its index, for d of at most 20. It never returns `Large`.
 pub fn power_sums(alloc: Global, target: Family, d: u16) -> Result<Vec<Whole>, SumFault>
     requires { d ≤ 20 }
     ensures length { IfOk result (λ lists. vec_len lists ≡ d + 1) }
@@ -102,8 +102,8 @@ pub fn power_sums(alloc: Global, target: Family, d: u16) -> Result<Vec<Whole>, S
     lists_up_to(alloc, target, Family::PowerSum, d)
 }
 
-/// The polynomials of one part of a family, up to d, each at its place as a list in the target:
-/// p_k, and e_k and h_k times k!.
+/// The polynomials of one part of a family up to d, each at its index as a list in the target: p_k,
+/// or e_k or h_k times k!, for d of at most 20.
 pub fn factor_lists(
     alloc: Global,
     target: Family,

@@ -1,4 +1,4 @@
-//! Lists that are made once: each is kept under a partition.
+//! Lists that are computed once: each is kept under a partition.
 ghost use Rattle.std.specs.Prelude.{◌≡◌, ◌<◌, ℕ, [], ◌∷◌, ◌++◌, length, slice_get, nat_eq, Some};
 ghost use Rattle.std.specs.Prelude.{None, IfOk, IfSome, IfNone, OnOk, OnErr};
 ghost use Rattle.std.specs.Cmp.Lexicographic.{pointwise};
@@ -12,7 +12,7 @@ use std::alloc::AllocError;
 /// Partitions, each with a list.
 pub type Lists<V> = IndexMap<Partition, V>;
 
-/// The place of a partition's list; none exactly where it has none.
+/// The index of a partition's list; None if and only if it has none.
 pub fn place_of<V>(lists: &Lists<V>, label: &Partition) -> Option<usize>
     ensures place { IfSome result (StandsAt lists.now.entries label.now) }
     ensures none { IfNone result ((at : ℕ) → ¬ StandsAt lists.now.entries label.now at) }
@@ -20,7 +20,7 @@ pub fn place_of<V>(lists: &Lists<V>, label: &Partition) -> Option<usize>
     lists.get_index_of(label)
 }
 
-/// The partition at a place, and its list.
+/// The partition at an index, and its list.
 pub fn list_at<V>(lists: &Lists<V>, at: usize) -> (&Partition, &V)
     requires { at < length lists.now.entries }
     ensures { slice_get lists.now.entries at ≡ Some (result.0.now, result.1.now) }
@@ -28,7 +28,7 @@ pub fn list_at<V>(lists: &Lists<V>, at: usize) -> (&Partition, &V)
     lists.get_index(at).unwrap()
 }
 
-/// Puts a list after the others.
+/// Appends a list.
 fn put<V: Drop>(lists: &mut Lists<V>, label: Partition, list: V) -> Result<(), AllocError>
     requires { get (pointwise nat_eq) lists.old label ≡ None }
     ensures ok { OnOk result (lists.new.entries ≡ lists.old.entries ++ (label, list) ∷ []) }
@@ -38,8 +38,8 @@ fn put<V: Drop>(lists: &mut Lists<V>, label: Partition, list: V) -> Result<(), A
     Ok(())
 }
 
-/// Keeps a list under a partition that has none yet, and gives its place; one that is there stays.
-/// After a refusal the lists are as they were.
+/// Keeps a list under a partition, unless the partition already has one, and returns its index. On
+/// an error the lists are unchanged.
 pub fn keep<V: Drop>(lists: &mut Lists<V>, label: Partition, list: V) -> Result<usize, AllocError>
     ensures kept { OnOk result (HasKept label list lists.old.entries lists.new.entries) }
     ensures place { IfOk result (StandsAt lists.new.entries label) }

@@ -4,8 +4,8 @@ ghost use Rattle.sym_model.specs.Partition.{IsPartition, size};
 ghost use Rattle.basis_change_laws.specs.AugmentedMonomial.{multiplicity_factorials};
 ghost use Rattle.family_list_laws.specs.OnePartLists.{centralizer, product_of_parts};
 
-/// How often a part is there from its place on, where the part at the next place is there `times`
-/// times.
+/// The number of times that `part` occurs from its place on, if the part at the next place is
+/// `next` and occurs `times` times from there.
 fn times_from(part: u16, next: u16, times: u128) -> u128
     requires { times < 2 ^ 64 }
     ensures same { part ≡ next → result ≡ times + 1 }
@@ -14,8 +14,8 @@ fn times_from(part: u16, next: u16, times: u128) -> u128
     if part == next { times + 1 } else { 1 }
 }
 
-/// The product of the factorials of the multiplicities of the parts: the product over the places of
-/// how often the part is there from the place on.
+/// The product of the factorials of the multiplicities of the parts, as the product over the places
+/// of the number of times that the part occurs from this place on.
 pub(crate) fn multiplicity_factorials(parts: &[u16]) -> u128
     requires partition { IsPartition parts.now }
     requires low { size parts.now ≤ 20 }

@@ -4,17 +4,16 @@ ghost use Rattle.sym_model.specs.Partition.{IsPartition, size};
 ghost use Rattle.sparse_polys.specs.MonomialProducts.{greatest_size};
 ghost use Rattle.basis_change_laws.specs.JoinedLists.{merged, joined, row};
 ghost use Rattle.linear_combinations.specs.Gains.{Gains, Overflows, scaled};
-ghost use Rattle.whole_lists.specs.Tables.{equal, IsWholeTable};
+ghost use Rattle.sparse_polys.specs.Tables.{equal, IsWholeTable};
 
 use calc_base::{NoMemory, SumFault};
-use coeff_rings::Int;
+use coeff_rings::{Int, product_of};
 use linear_combinations::Rule;
 use partitions::Partition;
+use sparse_polys::Whole;
 use std::alloc::Global;
-use whole_lists::Whole;
-use whole_numbers::product_of;
 
-/// Puts the numbers after those in the buffer, with no call where there are none.
+/// Appends the numbers to the buffer; without a call if there are none.
 #[inline(always)]
 fn put_rest(buffer: &mut Vec<u16>, rest: &[u16]) -> Result<(), NoMemory>
     ensures { OnOk result (buffer.new.items ≡ buffer.old.items ++ rest.now) }
@@ -26,8 +25,8 @@ fn put_rest(buffer: &mut Vec<u16>, rest: &[u16]) -> Result<(), NoMemory>
     Ok(())
 }
 
-/// Puts the parts of both partitions into the buffer in falling order, in place of what it holds.
-/// After a refusal the buffer holds some of them.
+/// Replaces the contents of the buffer by the parts of both partitions in decreasing order. On an
+/// error the buffer holds some of them.
 #[inline(always)]
 pub fn put_merged(buffer: &mut Vec<u16>, more: &[u16], parts: &[u16]) -> Result<(), NoMemory>
     requires more { IsPartition more.now }
@@ -51,9 +50,9 @@ pub fn put_merged(buffer: &mut Vec<u16>, more: &[u16], parts: &[u16]) -> Result<
     Ok(())
 }
 
-/// Adds z times the product of a label with a list. The parts of both labels are joined in one
-/// vector, which is used again; there is room in it for a short label from the start. It is refused
-/// as `Large` only where that overflows. After a refusal the table has some of this added.
+/// Adds z times the product of a label and a list. The parts of both labels are joined in one
+/// vector, which is used again for each term and has room for a short label from the start. Returns
+/// `Large` only if this overflows. On an error the table has gained some of this.
 pub fn add_row(
     alloc: Global,
     sum: &mut Whole,
@@ -73,7 +72,7 @@ pub fn add_row(
     Ok(())
 }
 
-/// Adds a coefficient times another at the label that has the parts of both.
+/// Adds the product of two coefficients at the label that has the parts of both labels.
 #[inline(always)]
 fn add_joined(
     alloc: Global,
@@ -97,7 +96,7 @@ fn add_joined(
     )
 }
 
-/// What a label becomes in a product with a list and a number.
+/// The rule that multiplies a label by a list and a number.
 #[derive(Drop)]
 struct TimesList<'a> {
     alloc: Global,
@@ -124,8 +123,8 @@ impl Rule<Partition, Partition> for TimesList<'_> {
     }
 }
 
-/// Adds c times the product of two lists. It is refused as `Large` only where that overflows. After
-/// a refusal the table has some of this added.
+/// Adds c times the product of two lists. Returns `Large` only if this overflows. On an error the
+/// table has gained some of this.
 pub fn add_products(
     alloc: Global,
     sum: &mut Whole,

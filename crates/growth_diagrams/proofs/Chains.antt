@@ -5,7 +5,7 @@ use Rattle.sym_model.specs.Growth.{grown, tableau_of_chain, with_end}
 use Rattle.sym_model.specs.Tableau.{shape_of}
 use Rattle.insertion_laws.proofs.Removals.{grown-within}
 
--- the row that is longer is one of the rows, or the one after them
+-- if the next shape is longer in row i, i is at most the number of rows of the tableau
 pub row_there :
     (rows : List (List ℕ)) (large small : List ℕ) (i count : ℕ) → shape_of rows ≡ small → i ≡ grown large small → count ≡ length rows
     → i ≤ count

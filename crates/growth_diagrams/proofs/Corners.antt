@@ -51,7 +51,7 @@ pointwise-same [] (b ∷ r) = refl
 pointwise-same (a ∷ l) [] = refl
 pointwise-same (a ∷ l) (b ∷ r) = ap (λ t. (a == b) && t) (pointwise-same l r)
 
--- what stands at a place of s grows by 1
+-- an entry of s, plus 1, is at most the size of s with a cell added in its row
 pub cell_fits : (i : ℕ) (s : List ℕ) (v : ℕ) → i < length s → v ≡ get_or s i v → v + 1 ≤ size (with_cell i s)
 cell_fits i [] v l e = absurd (omega arith)
 cell_fits zero (a ∷ s) v l e = omega arith

@@ -11,7 +11,7 @@ use Rattle.insertion_laws.proofs.SlidLetters.{letters-taken}
 use Rattle.insertion_laws.proofs.WordsAndPairs.{inserted_tableau, as_many_cells}
 use Rattle.partitions.specs.Limits.{IsWithinLimits}
 use Rattle.sym_model.specs.Growth.{at_most, growth_shape}
-use Rattle.growth_laws.proofs.GrowthPairs.{growth-shape, perm_from}
+use Rattle.growth_diagrams.proofs.GrowthPairs.{growth-shape, perm_from}
 use Rattle.sym_model.proofs.Sums.{letters_among}
 
 few_at_most : (j : ℕ) (w : List ℕ) → length (at_most j w) ≤ length w

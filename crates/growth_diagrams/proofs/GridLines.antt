@@ -46,7 +46,7 @@ line_all w i k l = take_all k (grid_line w i) (omega (arith, length-line w i))
 pub lines_all : (w : List ℕ) (k : ℕ) → length w < k → take k (grid_lines w) ≡ grid_lines w
 lines_all w k l = take_all k (grid_lines w) (omega (arith, length-lines w))
 
--- the shape after the first k + 1 of a line, by the rule at its corner
+-- the next shape of a line is given by the rule at its corner
 pub corner_next :
     (w : List ℕ) (number k a : ℕ) (lower left right : List ℕ) → 1 ≤ number → number ≤ length w → k < length w → a ≡ letter w number
     → lower ≡ growth_shape w (number - 1) k → left ≡ growth_shape w (number - 1) (k + 1) → right ≡ growth_shape w number k
@@ -61,7 +61,7 @@ corner_next w (suc i) k a lower left right f l m e p q r =
     ∙ ap (at_corner (letter w (suc i) == suc k) (growth_shape w i k) (growth_shape w i (suc k))) r
     ∙ ap (growth_shape w (suc i)) (sym s)
 
--- the shape that stands at a place of a line
+-- the shape at place k of line i is the growth shape at (i, k)
 pub shape_in : (w : List ℕ) (line : List (List ℕ)) (i k here : ℕ) (x : List ℕ) → line ≡ grid_line w i → here ≡ k → k ≤ length w
     → x ≡ get_or line here x → x ≡ growth_shape w i k
 shape_in w line i k here x e f l g = g ∙ ap₂ (λ (m : List (List ℕ)) (n : ℕ). get_or m n x) e f ∙ get-line w i k x l
@@ -86,7 +86,7 @@ pub length_front : (w : List ℕ) (next : List (List ℕ)) (i k : ℕ) → next 
 length_front w next i k e l =
     ap (λ (m : List (List ℕ)). length m) e ∙ length-take-le (k + 1) (grid_line w i) (omega (arith, length-line w i))
 
--- ---- vectors of lines
+-- ---- the grid as a vector of lines
 
 pub line_in :
     (w : List ℕ) (lines : List (Vec (List ℕ) Global)) (i here : ℕ) (x : Vec (List ℕ) Global) → lines_in lines ≡ grid_lines w → here ≡ i

@@ -1,3 +1,7 @@
+pub mod Cells
+pub mod LargestLetter
+pub mod LocalRules
+pub mod GrowthPairs
 pub mod Corners
 pub mod GridLimits
 pub mod GridLines

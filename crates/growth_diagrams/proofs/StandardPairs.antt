@@ -14,8 +14,8 @@ use Rattle.insertion_laws.proofs.TableauRows.{rows_from, standard_from}
 use Rattle.insertion_laws.proofs.WordsAndPairs.{pair_of, from_letters, as_many_cells, one_shape, recorded_tableau}
 use Rattle.insertion_laws.proofs.InsertedWords.{first-tableau, inserted_word}
 use Rattle.sym_model.specs.Growth.{grown, growth_shape, tableau_of_chain, with_end}
-use Rattle.growth_laws.proofs.LocalRules.{below_run, tableau_of}
-use Rattle.growth_laws.proofs.GrowthPairs.{at_most_all, first_of_grid, perm_from, second_of_grid}
+use Rattle.growth_diagrams.proofs.LocalRules.{below_run, tableau_of}
+use Rattle.growth_diagrams.proofs.GrowthPairs.{at_most_all, first_of_grid, perm_from, second_of_grid}
 use Rattle.perm_codes.specs.Limits.{IsWithinLimits}
 use Rattle.sym_model.proofs.Sums.{letters_among}
 
@@ -86,7 +86,7 @@ standard_insertion w h =
 
 -- ---- the tableaux of the last line and of the last column
 
--- what is asked of the rows of a standard tableau
+-- the rows are those of a standard tableau of at most 512 cells
 pub record AreStandardRows (rows : List (List ℕ)) : Type 0 where
   pub standard : IsStandard rows
   pub tableau : AreRows 1 rows

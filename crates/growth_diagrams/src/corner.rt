@@ -8,8 +8,8 @@ use calc_base::NoMemory;
 use partitions::Partition;
 use std::alloc::Global;
 
-/// The shape at a corner, from those at the other three corners of its square. Out of memory is its
-/// only error.
+/// The shape at a corner, from those at the other three corners of its square. Fails only if memory
+/// runs out.
 pub(crate) fn shape_at_corner(
     alloc: Global,
     marked: bool,
@@ -32,15 +32,15 @@ pub(crate) fn shape_at_corner(
     lower.copy()
 }
 
-/// Whether two shapes are the same.
+/// Whether the two shapes are equal.
 fn are_same(left: &Partition, right: &Partition) -> bool
     ensures { result ≡ same left.now right.now }
 {
     left.parts() == right.parts()
 }
 
-/// The first row, counted from 0, in which the first shape is longer;
-/// its number of rows where there is none.
+/// The first row, counted from 0, in which the first shape is longer; if there is none, the number
+/// of its rows.
 pub(crate) fn first_longer(left: &Partition, lower: &Partition) -> u16
     ensures row { result ≡ grown left.now lower.now }
     ensures few { result ≤ 512 }

@@ -65,7 +65,7 @@ impl Grid {
 
     /// The insertion tableau and the recording tableau of the permutation, read from the edges of
     /// its grid: the chains of shapes in the last line and in the last column. Those of the inverse
-    /// permutation are the same two, exchanged. Out of memory is the only error.
+    /// permutation are the same two, exchanged. Fails only if memory runs out.
     #[tactic(auto, using(insertion_laws::proofs::WordsAndPairs::one_shape))]
     pub fn pair_of(&self) -> Result<(Standard, Standard), NoMemory>
         ensures pair { IfOk result (λ pair. (pair.0.rows, pair.1.rows) ≡ insertion_pair self.now) }
@@ -86,7 +86,7 @@ impl Grid {
     }
 }
 
-/// The growth shapes of a permutation. Want of memory is the only error.
+/// The growth shapes of a permutation. Fails only if memory runs out.
 pub fn grow(alloc: Global, w: &Perm) -> Result<Grid, NoMemory>
     ensures { IfOk result (λ grid. grid ≡ w.now) }
 {

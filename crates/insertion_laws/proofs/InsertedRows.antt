@@ -8,7 +8,7 @@ use Rattle.insertion_laws.specs.Rows.{StandsOn, IsRowOver, AreRows, HasOneMore}
 use Rattle.tableau_laws.specs.Rows.{RisesFrom}
 use Rattle.tableau_laws.specs.Grid.{first_line}
 
--- ---- a letter put into a row
+-- ---- a letter inserted into a row
 
 pub with-less : (a b : ℕ) (row : List ℕ) → a < b → row_with a (b ∷ row) ≡ a ∷ row
 with-less a b row h = ap (λ t. cond t (a ∷ row) (b ∷ row_with a row)) (lt-ltb a b h)
@@ -32,7 +32,7 @@ bumped_greater a b (x ∷ row) e = elim (cases_lt a x) [
   | inr h ↦ bumped_greater a b row (sym (bumped-more a x row h) ∙ e)
 ]
 
--- the letter comes to the end of the row where it takes no place
+-- a letter that replaces no other is appended to the row
 pub with-end : (a : ℕ) (row : List ℕ) → bumped a row ≡ None → row_with a row ≡ row ++ a ∷ []
 with-end a [] e = refl
 with-end a (x ∷ row) e = elim (cases_lt a x) [
@@ -54,7 +54,7 @@ filled-with a (x ∷ row) = elim (cases_lt a x) [
   | inr h ↦ omega (arith, ap length (with-more a x row h))
 ]
 
--- ---- rows that rise
+-- ---- inserting a letter keeps a row weakly increasing
 
 pub rises_lower : (c d : ℕ) (row : List ℕ) → c ≤ d → RisesFrom d row → RisesFrom c row
 rises_lower c d [] l h = tt
@@ -67,9 +67,9 @@ rises_with c a (x ∷ row) l h = elim (cases_lt a x) [
   | inr m ↦ subst (RisesFrom c) (sym (with-more a x row m)) (h.0, rises_with x a row m h.1)
 ]
 
--- ---- a row on another
+-- ---- inserting a letter keeps one row on another
 
--- a letter put into the upper row lowers one of its letters, or makes it longer
+-- inserting a into the upper row makes one of its letters smaller or the row longer, so the lower row still fits below it
 pub stands_with : (a : ℕ) (lower upper : List ℕ) → StandsOn lower upper → StandsOn lower (row_with a upper)
 stands_with a [] upper h = tt
 stands_with a (y ∷ lower) [] h = absurd h
@@ -78,7 +78,7 @@ stands_with a (y ∷ lower) (x ∷ upper) h = elim (cases_lt a x) [
   | inr m ↦ subst (StandsOn (y ∷ lower)) (sym (with-more a x upper m)) (h.0, stands_with a lower upper h.1)
 ]
 
--- the letter whose place is taken goes into the lower row
+-- if a replaces b in the upper row, the lower row with b inserted fits below the upper one with a
 pub stands_bumped :
     (a b : ℕ) (lower upper : List ℕ) → bumped a upper ≡ Some b → StandsOn lower upper
     → StandsOn (row_with b lower) (row_with a upper)
@@ -119,7 +119,7 @@ stands-length [] upper h = omega arith
 stands-length (y ∷ lower) [] h = absurd h
 stands-length (y ∷ lower) (x ∷ upper) h = omega (arith, stands-length lower upper h.1)
 
--- ---- all rows
+-- ---- inserting a letter into all rows of a tableau
 
 pub inserted-none : (rows : List (List ℕ)) → inserted rows None ≡ rows
 inserted-none [] = refl

@@ -69,7 +69,7 @@ HasShape-parts [] a b e h = tt
 HasShape-parts (row ∷ below) a b e h =
     (omega (arith, h.0, e 0, e 1), omega (arith, h.1, e 0, e 1), HasShape-parts below (drop 1 a) (drop 1 b) (next_parts a b e) h.2)
 
--- ---- the first rows alone
+-- ---- the first k rows of the tableau
 
 stands_taken : (k s : ℕ) (row : List ℕ) (below : List (List ℕ)) → StandsUnder s row (first_row below) → StandsUnder s row (first_row (take k below))
 stands_taken zero s row below h i l m = absurd (omega arith)
@@ -88,9 +88,9 @@ semistandard-taken (suc k) (row ∷ below) inner h =
       later = semistandard-taken k below (drop 1 inner) t.later;
     })
 
--- ---- the rows above
+-- ---- the rows above that of the empty cell
 
--- the new inner parts are the old ones, but for the one at the place i, counted from 0, which is one less
+-- the new inner parts are the old ones, except that the one at the place i, counted from 0, is one less
 pub record IsLowered (i : ℕ) (inner new : List ℕ) : Type 0 where
   pub here : get_or new i 0 + 1 ≡ get_or inner i 0
   pub others : (k : ℕ) → (k ≡ i → ⊥) → get_or new k 0 ≡ get_or inner k 0
@@ -119,7 +119,7 @@ lowered_next i inner new h =
       );
     }
 
--- no letter of the new row, which begins d columns further left, is smaller than the one that stood in its cell
+-- no letter of the new row, which begins d columns further left, is smaller than the letter that was in its cell
 record IsRaised (d : ℕ) (old new : List ℕ) : Type 0 where
   long : length new ≤ length old + d
   letters : (k : ℕ) → k < length old → k + d < length new → get_or old k 0 ≤ get_or new (k + d) 0
@@ -129,7 +129,8 @@ abbrev pub rows_from : ℕ → List ℕ → List (List ℕ) → List (List ℕ)
 rows_from i inner rows =
     take i rows ++ slid_rows (drop i inner) [] (letters_of (take 1 (drop i rows))) (drop 1 (drop i rows))
 
--- the slid rows are semistandard, their ends fall, and the first one is the raised old one
+-- the slid rows are semistandard, the ends of the rows are weakly decreasing, and the letters of the first row are not
+-- smaller than before
 record IsKept (inner new row : List ℕ) (slid : List (List ℕ)) : Type 0 where
   order : semistandard new slid ≡ true
   first : (d : ℕ) → get_or new 0 0 + d ≡ get_or inner 0 0 → IsRaised d row (first_row slid)

@@ -16,7 +16,7 @@ use Rattle.sym_model.specs.Bounded.{AreBelow}
 use Rattle.tableau_laws.specs.Rows.{RisesFrom}
 use Rattle.tableau_laws.specs.Grid.{first_line}
 
--- ---- numbers below a number
+-- ---- all letters of a row are below a number
 
 below_last : (c k : ℕ) (row : List ℕ) → RisesFrom c row → last_of row < k → AreBelow k row
 below_last c k [] h l = tt
@@ -72,9 +72,9 @@ without_below m k l (row ∷ q) r h = elim (cases_eq (last_of row) k) [
   | inr n ↦ subst (RowsBelow l) (sym (without-below k row q n)) (h.0, without_below m k l q r.1 h.1)
 ]
 
--- ---- the row that ends with the greatest number
+-- ---- only the row that ends with the greatest number has it
 
--- a row that does not end with it does not have it
+-- the greatest number is in no row that does not end with it
 later_rows :
     (m k : ℕ) (row : List ℕ) (q : List (List ℕ)) → IsRowOver m row q → AreBelow (k + 1) row → last_of row ≢ k
     → 0 < times_in k (row ++ letters_of q) → 0 < times_in k (letters_of q)
@@ -102,7 +102,7 @@ corner_found m k (row ∷ q) h b t = elim (cases_eq (last_of row) k) [
       (corner_found m k q h.1 b.1 (later_rows m k row q h.0 b.0 n t))
 ]
 
--- ---- the rows without it
+-- ---- the rows without the last letter k of one of them
 
 again_here :
     (m k : ℕ) (row' row front : List ℕ) (p q : List (List ℕ)) → front ++ k ∷ [] ≡ row → AreRows m (row ∷ q) → length row' ≡ length row
@@ -165,7 +165,7 @@ keeps_without m k (row ∷ q) h b = elim (cases_eq (last_of row) k) [
       (record { filled = h.0.filled; rises = h.0.rises; stands = first_without m k row q h.1 b.1 h.0.stands }, keeps_without m k q h.1 b.1)
 ]
 
--- ---- both shapes lose the same cell
+-- ---- p and q lose the same cell of their common shape
 
 -- the shape without the last cell of row i, counted from 0
 abbrev pub shape_less : ℕ → List ℕ → List ℕ

@@ -8,14 +8,14 @@ use Rattle.insertion_laws.proofs.Classes.{◌⨾◌, one_word, same_word, behind
 use Rattle.insertion_laws.proofs.ReadingWords.{through}
 use Rattle.tableau_laws.specs.Rows.{RisesFrom}
 
--- the words have equally many letters, each of the upper one smaller than that below it
+-- the words have the same length, and each letter of the upper one is smaller than that below it
 abbrev pub IsOver : List ℕ → List ℕ → Type 0
 IsOver [] [] = Unit {0}
 IsOver [] (b ∷ lower) = ⊥
 IsOver (a ∷ upper) [] = ⊥
 IsOver (a ∷ upper) (b ∷ lower) = (a < b) × IsOver upper lower
 
--- b goes after a row that stands below the letters right of it
+-- b moves to the end of the word `lower`, if `lower` fits as a row below `right`, whose letters are at least b
 goes_behind : (b c : ℕ) (lower right : List ℕ) → RisesFrom b right → RisesFrom c lower → StandsOn lower right
     → AreKnuthEquivalent (b ∷ (lower ++ right)) (lower ++ b ∷ right)
 goes_behind b c [] right h k s = one_word (b ∷ right)

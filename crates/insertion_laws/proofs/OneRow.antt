@@ -1,5 +1,5 @@
--- Three letters that one Knuth relation changes, put into one row: the row that comes is the same, and the letters whose
--- places they take are the same word, or related too.
+-- Three letters that one Knuth relation changes, inserted into one row: the row afterwards is the same, and the letters
+-- that leave it are the same word or related too.
 use Rattle.std.proofs.Common.{◌≡◌, ◌⊎◌, ℕ, ◌<◌, ◌≤◌, List, [], ◌∷◌, ◌++◌, Option, Some, None, ◌∙◌, ap, ap₂, sym, refl, subst, inl, inr, arith}
 use Rattle.std.proofs.lemmas.Bool.{cases_lt}
 use Rattle.sym_model.specs.Insertion.{row_with, bumped}
@@ -18,8 +18,7 @@ bumped_from c a b (x ∷ row) r e = elim (cases_lt a x) [
   | inr l ↦ let s = bumped_from x a b row r.1 (sym (bumped-more a x row l) ∙ e) in omega (arith, r.0)
 ]
 
--- letters y and z, y at most z, put in one after the other: the second takes the place of no smaller letter, and of none
--- where the first one takes none
+-- y, inserted before a letter z ≥ y that replaces d, replaces a letter that is at most d
 pub record TakesLater (y z d : ℕ) (row : List ℕ) : Type 0 where
   pub earlier : ℕ
   pub is : bumped y row ≡ Some earlier
@@ -37,7 +36,7 @@ takes_later c y z d (x ∷ row) l r e = elim (cases_lt y x) [
       record { earlier = t.earlier; is = bumped-more y x row m ∙ t.is; order = t.order }
 ]
 
--- a letter y smaller than z, put in after it, takes the place of z or of a letter before it
+-- a letter y smaller than z, inserted after it, replaces z or a letter before it
 pub record TakesEarlier (y z : ℕ) (row : List ℕ) : Type 0 where
   pub earlier : ℕ
   pub is : bumped y (row_with z row) ≡ Some earlier
@@ -55,7 +54,7 @@ takes_earlier y z (x ∷ row) l = elim (cases_lt z x) [
   ]
 ]
 
--- ---- alike
+-- ---- two words have the same effect on a row
 
 pub record AreAlike (row v w : List ℕ) : Type 0 where
   pub rows_same : row_after row v ≡ row_after row w
@@ -79,7 +78,7 @@ alike_past : (b : ℕ) (row v w : List ℕ) → IsRun (b ∷ row) v (b ∷ row_a
 alike_past b row v w h k a =
     alike h (record { row_is = k.row_is ∙ ap (λ (x : List ℕ). b ∷ x) (sym a.rows_same); out_is = k.out_is }) a.out
 
--- ---- the first relation
+-- ---- the first Knuth relation: y z x and y x z, for x < y ≤ z
 
 pub first_none : (x y z : ℕ) → x < y → y ≤ z
     → (row_after [] (y ∷ z ∷ x ∷ []) ≡ row_after [] (y ∷ x ∷ z ∷ [])) × (letters_out [] (y ∷ z ∷ x ∷ []) ≡ letters_out [] (y ∷ x ∷ z ∷ []))
@@ -121,7 +120,7 @@ first_alike c x y z (b ∷ row) l m r = elim (cases_lt y b) [
         let n = bumped_greater y a row e in
         inr (first_related b a d (omega arith) (omega (arith, t.order)))
 
--- ---- the second relation
+-- ---- the second Knuth relation: x z y and z x y, for x ≤ y < z
 
 pub second_none : (x y z : ℕ) → x ≤ y → y < z
     → (row_after [] (x ∷ z ∷ y ∷ []) ≡ row_after [] (z ∷ x ∷ y ∷ [])) × (letters_out [] (x ∷ z ∷ y ∷ []) ≡ letters_out [] (z ∷ x ∷ y ∷ []))

@@ -1,5 +1,5 @@
--- Insertion stays in the Knuth class of its word, and takes the reading word of a tableau to that tableau. So each class
--- holds the reading word of one straight tableau.
+-- Insertion stays in the Knuth class of its word, and takes the reading word of a tableau to that tableau. So each
+-- class contains the reading word of one straight tableau.
 use Rattle.std.proofs.Common.{◌≡◌, true, ℕ, ◌<◌, ◌≤◌, List, [], ◌∷◌, ◌++◌, Option, Some, None, ◌∙◌, ap, ap₂, sym, refl, subst, inl, inr, arith, append_assoc, append-nil, reverse}
 use Rattle.std.proofs.lemmas.Bool.{cases_lt}
 use Rattle.std.proofs.lemmas.List.{reverse-append}
@@ -18,14 +18,14 @@ use Rattle.insertion_laws.proofs.Triples.{class_same}
 use Rattle.sym_model.specs.Bounded.{AreAtLeast}
 use Rattle.tableau_laws.specs.Rows.{RisesFrom}
 
--- ---- a row
+-- ---- inserting a letter into one row stays in the Knuth class
 
--- a letter smaller than the first one of a row moves to the left through all letters but the first one
+-- a letter smaller than the first one of a row moves to the left until it is second in the row
 pub through : (y x : ℕ) (row back : List ℕ) → x < y → RisesFrom y row → AreKnuthEquivalent (y ∷ (row ++ x ∷ back)) (y ∷ x ∷ (row ++ back))
 through y x [] back l h = one_word (y ∷ x ∷ back)
 through y x (z ∷ row) back l h = behind (y ∷ []) (through z x row back (omega (arith, h.0)) h.1) ⨾ first x y z (row ++ back) l h.0
 
--- the letter whose place a takes stands before the row
+-- inserting a into a row stays in the class, with the letter that a replaces in front of the row
 row_class : (c a b : ℕ) (row : List ℕ) → RisesFrom c row → bumped a row ≡ Some b → AreKnuthEquivalent (row ++ a ∷ []) (b ∷ row_with a row)
 row_class c a b [] h e = cc
 row_class c a b (x ∷ row) h e = elim (cases_lt a x) [
@@ -50,7 +50,7 @@ row_class c a b (x ∷ row) h e = elim (cases_lt a x) [
               subst (λ v. AreKnuthEquivalent (x ∷ b ∷ v) (b ∷ x ∷ v)) (sym (with-more a y row m)) (second x y b (row_with a row) h.0 (omega arith))
         ]
 
--- ---- a tableau
+-- ---- inserting a word into a tableau stays in the Knuth class
 
 letters-push : (v : List (List ℕ)) (row : List ℕ) → letters_of (v ++ row ∷ []) ≡ letters_of v ++ row
 letters-push [] row = append-nil row
@@ -76,7 +76,7 @@ letter_class m a (row ∷ rows) h =
         behind (reading_word rows) (row_class m a b row h.0.rises e)
         ⨾ same_word (sym (append_assoc (reading_word rows) (b ∷ []) (row_with a row))) ⨾ before (row_with a row) (rec b)
 
--- insertion stays in the class of the letters
+-- the word `reading_word rows ++ w` is in the Knuth class of the reading word of the rows with w inserted
 pub word_class :
     (w : List ℕ) (rows : List (List ℕ)) → AreRows 0 rows → AreKnuthEquivalent (reading_word rows ++ w) (reading_word (inserted_word rows w))
 word_class [] rows h = same_word (append-nil (reading_word rows))
@@ -84,19 +84,19 @@ word_class (a ∷ w) rows h =
     same_word (sym (append_assoc (reading_word rows) (a ∷ []) w)) ⨾ before w (letter_class 0 a rows h)
     ⨾ word_class w (inserted rows (Some a)) (keeps_rows 0 a rows (omega arith) h)
 
--- ---- the reading word of a tableau
+-- ---- inserting the reading word of a tableau gives the tableau
 
 from_rising : (c d : ℕ) (row : List ℕ) → c ≤ d → RisesFrom d row → AreAtLeast c row
 from_rising c d [] l h = tt
 from_rising c d (a ∷ row) l h = (omega (arith, h.0), from_rising c a row (omega (arith, h.0)) h.1)
 
--- a letter in front of both rows, where the letters are not smaller
+-- inserting `row` does not replace a letter a in front of `lower`, if a is at most every letter of `row`
 run_behind : (a : ℕ) (lower row : List ℕ) → RisesFrom a row → IsRun lower row row lower → IsRun (a ∷ lower) row (a ∷ row) lower
 run_behind a lower row h k =
     let p = run_past a lower row (from_rising a a row (omega arith) h) in
     record { row_is = p.row_is ∙ ap (λ (v : List ℕ). a ∷ v) k.row_is; out_is = p.out_is ∙ k.out_is }
 
--- a row that stands over another one takes its place, and pushes its letters out
+-- if `row` fits above `lower`, then inserting it into `lower` gives `row`, and the letters of `lower` leave
 pushes : (c : ℕ) (lower row : List ℕ) → RisesFrom c row → StandsOn lower row → IsRun lower row row lower
 pushes c [] [] h s = run_none []
 pushes c (b ∷ lower) [] h s = absurd s
@@ -120,12 +120,12 @@ reading_again m (row ∷ rows) h =
     ap (inserted_word []) (reading-more row rows) ∙ word-append (reading_word rows) row []
     ∙ ap (λ (r : List (List ℕ)). inserted_word r row) (reading_again m rows h.1) ∙ put_over m row rows h
 
--- the one straight tableau of a class
+-- a straight tableau whose reading word is in the class is the insertion tableau
 pub only_tableau :
     (m : ℕ) (w : List ℕ) (rows : List (List ℕ)) → AreRows m rows → AreKnuthEquivalent (reading_word rows) w → rows ≡ inserted_word [] w
 only_tableau m w rows h k = sym (reading_again m rows h) ∙ class_same (reading_word rows) w k
 
--- ---- the insertion tableau of a word
+-- ---- the insertion tableau is the only one of the class
 
 pub tableau_class : (w : List ℕ) → AreKnuthEquivalent w (reading_word (insertion_pair w).0)
 tableau_class w = word_class w [] tt ⨾ same_word (ap reading_word (sym (first-tableau w 1 [] [])))

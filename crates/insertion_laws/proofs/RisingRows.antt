@@ -1,4 +1,4 @@
--- Rows and columns that rise, place by place.
+-- Weakly increasing rows and strictly increasing columns, place by place.
 use Rattle.std.proofs.Common.{◌≡◌, ℕ, zero, suc, ◌+◌, ◌-◌, ◌<◌, ◌≤◌, true, ◌&&◌, nat_le, nat_lt, List, [], ◌∷◌, ◌++◌, length, drop, get_or, ◌∙◌, ap, refl, inl, inr, arith, length-append}
 use Rattle.std.proofs.lemmas.Bool.{cases_lt, leb-true, ltb-true, le-leb, lt-ltb, and_parts, and_from}
 use Rattle.std.proofs.lemmas.List.{get_or_append_left, get_or-append-add, get_or-drop, length-drop}
@@ -7,7 +7,7 @@ use Rattle.sym_model.specs.Schur.{row_rises, columns_rise, semistandard}
 use Rattle.sym_model.specs.Slide.{outer_parts}
 use Rattle.sym_model.proofs.Parts.{Falls-front}
 
--- ---- places before and from a place on
+-- ---- a place is before p, or from p on
 
 pub data Side (p k : ℕ) : Type 0 where
   before : k < p → Side p k
@@ -16,7 +16,7 @@ pub data Side (p k : ℕ) : Type 0 where
 pub side_of : (p k : ℕ) → Side p k
 side_of p k = elim (cases_lt k p) [ inl h ↦ before h | inr h ↦ from (k - p) (omega arith) ]
 
--- ---- rows that rise
+-- ---- weakly increasing rows, by places
 
 -- no letter is smaller than the one before it
 abbrev pub Rises : List ℕ → Type 0
@@ -96,9 +96,10 @@ rises_append v w r s h k l = elim (side_of (length v) (k + 1)) [
       )
 ]
 
--- ---- columns that rise
+-- ---- strictly increasing columns, by places
 
--- each letter of the lower row is greater than the one above it; the upper row begins at the place s of the lower one
+-- each letter of the lower row is greater than the one above it; the upper row begins above the place s of the lower
+-- one
 abbrev pub StandsUnder : ℕ → List ℕ → List ℕ → Type 0
 StandsUnder s upper lower = (k : ℕ) → k < length upper → s + k < length lower → get_or upper k 0 < get_or lower (s + k) 0
 
@@ -148,11 +149,11 @@ stands-from s upper lower h =
 
 -- ---- semistandard fillings, one row after another
 
--- the first row; an empty one where there is none
+-- the first row; an empty one if there is none
 abbrev pub first_row : List (List ℕ) → List ℕ
 first_row rows = get_or rows 0 []
 
--- the first row rises, the letters below it are greater, and the other rows are semistandard
+-- the first row is weakly increasing, the letters below it are greater, and the other rows are semistandard
 pub record IsOrdered (inner row : List ℕ) (below : List (List ℕ)) : Type 0 where
   pub rises : Rises row
   pub stands : StandsUnder (part inner 1 - part inner 2) row (first_row below)
@@ -181,7 +182,7 @@ order-from inner row (lower ∷ rest) h =
     and_from (row_rises row && columns_rise row (drop s lower)) (semistandard (drop 1 inner) (lower ∷ rest))
     (and_from (row_rises row) (columns_rise row (drop s lower)) (rises-from row h.rises) (stands-from s row lower h.stands)) h.later
 
--- the inner parts fall, and so do the ends of the rows
+-- the inner parts are weakly decreasing, and so are the ends of the rows
 abbrev pub HasShape : List ℕ → List (List ℕ) → Type 0
 HasShape inner [] = Unit {0}
 HasShape inner (row ∷ below) =
@@ -190,7 +191,7 @@ HasShape inner (row ∷ below) =
 pub part_next : (inner : List ℕ) (k : ℕ) → get_or (drop 1 inner) k 0 ≡ get_or inner (k + 1) 0
 part_next inner k = let e : 1 + k ≡ k + 1 = omega arith in get_or-drop 1 inner k 0 ∙ ap (λ n. get_or inner n 0) e
 
--- ---- the ends of the rows
+-- ---- the places where the rows end
 
 pub ends-first : (inner : List ℕ) (rows : List (List ℕ)) → get_or (outer_parts inner rows) 0 0 ≤ part inner 1 + length (first_row rows)
 ends-first inner [] = omega arith

@@ -1,26 +1,26 @@
--- The letters of a word put into a row one by one: the row that comes, and the letters whose places they take.
+-- The letters of a word inserted into a row one by one: the row afterwards, and the letters that are replaced.
 use Rattle.std.proofs.Common.{◌≡◌, ℕ, ◌<◌, ◌≤◌, List, [], ◌∷◌, ◌++◌, Option, Some, None, ◌∙◌, ap, ap₂, refl}
 use Rattle.sym_model.specs.Insertion.{row_with, bumped, inserted}
 use Rattle.insertion_laws.proofs.InsertedRows.{with-less, with-more, bumped-less, bumped-more, inserted-none}
 use Rattle.insertion_laws.proofs.InsertedWords.{inserted_word}
 use Rattle.sym_model.specs.Bounded.{AreAtLeast}
 
--- the letter that leaves, as a word
+-- the letter that leaves the row, if any, as a word
 abbrev pub listed : Option ℕ → List ℕ
 listed None = []
 listed (Some b) = b ∷ []
 
--- the row after the letters of a word are put into it
+-- the row after the letters of a word are inserted into it
 abbrev pub row_after : List ℕ → List ℕ → List ℕ
 row_after row [] = row
 row_after row (a ∷ w) = row_after (row_with a row) w
 
--- the letters whose places they take, in that order
+-- the letters that leave the row when the letters of a word are inserted, in order
 abbrev pub letters_out : List ℕ → List ℕ → List ℕ
 letters_out row [] = []
 letters_out row (a ∷ w) = listed (bumped a row) ++ letters_out (row_with a row) w
 
--- the row and the letters that leave it, after the letters of w are put into it
+-- inserting the letters of w into the row gives the row `new`, and the letters `out` leave it
 pub record IsRun (row w new out : List ℕ) : Type 0 where
   pub row_is : row_after row w ≡ new
   pub out_is : letters_out row w ≡ out
@@ -49,7 +49,7 @@ pub run_past : (b : ℕ) (row w : List ℕ) → AreAtLeast b w → IsRun (b ∷ 
 run_past b row [] f = run_none (b ∷ row)
 run_past b row (a ∷ w) f = run_more a b f.0 (run_past b (row_with a row) w f.1)
 
--- ---- the first row, and those below it
+-- ---- a word inserted into a tableau: its first row, and the rows below
 
 pub word-rows :
     (row : List ℕ) (rows : List (List ℕ)) (w : List ℕ)

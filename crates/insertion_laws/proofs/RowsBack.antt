@@ -1,4 +1,4 @@
--- A letter put into a row, and put back.
+-- A letter inserted into a row, and the reverse step.
 use Rattle.std.proofs.Common.{◌≡◌, ℕ, suc, ◌+◌, ◌<◌, ◌≤◌, cond, List, [], ◌∷◌, ◌++◌, length, Some, None, ◌∙◌, ap, ap₂, sym, refl, subst, inl, inr, arith}
 use Rattle.std.proofs.lemmas.Bool.{cases_lt, lt-ltb, le-ltb}
 use Rattle.std.proofs.lemmas.List.{length-append}
@@ -8,7 +8,7 @@ use Rattle.insertion_laws.specs.Removal.{row_back, letter_back, without_last, la
 use Rattle.insertion_laws.proofs.InsertedRows.{with-less, with-more, bumped-less, bumped-more, bumped_greater, with-end, some_same}
 use Rattle.tableau_laws.specs.Rows.{RisesFrom}
 
--- ---- the last smaller letter
+-- ---- the last letter of a row that is smaller than b
 
 pub back-more : (b a c : ℕ) (row : List ℕ) → c < b → row_back b (a ∷ c ∷ row) ≡ a ∷ row_back b (c ∷ row)
 back-more b a c row h = ap (λ t. cond t (a ∷ row_back b (c ∷ row)) (b ∷ c ∷ row)) (lt-ltb c b h)
@@ -64,7 +64,7 @@ rises_back b c x (y ∷ row) l h = elim (cases_lt y b) [
   | inr m ↦ subst (RisesFrom c) (sym (back-here b x y row m)) (omega (arith, h.0), (m, h.1.1))
 ]
 
--- put back and then put in
+-- insertion undoes the reverse step
 pub put_again : (b c x : ℕ) (row : List ℕ) → x < b → RisesFrom c (x ∷ row) → row_with (letter_back b (x ∷ row)) (row_back b (x ∷ row)) ≡ x ∷ row
 put_again b c x [] l h = with-less x b [] l
 put_again b c x (y ∷ row) l h = elim (cases_lt y b) [
@@ -85,7 +85,7 @@ bumped_again b c x (y ∷ row) l h = elim (cases_lt y b) [
   | inr m ↦ ap₂ bumped (letter-here b x y row m) (back-here b x y row m) ∙ bumped-less x b (y ∷ row) l
 ]
 
--- put in and then put back
+-- the reverse step undoes insertion
 pub row_again : (a b c : ℕ) (row : List ℕ) → RisesFrom c row → bumped a row ≡ Some b → row_back b (row_with a row) ≡ row
 row_again a b c [] h e = cc
 row_again a b c (x ∷ []) h e = elim (cases_lt a x) [
@@ -124,7 +124,7 @@ letter_again a b c (x ∷ y ∷ row) h e = elim (cases_lt a x) [
       ∙ letter_again a b x (y ∷ row) h.1 f
 ]
 
--- ---- a row on another, both with a letter less
+-- ---- a row on another, if the upper one loses a letter to the lower one
 
 pub begins-above : (b : ℕ) (lower upper : List ℕ) → StandsOn (row_with b lower) upper → BeginsBelow b upper
 begins-above b [] [] h = h
@@ -173,7 +173,7 @@ stands_back b c (y ∷ lower) (x ∷ upper) r h s = elim (cases_lt b y) [
       | inr n ↦ subst (StandsOn (y ∷ lower)) (sym (back-here b x z upper n)) (m, t)
     ]
 
--- ---- the last letter
+-- ---- a row and its last letter
 
 pub ends : (row : List ℕ) → 0 < length row → without_last row ++ last_of row ∷ [] ≡ row
 ends [] h = absurd (omega arith)

@@ -8,7 +8,7 @@ use Rattle.sym_model.specs.Tableau.{are_letters}
 use Rattle.sym_model.proofs.Tableaux.{are_letters-append}
 use Rattle.insertion_laws.proofs.SlideSteps.{place_below, moved}
 
--- ---- words
+-- ---- a word has positive letters if and only if its pieces have
 
 letters-parts : (v w : List ℕ) → are_letters (v ++ w) ≡ true → (are_letters v ≡ true) × (are_letters w ≡ true)
 letters-parts [] w h = (refl, h)
@@ -23,7 +23,7 @@ letters-taken n w h = (letters-parts (take n w) (drop n w) (ap are_letters (take
 letters-dropped : (n : ℕ) (w : List ℕ) → are_letters w ≡ true → are_letters (drop n w) ≡ true
 letters-dropped n w h = (letters-parts (take n w) (drop n w) (ap are_letters (take-append-drop n w) ∙ h)).1
 
--- ---- rows
+-- ---- the rows after a slide have positive letters
 
 -- the letters of the rows are positive
 abbrev pub AreLetters : List (List ℕ) → Type 0

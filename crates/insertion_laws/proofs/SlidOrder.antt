@@ -9,7 +9,8 @@ use Rattle.sym_model.proofs.Parts.{Falls-front}
 use Rattle.insertion_laws.proofs.RisingRows.{before, from, side_of, Rises, rises_left, rises_right, rises_front, rises_append, rises-from, StandsUnder, first_row, order-tells, order-from, HasShape, ends-first, ends-fall, part_next}
 use Rattle.insertion_laws.proofs.SlideSteps.{place_below, slid-moves_left, slid-moves_up, slid-stops}
 
--- the rows with an empty cell in the first one, between the letters left and right, are semistandard but for that cell
+-- rows with an empty cell in the first one, between the letters left and right, that are semistandard except for that
+-- cell
 pub record HasHole (inner left right : List ℕ) (below : List (List ℕ)) : Type 0 where
   pub falls : part inner 2 ≤ part inner 1
   pub rises : Rises (left ++ right)
@@ -23,8 +24,8 @@ pub record HasHole (inner left right : List ℕ) (below : List (List ℕ)) : Typ
 abbrev pub IsAtMost : ℕ → List ℕ → Type 0
 IsAtMost x w = 0 < length w → x ≤ get_or w 0 0
 
--- what the first row after the slide is to the letters left and right of the empty cell, and to those of the next row
--- from its column on
+-- the first row after the slide, compared with the letters left and right of the empty cell and with those of the next
+-- row from the cell's column on
 pub record IsSlid (left right lower first : List ℕ) : Type 0 where
   pub long : length first ≤ length left + 1 + length right
   pub before : (k : ℕ) → k < length left → get_or first k 0 ≡ get_or left k 0
@@ -36,7 +37,7 @@ pub record Slides (inner left right : List ℕ) (below : List (List ℕ)) : Type
   pub first : IsSlid left right (drop (place_below inner left) (first_row below)) (first_row (slid_rows inner left right below))
   pub falls : Falls (outer_parts inner (slid_rows inner left right below))
 
--- ---- the last row
+-- ---- the empty cell is in the last row
 
 last_slid : (left right : List ℕ) → Rises (left ++ right) → IsSlid left right [] (left ++ right)
 last_slid left right r = record {
@@ -67,7 +68,7 @@ slides_last inner left right h = record {
   falls = tt;
 }
 
--- ---- the empty cell goes down
+-- ---- the empty cell moves down
 
 pub hole_below :
     (inner row : List ℕ) (place : ℕ) (below : List (List ℕ)) → place < length row → HasShape inner (row ∷ below)
@@ -117,7 +118,7 @@ hole_below inner row place below l s o =
       order = t.later;
     }
 
--- the row of the empty cell, into which the letter below has moved
+-- if the letter b below has moved into the row of the empty cell, the rows are semistandard again
 risen_order :
     (inner left right row : List ℕ) (b : ℕ) (below rows : List (List ℕ)) → HasHole inner left right (row ∷ below)
     → place_below inner left < length row → b ≡ get_or row (place_below inner left) 0 → IsAtMost b right
@@ -248,7 +249,7 @@ slides_up inner left right row lower b below ih h e m =
           )) n.falls);
     }
 
--- ---- the slide ends
+-- ---- the slide ends, as the empty cell has no neighbour
 
 slides_end : (inner left row : List ℕ) (below : List (List ℕ)) → HasHole inner left [] (row ∷ below) → drop (place_below inner left) row ≡ [] → Slides inner left [] (row ∷ below)
 slides_end inner left row below h e =
@@ -276,7 +277,7 @@ slides_end inner left row below h e =
           )) (ends-fall (row ∷ below) (drop 1 inner) h.shape));
     }
 
--- ---- the empty cell goes to the right
+-- ---- the empty cell moves to the right
 
 smaller_moves : (a : ℕ) (right lower : List ℕ) → moves_up (a ∷ right) lower ≡ false → 0 < length lower → a < get_or lower 0 0
 smaller_moves a right [] h l = absurd (omega arith)
@@ -356,7 +357,7 @@ slid_right inner left right row first a below h m n =
       ];
     }
 
--- ---- all moves
+-- ---- all moves of the empty cell, from its row on
 
 pub data Shown (w : List ℕ) : Type 0 where
   nothing : w ≡ [] → Shown w

@@ -20,7 +20,7 @@ use Rattle.insertion_laws.proofs.ReadingWords.{reading-more, only_tableau_from}
 use Rattle.insertion_laws.proofs.MovedUp.{IsOver, moves_between}
 use Rattle.tableau_laws.specs.Rows.{RisesFrom}
 
--- ---- from places to lists
+-- ---- conditions at places, as conditions on lists
 
 rises_to_from : (c : ℕ) (w : List ℕ) → IsAtMost c w → Rises w → RisesFrom c w
 rises_to_from c [] h r = tt
@@ -40,7 +40,7 @@ stands_from (b ∷ lower) [] l h = absurd (omega arith)
 stands_from (b ∷ lower) (a ∷ right) l h =
     (h 0 (omega arith), stands_from lower right (omega arith) (λ k m. h (suc k) (omega arith)))
 
--- ---- the letter below moves up
+-- ---- a letter that moves up keeps the Knuth class
 
 row_split : (inner left row lower : List ℕ) (b : ℕ) → drop (place_below inner left) row ≡ b ∷ lower
     → row ≡ take (place_below inner left) row ++ b ∷ lower
@@ -85,7 +85,7 @@ rows_exchange inner left right row lower b below h e m =
     ⨾ same_word (sym (append_assoc v₀ v (lower ++ (left ++ b ∷ right))) ∙ ap (λ (w : List ℕ). w ++ (lower ++ (left ++ b ∷ right))) parts
     ∙ sym (append_assoc front lower (left ++ b ∷ right)) ∙ ap (λ (w : List ℕ). (front ++ w) ++ (left ++ b ∷ right)) (sym rest))
 
--- ---- all moves
+-- ---- all moves of a slide keep the Knuth class
 
 class_up :
     (inner left right row lower : List ℕ) (b : ℕ) (below : List (List ℕ))
@@ -134,7 +134,7 @@ pub slid_class :
 slid_class [] inner left right h = one_word (reading_word ((left ++ right) ∷ []))
 slid_class (row ∷ below) inner left right h = class_row right inner left row below (slid_class below) h
 
--- ---- with the rows above
+-- ---- the slid rows together with the rows above
 
 rows_class :
     (i : ℕ) (inner new : List ℕ) (rows : List (List ℕ)) → i < length rows → HasShape inner rows → semistandard inner rows ≡ true
@@ -181,7 +181,7 @@ slide_class row t h c =
     (shape-from t.rows t.outer t.inner h.cells h.holds h.outside.falls h.inside.falls) h.order (corner-lowered row t.inner c)
     ⨾ same_word (sym (reading-taken (rows_from (row - 1) new t.rows) new))
 
--- ---- slides one after another
+-- ---- several slides keep the Knuth class
 
 pub slides_class :
     (chosen : List ℕ) (t s : SkewFilling) → IsTableau t.outer t.inner t.rows → SlidesTo t chosen s
@@ -197,7 +197,7 @@ straight_from s h e =
     let k : IsTableau s.outer [] s.rows = subst (λ i. IsTableau s.outer i s.rows) e h in
     subst (λ o. IsTableau o [] s.rows) (sym (k.cells ∙ row_lengths-none s.outer)) k
 
--- the straight tableau that slides reach is the only one in the class of the reading word
+-- a straight tableau that slides reach is the only one whose reading word is in the class
 pub reached_only : (t s : SkewFilling) → IsTableau t.outer t.inner t.rows → IsReached t s → IsOnlyTableauOf (reading_word t.rows) s.rows
 reached_only t s h r =
     let c = slides_class r.chosen t s h r.slides in
@@ -207,7 +207,7 @@ no_parts : (parts : List ℕ) → length parts ≤ 0 → parts ≡ []
 no_parts [] h = refl
 no_parts (a ∷ parts) h = absurd (omega arith)
 
--- a tableau that has become straight, with its reading word in the class of w
+-- if a straight tableau has its reading word in the class of w, it is the only one
 pub straight_only :
     (w : List ℕ) (s : SkewFilling) → IsTableau s.outer s.inner s.rows → length s.inner ≤ 0 → AreKnuthEquivalent w (reading_word s.rows)
     → IsOnlyTableauOf w s.rows

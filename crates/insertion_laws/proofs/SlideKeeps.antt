@@ -1,4 +1,4 @@
--- A slide keeps semistandard tableaux.
+-- A slide of a semistandard tableau gives a semistandard tableau.
 use Rattle.std.proofs.Common.{◌≡◌, ℕ, zero, suc, ◌+◌, ◌-◌, ◌<◌, ◌≤◌, true, List, [], ◌∷◌, map, length, take, drop, get_or, ◌∙◌, ap, sym, refl, subst, inl, inr, arith}
 use Rattle.std.proofs.lemmas.Bool.{cases_eq, cases_lt}
 use Rattle.std.proofs.lemmas.List.{ext_get_or, get_or-map, get_or-take, get_or_past, length-map, length-take-le}
@@ -14,7 +14,7 @@ use Rattle.insertion_laws.proofs.RisingRows.{ends-at, length-ends}
 use Rattle.insertion_laws.proofs.SlidLetters.{AreLetters-append, AreLetters-taken, AreLetters-dropped, slid-letters}
 use Rattle.insertion_laws.proofs.KeptOrder.{IsLowered, ends-kept, length-rows_from, lowered_less, rows_from, order-kept, semistandard-taken, shape-from}
 
--- ---- the inner partition
+-- ---- the inner partition after a slide
 
 part_lowered : (row : ℕ) (inner : List ℕ) → HasInnerCorner row inner → IsLowered (row - 1) inner (lowered_at row inner)
 part_lowered zero inner h = absurd (omega (arith, h.0))
@@ -39,7 +39,7 @@ corner-lowered row inner h =
       corner = l.corner;
     }
 
--- a slide makes the inner partition one cell smaller
+-- a slide makes the inner partition smaller by one cell
 pub slide-smaller : (row : ℕ) (t : SkewFilling) → HasInnerCorner row t.inner → size (slide row t).inner + 1 ≡ size t.inner
 slide-smaller zero t h = absurd (omega (arith, h.0))
 slide-smaller (suc i) t h =
@@ -47,7 +47,7 @@ slide-smaller (suc i) t h =
     let some : 0 < get_or t.inner i 0 = omega (arith, h.1, ap (λ n. get_or t.inner n 0) e) in
     omega (arith, size-without_last_zeros (lowered_at (suc i) t.inner), size-lowered t.inner i some)
 
--- ---- the row of the corner
+-- ---- the row in which the slide begins
 
 pub count-rows : (t : SkewFilling) → IsTableau t.outer t.inner t.rows → length t.rows ≡ length t.outer
 count-rows t h =
@@ -87,7 +87,7 @@ falls-lowered i inner new f l =
       | inr d ↦ omega (arith, l.others k d, falls-at inner k f, lowered_less i (k + 1) inner new l)
     ])
 
--- the partition of the ends of the rows, its last zeros left out, and as many of the rows
+-- the tableau whose outer shape has the ends of the rows, without zeros at the end, and its rows
 built : (new : List ℕ) (rows : List (List ℕ)) → IsPartition new → Falls (outer_parts new rows)
     → ((k : ℕ) → length rows ≤ k → get_or new k 0 ≡ 0)
     → are_letters (letters_of rows) ≡ true → semistandard new rows ≡ true

@@ -103,7 +103,7 @@ rows_tell (row ∷ lower ∷ rest) f p l o =
 pub rows_from : (rows : List (List ℕ)) → IsStraightTableau rows → AreRows 1 rows
 rows_from rows h = rows_tell rows h.outside.falls h.outside.positive h.letters h.order
 
--- ---- each number once
+-- ---- each number from 1 to n occurs once
 
 ones_from : (f : ℕ → ℕ) (a n : ℕ) → ((j : ℕ) → a < j → j ≤ a + n → f j ≡ 1) → map f (after a n) ≡ replicate n 1
 ones_from f a zero h = refl
@@ -175,7 +175,7 @@ below_rows : (k : ℕ) (q : List (List ℕ)) → AreBelow k (letters_of q) → R
 below_rows k [] h = tt
 below_rows k (row ∷ q) h = let r = below_split k row (letters_of q) h in (r.0, below_rows k q r.1)
 
--- ---- pairs of tableaux
+-- ---- a straight tableau and a standard one of its shape are a pair
 
 pub pair_from :
     (p q : List (List ℕ)) → IsStraightTableau p → IsStandard q → shape_of p ≡ shape_of q → IsPairAt 1 (length (letters_of q)) p q

@@ -10,9 +10,9 @@ use Rattle.insertion_laws.proofs.OneRow.{AreAlike, first_none, second_none, firs
 use Rattle.insertion_laws.proofs.Classes.{related_back}
 use Rattle.tableau_laws.specs.Rows.{RisesFrom}
 
--- ---- three letters
+-- ---- three letters that one Knuth relation exchanges
 
--- what holds of both exchanges, and with v also the other way round, holds of related words
+-- a symmetric relation of words that holds of both exchanges holds of all related words
 related_cases :
     (P : List ℕ → List ℕ → Type 0) → ((v w : List ℕ) → P v w → P w v)
     → ((x y z : ℕ) → x < y → y ≤ z → P (y ∷ z ∷ x ∷ []) (y ∷ x ∷ z ∷ []))
@@ -70,7 +70,7 @@ triple_same m (row ∷ rows) v w h r =
     by (inl e) rec = ap (inserted_word rows) e
     by (inr r) rec = rec r
 
--- ---- words
+-- ---- words in one Knuth class have one insertion tableau
 
 pub keeps_word : (w : List ℕ) (rows : List (List ℕ)) → AreRows 0 rows → AreRows 0 (inserted_word rows w)
 keeps_word [] rows h = h

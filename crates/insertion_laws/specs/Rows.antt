@@ -21,7 +21,7 @@ abbrev pub AreRows : ℕ → List (List ℕ) → Type 0
 AreRows m [] = Unit {0}
 AreRows m (row ∷ rows) = IsRowOver m row rows × AreRows m rows
 
--- so it is in each row
+-- each letter of each row is less than k
 abbrev pub RowsBelow : ℕ → List (List ℕ) → Type 0
 RowsBelow k [] = Unit {0}
 RowsBelow k (row ∷ rows) = AreBelow k row × RowsBelow k rows
@@ -33,7 +33,7 @@ HasOneMore (a ∷ large) [] = (a ≡ 1) × (large ≡ [])
 HasOneMore (a ∷ large) (b ∷ small) =
     ((a ≡ b + 1) × (large ≡ small)) ⊎ ((a ≡ b) × HasOneMore large small)
 
--- the shape has a corner in that row, counted from 0: the next row is shorter
+-- the shape has a corner in row i, counted from 0: the next row is shorter
 abbrev pub HasCorner : ℕ → List ℕ → Type 0
 HasCorner i [] = ⊥
 HasCorner zero (a ∷ []) = Unit {0}

@@ -6,10 +6,9 @@ ghost use Rattle.sym_model.specs.Knuth.{AreKnuthEquivalent, IsOnlyTableauOf};
 ghost use Rattle.sym_model.specs.Tableau.{are_letters};
 
 /// The reading word of a word's insertion tableau is in the word's class, and words of one class
-/// have one insertion tableau.
-/// So the insertion tableau of a word with positive letters is the only straight tableau of its
-/// class: in the class of 1 3 4 2 that with the rows 1 2 4 and 3, which its words 1 3 2 4, 3 1 2 4
-/// and 1 3 4 2 are inserted to.
+/// have one insertion tableau. So the insertion tableau of a word with positive letters is the only
+/// straight tableau of its class: the words 1 3 2 4, 3 1 2 4 and 1 3 4 2 are one class, and the
+/// insertion tableau of each has the rows 1 2 4 and 3.
 pub fn class_law()
     ensures stays { (w : List ℕ) → AreKnuthEquivalent w (reading_word (insertion_pair w).0) }
     ensures same { (v w : List ℕ) → AreKnuthEquivalent v w

@@ -6,12 +6,12 @@
 //! What is proved:
 //!
 //! `insertion_law`: the insertion tableau of a word with positive letters is a straight tableau,
-//! the recording tableau is standard, both have one shape, with a cell for each letter. `pair_law`:
-//! insertion takes a word to each pair of a straight and a standard tableau of one shape, and only
-//! one, which is found by undoing the steps. `class_law`: insertion stays in the Knuth class of its
-//! word, words of one class have one insertion tableau, and it is the only straight tableau of the
-//! class. `slide_class_law`: a slide keeps the class, so the straight tableau that slides reach is
-//! the only one of the class, whichever corners are chosen.
+//! the recording tableau is standard, and both have one shape, with a cell for each letter.
+//! `pair_law`: each pair of a straight and a standard tableau of one shape is the pair of exactly
+//! one word, which is found by undoing the steps. `class_law`: the reading word of the insertion
+//! tableau is in the Knuth class of the word, words of one class have one insertion tableau, and it
+//! is the only straight tableau of the class. `slide_class_law`: a slide keeps the class, so the
+//! straight tableau that slides reach is the only one of the class, whichever corners are chosen.
 #![tactic(auto)]
 
 mod knuth_words;

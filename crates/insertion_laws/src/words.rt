@@ -8,8 +8,7 @@ ghost use Rattle.sym_model.specs.Tableau.{IsStraightTableau, are_letters, shape_
 ghost use Rattle.insertion_laws.specs.Removal.{word_back};
 
 /// The insertion tableau of a word with positive letters is a straight tableau, the recording
-/// tableau of each word is standard, and both have one shape,
-/// with as many cells as the word has letters.
+/// tableau of each word is standard, and both have one shape, whose size is the number of letters.
 pub fn insertion_law()
     ensures tableau { (w : List ℕ) → are_letters w ≡ true → IsStraightTableau (insertion_pair w).0 }
     ensures recording { (w : List ℕ) → IsStandard (insertion_pair w).1 }
@@ -18,8 +17,9 @@ pub fn insertion_law()
     ensures cells { (w : List ℕ) → size (shape_of (insertion_pair w).0) ≡ length w }
 {}
 
-/// From a straight tableau p and a standard tableau q of one shape a word comes back that insertion
-/// takes to them, and from the pair of each word this word: so there is one word for each pair.
+/// For a straight tableau p and a standard tableau q of one shape, undoing the steps gives a word
+/// that insertion takes to p and q; and for the pair of a word it gives that word. So each pair is
+/// the pair of exactly one word.
 pub fn pair_law()
     ensures inserted { (p q : List (List ℕ)) → IsStraightTableau p → IsStandard q
         → shape_of p ≡ shape_of q

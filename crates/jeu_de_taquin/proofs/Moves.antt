@@ -1,4 +1,4 @@
--- One move of a letter into the empty cell leaves the rows after the slide as they are: over plain rows.
+-- One move of a letter into the empty cell does not change the rows after the slide: for plain rows.
 use Rattle.std.proofs.Common.{◌≡◌, ℕ, suc, ◌+◌, ◌-◌, ◌<◌, ◌≤◌, true, false, List, [], ◌∷◌, ◌++◌, length, take, drop, get_or, ◌∙◌, ap, ap₂, sym, arith, append_assoc, append-nil}
 use Rattle.std.proofs.Math.ListN.{set}
 use Rattle.std.proofs.lemmas.List.{take-set, take_more_set, drop-set-lt, set_split, get_or-set_same, get_or-set_other, drop-drop, drop_more, length-take-le, get_or-drop, drop_all}
@@ -7,12 +7,12 @@ use Rattle.sym_model.specs.Slide.{moves_up, slid_rows}
 use Rattle.insertion_laws.proofs.RisingRows.{first_row}
 use Rattle.insertion_laws.proofs.SlideSteps.{place_below, slid-moves_left, slid-moves_left_last, slid-moves_up, slid-stops}
 
--- the rows after the slide has gone on from the empty cell at the place p of row n, both counted from 0
+-- the rows after a slide that begins with the empty cell at the place p of row n, both counted from 0
 abbrev pub slid_at : ℕ → ℕ → List ℕ → List (List ℕ) → List (List ℕ)
 slid_at n p inner rows =
     take n rows ++ slid_rows (drop n inner) (take p (get_or rows n [])) (drop (p + 1) (get_or rows n [])) (drop (n + 1) rows)
 
--- the letters of the next row from the column of that place on
+-- the letters of the next row from the column of the place p on
 abbrev pub lower_at : ℕ → ℕ → List ℕ → List (List ℕ) → List ℕ
 lower_at n p inner rows = drop (get_or inner n 0 + p - get_or inner (n + 1) 0) (get_or rows (n + 1) [])
 
@@ -27,7 +27,7 @@ next_part inner n = get_or-drop n inner 1 0
 place-is : (inner left : List ℕ) (n p : ℕ) → length left ≡ p → place_below (drop n inner) left ≡ get_or inner n 0 + p - get_or inner (n + 1) 0
 place-is inner left n p e = ap₂ (λ x y. x - y) (ap₂ (λ x y. x + y) (this_part inner n) e) (next_part inner n)
 
--- ---- the right neighbour moves
+-- ---- the right neighbour moves into the empty cell
 
 slid-left_at :
     (inner left right : List ℕ) (a : ℕ) (below : List (List ℕ)) → part inner 2 ≤ part inner 1
@@ -60,7 +60,7 @@ moved_left n p a inner right rows h k f e m =
     ∙ slid-left_at (drop n inner) (take p R) right a (drop (n + 1) rows) falls (ap (moves_up (a ∷ right)) lower ∙ m)
     ∙ ap (λ (w : List ℕ). slid_rows (drop n inner) (take p R) w (drop (n + 1) rows)) (sym e))
 
--- ---- the lower neighbour moves
+-- ---- the lower neighbour moves into the empty cell
 
 pub moved_up :
     (n p q b : ℕ) (inner lower : List ℕ) (rows : List (List ℕ)) → n + 1 < length rows → p < length (get_or rows n [])
@@ -93,7 +93,7 @@ moved_up n p q b inner lower rows h k at e m =
     ∙ ap (λ (v : List (List ℕ)). take n rows ++ v) (sym step)
     ∙ ap (λ (v : List (List ℕ)). take n rows ++ slid_rows (drop n inner) (take p R) (drop (p + 1) R) v) (sym rest)
 
--- ---- there is no neighbour
+-- ---- the empty cell has no neighbour, so the slide ends
 
 pub stopped :
     (n p : ℕ) (inner : List ℕ) (rows : List (List ℕ)) → n < length rows → length (get_or rows n []) ≡ p + 1 → lower_at n p inner rows ≡ []

@@ -19,7 +19,7 @@ use Rattle.jeu_de_taquin.specs.declared.empty_cell.Neighbour.TheVariants.{Right,
 use Rattle.jeu_de_taquin.specs.EmptyCell.{next_of}
 use Rattle.jeu_de_taquin.proofs.Moves.{lower_at}
 
--- ---- how long the rows are
+-- ---- the lengths of the rows of a filling
 
 pub count-rows : (t : SkewFilling) → IsFilling t → length t.rows ≡ length t.outer
 count-rows t f =
@@ -29,7 +29,7 @@ pub count-row : (t : SkewFilling) (k : ℕ) → IsFilling t → k < length t.row
 count-row t k f h =
     sym (get_or-map (λ (w : List ℕ). length w) t.rows k [] 0 h) ∙ ap (λ (w : List ℕ). get_or w k 0) f.cells ∙ get_or-row_lengths t.outer t.inner k
 
--- ---- a cell changed or added
+-- ---- fillings with one entry changed, or one cell added
 
 pub IsFilling-with_entry : (t : SkewFilling) (row column a : ℕ) → IsFilling t → IsFilling (with_entry t row column a)
 IsFilling-with_entry t row column a f =
@@ -126,9 +126,9 @@ is_at t row column f c =
       small = omega arith;
     }
 
--- ---- the neighbours
+-- ---- the neighbours of the empty cell
 
--- the first letter, where there is one
+-- the first letter, if there is one
 abbrev pub head_of : List ℕ → Option ℕ
 head_of [] = None
 head_of (a ∷ w) = Some a
@@ -204,7 +204,7 @@ below-is t row column f a =
           ∙ sym (head-none T k (omega (arith, ap (λ (w : List ℕ). length w) none)))
     ]
 
--- ---- which one moves
+-- ---- the neighbour that moves into the empty cell
 
 pub record MovesLeft (right lower : List ℕ) (a : ℕ) : Type 0 where
   pub rest : List ℕ

@@ -25,7 +25,7 @@ told : (t : SkewFilling) (row column : ℕ) → IsFilling t → IsAt t row colum
     (head_of (lower_at (row - 1) (place_in_row t.inner row column) t.inner t.rows))
 told t row column f a = ap₂ next_of (right-is t row column a) (below-is t row column f a)
 
--- the right letter has moved: the next empty cell, and that the rows after the slide stay
+-- a letter has moved: (row', column') is the next empty cell, and the rows after the slide are those of the slide before
 pub record Goes (t s : SkewFilling) (row column row' column' : ℕ) : Type 0 where
   pub cell : IsCell s.outer s.inner row' column'
   pub rows : slid_from t row column ≡ slid_from s row' column'

@@ -1,4 +1,4 @@
--- A whole slide: what its parts come to is the slide of the definition.
+-- A whole slide: its parts together are the slide of the definition.
 use Rattle.std.proofs.Common.{◌≡◌, ℕ, zero, suc, ◌+◌, ◌-◌, ◌<◌, true, ◌&&◌, nat_le, List, [], ◌∷◌, ◌++◌, map, length, take, drop, get_or, ◌∙◌, ap, ap₂, sym, refl, subst, inl, inr, arith, append-nil}
 use Rattle.std.proofs.Math.ListN.{set}
 use Rattle.std.proofs.lemmas.Bool.{and_parts, cases_lt, leb-true}
@@ -18,7 +18,7 @@ use Rattle.jeu_de_taquin.proofs.Neighbours.{count-row, count-rows}
 pub IsFilling-tableau : (t : SkewFilling) → IsTableauWithin t → IsFilling t
 IsFilling-tableau t h = record { shape = h.shape; cells = h.tableau.cells }
 
--- ---- the corner becomes the empty cell
+-- ---- at the start the corner of the inner partition becomes the empty cell
 
 pub corner_cell :
     (t : SkewFilling) (row : ℕ) → IsTableauWithin t → HasInnerCorner row t.inner
@@ -54,7 +54,7 @@ slid_from-corner t row h c =
     ∙ ap (λ (w : List ℕ). take n t.rows ++ slid_rows (drop n new) [] w (drop (row - 1 + 1) t.rows)) (sym (append-nil R))
     ∙ ap (λ (v : List (List ℕ)). take n t.rows ++ slid_rows (drop n new) [] (letters_of (take 1 v)) (drop 1 v)) (sym rest)
 
--- ---- the last empty cell leaves
+-- ---- at the end the last empty cell leaves the shape
 
 ends-kept :
     (rows : List (List ℕ)) (outer inner : List ℕ) → map length rows ≡ row_lengths outer inner → contains outer inner ≡ true
@@ -98,9 +98,9 @@ ends-lowered (suc n) (row ∷ rows) (a ∷ outer) (b ∷ inner) e h l =
     let p = and_parts (nat_le b a) (contains outer inner) h in
     ap₂ ◌∷◌ (omega (arith, leb-true b a p.0)) (ends-lowered n rows outer inner rest p.1 l)
 
--- ---- the slide
+-- ---- the moves from start to end are the slide of the definition
 
--- the filling with these outer parts, zeros at their end left out
+-- the filling with these outer parts, without zeros at their end
 abbrev built : List ℕ → List ℕ → List (List ℕ) → SkewFilling
 built outer inner rows =
     record {

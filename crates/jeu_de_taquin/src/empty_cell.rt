@@ -7,19 +7,19 @@ ghost use Rattle.jeu_de_taquin.specs.EmptyCell.{next_of, slid_from};
 
 use skew_shapes::Filled;
 
-/// Which letter moves into the empty cell.
+/// The letter that moves into the empty cell.
 #[derive(Clone, Copy)]
 enum Neighbour {
-    /// The one on the right.
+    /// The letter right of the empty cell.
     Right(u16),
-    /// The one below.
+    /// The letter below the empty cell.
     Below(u16),
-    /// There is none.
+    /// No letter: the empty cell has no neighbour on the right or below.
     Nobody,
 }
 
 /// The letter that moves into the empty cell in this row and this column: the smaller one of its
-/// right and its lower neighbour, on a tie the lower one.
+/// right and its lower neighbour, or the lower one if they are equal.
 fn next_letter(filled: &Filled, row: u16, column: u16) -> Neighbour
     requires row { row ≤ 512 }
     requires column { column ≤ 4096 }
@@ -39,7 +39,8 @@ fn next_letter(filled: &Filled, row: u16, column: u16) -> Neighbour
 }
 
 /// Moves letters into the empty cell in this row and this column, and into those that they leave,
-/// until the empty cell has no neighbour. The row in which it then stands, as the last cell.
+/// until the empty cell has no neighbour. Returns the row of the empty cell, which is then its last
+/// cell.
 pub(crate) fn move_letters(filled: &mut Filled, row: u16, column: u16) -> u16
     requires filling { IsFilling filled.old }
     requires cell { IsCell filled.old.outer filled.old.inner row column }

@@ -1,10 +1,10 @@
-//! Slides of skew tableaux, and rectification (Schützenberger's jeu de taquin),
-//! in the tableau itself.
+//! Slides of skew tableaux, and rectification (Schützenberger's jeu de taquin), in place.
 //!
 //! What is proved:
 //!
 //! `slide`: one slide from an inner corner, which keeps the Knuth class of the reading word.
-//! `rectify`: a straight tableau that slides reach, the only one of the class. Both always answer.
+//! `rectify`: a straight tableau that slides reach, the only one of the class. Neither allocates
+//! memory, and neither can fail.
 #![tactic(auto)]
 
 mod empty_cell;

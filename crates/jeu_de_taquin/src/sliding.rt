@@ -7,10 +7,10 @@ ghost use Rattle.sym_model.specs.Slide.{HasInnerCorner, IsReached, slide};
 use crate::empty_cell::move_letters;
 use skew_shapes::Tableau;
 
-/// The slide of a tableau from the inner corner in this row: the corner becomes an empty cell, the
-/// smaller of its right and its lower neighbour moves into it, on a tie the lower one, and so on
-/// with the cell that is then empty; the last empty cell leaves the shape. The reading word stays
-/// in its Knuth class. It takes no memory.
+/// The slide of a tableau from the inner corner in this row: the corner becomes an empty cell; the
+/// smaller of its right and its lower neighbour (the lower one if they are equal) moves into it,
+/// and so on with the cell that is then empty; the last empty cell leaves the shape. The reading
+/// word stays in its Knuth class. It allocates no memory and cannot fail.
 pub fn slide(t: Tableau, row: u16) -> Tableau
     requires { HasInnerCorner row t.inner }
     ensures slide { result ≡ slide row t }
@@ -27,9 +27,9 @@ pub fn slide(t: Tableau, row: u16) -> Tableau
     }
 }
 
-/// The tableau that slides lead to from this one when its inner partition has become empty: the
-/// only straight tableau with its reading word in the Knuth class of this one's, whichever corners
-/// are chosen (Schützenberger). It takes no memory.
+/// The straight tableau that slides reach from `t`: the only straight tableau whose reading word is
+/// in the Knuth class of the reading word of `t`, whichever corners are chosen (Schützenberger). It
+/// allocates no memory and cannot fail.
 pub fn rectify(t: Tableau) -> Tableau
     ensures reached { IsReached t result }
     ensures only { IsOnlyTableauOf (reading_word t.rows) result.rows }

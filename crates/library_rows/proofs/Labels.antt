@@ -16,12 +16,12 @@ use Rattle.linear_combinations.proofs.Masses.{labels_gained}
 use Rattle.sparse_polys.specs.Limits.{IsWithinLimits}
 use Rattle.sparse_polys.specs.MonomialProducts.{greatest_size}
 use Rattle.sparse_polys.specs.Raised.{raised}
-use Rattle.change_from_monomials.proofs.ShapeSums.{one_label}
+use Rattle.beta_sets.proofs.ShapeSums.{one_label}
 
 module _ {L : Type 0} {eq : L → L → Bool} (laws : IsEquivalence eq)
     (same : (x y : L) → eq x y ≡ true → x ≡ y) {is_label : L → Bool} (old new : WholeTermsOf L)
     (k : L) (c : ℤ) where
-  -- where one term was added, its label and the old ones are the labels
+  -- if P holds for the old labels and for the label k that is added, it holds for all labels of the new table
   pub one_more_has : IsCombination eq is_label whole old → IsCombination eq is_label whole new
       → HasMoreAt eq (pos 0) (λ x y. x +ℤ y) old k c new
       → (P : L → Type 0) → HaveLabels P old → P k → HaveLabels P new
@@ -29,7 +29,7 @@ module _ {L : Type 0} {eq : L → L → Bool} (laws : IsEquivalence eq)
       labels_gained laws same old ((k, c) ∷ []) new also
       (gains_term laws same old new was also k c more) P there (one_label P k c here)
 
-  -- the only label of a table that was empty
+  -- if the table was empty before a term was added, the label of that term is its only one
   pub only_has : old ≡ [] → IsCombination eq is_label whole old
       → IsCombination eq is_label whole new
       → HasMoreAt eq (pos 0) (λ x y. x +ℤ y) old k c new
@@ -38,7 +38,7 @@ module _ {L : Type 0} {eq : L → L → Bool} (laws : IsEquivalence eq)
       one_more_has was also more P
       (subst (λ ts. HaveLabels P ts) (sym none) (λ t m. absurd m)) here
 
--- the labels do not change where whole numbers become fractions
+-- the labels do not change if whole numbers become fractions
 pub fractions_have : {L : Type 0} (P : L → Type 0) (terms : WholeTermsOf L) → HaveLabels P terms
     → (t : L × Fraction) → Among t (as_fractions terms) → P t.0
 fractions_have {L} P terms each t m =
@@ -61,7 +61,7 @@ second_fits a e =
     subst (λ x. IsWithinLimits (raised 2 x)) (sym e)
     (record { trimmed = refl; few = omega arith; small = omega arith })
 
--- a bound of the size of each label bounds the greatest one
+-- if the size of each label is at most a bound, so is the greatest size
 pub sizes_bounded : {R : Type 0} (bound : ℕ) (terms : List (List ℕ × R))
     → ((t : List ℕ × R) → Among t terms → size t.0 ≤ bound) → greatest_size terms ≤ bound
 sizes_bounded bound [] each = omega arith

@@ -15,7 +15,7 @@ pub fn print(rt: &(impl Print + Alloc<A = Global>)) -> Result<()> {
     shifts(rt, "S_(2,1) S_(2,1), double", &square(alloc)?)
 }
 
-/// S_(2,1)·(x_1 - y_1).
+/// The product of S_(2,1) and x_1 - y_1.
 fn with_factor(alloc: Global) -> Result<Terms<Shifted, Int>> {
     let mut list = Lin::new(alloc);
     let perm = Perm::from_letters(alloc, &[2, 1])?;
@@ -25,7 +25,7 @@ fn with_factor(alloc: Global) -> Result<Terms<Shifted, Int>> {
     Ok(product.sorted_terms()?)
 }
 
-/// The square of S_(2,1).
+/// The square of S_(2,1), as a double Schubert polynomial.
 fn square(alloc: Global) -> Result<Terms<Shifted, Int>> {
     let w = Perm::from_letters(alloc, &[2, 1])?;
     Ok(dschubmult(alloc, &w, &w)?)

@@ -7,10 +7,9 @@ ghost use Rattle.sparse_polys.specs.MonomialProducts.{greatest_size};
 
 use crate::printing::{expansion, sum};
 use anyhow::Result;
-use basis_expand::to_schur;
+use basis_expand::{to_monomial, to_schur};
 use calc_base::SumFault;
 use coeff_rings::{Frac, Int};
-use expand_in_monomials::to_monomial;
 use expression_reading::{Basis, Expr, Formula, Weight};
 use linear_combinations::Lin;
 use partitions::Partition;
@@ -27,7 +26,7 @@ pub fn print(rt: &(impl Print + Alloc<A = Global>)) -> Result<()> {
     sum(rt, "m_1 m_1", square(rt.alloc())?)
 }
 
-/// An atom as a formula, where it is one.
+/// An atom as a formula, if it is one.
 fn formula(alloc: Global, basis: Basis, parts: &[u16]) -> Result<Option<Formula>> {
     let label = Partition::from_parts(alloc, parts)?;
     Ok(Formula::from_tree(Expr::Atom { basis, label }).ok())
@@ -66,7 +65,7 @@ fn composed(alloc: Global, formula: &Formula) -> Result<Lin<Partition, Frac>, Su
     plethysm(alloc, &list, bound, &list, bound, Basis::S)
 }
 
-/// m_1.
+/// The list in m of the polynomial m_1.
 fn one_cell(alloc: Global) -> Result<Lin<Partition, Int>>
     ensures { IfOk result (λ list. greatest_size list ≤ 1) }
 {
@@ -75,7 +74,7 @@ fn one_cell(alloc: Global) -> Result<Lin<Partition, Int>>
     Ok(list)
 }
 
-/// m_1·m_1.
+/// The list in m of the product m_1·m_1.
 fn square(alloc: Global) -> Result<Lin<Partition, Int>> {
     let left = one_cell(alloc)?;
     let right = one_cell(alloc)?;

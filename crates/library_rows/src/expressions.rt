@@ -1,4 +1,4 @@
-//! Rows of expressions: their degree and weight, and which trees are formulas.
+//! Rows of expressions: their degree and weight, and tests of whether trees are formulas.
 use anyhow::Result;
 use expression_reading::{Basis, Expr, Formula, Weight, read_expression};
 use partitions::Partition;
@@ -46,7 +46,7 @@ fn tree(rt: &impl Print, what: &str, tree: Expr) -> Result<()> {
     }
 }
 
-/// Prints what a product of n numbers 2 is read as, in a word.
+/// Prints the result of reading a product of n numbers 2.
 fn twos(rt: &(impl Print + Alloc<A = Global>), what: &str, count: u8) -> Result<()> {
     let mut word = String::from_str(rt.alloc(), "2")?;
     for _ in 1..count {
@@ -55,7 +55,7 @@ fn twos(rt: &(impl Print + Alloc<A = Global>), what: &str, count: u8) -> Result<
     row(rt, what, word.as_str())
 }
 
-/// Prints what a word is read as that is to be expanded in m.
+/// Prints the result of reading a word that is to be expanded in m.
 fn row(rt: &(impl Print + Alloc<A = Global>), what: &str, word: &str) -> Result<()> {
     match read_expression(rt.alloc(), Basis::M, word.as_bytes()) {
         Ok(formula) => weighed(rt, what, &formula),

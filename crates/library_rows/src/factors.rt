@@ -25,7 +25,7 @@ fn pair(alloc: Global) -> Result<Factors> {
     Ok(Factors::pair(alloc, cell(alloc)?, cell(alloc)?)?)
 }
 
-/// Prints what a list of eight factors answers.
+/// Prints the results of calls on a list of eight factors.
 fn full(rt: &impl Print, factors: &mut Factors, next: Partition) -> Result<()> {
     said(rt, "factors of a pair and six pushed", &factors.len())?;
     said(rt, "a ninth", &pushed(factors, next))?;

@@ -22,7 +22,7 @@ fn hook_without_three(alloc: Global) -> Result<HooksRemoved> {
     Ok(HooksRemoved::new(alloc, &outer, 3)?)
 }
 
-/// Prints at most a hundred partitions with the heights of the rim hooks put on.
+/// Prints at most a hundred partitions, with the heights of the rim hooks that were added.
 fn added(rt: &impl Print, list: &mut HooksAdded) -> Result<()> {
     for _ in 0..100u16 {
         if list.advance() {
@@ -33,7 +33,7 @@ fn added(rt: &impl Print, list: &mut HooksAdded) -> Result<()> {
     Ok(())
 }
 
-/// Prints at most a hundred partitions with the heights of the rim hooks taken.
+/// Prints at most a hundred partitions, with the heights of the rim hooks that were removed.
 fn removed(rt: &impl Print, list: &mut HooksRemoved) -> Result<()> {
     for _ in 0..100u16 {
         if list.advance() {

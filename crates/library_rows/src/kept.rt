@@ -21,7 +21,7 @@ fn with_both(rt: &(impl Print + Alloc<A = Global>), w: &Perm, v: &Perm) -> Resul
     asked(rt, &mut memo, w, v)
 }
 
-/// Prints what a store answers on two permutations.
+/// Prints the results of calls of a store for two permutations.
 fn asked(rt: &impl Print, memo: &mut Memo, w: &Perm, v: &Perm) -> Result<()> {
     answered(rt, "S_(1,3,2)", memo, w)?;
     answered(rt, "S_(1,3,2) again", memo, w)?;

@@ -1,5 +1,5 @@
-//! Rows of labels of every kind: a copy is equal to its label,
-//! and finds it among the keys of a hash table.
+//! Rows of labels of every kind: a copy is equal to its label, and finds it among the keys of a
+//! hash table.
 use anyhow::Result;
 use indexmap::IndexMap;
 use linear_combinations::Label;

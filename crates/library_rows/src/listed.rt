@@ -90,7 +90,7 @@ fn counted(rt: &(impl Print + Alloc<A = Global>)) -> Result<()> {
     )
 }
 
-/// Prints how many tableaux of a shape over another have a content.
+/// Prints the number of tableaux of a skew shape with a content.
 fn count(
     rt: &(impl Print + Alloc<A = Global>),
     what: &str,
@@ -102,8 +102,8 @@ fn count(
     said(rt, what, &number_of(rt.alloc(), &shape, case.2)?)
 }
 
-/// How many tableaux of a shape have a content of at most 512 numbers,
-/// where they are no more than 10,000.
+/// The number of tableaux of a shape with a content of at most 512 numbers, if it is at most
+/// 10,000.
 fn number_of(alloc: Global, shape: &Skew, content: &[u16]) -> Result<u16> {
     if content.len() > 512 {
         return Ok(0);
@@ -112,7 +112,7 @@ fn number_of(alloc: Global, shape: &Skew, content: &[u16]) -> Result<u16> {
     Ok(length(&mut list))
 }
 
-/// How many items a list has, where they are no more than 10,000.
+/// The number of items of a list, if it is at most 10,000.
 fn length<L: Lister>(list: &mut L) -> u16 {
     for count in 0..10000 {
         if !list.advance() {

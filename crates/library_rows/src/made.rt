@@ -1,4 +1,4 @@
-//! Rows of tableaux that are made of their column readings, and read.
+//! Rows of tableaux that are made from their column readings, and of their reading words.
 use crate::shapes::skew;
 use anyhow::Result;
 use row_insertion::reading_word;
@@ -15,7 +15,7 @@ pub fn print(rt: &(impl Print + Alloc<A = Global>)) -> Result<()> {
     line(rt, "the word 3 1", word.as_slice())
 }
 
-/// Prints the tableau of (2,1) with a column reading, and how it is read.
+/// Prints the tableau of (2,1) with a column reading, and its reading word.
 fn made(rt: &(impl Print + Alloc<A = Global>), what: &str, reading: &[u16]) -> Result<()> {
     let Some(shape) = skew(rt.alloc(), &[2, 1], &[])? else {
         return Ok(());

@@ -1,12 +1,11 @@
-//! Calls of the library with their answers, a line a row, for what no contract says: that memory is
-//! found, and the call answers.
-//! What it prints is compared with `stdout`, whose lines were written from the definitions and from
-//! outside values.
+//! Calls of the library with their results, one row each. They show a fact that no contract states:
+//! the calls find memory and return a result. The output is compared with `stdout`, whose lines
+//! were written from the definitions and from outside values.
 //!
 //! What is proved:
 //!
-//! A program that prints answers of the library's calls, a line each: it is proved safe. Its stored
-//! lines were written from the definitions or by independent code or programs; those of
+//! A program that prints results of the library's calls, one line each: it is proved safe. The
+//! expected lines were written from the definitions or by independent code or programs; those of
 //! permutations were first printed by the program and then compared with the definitions by
 //! independent code.
 #![tactic(auto)]

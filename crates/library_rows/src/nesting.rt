@@ -1,13 +1,13 @@
 //! Rows of expansions in the monomial basis at the greatest nesting of an expression.
 
 use anyhow::Result;
-use expand_in_monomials::to_monomial;
+use basis_expand::to_monomial;
 use expression_reading::{Expr, Formula};
 use row_texts::said;
 use std::alloc::{AllocError, Global};
 
-/// Prints the rows of the crate `expand_in_monomials`: whether one, negated so often, is an
-/// expression that is expanded.
+/// Prints the rows of the crate `basis_expand`: whether the number 1, negated as often as
+/// the nesting allows and once more, is an expression that is expanded.
 pub fn print(rt: &(impl Print + Alloc<A = Global>)) -> Result<()> {
     let alloc = rt.alloc();
     let answer = expanded(alloc, negated_one(alloc, 4096)?);
@@ -16,7 +16,7 @@ pub fn print(rt: &(impl Print + Alloc<A = Global>)) -> Result<()> {
     said(rt, "one at nesting 4097", &answer)
 }
 
-/// How the expansion of an expression goes.
+/// The outcome of expanding an expression.
 fn expanded(alloc: Global, tree: Expr) -> &'static str {
     let Ok(formula) = Formula::from_tree(tree) else {
         return "no formula";
@@ -28,7 +28,7 @@ fn expanded(alloc: Global, tree: Expr) -> &'static str {
     }
 }
 
-/// One, negated.
+/// The number 1, negated `nesting - 1` times.
 fn negated_one(alloc: Global, nesting: u16) -> Result<Expr, AllocError> {
     let mut tree = Expr::Number { num: 1 };
     for _ in 1..nesting {

@@ -20,16 +20,17 @@ pub fn print(rt: &(impl Print + Alloc<A = Global>)) -> Result<()> {
     of_four(rt)?;
     of_thirty(rt)?;
     conjugates(rt)?;
-    beta_lists(rt)?;
+    beta_list(rt)?;
+    from_beta(rt)?;
     arrangements(rt)
 }
 
-/// As many parts as a partition has at most.
+/// The greatest number of parts that a partition can have, each 1.
 fn most_ones() -> [u16; 512] {
     [1; 512]
 }
 
-/// One part more than a partition has at most.
+/// One part more than a partition can have.
 fn ones() -> [u16; 513] {
     [1; 513]
 }
@@ -105,7 +106,7 @@ fn made_again(rt: &(impl Print + Alloc<A = Global>), staircase: &Partition) -> R
     )
 }
 
-/// Whether a partition is equal to another one, which is given up.
+/// Whether a partition equals `other`, which is dropped.
 fn is_same(shape: &Partition, other: Partition) -> bool {
     other == *shape
 }
@@ -125,7 +126,7 @@ fn of_thirty(rt: &(impl Print + Alloc<A = Global>)) -> Result<()> {
     said(rt, "partitions of 30", &number_of(&mut list))
 }
 
-/// How many partitions a list has, where they are no more than 10,000.
+/// The number of partitions of a list, if it is at most 10,000.
 fn number_of(list: &mut PartitionsOf) -> u16 {
     for count in 0..10000 {
         if !list.advance() {
@@ -144,15 +145,21 @@ fn conjugates(rt: &(impl Print + Alloc<A = Global>)) -> Result<()> {
     line(rt, "the conjugate of (3,1)", conjugate.parts())
 }
 
-fn beta_lists(rt: &(impl Print + Alloc<A = Global>)) -> Result<()> {
+fn beta_list(rt: &(impl Print + Alloc<A = Global>)) -> Result<()> {
     let shape = Partition::from_parts(rt.alloc(), &[2, 1])?;
     if shape.rows() > 3 {
         return Ok(());
     }
-    let beta = shape.beta(3)?;
-    line(rt, "the beta list of (2,1) of length 3", beta.as_slice())?;
-    let again = Partition::from_beta(rt.alloc(), &[4, 2, 0])?;
-    line(rt, "the partition of the beta list 4 2 0", again.parts())
+    line(
+        rt,
+        "the beta list of (2,1) of length 3",
+        shape.beta(3)?.as_slice(),
+    )
+}
+
+fn from_beta(rt: &(impl Print + Alloc<A = Global>)) -> Result<()> {
+    let shape = Partition::from_beta(rt.alloc(), &[4, 2, 0])?;
+    line(rt, "the partition of the beta list 4 2 0", shape.parts())
 }
 
 fn arrangements(rt: &(impl Print + Alloc<A = Global>)) -> Result<()> {

@@ -4,7 +4,7 @@ use perm_codes::Perm;
 use row_texts::{each_said, line, said, truth};
 use std::alloc::Global;
 
-/// 18 falling letters.
+/// 18 letters in decreasing order.
 const FALLING: [u16; 18] = [
     18, 17, 16, 15, 14, 13, 12, 11, 10, 9, 8, 7, 6, 5, 4, 3, 2, 1,
 ];
@@ -20,7 +20,7 @@ pub fn print(rt: &(impl Print + Alloc<A = Global>)) -> Result<()> {
     falling(rt)
 }
 
-/// One letter more than a permutation has at most.
+/// One letter more than a permutation can have.
 fn ones() -> [u16; 256] {
     [1; 256]
 }
@@ -129,7 +129,7 @@ fn falling_letters(rt: &impl Print, w: &Perm) -> Result<()> {
     )
 }
 
-/// Whether a permutation is equal to another one, which is given up.
+/// Whether a permutation equals `other`, which is dropped.
 fn is_same(w: &Perm, other: Perm) -> bool {
     other == *w
 }

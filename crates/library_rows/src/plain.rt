@@ -1,4 +1,4 @@
-//! Rows of the plain programs, which go by their definitions.
+//! Rows of the plain programs, which follow their definitions.
 use anyhow::Result;
 use plain_programs::{
     Core, Signed, plain_alcove, plain_arrangements, plain_beta, plain_column_reading,

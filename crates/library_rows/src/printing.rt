@@ -1,4 +1,4 @@
-//! How terms are printed: the coefficient, and the label in brackets.
+//! The printing of terms: the coefficient, and the label in brackets.
 use anyhow::Result;
 use block_reader::ReadBackFault;
 use coeff_rings::{Digits, Frac, Int, Scalar};
@@ -9,7 +9,7 @@ use perm_codes::Perm;
 use row_texts::{end, said, start, term};
 use sparse_polys::{Monomial, Pair, Poly, Power, Shifted};
 
-/// Prints what a text is read as.
+/// Prints the result of reading a text.
 pub fn read_as(rt: &impl Print, what: &str, read: Result<Answer, ReadBackFault>) -> Result<()> {
     match read {
         Ok(answer) => answered(rt, what, &answer),
@@ -31,7 +31,7 @@ fn answered(rt: &impl Print, what: &str, answer: &Answer) -> Result<()> {
     }
 }
 
-/// Prints an expansion with fractions.
+/// Prints an expansion whose coefficients are fractions.
 pub fn expansion(rt: &impl Print, what: &str, list: Lin<Partition, Frac>) -> Result<()> {
     let sorted = list.sorted_terms()?;
     fractions(rt, what, &sorted)
@@ -80,13 +80,13 @@ pub fn shifts(rt: &impl Print, what: &str, list: &Terms<Shifted, Int>) -> Result
     end(rt)
 }
 
-/// Prints an expansion with whole numbers.
+/// Prints an expansion whose coefficients are integers.
 pub fn sum(rt: &impl Print, what: &str, list: Lin<Partition, Int>) -> Result<()> {
     let sorted = list.sorted_terms()?;
     shapes(rt, what, &sorted)
 }
 
-/// Prints terms with whole numbers.
+/// Prints terms whose coefficients are integers.
 pub fn shapes(rt: &impl Print, what: &str, list: &Terms<Partition, Int>) -> Result<()> {
     start(rt, what)?;
     for (shape, c) in list.iter() {

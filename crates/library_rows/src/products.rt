@@ -19,7 +19,7 @@ pub fn print(rt: &(impl Print + Alloc<A = Global>)) -> Result<()> {
     schubert_sum(rt, "x_2 S_(1)", monk(alloc, &[1], 2)?)
 }
 
-/// x_1.
+/// The polynomial x_1.
 fn first_variable(alloc: Global) -> Result<Poly<Int>>
     ensures { IfOk result (HaveLabels (λ e. e ≡ 1 ∷ [])) }
 {
@@ -28,7 +28,7 @@ fn first_variable(alloc: Global) -> Result<Poly<Int>>
     Ok(sum)
 }
 
-/// x_1 + x_2.
+/// The polynomial x_1 + x_2.
 fn two_variables(alloc: Global) -> Result<Poly<Int>>
     ensures { IfOk result (HaveLabels (λ e. (e ≡ 0 ∷ 1 ∷ []) ⊎ (e ≡ 1 ∷ []))) }
 {
@@ -37,7 +37,7 @@ fn two_variables(alloc: Global) -> Result<Poly<Int>>
     Ok(sum)
 }
 
-/// (x_1 + x_2)·x_1.
+/// The product of x_1 + x_2 and x_1.
 fn product(alloc: Global) -> Result<Poly<Int>> {
     let left = two_variables(alloc)?;
     let right = first_variable(alloc)?;
@@ -50,7 +50,7 @@ fn product_with_variable(alloc: Global) -> Result<Poly<Int>> {
     Ok(times_var(alloc, list, 2)?)
 }
 
-/// S_w·x_r.
+/// The product of S_w, for the permutation w with these letters, and x_r.
 fn monk(alloc: Global, letters: &[u16], r: u16) -> Result<Lin<Perm, Int>>
     requires first { 1 ≤ r }
     requires last { r ≤ 254 }

@@ -13,8 +13,8 @@ pub fn print(rt: &(impl Print + Alloc<A = Global>)) -> Result<()> {
     alcove(rt, "(4,1,1) in the alcove of 3 and 5", &[4, 1, 1])
 }
 
-/// Prints what is left of a partition of at most 3 rows without rim hooks of 6 cells,
-/// in at most 3 columns.
+/// Prints the reduction of a partition of at most 3 rows by rim hooks of 6 cells, in at most 3
+/// columns.
 fn core(rt: &(impl Print + Alloc<A = Global>), what: &str, parts: &[u16]) -> Result<()> {
     let shape = Partition::from_parts(rt.alloc(), parts)?;
     if shape.rows() > 3 {
@@ -33,7 +33,7 @@ fn left(rt: &impl Print, what: &str, core: &Core) -> Result<()> {
     end(rt)
 }
 
-/// Prints what a partition of at most 3 rows is in the alcove of level 2.
+/// Prints the reduction of a partition of at most 3 rows into the alcove of level 2.
 fn alcove(rt: &(impl Print + Alloc<A = Global>), what: &str, parts: &[u16]) -> Result<()> {
     let shape = Partition::from_parts(rt.alloc(), parts)?;
     if shape.rows() > 3 {

@@ -4,7 +4,7 @@ use partitions::Partition;
 use skew_shapes::Skew;
 use std::alloc::Global;
 
-/// A skew shape, where it is one.
+/// A skew shape, if these are the partitions of one.
 pub fn skew(alloc: Global, outer: &[u16], inner: &[u16]) -> Result<Option<Skew>> {
     let outer = Partition::from_parts(alloc, outer)?;
     let inner = Partition::from_parts(alloc, inner)?;

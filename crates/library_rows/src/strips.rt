@@ -1,6 +1,6 @@
 //! Rows of expansions in s times h_k, e_k and p_k.
 ghost use Rattle.std.specs.Prelude.{IfOk};
-ghost use Rattle.strip_rules.specs.Room.{HasRoom};
+ghost use Rattle.strip_rules.specs.Room.{HaveRoomForStrips};
 
 use crate::printing::sum;
 use anyhow::Result;
@@ -32,9 +32,9 @@ fn with_hook(alloc: Global) -> Result<Expansion> {
     Ok(add_hook(alloc, one_cell(alloc)?, 2)?)
 }
 
-/// s_(1), which has room for two cells more.
+/// s_(1), to which two more cells can be added.
 fn one_cell(alloc: Global) -> Result<Expansion>
-    ensures { IfOk result (HasRoom 2) }
+    ensures { IfOk result (HaveRoomForStrips 2) }
 {
     let mut list = Lin::new(alloc);
     list.add_at_label(&Partition::from_parts(alloc, &[1])?, Int::new(1))?;

@@ -79,7 +79,7 @@ fn total(table: &Table) -> Option<Int> {
     Some(total)
 }
 
-/// A partition of one row. So few cells as here are refused only where memory is.
+/// A partition of one row. The rows here are so short that its only error can be out of memory.
 fn one_row(alloc: Global, cells: u16) -> Result<Partition, SumFault> {
     match Partition::from_parts(alloc, &[cells]) {
         Ok(shape) => Ok(shape),
@@ -106,7 +106,7 @@ fn terms(rt: &impl Print, what: &str, table: Table) -> Result<()> {
     end(rt)
 }
 
-/// Prints how a call ended.
+/// Prints the outcome of a call.
 fn told<T: Drop>(rt: &impl Print, what: &str, answer: Result<T, SumFault>) -> Result<()> {
     match answer {
         Ok(_) => said(rt, what, &"done"),

@@ -2,10 +2,10 @@
 use crate::printing::{expansion, read_as};
 use anyhow::Result;
 use basis_change::to_basis;
+use basis_expand::to_monomial;
 use block_reader::{read_back, read_one_line};
 use calc_base::SumFault;
 use coeff_rings::Frac;
-use expand_in_monomials::to_monomial;
 use expansion_printer::Kind;
 use expression_reading::{Basis, Expr, Formula};
 use linear_combinations::Lin;
@@ -57,7 +57,7 @@ fn blocks(rt: &(impl Print + Alloc<A = Global>)) -> Result<()> {
     other_blocks(rt)
 }
 
-/// Prints what blocks of the other kinds are read as.
+/// Prints the results of reading blocks of the other kinds.
 fn other_blocks(rt: &(impl Print + Alloc<A = Global>)) -> Result<()> {
     block(rt, "the block of 2 as a number", "2\n", Kind::Number)?;
     block(rt, "a pair", "1  (2,1) ()\n", Kind::Pairs)?;
@@ -67,12 +67,12 @@ fn other_blocks(rt: &(impl Print + Alloc<A = Global>)) -> Result<()> {
     block(rt, "a shift", "-1  (2,1) (0,1)\n", Kind::Shifts)
 }
 
-/// Prints what a block is read as.
+/// Prints the result of reading a block.
 fn block(rt: &(impl Print + Alloc<A = Global>), what: &str, text: &str, kind: Kind) -> Result<()> {
     read_as(rt, what, read_back(rt.alloc(), text.as_bytes(), kind))
 }
 
-/// Prints what a line of an expansion in p is read as.
+/// Prints the result of reading a one-line form of an expansion in p.
 fn line(rt: &(impl Print + Alloc<A = Global>), what: &str, text: &str) -> Result<()> {
     let read = read_one_line(rt.alloc(), text.as_bytes(), Kind::Expansion, Basis::P);
     read_as(rt, what, read)

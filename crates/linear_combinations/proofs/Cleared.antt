@@ -1,4 +1,4 @@
--- What is gained by a table of fractions, one thing after another (specs/Cleared).
+-- Terms added to a table of fractions in several steps (specs/Cleared).
 use Rattle.std.proofs.Common.{◌≡◌, ℕ, ◌*◌, Bool, List, [], ◌∷◌, ◌++◌, refl, sym, ap, ◌∙◌, subst}
 use Rattle.std.proofs.Common.{arith, ℤ}
 use Rattle.std.specs.Int.{◌∣◌}
@@ -10,7 +10,7 @@ use Rattle.linear_combinations.specs.Cleared.{AreCleared, GainsCleared, Overflow
 use Rattle.linear_combinations.proofs.Gains.{gains_none, gains_as, gains_both, pairs_overflow}
 use native.Mathlib.Nat.{dvd-mul_left}
 
--- a common denominator is one of each coefficient
+-- a common denominator of a list is a denominator of each of its coefficients
 pub denominator_among : {L : Type 0} {q : ℕ} {terms : Terms L} → IsCommonDenominator q terms
     → (t : L × Fraction) → Among t terms → IsDenominator q t.1
 denominator_among common t m = record {
@@ -49,7 +49,7 @@ module _ {L : Type 0} {eq : L → L → Bool} {is_label : L → Bool} (q : ℕ) 
         a.gains b.gains;
   }
 
--- what is added for a list is what is added for its pieces
+-- a list is added by adding its pieces one after another
 module _ {A L : Type 0} (gained : List A → WholeTermsOf L)
     (pieces : (xs ys : List A) → gained (xs ++ ys) ≡ gained xs ++ gained ys)
     {eq : L → L → Bool} {is_label : L → Bool} (q : ℕ) (done : List A) (p : A) (old cur : Terms L)

@@ -1,8 +1,8 @@
 -- Labels with coefficients that a function gives them, and lists in which no coefficient is negative.
---     each_by-over, -labels, -append    what such a list comes to, its labels and its pieces
+--     each_by-over, -labels, -append    the sums of such a list, its labels and its pieces
 --     counted_counts                    counts are not negative
---     counts_gain, counts_overflow      two lists with the same sums are gained alike
---     replaced_at, replaced_mass        what a rule makes of a list, if its value at each label is known
+--     counts_gain, counts_overflow      of two lists with the same sums, a table gains the one if it gains the other
+--     replaced_at, replaced_mass        the image of a list under a rule, if its value at each label is known
 use Rattle.std.proofs.Common.{◌≡◌, ℕ, ◌+◌, ◌*◌, Bool, List, [], ◌∷◌, ◌++◌, refl, sym, ap, ap₂, ◌∙◌, subst, inl, inr, arith, ℤ, pos, ◌+ℤ◌, ◌*ℤ◌}
 use Rattle.std.specs.Prelude.{nat_abs, ◌≤ℤ◌}
 use Rattle.std.proofs.lemmas.Int.{ints}
@@ -35,7 +35,7 @@ counted_counts {L} count labels t m =
     let r = Among_from_map (λ (x : L). (x, pos (count x))) t labels m in
     subst (λ (u : L × ℤ). pos 0 ≤ℤ u.1) (sym r.2) (omega (arith, ints))
 
--- ---- two lists with the same sums
+-- ---- a table gains, or overflows by, one of two lists with the same sums if and only if it does by the other
 
 module _ {L : Type 0} (g h : WholeTermsOf L) (same : (φ : L → ℤ) → over φ g ≡ over φ h) where
   pub counts_gain : (c : ℤ) (old new : WholeTermsOf L) → Gains old (scaled c g) new → Gains old (scaled c h) new
@@ -54,7 +54,7 @@ module _ {L : Type 0} (g h : WholeTermsOf L) (same : (φ : L → ℤ) → over �
       as_number : {a b : ℕ} → pos a ≡ pos b → a ≡ b
       as_number {a} {b} e = omega (arith, ints)
 
--- ---- what a rule makes of a list
+-- ---- the image of a list under a rule, if the value of the rule at each label is known
 
 module _ {K L : Type 0} (image : K → WholeTermsOf L) (value : K → ℤ) where
   pub replaced_at : (φ : L → ℤ) (terms : WholeTermsOf K) → ((t : K × ℤ) → Among t terms → over φ (image t.0) ≡ value t.0)
@@ -63,7 +63,7 @@ module _ {K L : Type 0} (image : K → WholeTermsOf L) (value : K → ℤ) where
       replaced_over image φ terms
       ∙ total_among (λ (t : K × ℤ). t.1 *ℤ over φ (image t.0)) (λ (t : K × ℤ). t.1 *ℤ value t.0) terms (λ t m. ap (λ z. t.1 *ℤ z) (h t m))
 
-  -- with absolute values
+  -- the sum of the absolute values that an image has at a label, if no image has a negative coefficient
   pub replaced_mass : (eq : L → L → Bool) (x : L) (terms : WholeTermsOf K) → ((k : K) → AreCounts (image k))
       → ((t : K × ℤ) → Among t terms → over (only eq x) (image t.0) ≡ value t.0)
       → pos (mass_at eq x (replaced image terms)) ≡ total (λ (t : K × ℤ). pos (nat_abs t.1) *ℤ value t.0) terms

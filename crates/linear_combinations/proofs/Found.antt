@@ -1,4 +1,4 @@
--- What a table of whole numbers has at a label, and the lists that have its sums.
+-- The coefficient of a table of integers at a label, and the lists with the same sums.
 use Rattle.std.proofs.Common.{◌≡◌, ◌⊎◌, inl, inr, ℕ, ◌+◌, ◌^◌, ◌≤◌, Bool, true, false, cond, List, [], ◌∷◌, ◌++◌, refl, sym, ap, ◌∙◌, arith, ℤ, pos, negsuc, ◌+ℤ◌, ◌*ℤ◌}
 use Rattle.std.specs.Prelude.{Option, nat_abs, nat_eq, ◌≤ℤ◌}
 use Rattle.std.specs.Cmp.Lexicographic.{pointwise, nat_list_eq_equiv}
@@ -21,7 +21,7 @@ use Rattle.linear_combinations.proofs.Gains.{over_at, over_append}
 use Rattle.linear_combinations.proofs.Totals.{found-among}
 use lib.IntN.{*ℤ-zero, +ℤ_idl}
 
--- where no number is negative, those at a label add up to what they come to
+-- if no number is negative, the sum of those at a label is the sum of their absolute values
 pub counts_at : {L : Type 0} (eq : L → L → Bool) (x : L) (g : WholeTermsOf L) → AreCounts g → over (only eq x) g ≡ pos (mass_at eq x g)
 counts_at eq x [] h = refl
 counts_at {L} eq x (t ∷ g) h = by (eq x t.0) t.1 (h t (inl refl)) (counts_at eq x g (λ u m. h u (inr m)))
@@ -31,7 +31,7 @@ counts_at {L} eq x (t ∷ g) h = by (eq x t.0) t.1 (h t (inl refl)) (counts_at e
     by true (negsuc n) l r = absurd (omega (arith, ints))
     by false c l r = let e = *ℤ-zero c in omega (arith, ints)
 
--- ---- labels that are lists of numbers
+-- ---- lists whose labels are lists of numbers
 
 only_same : (x y : List ℕ) → only (pointwise nat_eq) x y ≡ at_only x y
 only_same x y = by (pointwise nat_eq x y) refl (same_or_not y x)
@@ -42,33 +42,33 @@ only_same x y = by (pointwise nat_eq x y) refl (same_or_not y x)
     by false p (inl e) = absurd (both_ways (pointwise nat_eq x y) p (ap (pointwise nat_eq x) e ∙ nat_list_eq_equiv.refl x))
     by false p (inr n) = sym (ap (λ b. cond b (pos 1) (pos 0)) (same_apart y x n))
 
--- what a list comes to at a label
+-- the coefficient of a list at a label is its sum against the test function of the label
 pub coefficient_over : (g : WholeTermsOf (List ℕ)) (x : List ℕ) → coefficient_of g x ≡ over (only (pointwise nat_eq) x) g
 coefficient_over g x =
     coefficient_pair g x ∙ total_ext (λ (t : List ℕ × ℤ). t.1 *ℤ at_only x t.0) (λ (t : List ℕ × ℤ). t.1 *ℤ only (pointwise nat_eq) x t.0) (λ t. ap (λ z. t.1 *ℤ z) (sym (only_same x t.0))) g
 
--- of a table it is the coefficient
+-- in a table, the coefficient of a label is the one that a look-up finds
 pub coefficient_found : (terms : WholeTermsOf (List ℕ)) → IsDistinct (pointwise nat_eq) (keys_of terms) → (x : List ℕ) → coefficient_of terms x ≡ coefficient (pointwise nat_eq) (pos 0) terms x
 coefficient_found terms distinct x = coefficient_over terms x ∙ over_at nat_list_eq_equiv same_partition terms distinct x
 
--- what it comes to at the label of a term is the number of the term
+-- in a table, the coefficient at the label of a term is the number of the term
 pub coefficient_of_term : (terms : WholeTermsOf (List ℕ)) → IsDistinct (pointwise nat_eq) (keys_of terms) → (t : List ℕ × ℤ) → Among t terms → coefficient_of terms t.0 ≡ t.1
 coefficient_of_term terms distinct t m =
     coefficient_found terms distinct t.0
     ∙ ap (λ (o : Option ℤ). unwrap_or o (pos 0)) (found-among nat_list_eq_equiv same_partition terms distinct t m)
 
--- lists with the same sums are the same, and the other way round
+-- lists with the same sums are the same, and conversely
 pub same_sums : (f g : WholeTermsOf (List ℕ)) → ((φ : List ℕ → ℤ) → over φ f ≡ over φ g) → Same f g
 same_sums f g e = same_from_pair f g e
 
 pub sums_same : (f g : WholeTermsOf (List ℕ)) → Same f g → (φ : List ℕ → ℤ) → over φ f ≡ over φ g
 sums_same f g e φ = pair_determined f g φ e
 
--- what a table has gained is added to it
+-- a table that gained terms is the old one with these terms appended
 pub gains_same : (old gained new : WholeTermsOf (List ℕ)) → Gains old gained new → Same new (old ++ gained)
 gains_same old gained new a = same_sums new (old ++ gained) (λ φ. a.sums φ ∙ sym (over_append φ old gained))
 
--- ---- a table that was empty at first
+-- ---- a table that was empty before it gained terms
 
 pub coefficient_gained : (old gained new : WholeTermsOf (List ℕ)) (x : List ℕ) → old ≡ [] → Gains old gained new
     → coefficient_of new x ≡ over (only (pointwise nat_eq) x) gained

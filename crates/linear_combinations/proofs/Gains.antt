@@ -1,4 +1,4 @@
--- What is gained by a table of whole numbers, one thing after another (specs/Gains).
+-- Terms added to a table of integers in several steps (specs/Gains).
 use Rattle.std.proofs.Common.{◌≡◌, ◌⊎◌, ℕ, suc, ◌+◌, ◌^◌, ◌<◌, ◌≤◌, Bool, true, false, cond, List, [], ◌∷◌, ◌++◌, length, take, drop, get_or, refl, sym, ap, ap₂, ◌∙◌, subst, inl, inr, arith, append_assoc, ℤ, pos, ◌+ℤ◌, ◌*ℤ◌}
 use Rattle.std.specs.Prelude.{Option, Some, None, nat_abs}
 use Rattle.std.specs.Cmp.{IsEquivalence}
@@ -27,7 +27,7 @@ module _ {L : Type 0} where
   pub over_append : (φ : L → ℤ) (xs ys : WholeTermsOf L) → over φ (xs ++ ys) ≡ over φ xs +ℤ over φ ys
   over_append φ xs ys = total_append (λ (t : L × ℤ). t.1 *ℤ φ t.0) xs ys
 
-  -- ---- gains, one after another
+  -- ---- what a table gains in several steps, one after another
 
   pub gains_none : (old : WholeTermsOf L) → Gains old [] old
   gains_none old = record { sums = λ φ. sym (+ℤ_idr (over φ old)) }
@@ -65,7 +65,7 @@ module _ {L : Type 0} where
         by true r = omega arith
         by false r = omega arith
 
-    -- a later overflow is one from the start
+    -- if a table gains g and then h overflows it, adding g and h together overflows the old table
     pub overflows_both : (old g mid h : WholeTermsOf L) → Gains old g mid → Overflows eq mid h → Overflows eq old (g ++ h)
     overflows_both old g mid h a o =
         let x = o.0 in
@@ -76,14 +76,14 @@ module _ {L : Type 0} where
         let m = mass_at_append o.0 g h in
         (x, omega arith)
 
-    -- and stays one where more is to come
+    -- if adding g overflows a table, so does adding g and h
     pub overflows_more : (old g h : WholeTermsOf L) → Overflows eq old g → Overflows eq old (g ++ h)
     overflows_more old g h o = let l = o.1 in let m = mass_at_append o.0 g h in (o.0, omega arith)
 
     pub overflows_as : (old g h : WholeTermsOf L) → ((x : L) → mass_at eq x g ≤ mass_at eq x h) → Overflows eq old g → Overflows eq old h
     overflows_as old g h e o = let l = o.1 in let m = e o.0 in (o.0, omega arith)
 
-  -- ---- one term
+  -- ---- a table gains one term, or one term overflows it
 
   module _ {eq : L → L → Bool} (laws : IsEquivalence eq) (same : (x y : L) → eq x y ≡ true → x ≡ y) where
     pub over_at : (terms : WholeTermsOf L) → IsDistinct eq (keys_of terms) → (k : L) → over (only eq k) terms ≡ coefficient eq (pos 0) terms k
@@ -105,7 +105,7 @@ module _ {L : Type 0} where
         let h = ap (λ b. cond b (nat_abs c) 0) (laws.refl k) in
         (k, omega arith)
 
-    -- a number that is too large by itself
+    -- adding one term whose coefficient is at least 2^127 in absolute value overflows
     pub overflows_alone : (old : WholeTermsOf L) (k : L) (c : ℤ) → 2 ^ 127 ≤ nat_abs c → Overflows eq old ((k, c) ∷ [])
     overflows_alone old k c large = let h = ap (λ b. cond b (nat_abs c) 0) (laws.refl k) in (k, omega arith)
 
@@ -121,10 +121,10 @@ module _ {L : Type 0} where
           omega (arith, ints);
     }
 
-    -- ---- what follows of labels
+    -- ---- the labels of the table after a gain
 
     module _ {is_label : L → Bool} (old g new : WholeTermsOf L) (is : IsCombination eq is_label whole new) (a : Gains old g new) where
-      -- a property that the old labels and those that are gained have, the new ones have
+      -- if P holds for the old labels and for those that are added, it holds for the labels of the new table
       pub gains_labels : (P : L → Type 0) → ((t : L × ℤ) → Among t new → (t.1 ≡ pos 0) → ⊥) → HaveLabels P old → HaveLabels P g → HaveLabels P new
       gains_labels P proper hold gained t m =
           let here = over_at new is.distinct t.0 ∙ ap (λ (o : Option ℤ). unwrap_or o (pos 0)) (found-among laws same new is.distinct t m) in
@@ -148,7 +148,7 @@ module _ {L : Type 0} where
               (sym (over_at new is.distinct t.0 ∙ ap (λ (o : Option ℤ). unwrap_or o (pos 0)) (found-among laws same new is.distinct t m))
               ∙ a.sums (only eq t.0) ∙ ap₂ (λ x y. x +ℤ y) p r))
 
-  -- ---- lists that are gained, piece by piece
+  -- ---- lists that are gained, split into two pieces
 
   pub each_append : (c : ℤ) (xs ys : List L) → each_with c (xs ++ ys) ≡ each_with c xs ++ each_with c ys
   each_append c [] ys = refl
@@ -199,7 +199,7 @@ replaced_over image φ (t ∷ terms) = over_append φ (scaled t.1 (image t.0)) (
 
 -- ---- loops in which gains are added up: over the pairs of a table, and over a list by place
 
--- what is added for a list is what is added for its pieces
+-- a list is added by adding its pieces one after another
 module _ {A L : Type 0} (gained : List A → WholeTermsOf L) (pieces : (xs ys : List A) → gained (xs ++ ys) ≡ gained xs ++ gained ys)
     (done : List A) (p : A) (old cur : WholeTermsOf L) (so_far : Gains old (gained done) cur) where
   pub pairs_gain : (next : List A) (new : WholeTermsOf L) → done ++ p ∷ [] ≡ next → Gains cur (gained (p ∷ [])) new → Gains old (gained next) new

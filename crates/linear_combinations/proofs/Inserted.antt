@@ -1,7 +1,7 @@
--- One label put into a table with a scalar.
---     inserted_at    where it stands
---     restored       the table with the scalar put back that the label had
---     settled        the table with another scalar in its place, or without the label
+-- A label inserted into a table with a scalar.
+--     inserted_at    the index of the label
+--     restored       the table after the old scalar of the label is written back
+--     settled        the table after another scalar replaces it, or the label is removed
 use Rattle.std.proofs.Common.{◌≡◌, ◌≢◌, ◌⊎◌, inl, inr, ℕ, suc, ◌+◌, Bool, true, false, cond, not, ◌&&◌, List, [], ◌∷◌, refl, sym, ap, ◌∙◌, arith, pos}
 use Rattle.std.specs.Prelude.{Option, Some, None, slice_get}
 use Rattle.std.specs.Cmp.{IsEquivalence}
@@ -47,13 +47,12 @@ module _ {L R : Type 0} (eq : L → L → Bool) (same : (x y : L) → eq x y ≡
           let i : 1 + place ≡ suc place = omega arith in
           ap (λ n. set_value_at (e ∷ insert_entry eq es k c) n had) i ∙ ap (λ xs. e ∷ xs) (later h)
 
--- what a table is and what a label has gained once its scalar is settled: put into a table, and then
--- replaced by another or, where that is 0, taken out
+-- the table, and what the label has gained, after a scalar is inserted and then replaced by a new one, or removed if the new one is 0
 module _ {L R : Type 0} {eq : L → L → Bool} (laws : IsEquivalence eq) (same : (x y : L) → eq x y ≡ true → x ≡ y) (is_label : L → Bool)
     (zero : R) (value : R → Fraction) (is_held : R → Type 0) (sum : R → R → R) (zero_is : value zero ≡ whole (pos 0)) (zero_held : is_held zero)
     (same_value : (a b : R) → value a ≡ value b → a ≡ b) (lowest : (a : R) → is_held a → InLowestTerms (value a))
     (old mid new : List (L × R)) (k : L) (c s : R) where
-  -- the look-ups of a table after a scalar is put in and another answer takes its place
+  -- the look-ups of a table after a scalar is inserted and `o` replaces it
   abbrev pub Finds : List (L × R) → List (L × R) → Option R → Type 0
   Finds before after o = (q : L) → lookup (eq q) after ≡ cond (eq k q) o (lookup (eq q) before)
 

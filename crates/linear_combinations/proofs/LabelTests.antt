@@ -1,4 +1,4 @@
--- What the types of labels hold and the tests of labels say the same.
+-- The invariants of the label types imply the tests of labels.
 use Rattle.std.proofs.Common.{◌≡◌, ℕ, ◌≤◌, inl, inr, true, false, ◌&&◌, List, [], ◌∷◌, length, eqb, refl, sym, ap}
 use Rattle.std.specs.Prelude.{not, nat_le, nat_lt}
 use Rattle.std.proofs.lemmas.Bool.{and_from, le-leb, lt-ltb, ne_eqb, or_from}
@@ -35,7 +35,7 @@ apart-from : (w : List ℕ) → Once w → has_equal_entries w ≡ false
 apart-from [] h = refl
 apart-from (a ∷ w) h = or_from (has a w) (has_equal_entries w) (has_not a w h.0) (apart-from w h.1)
 
--- a permutation as it is kept, of at most 255 letters, is a label
+-- a permutation without fixed points at its end, of at most 255 letters, is a label
 pub is_permutation_label-limits : (w : List ℕ) → IsShortKept w → is_permutation_label w ≡ true
 is_permutation_label-limits w l =
     let letters = are_letters-from (length w) w l.kept.one_line.letters in

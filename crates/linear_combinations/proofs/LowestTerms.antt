@@ -17,7 +17,7 @@ nat_abs-positive (pos zero) other = absurd (other refl)
 nat_abs-positive (pos (suc n)) other = omega arith
 nat_abs-positive (negsuc n) other = omega arith
 
--- a value in lowest terms that is not 0 passes the test of a coefficient
+-- if a fraction is in lowest terms and not 0, it passes the test of a coefficient
 pub is_reduced-lowest : (r : Fraction) → InLowestTerms r → r ≢ whole (pos 0) → is_reduced r ≡ true
 is_reduced-lowest r lowest other =
     is_reduced-from r (record {

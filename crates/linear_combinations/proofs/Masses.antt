@@ -1,4 +1,4 @@
--- Masses, labels and values of lists that are gained, of any labels.
+-- Masses, labels and values of lists that are added, for any labels.
 use Rattle.std.proofs.Common.{◌≡◌, ℕ, ◌+◌, ◌*◌, ◌^◌, ◌<◌, ◌≤◌, max, Bool, true, false, cond, List, [], ◌∷◌, ◌++◌, length, refl, sym, ap, ◌∙◌, subst, inl, inr, arith, ℤ, pos, ◌*ℤ◌}
 use Rattle.std.specs.Prelude.{nat_abs, Result, Ok, Err, OnOk}
 use Rattle.std.proofs.lemmas.Bool.{and_parts}
@@ -12,7 +12,7 @@ use Rattle.sym_model.specs.Expression.{lcm}
 use Rattle.sym_model.specs.WholeTerms.{WholeTermsOf, as_fractions, combined}
 use Rattle.sym_model.proofs.Integers.{nat_abs-product}
 use Rattle.sym_model.proofs.Polynomials.{same_from_pair, scale_respects}
-use Rattle.sym_model.proofs.WholeTerms.{pair_of_combined, denominators-as_fractions, value_by-as_fractions}
+use Rattle.sym_model.proofs.WholeTerms.{labels_append, labels_scaled, pair_of_combined, denominators-as_fractions, value_by-as_fractions}
 use Rattle.linear_combinations.proofs.LowestTerms.{not_zero-is_reduced}
 use Rattle.linear_combinations.specs.Entries.{IsCombination, HasSameCoefficients}
 use Rattle.linear_combinations.specs.Gains.{over, mass, mass_at, scaled, each_with, replaced, HaveLabels, Gains, Overflows}
@@ -20,7 +20,7 @@ use Rattle.linear_combinations.proofs.Totals.{term-among, total_same}
 use Rattle.linear_combinations.proofs.Gains.{mass_at_append, over_only_within, mass_at_within, gains_labels}
 use native.Mathlib.Nat.{mul-le-mul_left}
 
--- two facts of one answer
+-- if P and Q hold of a result `Ok` and imply R, then R holds of it
 pub on_both : {A E P Q R : Type 0} (r : Result A E) → OnOk r P → OnOk r Q → (P → Q → R) → OnOk r R
 on_both (Ok x) h k f = f h k
 on_both (Err e) h k f = tt
@@ -55,22 +55,12 @@ module _ {L : Type 0} where
   scaled_each c a [] = refl
   scaled_each c a (x ∷ xs) = ap (λ l. (x, c *ℤ a) ∷ l) (scaled_each c a xs)
 
-  pub labels_append : (P : L → Type 0) (xs ys : WholeTermsOf L) → HaveLabels P xs → HaveLabels P ys → HaveLabels P (xs ++ ys)
-  labels_append P [] ys h k t m = k t m
-  labels_append P (x ∷ xs) ys h k t (inl e) = h t (inl e)
-  labels_append P (x ∷ xs) ys h k t (inr m) = labels_append P xs ys (λ u n. h u (inr n)) k t m
-
   pub labels_each : (P : L → Type 0) (a : ℤ) (xs : List L) → ((x : L) → Among x xs → P x) → HaveLabels P (each_with a xs)
   labels_each P a [] h t m = absurd m
   labels_each P a (x ∷ xs) h t (inl e) = subst P (sym (ap (λ (u : L × ℤ). u.0) e)) (h x (inl refl))
   labels_each P a (x ∷ xs) h t (inr m) = labels_each P a xs (λ y n. h y (inr n)) t m
 
-  pub labels_scaled : (P : L → Type 0) (c : ℤ) (xs : WholeTermsOf L) → HaveLabels P xs → HaveLabels P (scaled c xs)
-  labels_scaled P c [] h t m = absurd m
-  labels_scaled P c (x ∷ xs) h t (inl e) = subst P (sym (ap (λ (u : L × ℤ). u.0) e)) (h x (inl refl))
-  labels_scaled P c (x ∷ xs) h t (inr m) = labels_scaled P c xs (λ u n. h u (inr n)) t m
-
-  -- where something stands at a label, the label has what the labels of the list have
+  -- if a label has a coefficient in a list, and P holds for the labels of the list, then P holds for this label
   pub label_held : (eq : L → L → Bool) → ((x y : L) → eq x y ≡ true → x ≡ y) → (P : L → Type 0) (terms : WholeTermsOf L) (x : L)
       → HaveLabels P terms → 0 < mass_at eq x terms → P x
   label_held eq same P [] x h l = absurd (omega arith)
@@ -80,7 +70,7 @@ module _ {L : Type 0} where
       by true e rest l = subst P (sym (same x t.0 e)) (h t (inl refl))
       by false e rest l = rest (omega (arith, l))
 
-  -- an overflow at a label is one of the masses
+  -- if adding g overflows a table, the masses of the table and of g are together at least 2^127
   pub overflow_mass : (eq : L → L → Bool) (old g : WholeTermsOf L) → Overflows eq old g → 2 ^ 127 ≤ mass old + mass g
   overflow_mass eq old g o =
       let l = o.1 in
@@ -90,7 +80,7 @@ module _ {L : Type 0} where
       omega arith
 
   module _ {eq : L → L → Bool} (laws : IsEquivalence eq) (same : (x y : L) → eq x y ≡ true → x ≡ y) {is_label : L → Bool} where
-    -- a property that the old labels and those that are gained have, the new ones have
+    -- if P holds for the old labels and for those that are added, it holds for the labels of the new table
     pub labels_gained : (old g new : WholeTermsOf L) → IsCombination eq is_label whole new → Gains old g new → (P : L → Type 0) → HaveLabels P old → HaveLabels P g → HaveLabels P new
     labels_gained old g new is a P hold gained =
         gains_labels laws same old g new is a P
@@ -101,7 +91,7 @@ module _ {L : Type 0} where
         → (φ : L → ℤ) → over φ first ≡ over φ second
     over_same first second is also equal φ = total_same laws same (pos 0) whole refl first second is also (λ (t : L × ℤ). t.1 *ℤ φ t.0) equal
 
-  -- a list stands for what its sums say
+  -- a list has the value f if its sums are those of f
   pub represents_sums : (polynomial : L → Poly) (terms : WholeTermsOf L) (f : Poly) → ((φ : List ℕ → ℤ) → over (λ x. pair (polynomial x) φ) terms ≡ pair f φ)
       → Represents polynomial (as_fractions terms) f 1
   represents_sums polynomial terms f h =
@@ -114,7 +104,7 @@ module _ {L : Type 0} where
             (scale_respects (pos 1) (value_by polynomial (as_fractions terms)) f (subst (λ g. Same g f) (sym (value_by-as_fractions polynomial terms)) e));
       }
 
-  -- ---- weights
+  -- ---- weights of lists with integer coefficients
 
   common_one : (terms : WholeTermsOf L) → common_denominator (as_fractions terms) ≡ 1
   common_one [] = refl

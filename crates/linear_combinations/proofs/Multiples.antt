@@ -45,7 +45,7 @@ module _ {L R : Type 0} (P : R → R → Type 0) where
   keys-Relates (x ∷ xs) (y ∷ ys) h = ap (λ ks. y.0 ∷ ks) (keys-Relates xs ys h.2) ∙ ap (λ k. k ∷ keys_of xs) h.0
 
 module _ {L R : Type 0} where
-  -- what stands at a list's length is the next pair
+  -- the element at the index `length done` of done ++ rest is the first of rest
   pub next_at : (done rest : List (L × R)) (p : L × R) → slice_get (done ++ rest) (length done) ≡ Some p → (tail : List (L × R)) × (rest ≡ p ∷ tail)
   next_at [] [] p h = cc
   next_at [] (e ∷ rest) p h = let here : e ≡ p = cc in (rest, ap (λ x. x ∷ rest) here)
@@ -64,7 +64,7 @@ module _ {L R : Type 0} where
   nothing_left (x ∷ rest) h = absurd (omega arith)
 
 module _ {L R : Type 0} (P : R → R → Type 0) (before done rest was now : List (L × R)) (at end : ℕ) (all : before ++ rest ≡ was) (is : now ≡ done ++ rest) (related : Relates P before done) (place : length done ≡ at) (ends : end ≡ length was) where
-  -- a place before the end is one of the list
+  -- if the index `at` is below `end`, it is an index of the list
   pub place_within : at < end → at < length now
   place_within h =
       let a = length-both before rest in
@@ -74,7 +74,7 @@ module _ {L R : Type 0} (P : R → R → Type 0) (before done rest was now : Lis
       let e : length now ≡ length (done ++ rest) = ap (λ (es : List (L × R)). length es) is in
       omega arith
 
-  -- and at the end nothing is left
+  -- if the index is not below `end`, no pair is left
   pub rest_empty : end ≤ at → rest ≡ []
   rest_empty h =
       let a = length-both before rest in
@@ -82,7 +82,7 @@ module _ {L R : Type 0} (P : R → R → Type 0) (before done rest was now : Lis
       let d : length (before ++ rest) ≡ length was = ap (λ (es : List (L × R)). length es) all in
       nothing_left rest (omega arith)
 
--- a product of what is not 0 is not 0
+-- a product of factors that are not 0 is not 0
 product-nonzero : (r s : Fraction) → InLowestTerms r → InLowestTerms s → r ≢ whole (pos 0) → s ≢ whole (pos 0) → fraction_product r s ≢ whole (pos 0)
 product-nonzero r s l k other also e =
     let is = (Stands-product r s _ _ _ _ (Stands-itself r l) (Stands-itself s k)).is in
@@ -96,7 +96,7 @@ product-nonzero r s l k other also e =
     let size : unsigned_abs (r.0 *ℤ s.0) ≡ unsigned_abs r.0 * unsigned_abs s.0 = unsigned_abs-mul r.0 s.0 in
     omega arith
 
--- the second scalar is the answered product of the first and c
+-- the second scalar is the product of the first and c, which the operation returns
 abbrev pub IsProduct : {R : Type 0} → (R → Type 0) → (R → Fraction) → (R → R → Option R) → (R → R → R) → R → R → R → Type 0
 IsProduct is_held value checked product c a b =
     (checked a c ≡ Some b) × (b ≡ product a c) × (value b ≡ fraction_product (value a) (value c)) × InLowestTerms (value b) × is_held b
@@ -110,7 +110,7 @@ zero_product value zero product same values none c low =
 
 module _ {L R : Type 0} (eq : L → L → Bool) (is_label : L → Bool) (is_held : R → Type 0) (value : R → Fraction) (checked : R → R → Option R)
     (product : R → R → R) (c : R) where
-  -- the product of a list and c, label by label
+  -- if the scalars of a list are products by c place by place, the list is the other one times c, label by label
   pub IsMultipleOf-Relates : (zero : R) → product zero c ≡ zero → (xs ys : List (L × R)) → Relates (IsProduct is_held value checked product c) xs ys → IsMultipleOf eq zero product xs c ys
   IsMultipleOf-Relates zero none xs ys h label = found xs ys h
     where
@@ -125,7 +125,7 @@ module _ {L R : Type 0} (eq : L → L → Bool) (is_label : L → Bool) (is_held
           by true rest = h.1.1
           by false rest = rest
 
-  -- and its coefficients are held
+  -- if the scalars of a list are such products, its coefficients are ones that the ring can hold
   pub held-Relates : (zero : R) → is_held zero → (xs ys : List (L × R)) → Relates (IsProduct is_held value checked product c) xs ys → AreHeld eq zero is_held ys
   held-Relates zero none xs ys h = record { at_label = λ label. found label xs ys h }
     where
@@ -139,7 +139,7 @@ module _ {L R : Type 0} (eq : L → L → Bool) (is_label : L → Bool) (is_held
           by true rest = h.1.4
           by false rest = rest
 
-  -- and its terms are terms, where c is not 0
+  -- if c is not 0, the products of terms by c are terms
   pub are_terms-Relates : InLowestTerms (value c) → value c ≢ whole (pos 0) → (xs ys : List (L × R)) → Relates (IsProduct is_held value checked product c) xs ys → are_terms value is_label xs ≡ true → are_terms value is_label ys ≡ true
   are_terms-Relates low other [] [] h t = refl
   are_terms-Relates low other [] (y ∷ ys) h t = absurd h
@@ -151,7 +151,7 @@ module _ {L R : Type 0} (eq : L → L → Bool) (is_label : L → Bool) (is_held
       λ e. product-nonzero (value x.1) (value c) (lowest-is_reduced (value x.1) q.0) low (not_zero-is_reduced (value x.1) q.0) other (sym h.1.2 ∙ e) in
       and_from _ _ (and_from _ _ (is_reduced-lowest (value y.1) h.1.3 nonzero) (ap is_label h.0 ∙ q.1)) (are_terms-Relates low other xs ys h.2 p.1)
 
-  -- and no product is refused
+  -- if the scalars of a list are products by c, the ring does not refuse any of these products
   pub fits-Relates : (xs ys : List (L × R)) → Relates (IsProduct is_held value checked product c) xs ys → (t : L × R) → Among t xs → IsRefused is_held checked t.1 c → ⊥
   fits-Relates [] [] h t m r = absurd m
   fits-Relates [] (y ∷ ys) h t m r = absurd m

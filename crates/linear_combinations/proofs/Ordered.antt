@@ -15,12 +15,12 @@ use Rattle.sym_model.proofs.CanonicalLists.{is_lt-tells, IsTransitive}
 use Rattle.linear_combinations.specs.Entries.{is_ordered, is_term, are_terms, IsCanonicalList}
 
 module _ {L R : Type 0} (order : L → L → Ordering) where
-  -- the label stands strictly before that of each pair
+  -- the label comes strictly before that of each pair
   abbrev pub StandsBefore : L → List (L × R) → Type 0
   StandsBefore label [] = Unit {0}
   StandsBefore label (t ∷ entries) = (order label t.0 ≡ Less) × StandsBefore label entries
 
-  -- each label stands strictly before all later ones
+  -- each label comes strictly before all later ones
   abbrev pub IsOrdered : List (L × R) → Type 0
   IsOrdered [] = Unit {0}
   IsOrdered (t ∷ entries) = StandsBefore t.0 entries × IsOrdered entries
@@ -52,7 +52,7 @@ module _ {L R : Type 0} (order : L → L → Ordering) where
     stands_before-weaker x y [] h k = tt
     stands_before-weaker x y (t ∷ entries) h k = (trans x y t.0 h k.0, stands_before-weaker x y entries h k.1)
 
-    -- the test of adjacent pairs decides for all
+    -- if each label comes strictly before the next one, it comes strictly before all later ones
     pub is_ordered-tells : (entries : List (L × R)) → is_ordered order entries ≡ true → IsOrdered entries
     is_ordered-tells [] h = tt
     is_ordered-tells (t ∷ []) h = (tt, tt)
@@ -62,7 +62,7 @@ module _ {L R : Type 0} (order : L → L → Ordering) where
         let rest = is_ordered-tells (u ∷ entries) p.1 in
         ((e, stands_before-weaker t.0 u.0 entries e rest.0), rest)
 
-  -- no label stands twice
+  -- in a strictly ordered list no label occurs twice
   module _ (total : IsTotalOrder order) {eq : L → L → Bool} (same : (x y : L) → eq x y ≡ true → x ≡ y) where
     pub distinct-ordered : (entries : List (L × R)) → IsOrdered entries → IsDistinct eq (keys_of entries)
     unfolding IsDistinct
@@ -80,7 +80,7 @@ module _ {L R : Type 0} (order : L → L → Ordering) where
         others [] k = tt
         others (u ∷ rest) k = (apart u.0 k.0 (eq t.0 u.0) refl, others rest k.1)
 
--- ---- canonical lists
+-- ---- two canonical lists, one after the other
 
 module _ {L R : Type 0} (order : L → L → Ordering) (is_label : L → Bool) (value : R → Fraction) where
   are_terms-append : (xs ys : List (L × R)) → are_terms value is_label xs ≡ true → are_terms value is_label ys ≡ true → are_terms value is_label (xs ++ ys) ≡ true
@@ -91,7 +91,7 @@ module _ {L R : Type 0} (order : L → L → Ordering) (is_label : L → Bool) (
     pub canonical-ordered : (entries : List (L × R)) → IsCanonicalList order is_label value entries → IsOrdered order entries
     canonical-ordered entries c = is_ordered-tells order trans entries (and_parts (is_ordered order entries) _ c).0
 
-    -- two canonical lists make one, if each label of the first stands before each of the second
+    -- two canonical lists make one, if each label of the first comes before each of the second
     pub canonical-append : (xs ys : List (L × R)) → IsCanonicalList order is_label value xs → IsCanonicalList order is_label value ys
         → ((x y : L × R) → Among x xs → Among y ys → order x.0 y.0 ≡ Less) → IsCanonicalList order is_label value (xs ++ ys)
     canonical-append xs ys p q apart =

@@ -16,7 +16,7 @@ use Rattle.linear_combinations.proofs.LowestTerms.{lowest-is_reduced}
 use Rattle.linear_combinations.specs.Entries.{coefficient, are_terms, AreHeld, IsCombination, HasMoreAt}
 
 module _ {L R : Type 0} {eq : L → L → Bool} (laws : IsEquivalence eq) (same : (x y : L) → eq x y ≡ true → x ≡ y) (is_label : L → Bool) (value : R → Fraction) where
-  -- what a look-up finds passes the test of a term
+  -- the coefficient that a look-up finds passes the test of a term
   pub is_term-found : (es : List (L × R)) → are_terms value is_label es ≡ true → (k : L) (c : R) → lookup (eq k) es ≡ Some c → (is_reduced (value c) && is_label k) ≡ true
   is_term-found [] h k c found = cc
   is_term-found (e ∷ es) h k c found = by (eq k e.0) refl found (is_term-found es (and_parts _ _ h).1 k c)
@@ -31,7 +31,7 @@ module _ {L R : Type 0} {eq : L → L → Bool} (laws : IsEquivalence eq) (same 
       by true p found rest = here (same k e.0 p) cc
       by false p found rest = rest found
 
-  -- and a list in which each look-up finds what passes is one of terms
+  -- if each look-up finds a coefficient that passes, the list is one of terms
   pub are_terms-found : (es : List (L × R)) → IsDistinct eq (keys_of es) → ((k : L) (c : R) → lookup (eq k) es ≡ Some c → (is_reduced (value c) && is_label k) ≡ true) → are_terms value is_label es ≡ true
   are_terms-found [] distinct h = refl
   are_terms-found (e ∷ es) distinct h =
@@ -45,11 +45,11 @@ module _ {L R : Type 0} {eq : L → L → Bool} (laws : IsEquivalence eq) (same 
           by true p = let none = lookup-none (eq k) es (none_past_head laws k e es distinct p) in cc
           by false p = h k c (ap (λ b. cond b (Some e.1) (lookup (eq k) es)) p ∙ found)
 
-  -- a table is a combination where its keys differ and each of its pairs is a term
+  -- a list is a combination if its keys differ and each of its pairs is a term
   pub IsCombination-found : (es : List (L × R)) → IsDistinct eq (keys_of es) → ((k : L) (c : R) → lookup (eq k) es ≡ Some c → (is_reduced (value c) && is_label k) ≡ true) → IsCombination eq is_label value es
   IsCombination-found es distinct h = record { distinct = distinct; proper = are_terms-found es distinct h }
 
-  -- each coefficient is in lowest terms
+  -- each coefficient that a look-up finds, or 0, is in lowest terms
   pub lowest-coefficient : (zero : R) → InLowestTerms (value zero) → (es : List (L × R)) → are_terms value is_label es ≡ true → (k : L) → InLowestTerms (value (coefficient eq zero es k))
   lowest-coefficient zero low [] h k = low
   lowest-coefficient zero low (t ∷ es) h k = by (eq k t.0) (lowest-coefficient zero low es (and_parts _ _ h).1 k)
@@ -61,10 +61,10 @@ module _ {L R : Type 0} {eq : L → L → Bool} (laws : IsEquivalence eq) (same 
       by true rest = lowest-is_reduced (value t.1) (and_parts _ _ parts.0).0
       by false rest = rest
 
-  -- ---- one pair more, or one less
+  -- ---- a table with a pair inserted, or with a label removed
 
   module _ (old new : List (L × R)) (k : L) where
-    -- with the pair put in, the list is a combination
+    -- if a pair with a term is inserted into a combination, the result is a combination
     pub IsCombination-put : (v : R) → IsCombination eq is_label value old → (is_reduced (value v) && is_label k) ≡ true → IsDistinct eq (keys_of new) → ((q : L) → lookup (eq q) new ≡ cond (eq k q) (Some v) (lookup (eq q) old)) → IsCombination eq is_label value new
     IsCombination-put v was passes distinct finds = IsCombination-found new distinct (λ q w found. by q w (eq k q) refl (sym (finds q) ∙ found))
       where
@@ -74,7 +74,7 @@ module _ {L R : Type 0} {eq : L → L → Bool} (laws : IsEquivalence eq) (same 
             ap (λ x. is_reduced (value w) && is_label x) (sym (same k q p)) ∙ ap (λ x. is_reduced (value x) && is_label k) (sym here) ∙ passes
         by q w false p e = is_term-found old was.proper q w e
 
-    -- with the label taken out, it is one
+    -- if a label is removed from a combination, the result is a combination
     pub IsCombination-taken : IsCombination eq is_label value old → IsDistinct eq (keys_of new) → ((q : L) → lookup (eq q) new ≡ cond (eq k q) None (lookup (eq q) old)) → IsCombination eq is_label value new
     IsCombination-taken was distinct finds = IsCombination-found new distinct (λ q w found. by q w (eq k q) (sym (finds q) ∙ found))
       where
@@ -83,7 +83,8 @@ module _ {L R : Type 0} {eq : L → L → Bool} (laws : IsEquivalence eq) (same 
         by q w false e = is_term-found old was.proper q w e
 
 module _ {L R : Type 0} (eq : L → L → Bool) (zero : R) (sum : R → R → R) where
-  -- where what a look-up finds at k is the sum, the new list has so much more at k
+  -- if a look-up at k finds the old coefficient plus c, and every other look-up the same as before, new is old with c
+  -- more at k
   pub HasMoreAt-found : (old new : List (L × R)) (k : L) (o : Option R) (c : R) → unwrap_or o zero ≡ sum (coefficient eq zero old k) c → ((q : L) → lookup (eq q) new ≡ cond (eq k q) o (lookup (eq q) old)) → HasMoreAt eq zero sum old k c new
   HasMoreAt-found old new k o c total finds q = ap (λ x. unwrap_or x zero) (finds q) ∙ by (eq k q)
     where
@@ -91,13 +92,13 @@ module _ {L R : Type 0} (eq : L → L → Bool) (zero : R) (sum : R → R → R)
       by true = total
       by false = refl
 
--- ---- coefficients that are held
+-- ---- tables whose coefficients the ring can hold
 
 module _ {L R : Type 0} (eq : L → L → Bool) (zero : R) (is_held : R → Type 0) where
   pub held_nothing : is_held zero → AreHeld eq zero is_held []
   held_nothing h = record { at_label = λ k. h }
 
-  -- where a look-up at k finds what is held, and else what it found before
+  -- if a look-up at k finds a coefficient that the ring can hold, and every other look-up the same as before, the ring can hold all coefficients
   pub held_found : (old new : List (L × R)) (k : L) (o : Option R) → AreHeld eq zero is_held old → is_held (unwrap_or o zero)
       → ((q : L) → lookup (eq q) new ≡ cond (eq k q) o (lookup (eq q) old)) → AreHeld eq zero is_held new
   held_found old new k o was here finds = record { at_label = λ q. subst is_held (sym (ap (λ x. unwrap_or x zero) (finds q))) (by q (eq k q)) }
@@ -106,6 +107,6 @@ module _ {L R : Type 0} (eq : L → L → Bool) (zero : R) (is_held : R → Type
       by q true = here
       by q false = was.at_label q
 
-  -- equal coefficients are held
+  -- if two lists have the same coefficients and the ring can hold those of the old one, it can hold those of the new one
   pub held_same : (old new : List (L × R)) → ((q : L) → coefficient eq zero new q ≡ coefficient eq zero old q) → AreHeld eq zero is_held old → AreHeld eq zero is_held new
   held_same old new equal was = record { at_label = λ q. subst is_held (sym (equal q)) (was.at_label q) }

@@ -1,5 +1,5 @@
--- What lists weigh, if each label has a weight (`weighed` of specs/Gains).
---     gains_weighed, gains_mass, overflow_weighed    what a table gains, and where it is too large
+-- The weight of a list, if each label has a weight (`weighed` of specs/Gains).
+--     gains_weighed, gains_mass, overflow_weighed    the weight of a table after a gain, and at an overflow
 --     weighed_replaced, weighed_images               each label replaced by a list
 use Rattle.std.proofs.Common.{◌≡◌, ℕ, zero, suc, ◌+◌, ◌*◌, ◌^◌, ◌≤◌, Bool, true, false, cond, [], ◌∷◌, ◌++◌, refl, ap, ap₂, ◌∙◌, inl, inr, arith, ℤ, pos, negsuc, ◌*ℤ◌}
 use Rattle.std.specs.Prelude.{Option, nat_abs, ◌≤ℤ◌}
@@ -47,7 +47,7 @@ module _ {L : Type 0} where
       let d : nat_abs t.1 * (f t.0 + g t.0) ≡ nat_abs t.1 * f t.0 + nat_abs t.1 * g t.0 = omega arith in
       omega arith
 
-  -- where all labels weigh the same
+  -- if all labels have the weight k, the weight of the list is its mass times k
   pub weighed_all : (k : ℕ) (terms : WholeTermsOf L) → weighed (λ x. k) terms ≡ mass terms * k
   weighed_all k [] = omega arith
   weighed_all k (t ∷ terms) =
@@ -62,7 +62,7 @@ module _ {L : Type 0} where
   pub mass_within-weighed : (f : L → ℕ) → ((x : L) → 1 ≤ f x) → (terms : WholeTermsOf L) → mass terms ≤ weighed f terms
   mass_within-weighed f h terms = omega (arith, weighed_all 1 terms, weighed_within (λ x. 1) f terms (λ t m. h t.0))
 
-  -- one term weighs no more than all
+  -- the weight of one term is at most that of the list
   pub weighed_among : (f : L → ℕ) (terms : WholeTermsOf L) (t : L × ℤ) → Among t terms → nat_abs t.1 * f t.0 ≤ weighed f terms
   weighed_among f [] t m = absurd m
   weighed_among f (u ∷ terms) t (inl e) = let a = ap (λ (v : L × ℤ). nat_abs v.1 * f v.0) e in omega arith
@@ -81,7 +81,7 @@ module _ {L : Type 0} where
             let m = mul-le-mul_left (nat_abs t.1) one in
             omega arith
 
-    -- an overflow at a label is one of the weights of which this label has one
+    -- if adding g overflows a table at a label with a weight of at least 1, the weights of table and g are together at least 2^127
     pub overflow_weighed : (old g : WholeTermsOf L) (o : Overflows eq old g) (f : L → ℕ) → 1 ≤ f o.0 → 2 ^ 127 ≤ weighed f old + weighed f g
     overflow_weighed old g o f some =
         let l = o.1 in
@@ -90,7 +90,7 @@ module _ {L : Type 0} where
         let d = mass_weighed f o.0 some g in
         omega arith
 
-    -- a table weighs no more than what was there and what it gained
+    -- the weight of a table is at most that of the old one plus that of the terms it gained
     pub gains_weighed : (laws : IsEquivalence eq) {is_label : L → Bool} (old g new : WholeTermsOf L) → IsCombination eq is_label whole new → Gains old g new
         → (f : L → ℕ) → weighed f new ≤ weighed f old + weighed f g
     gains_weighed laws old g new is a f =
@@ -101,7 +101,7 @@ module _ {L : Type 0} where
         let s = a.sums (λ x. signed (coefficient eq (pos 0) new x) (f x)) in
         omega (arith, ints)
       where
-        -- the number with the sign of z
+        -- a number with the absolute value k and the sign of z
         signed : ℤ → ℕ → ℤ
         signed (pos n) k = pos k
         signed (negsuc n) zero = pos 0
@@ -138,20 +138,20 @@ module _ {L : Type 0} where
             let q = ap pos p in
             omega (arith, ints)
 
-    -- with the weight 1 for each label
+    -- the mass of a table after a gain is at most its mass before plus the mass of what it gained
     pub gains_mass : (laws : IsEquivalence eq) {is_label : L → Bool} (old g new : WholeTermsOf L) → IsCombination eq is_label whole new → Gains old g new
         → mass new ≤ mass old + mass g
     gains_mass laws old g new is a =
         omega (arith, gains_weighed laws old g new is a (λ x. 1), weighed_all 1 old, weighed_all 1 g, weighed_all 1 new)
 
--- each label replaced by a list
+-- the weight of the image of a list is the sum over its terms of |c| times the weight of the label's image
 pub weighed_replaced : {K L : Type 0} (image : K → WholeTermsOf L) (f : L → ℕ) (terms : WholeTermsOf K) → weighed f (replaced image terms) ≡ weighed (λ k. weighed f (image k)) terms
 weighed_replaced image f [] = refl
 weighed_replaced image f (t ∷ terms) =
     weighed_append f (scaled t.1 (image t.0)) (replaced image terms)
     ∙ ap₂ (λ x y. x + y) (weighed_scaled f t.1 (image t.0)) (weighed_replaced image f terms)
 
--- what each label is replaced by weighs no more than the label
+-- if the image of each label weighs at most as much as the label, so does the image of the list
 pub weighed_images : {K L : Type 0} (image : K → WholeTermsOf L) (f : L → ℕ) (g : K → ℕ) (terms : WholeTermsOf K)
     → ((t : K × ℤ) → Among t terms → weighed f (image t.0) ≤ g t.0) → weighed f (replaced image terms) ≤ weighed g terms
 weighed_images image f g terms h =

@@ -1,5 +1,5 @@
--- What is added to a table of fractions, seen over a common denominator: there it is a table of
--- whole numbers, which gains a list of them or overflows.
+-- Terms added to a table of fractions, over a common denominator: there it is a table of integers, which gains a list
+-- of terms or overflows.
 use Rattle.std.specs.Prelude.{ℕ, ◌^◌, ◌<◌, pos, Bool, map}
 use Rattle.std.specs.Int.{◌∣◌}
 use Rattle.sym_model.specs.Expansion.{Fraction, Terms}
@@ -13,7 +13,7 @@ pub record IsDenominator (q : ℕ) (c : Fraction) : Type 0 where
   pub positive : 0 < q
   pub multiple : c.1 ∣ q
 
--- q is a denominator of each coefficient
+-- q is a common denominator of all coefficients of the list
 pub record IsCommonDenominator {L : Type 0} (q : ℕ) (terms : Terms L) : Type 0 where
   pub positive : 0 < q
   pub multiple : (t : L × Fraction) → Among t terms → t.1.1 ∣ q
@@ -26,8 +26,8 @@ numerators_over {L} q terms = map (λ (t : L × Fraction). (t.0, numerator_over 
 abbrev pub AreCleared : {L : Type 0} → (L → L → Bool) → ℕ → Terms L → Type 0
 AreCleared {L} eq q terms = (label : L) → (coefficient eq (pos 0, 1) terms label).1 ∣ q
 
--- VALUE: the new list, over the denominator q, has gained these, and is a table where the old one
--- is
+-- VALUE: of tables, with q > 0 a common denominator: q·new = q·old + gained as formal sums; new is a table if old is
+-- one, and q is a common denominator of new too
 pub record GainsCleared {L : Type 0} (eq : L → L → Bool) (is_label : L → Bool) (q : ℕ)
     (old : Terms L) (gained : WholeTermsOf L) (new : Terms L) : Type 0 where
   pub table : IsCombination eq is_label (λ (c : Fraction). c) old
@@ -35,11 +35,11 @@ pub record GainsCleared {L : Type 0} (eq : L → L → Bool) (is_label : L → B
   pub cleared : AreCleared eq q new
   pub gains : Gains (numerators_over q old) gained (numerators_over q new)
 
--- OVERFLOW: the list, over the denominator q, overflows where it gains these
+-- OVERFLOW: at some label, |q·old coefficient| + Σ|gained| ≥ 2^127
 abbrev pub OverflowsCleared : {L : Type 0} → (L → L → Bool) → ℕ → Terms L → WholeTermsOf L → Type 0
 OverflowsCleared eq q old gained = Overflows eq (numerators_over q old) gained
 
--- c times the terms is gained, over each common denominator
+-- the list gains c times the terms, over each common denominator
 abbrev pub GainsMultiple : {L : Type 0} → (L → L → Bool) → (L → Bool) → Fraction → WholeTermsOf L
     → Terms L → Terms L → Type 0
 GainsMultiple eq is_label c terms old new =

@@ -1,31 +1,24 @@
--- What is added to a table of whole numbers: a list of labels with numbers,
--- in which a label may stand again and again.
-use Rattle.std.specs.Prelude.{◌≡◌, ℕ, ◌+◌, ◌*◌, ◌^◌, ◌≤◌, ℤ, pos, ◌+ℤ◌, ◌*ℤ◌, nat_abs, Bool, cond, List}
+-- Terms added to a table of integers: a list of labels with numbers, in which a label may occur several times.
+use Rattle.std.specs.Prelude.{◌≡◌, ℕ, ◌+◌, ◌^◌, ◌≤◌, ℤ, pos, ◌+ℤ◌, nat_abs, Bool, cond, List}
 use Rattle.std.specs.Prelude.{[], ◌∷◌, ◌++◌, map}
-use Rattle.sym_model.specs.Sum.{total, sum_by, Among}
+use Rattle.sym_model.specs.Polynomial.{pair}
+-- `scaled`: the list with each coefficient times c
+pub use Rattle.sym_model.specs.Polynomial.{scale as scaled}
 -- `mass`: the sum of the absolute values of all coefficients
-pub use Rattle.sym_model.specs.WholeTerms.{WholeTermsOf, absolute_total as mass}
+pub use Rattle.sym_model.specs.WholeTerms.{WholeTermsOf, HaveLabels, weighed, absolute_total as mass}
 
 -- the pairing Σ c·φ(label) of the terms with a test function φ on labels
 abbrev pub over : {L : Type 0} → (L → ℤ) → WholeTermsOf L → ℤ
-over {L} φ terms = total (λ (t : L × ℤ). t.1 *ℤ φ t.0) terms
+over φ terms = pair terms φ
 
 -- the test function that is 1 at a label and 0 elsewhere
 abbrev pub only : {L : Type 0} → (L → L → Bool) → L → L → ℤ
 only eq x label = cond (eq x label) (pos 1) (pos 0)
 
--- the sum of the absolute values of the coefficients that stand at a label
+-- the sum of the absolute values of the coefficients at a label
 abbrev pub mass_at : {L : Type 0} → (L → L → Bool) → L → WholeTermsOf L → ℕ
 mass_at eq x [] = 0
 mass_at eq x (t ∷ terms) = cond (eq x t.0) (nat_abs t.1) 0 + mass_at eq x terms
-
--- the sum of the absolute values of all coefficients, each times the weight of its label
-abbrev pub weighed : {L : Type 0} → (L → ℕ) → WholeTermsOf L → ℕ
-weighed {L} weight terms = sum_by (λ (t : L × ℤ). nat_abs t.1 * weight t.0) terms
-
--- each coefficient times c
-abbrev pub scaled : {L : Type 0} → ℤ → WholeTermsOf L → WholeTermsOf L
-scaled {L} c terms = map (λ (t : L × ℤ). (t.0, c *ℤ t.1)) terms
 
 -- the labels, each with the coefficient c
 abbrev pub each_with : {L : Type 0} → ℤ → List L → WholeTermsOf L
@@ -40,14 +33,10 @@ each_by {L} coefficient labels = map (λ (x : L). (x, coefficient x)) labels
 abbrev pub counted : {L : Type 0} → (L → ℕ) → List L → WholeTermsOf L
 counted count labels = each_by (λ x. pos (count x)) labels
 
--- what each label stands for, times its coefficient
+-- the image of a list under a rule: the image of each label, times its coefficient
 abbrev pub replaced : {K L : Type 0} → (K → WholeTermsOf L) → WholeTermsOf K → WholeTermsOf L
 replaced image [] = []
 replaced image (t ∷ terms) = scaled t.1 (image t.0) ++ replaced image terms
-
--- each label has the property
-abbrev pub HaveLabels : {L : Type 0} → (L → Type 0) → WholeTermsOf L → Type 0
-HaveLabels {L} P terms = (t : L × ℤ) → Among t terms → P t.0
 
 -- VALUE: new = old + gained, as formal sums
 pub record Gains {L : Type 0} (old gained new : WholeTermsOf L) : Type 0 where

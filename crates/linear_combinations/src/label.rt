@@ -1,4 +1,4 @@
-//! What a term may be labelled by.
+//! The trait of labels, and partitions as labels.
 ghost use Rattle.std.specs.Prelude.{◌≡◌, nat_le, Bool, true, IsTrue, IsOk, IfOk};
 ghost use Rattle.std.specs.Cmp.{IsTotalOrder};
 ghost use Rattle.std.specs.declared.cmp.Ordering.{Ordering};
@@ -12,25 +12,25 @@ use partitions::Partition;
 use std::cmp::Ordering;
 use std::hash::Hash;
 
-/// Labels of terms. Equal labels are the same label, and labels have one order,
-/// in which they are printed.
+/// Labels of terms. Equal labels are the same label, and labels have one order, in which they are
+/// printed.
 pub trait Label: Eq + Hash + Drop {
-    // Whether a label lies in the limits of its type, as every label does that a program meets.
+    // Whether a label lies in the limits of its type, as every value of the type does.
     ghost is_label: { Self → Bool };
 
-    // Whether a label is so short that it is kept with no memory taken.
+    // Whether a label is so short that it is kept without allocating memory.
     ghost is_short: { Self → Bool };
 
     // The order in which labels are printed.
     ghost order: { Self → Self → Ordering };
 
-    /// How this label and `other` stand in print. `Equal` only for equal labels.
+    /// Compares this label with `other` in the printed order. `Equal` only for equal labels.
     fn cmp_printed(&self, other: &Self) -> Ordering
         ensures value { result ≡ order self.now other.now }
         ensures equal { result ≡ Ordering.Equal → self.now ≡ other.now }
         ensures limits { IsTrue (is_label self.now) };
 
-    /// An equal label. A short one takes no memory.
+    /// An equal label. A short label is copied without allocating memory.
     fn copy(&self) -> Result<Self, NoMemory>
         ensures ok { IfOk result (λ copy. copy ≡ self.now) }
         ensures inline { IsTrue (is_short self.now) → IsOk result };
@@ -68,7 +68,7 @@ impl Label for Partition {
     ghost order_equal = { partition_order_equal };
 }
 
-/// Does nothing when it runs: it tells a proof that a label lies in the limits of its type.
+/// Does nothing at run time: its clause gives a proof that a label lies in the limits of its type.
 pub(crate) fn lies_in_limits<L: Label>(label: &L)
     ensures { IsTrue (L.is_label label.now) }
 {

@@ -10,7 +10,7 @@ ghost use Rattle.std.specs.Map.Iter.{ShowsInOrder, deref_pair};
 ghost use Rattle.linear_combinations.specs.Entries.{coefficient, AreHeld, HasMoreAt};
 ghost use Rattle.linear_combinations.specs.Entries.{HasSameCoefficients, IsCanonicalList};
 ghost use Rattle.linear_combinations.specs.Entries.{IsCombination, IsMultipleOf, IsSumOf};
-ghost use Rattle.linear_combinations.specs.Entries.{IsRefused, IsTable, RefusesSomeProduct, RefusesSomeSum};
+ghost use Rattle.linear_combinations.specs.Entries.{AreTables, IsRefused, IsTable, RefusesSomeProduct, RefusesSomeSum};
 
 use crate::label::{Label, lies_in_limits};
 use crate::terms::Terms;
@@ -22,7 +22,7 @@ use std::alloc::{AllocError, Global};
 use std::marker::Model;
 
 /// A finite map from labels to coefficients that are not 0. A contract sees it as a list of terms
-/// in no stated order: each label once, with its coefficient.
+/// in no particular order: each label once, with its coefficient.
 #[derive(Drop)]
 pub struct Lin<L: Label, R: Scalar> {
     table: IndexMap<L, R>,
@@ -40,7 +40,7 @@ impl<L: Label, R: Scalar> Model for Lin<L, R> {
 }
 
 impl<L: Label, R: Scalar> Lin<L, R> {
-    /// The empty map. It takes no memory.
+    /// The empty map. It allocates no memory.
     pub fn new(alloc: Global) -> Lin<L, R>
         ensures { result ≡ [] }
     {
@@ -49,7 +49,7 @@ impl<L: Label, R: Scalar> Lin<L, R> {
         }
     }
 
-    /// The coefficient of a label, 0 where the label is not there.
+    /// The coefficient of a label; 0 if the label does not occur.
     pub fn coefficient(&self, label: &L) -> R
         ensures value { result ≡ coefficient L.eq R.zero self.now label.now }
         ensures combination { IsCombination L.eq L.is_label R.value self.now }
@@ -76,18 +76,16 @@ impl<L: Label, R: Scalar> Lin<L, R> {
         self.len() == 0
     }
 
-    /// Adds `c` to the label's coefficient, and takes the label out where the sum is 0.
+    /// Adds `c` to the label's coefficient, and removes the label if the sum is 0.
     ///
-    /// It is refused as `Large` exactly where the ring refuses that sum. After a refusal the map is
-    /// as it was.
+    /// Returns `Large` if and only if the ring refuses that sum. On every error the map is
+    /// unchanged.
     pub fn add_term(&mut self, label: L, c: R) -> Result<(), SumFault>
         ensures ok { OnOk result (HasMoreAt L.eq R.zero R.sum self.old label c self.new) }
         ensures large { IsErrOf result SumFault.Large
             ↔ IsRefused R.is_held R.checked_sum (coefficient L.eq R.zero self.old label) c }
         ensures err { OnErr result (self.new ≡ self.old) }
-        ensures was { IsCombination L.eq L.is_label R.value self.old }
-        ensures combination { IsCombination L.eq L.is_label R.value self.new }
-        ensures held { AreHeld L.eq R.zero R.is_held self.new }
+        ensures tables { AreTables L.eq L.is_label R.zero R.value R.is_held self.old self.new }
     {
         add_to(&mut self.table, label, c)
     }
@@ -106,8 +104,8 @@ impl<L: Label, R: Scalar> Lin<L, R> {
 
     /// The sum of this map and another.
     ///
-    /// It is refused as `Large` only where at some label the ring refuses the sum of the two
-    /// coefficients, and then there is no sum.
+    /// Returns `Large` only if at some label the ring refuses the sum of the two coefficients; then
+    /// there is no sum.
     pub fn add_all(mut self, other: &Lin<L, R>) -> Result<Lin<L, R>, SumFault>
         ensures sum { IfOk result (IsSumOf L.eq R.zero R.sum self other.now) }
         ensures combination { IfOk result (IsCombination L.eq L.is_label R.value) }
@@ -123,10 +121,9 @@ impl<L: Label, R: Scalar> Lin<L, R> {
         Ok(self)
     }
 
-    /// The map with each coefficient times `c`. It takes no memory.
+    /// The map with each coefficient times `c`. It allocates no memory.
     ///
-    /// It is refused as `Large` exactly where the ring refuses the product of some coefficient and
-    /// `c`.
+    /// Returns `Large` if and only if the ring refuses the product of some coefficient and `c`.
     pub fn scale(self, c: R) -> Result<Lin<L, R>, SumFault>
     where
         R: Ring,
@@ -172,7 +169,8 @@ impl<L: Label, R: Scalar> Lin<L, R> {
         self.table.iter()
     }
 
-    /// Does nothing when it runs: it tells a proof what the map is.
+    /// Does nothing at run time: its clauses give a proof that the map is a combination with
+    /// coefficients that the ring can hold.
     pub(crate) fn is_combination(&self)
         ensures combination { IsCombination L.eq L.is_label R.value self.now }
         ensures held { AreHeld L.eq R.zero R.is_held self.now }
@@ -181,8 +179,8 @@ impl<L: Label, R: Scalar> Lin<L, R> {
     }
 }
 
-/// Adds `c` to the label's scalar, and takes the label out where the sum is 0. The label is looked
-/// up once.
+/// Adds `c` to the label's scalar, and removes the label if the sum is 0. The label is looked up
+/// once.
 fn add_to<L: Label, R: Scalar>(table: &mut IndexMap<L, R>, label: L, c: R) -> Result<(), SumFault>
     requires { IsTable L.eq L.is_label R.zero R.value R.is_held table.old.entries }
     ensures ok { OnOk result (HasMoreAt L.eq R.zero R.sum table.old.entries label c
@@ -207,8 +205,7 @@ fn add_to<L: Label, R: Scalar>(table: &mut IndexMap<L, R>, label: L, c: R) -> Re
     Ok(())
 }
 
-/// Puts a scalar in the place of the one at an index of a table, and takes the pair out where it is
-/// 0.
+/// Replaces the scalar at an index of a table, and removes the pair if the new scalar is 0.
 fn set_at<L: Label, R: Scalar>(table: &mut IndexMap<L, R>, at: usize, c: R)
     requires { at < index_map_len table.old }
     ensures updates { (p : L × R) → slice_get table.old.entries at ≡ Some p
@@ -236,7 +233,7 @@ fn pair_at<L: Label, R: Scalar>(table: &IndexMap<L, R>, at: usize) -> (&L, R)
     (label, *c)
 }
 
-/// Puts a scalar in the place of the one at an index of a table.
+/// Replaces the scalar at an index of a table.
 fn put_at<L: Label, R: Scalar>(table: &mut IndexMap<L, R>, at: usize, c: R)
     requires { at < index_map_len table.old }
     ensures entries { table.new.entries ≡ set_value_at table.old.entries at c }
@@ -249,7 +246,7 @@ fn put_at<L: Label, R: Scalar>(table: &mut IndexMap<L, R>, at: usize, c: R)
     let _ = table.len();
 }
 
-/// Takes the pair at an index out of a table.
+/// Removes the pair at an index from a table.
 fn take_at<L: Label, R: Scalar>(table: &mut IndexMap<L, R>, at: usize)
     ensures updates { (p : L × R) → slice_get table.old.entries at ≡ Some p
         → Updates L.eq table.old table.new p.0 None }
@@ -266,7 +263,7 @@ fn sort_labels<L: Label, R: Scalar>(pairs: &mut Vec<(L, R)>)
     pairs.sort_unstable_by(|a, b| a.0.cmp_printed(&b.0));
 }
 
-/// The pairs in the order of the table, of which no two have the same label.
+/// The pairs in the order of the table; no two have the same label.
 fn pairs_of<L: Label, R: Scalar>(
     alloc: Global,
     table: IndexMap<L, R>,

@@ -7,16 +7,16 @@ use crate::lin::Lin;
 use calc_base::SumFault;
 use coeff_rings::Int;
 
-/// What each label stands for, as a list of labels with whole numbers.
+/// A linear map given on labels: each label has an image, a list of labels with integers.
 pub trait Rule<K: Label, L: Label> {
-    // The labels that the rule takes.
+    // The labels that the rule accepts.
     ghost takes: { Self → K → Type 0 };
 
-    // What a label stands for.
+    // The image of a label.
     ghost image: { Self → K → List (L × ℤ) };
 
-    /// Adds `c` times what the label stands for. It is refused as `Large` only where that
-    /// overflows. After a refusal the table may have some of it added.
+    /// Adds `c` times the image of a label. Returns `Large` only if this overflows. After an error
+    /// the table may have gained a part of it.
     fn add_image(&self, label: &K, c: Int, sum: &mut Lin<L, Int>) -> Result<(), SumFault>
         requires { takes self.now label.now }
         ensures gains { OnOk result (Gains sum.old (scaled c (image self.now label.now)) sum.new) }

@@ -31,8 +31,8 @@ impl<L: Label, R: Scalar> Model for Terms<L, R> {
 }
 
 impl<L: Label, R: Scalar> Terms<L, R> {
-    /// The list of these pairs, or `None` exactly where they do not stand strictly in the printed
-    /// order, or a coefficient is 0.
+    /// The list of these pairs; `None` if and only if they are not strictly in the printed order,
+    /// or a coefficient is 0.
     pub fn from_pairs(pairs: Vec<(L, R)>) -> Option<Terms<L, R>>
         ensures { SomeIff result (IsCanonicalList L.order L.is_label R.value pairs.items)
             pairs.items }
@@ -67,7 +67,8 @@ impl<L: Label, R: Scalar> Terms<L, R> {
         self.len() == 0
     }
 
-    /// The label and the coefficient of a term, counted from 0. `None` exactly past the last one.
+    /// The label and the coefficient of the term at an index, counted from 0; `None` if and only if
+    /// there is no such term.
     pub fn get(&self, i: usize) -> Option<(&L, R)>
         ensures term { option_map (λ t. (t.0.now, t.1)) result ≡ slice_get self.now i }
         ensures canonical { IsCanonicalList L.order L.is_label R.value self.now }
@@ -97,7 +98,7 @@ impl<L: Label, R: Scalar> IntoIterator for Terms<L, R> {
     }
 }
 
-/// Whether the pairs stand strictly in the printed order, with coefficients that are not 0.
+/// Whether the pairs are strictly in the printed order, with coefficients that are not 0.
 fn are_canonical<L: Label, R: Scalar>(pairs: &[(L, R)]) -> bool
     ensures { result ≡ is_canonical_list L.order L.is_label R.value pairs.now }
 {
@@ -111,8 +112,8 @@ fn are_canonical<L: Label, R: Scalar>(pairs: &[(L, R)]) -> bool
     true
 }
 
-/// Whether a term may stand after the previous label: its coefficient is not 0, and it stands
-/// strictly later in print.
+/// Whether a term may follow the previous label: its coefficient is not 0, and its label comes
+/// strictly later in the printed order.
 fn may_follow<L: Label, R: Scalar>(previous: Option<&L>, label: &L, c: R) -> bool
     ensures { result ≡ is_next L.order L.is_label R.value (option_copied previous.entry)
         (label.now, c) }
@@ -121,7 +122,8 @@ fn may_follow<L: Label, R: Scalar>(previous: Option<&L>, label: &L, c: R) -> boo
     stands_later(previous, label) && !c.is_zero()
 }
 
-/// Whether a label stands strictly later in print than the previous one, if there is one.
+/// Whether a label comes strictly later in the printed order than the previous one, if there is
+/// one.
 fn stands_later<L: Label>(previous: Option<&L>, label: &L) -> bool
     ensures { result ≡ is_later L.order (option_copied previous.entry) label.now }
 {

@@ -1,6 +1,6 @@
-//! Adders to tables of whole numbers: each says by one relation what is gained,
-//! and by one where it overflows. After a refusal an adder of one term leaves the table as it was;
-//! an adder of many terms leaves it with some of them added, and the table is of no further use.
+//! Functions that add to tables of integers: one clause states what the table gains, and one when
+//! that overflows. After an error a function that adds one term leaves the table unchanged; one
+//! that adds many terms leaves it with some of them added, and the table is of no further use.
 ghost use Rattle.std.specs.Prelude.{◌≡◌, ◌↔◌, ℤ, pos, neg_ℤ, [], ◌∷◌, FitsSigned};
 ghost use Rattle.std.specs.Prelude.{OnOk, OnErr, IsErrOf};
 ghost use Rattle.std.specs.Int.{w128};
@@ -18,10 +18,10 @@ use calc_base::SumFault;
 use coeff_rings::{Int, Ring, Scalar};
 
 impl<L: Label> Lin<L, Int> {
-    /// Adds a number at a label that is given away.
+    /// Adds a number at a label, which it takes over.
     ///
-    /// It is refused as `Large` exactly where the sum at the label is refused. After a refusal the
-    /// table is as it was.
+    /// Returns `Large` if and only if the sum at the label is refused. On an error the table is
+    /// unchanged.
     pub fn add_owned(&mut self, label: L, c: Int) -> Result<(), SumFault>
         ensures gains { OnOk result (Gains self.old ((label, c) ∷ []) self.new) }
         ensures large { IsErrOf result SumFault.Large → Overflows L.eq self.old ((label, c) ∷ []) }
@@ -37,8 +37,7 @@ impl<L: Label> Lin<L, Int> {
 
     /// Adds a number at a copy of a label.
     ///
-    /// It is refused as `Large` only where the sum at the label is refused, and then there is no
-    /// sum. After a refusal the table is as it was.
+    /// Returns `Large` only if the sum at the label is refused. On an error the table is unchanged.
     pub fn add_at_label(&mut self, label: &L, c: Int) -> Result<(), SumFault>
         ensures gains { OnOk result (Gains self.old ((label.now, c) ∷ []) self.new) }
         ensures large { IsErrOf result SumFault.Large
@@ -55,9 +54,9 @@ impl<L: Label> Lin<L, Int> {
         self.add_owned(label.copy()?, c)
     }
 
-    /// Adds a number at each of some labels.
+    /// Adds the number `c` at each of some labels.
     ///
-    /// After a refusal the table has some of this added.
+    /// On an error some of these terms have been added to the table.
     pub fn add_each(&mut self, labels: &[L], c: Int) -> Result<(), SumFault>
         ensures gains { OnOk result (Gains self.old (each_with c labels.now) self.new) }
         ensures large { IsErrOf result SumFault.Large
@@ -72,9 +71,9 @@ impl<L: Label> Lin<L, Int> {
         Ok(())
     }
 
-    /// Subtracts a number at each of some labels.
+    /// Subtracts the number `c` at each of some labels.
     ///
-    /// After a refusal the table has some of this added.
+    /// On an error some of these terms have been added to the table.
     pub fn subtract_each(&mut self, labels: &[L], c: Int) -> Result<(), SumFault>
         ensures gains { OnOk result (Gains self.old (each_with (neg_ℤ c) labels.now) self.new) }
         ensures large { IsErrOf result SumFault.Large
@@ -92,7 +91,7 @@ impl<L: Label> Lin<L, Int> {
 
     /// Adds `c` times another table.
     ///
-    /// After a refusal the table has some of this added.
+    /// On an error some of these terms have been added to the table.
     pub fn add_multiple(&mut self, other: &Lin<L, Int>, c: Int) -> Result<(), SumFault>
         ensures gains { OnOk result (Gains self.old (scaled c other.now) self.new) }
         ensures large { IsErrOf result SumFault.Large
@@ -111,7 +110,7 @@ impl<L: Label> Lin<L, Int> {
 
     /// Adds another table.
     ///
-    /// After a refusal the table has some of this added.
+    /// On an error some of these terms have been added to the table.
     pub fn add_terms(&mut self, other: &Lin<L, Int>) -> Result<(), SumFault>
         ensures gains { OnOk result (Gains self.old other.now self.new) }
         ensures large { IsErrOf result SumFault.Large → Overflows L.eq self.old other.now }
@@ -128,7 +127,7 @@ impl<L: Label> Lin<L, Int> {
 
     /// Adds `c` times the terms of a list.
     ///
-    /// After a refusal the table has some of this added.
+    /// On an error some of these terms have been added to the table.
     pub fn add_list(&mut self, list: &Terms<L, Int>, c: Int) -> Result<(), SumFault>
         ensures gains { OnOk result (Gains self.old (scaled c list.now) self.new) }
         ensures large { IsErrOf result SumFault.Large
@@ -145,9 +144,9 @@ impl<L: Label> Lin<L, Int> {
         Ok(())
     }
 
-    /// Adds what a rule makes of a table.
+    /// Adds the image of a table under a rule.
     ///
-    /// After a refusal the table has some of this added.
+    /// On an error some of these terms have been added to the table.
     pub fn add_by<K: Label, T: Rule<K, L>>(
         &mut self,
         rule: &T,

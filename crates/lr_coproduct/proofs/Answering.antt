@@ -1,4 +1,4 @@
--- What a coproduct answers.
+-- The list of a coproduct: its polynomial and its coefficients.
 use Rattle.std.proofs.Common.{◌≡◌, ℕ, ◌+◌, List, [], ◌∷◌, ◌++◌, map, refl, sym, ap, ◌∙◌, arith, ℤ, pos, ◌+ℤ◌, ◌*ℤ◌, flat_map}
 use Rattle.std.specs.Prelude.{None}
 use Rattle.std.proofs.lemmas.Int.{ints}
@@ -22,9 +22,9 @@ use Rattle.lr_coproduct.specs.InnerShapeList.{ListsShapesInside}
 use Rattle.lr_coproduct.proofs.InnerLists.{partitions_inside, part_among, among_part, once_partitions_inside}
 use Rattle.lr_coproduct.proofs.SortedShapes.{once_listed}
 
--- ---- one partition inside
+-- ---- the terms of one partition inside the shape
 
--- a list that is a polynomial, as a sum
+-- if a list represents f, the sum of the polynomials of its terms is f
 pub sum_of_terms : (P : List ℕ → Poly) (list : WholeTerms) (f : Poly) → Represents P (as_fractions list) f 1 → Same (combined P list) f
 sum_of_terms P list f r α =
     let one : denominators (as_fractions list) ≡ 1 = denominators-as_fractions list in
@@ -57,7 +57,7 @@ plus_same new old f g e h α =
     let j = e α in
     omega (arith, ints)
 
--- ---- all of them
+-- ---- the terms of all partitions inside the shape
 
 each_next : (f : List ℕ → Poly) (xs : List (List ℕ)) (x : List ℕ) (α : List ℕ) → coefficient_of (flat_map f (xs ++ (x ∷ []))) α ≡ coefficient_of (flat_map f xs) α +ℤ coefficient_of (f x) α
 each_next f [] x α = let p = coefficient_plus (f x) [] α in omega (arith, ints)
@@ -80,7 +80,7 @@ each-map : (f : List ℕ → Poly) (g : List ℕ → List ℕ) (xs : List (List 
 each-map f g [] = refl
 each-map f g (x ∷ xs) = ap (λ l. f (g x) ++ l) (each-map f g xs)
 
--- the sum over the partitions inside, in any order
+-- the coefficient of a sum of polynomials over a list is the sum of their coefficients
 coefficient_of_each : (f : List ℕ → Poly) (xs : List (List ℕ)) (α : List ℕ) → coefficient_of (flat_map f xs) α ≡ total (λ x. coefficient_of (f x) α) xs
 coefficient_of_each f [] α = refl
 coefficient_of_each f (x ∷ xs) α =
@@ -107,7 +107,7 @@ coproduct_meets shape inners terms p l sums n k =
     ∙ ap (λ (f : Poly). coefficient_of f α) (each-map (λ inner. beside (schur inner n) (skew_schur shape inner k)) without_last_zeros (shapes_inside shape (columns shape)))
     ∙ sym (coproduct n k shape p α)))
 
--- ---- coefficients past the limit
+-- ---- coefficients that exceed the limit
 
 pub past_of_inner : (shape inner : List ℕ) (inners : List (List ℕ)) → ListsShapesInside shape inners → Among inner inners → HasPast (IsCoefficientOfSkew None shape inner) → HasPast (IsCoproductCoefficient shape)
 past_of_inner shape inner inners l m (c, s, past) =

@@ -1,4 +1,4 @@
--- The terms of a skew shape by a small inner partition, taken from those by the greater ones.
+-- The terms of a skew shape by a small inner partition, read from those by greater ones.
 use Rattle.std.proofs.Common.{◌≡◌, ℕ, ◌+◌, ◌*◌, ◌<◌, ◌≤◌, ◌⊎◌, Bool, true, false, cond, ◌&&◌, List, [], ◌∷◌, ◌++◌, length, take, get_or, refl, sym, ap, ◌∙◌, subst, inl, inr, arith, ℤ, pos, ◌+ℤ◌, ◌^◌}
 use Rattle.std.specs.Prelude.{None}
 use Rattle.std.specs.declared.cmp.Ordering.TheVariants.{Less}
@@ -40,9 +40,9 @@ use Rattle.lr_coproduct.proofs.Answering.{sum_of_terms}
 use Rattle.lr_coproduct.proofs.Lookups.{label_in, table_in, not_before}
 use Rattle.lr_coproduct.proofs.ExchangedCounts.{skew_exchanged, skew_outside, skew_other_size, listed_coefficient}
 
--- ---- one term more
+-- ---- the terms after one more partition
 
--- of the partitions first the list has those as labels whose count isn't 0, with that count
+-- the labels of the list are the first partitions whose count is not 0, with these counts
 pub record ListsExchanged (shape inner : List ℕ) (firsts : List (List ℕ)) (terms : WholeTerms) : Type 0 where
   pub canonical : IsCanonicalList printed_order is_label whole terms
   pub labels : (t : List ℕ × ℤ) → Among t terms → Among t.0 firsts
@@ -58,7 +58,7 @@ coefficient_next (t ∷ terms) label c ν =
 apart_from : (inners : List (List ℕ)) (at : ℕ) (second earlier : List ℕ) → IsInPrintedOrder inners → IsAt inners at second → Among earlier (take at inners) → earlier ≡ second → ⊥
 apart_from inners at second earlier ordered here m e = not_before earlier second (earlier_before inners at second earlier ordered here m) e
 
--- a partition that counts nothing
+-- if the next partition has the count 0, the terms so far are those of one more partition
 pub next_skipped : (shape inner : List ℕ) (inners : List (List ℕ)) (at : ℕ) (second : List ℕ) (terms : WholeTerms) → IsInPrintedOrder inners → IsAt inners at second
     → skew_count shape inner second ≡ 0 → ListsExchanged shape inner (take at inners) terms → ListsExchanged shape inner (take (at + 1) inners) terms
 next_skipped shape inner inners at second terms ordered here none l = record {
@@ -68,7 +68,7 @@ next_skipped shape inner inners at second terms ordered here none l = record {
       (no_label terms second (λ t k. apart_from inners at second t.0 ordered here (l.labels t k)) ∙ sym (ap pos none)) (l.counts parts);
 }
 
--- a partition that counts
+-- if the next partition has a count that is not 0, its term may follow the terms so far in a canonical list
 next_canonical : (shape inner : List ℕ) (inners : List (List ℕ)) (at : ℕ) (second : List ℕ) (c : ℤ) (terms : WholeTerms) → IsInPrintedOrder inners → IsAt inners at second
     → is_label second ≡ true → (c ≡ pos 0 → ⊥) → ListsExchanged shape inner (take at inners) terms → IsCanonicalList printed_order is_label whole (terms ++ (second, c) ∷ [])
 next_canonical shape inner inners at second c terms ordered here label other l =
@@ -111,7 +111,7 @@ next_exchanged shape inner inners at second c terms new ordered here label is ot
           (λ k. count_earlier terms second c parts (λ q. apart_from inners at second parts ordered here k (sym q)) ∙ l.counts parts k);
     })
 
--- a partition that may count
+-- if the term of the next partition is appended, unless its count is 0, the terms are those of one more partition
 pub next_either : (shape inner : List ℕ) (inners : List (List ℕ)) (at : ℕ) (second : List ℕ) (c : ℤ) (terms new : WholeTerms) → IsInPrintedOrder inners → IsAt inners at second
     → is_label second ≡ true → c ≡ pos (skew_count shape inner second) → (c ≡ pos 0 → new ≡ terms) → ((c ≡ pos 0 → ⊥) → new ≡ terms ++ (second, c) ∷ [])
     → ListsExchanged shape inner (take at inners) terms → ListsExchanged shape inner (take (at + 1) inners) new
@@ -123,9 +123,9 @@ next_either shape inner inners at second c terms new ordered here label is none 
         (next_skipped shape inner inners at second terms ordered here (let z : pos (skew_count shape inner second) ≡ pos 0 = sym is ∙ e in omega (arith, ints)) l)
     by (inr d) = next_exchanged shape inner inners at second c terms new ordered here label is d (one d) l
 
--- ---- all of them
+-- ---- the terms after all partitions of the right size
 
--- a partition that is not among the first ones has no part in the sum, where the sizes of the later ones do not add up
+-- a partition ν not among the first ones has count 0, if no later one has the right size
 zero_unless_taken : (shape inner : List ℕ) (inners : List (List ℕ)) (at : ℕ) (ν : List ℕ) → IsPartition shape → ListsShapesInside shape inners → Among inner inners
     → ((i : ℕ) (x : List ℕ) → IsAt inners i x → at ≤ i → size inner + size x ≡ size shape → ⊥)
     → IsPartition ν → rows ν ≤ rows shape → (Among ν (take at inners) → ⊥) → skew_count shape inner ν ≡ 0
@@ -166,7 +166,7 @@ exchanged_meets shape inner inners at terms o listed there later l =
         no_label terms parts (λ t k e. n (subst (λ (ν : List ℕ). Among ν (take at inners)) e (l.labels t k)))
         ∙ sym (ap pos (zero_unless_taken shape inner inners at parts o listed there later p few n))
 
--- the coefficients of a list are counts
+-- the coefficient of `inner` in the list of `second` is the number of lattice tableaux of shape/second with the content `inner`
 pub listed_count : (shape second inner : List ℕ) (list : WholeTerms) → IsPartition shape → IsPartition inner → IsPartition second → Holds shape second
     → IsCanonicalList printed_order is_label whole list → ExpandsInSchurs None (skew_schur shape second) (as_fractions list)
     → coefficient list inner ≡ pos (skew_count shape second inner)
@@ -175,7 +175,7 @@ listed_count shape second inner list o i s k canonical meets =
     listed_coefficient n list (skew_schur shape second n) inner (label_in list canonical) (sum_of_terms (λ (label : List ℕ). schur label n) list (skew_schur shape second n) (meets n)) i (omega arith)
     ∙ skew_coefficients n shape second inner o s (contains-from shape second k) i (omega arith)
 
--- the coefficient in the list of the other partition
+-- the coefficient of `inner` in the list of `second` is also the number of lattice tableaux of shape/inner with the content `second`
 pub exchanged_term : (shape inner second : List ℕ) (list : WholeTerms) (c : ℤ) → IsPartition shape → IsPartition inner → IsPartition second → Holds shape inner → Holds shape second
     → IsCanonicalList printed_order is_label whole list → ExpandsInSchurs None (skew_schur shape second) (as_fractions list) → c ≡ coefficient list inner
     → c ≡ pos (skew_count shape inner second)
@@ -184,9 +184,9 @@ exchanged_term shape inner second list c o i s h k canonical meets e =
     ∙ listed_count shape second inner list o i s k canonical meets
     ∙ ap pos (skew_exchanged shape second inner o s i (contains-from shape second k) (contains-from shape inner h))
 
--- ---- coefficients past the limit
+-- ---- coefficients that exceed the limit
 
--- where none is past it in the lists of the others, none is here
+-- if no list of a partition before has a coefficient over the limit, the list of `inner` has none
 pub exchanged_fits : (shape inner : List ℕ) (inners : List (List ℕ)) (m : ℕ) → IsPartition shape → ListsShapesInside shape inners → IsAt inners m inner → 2 * size inner < size shape
     → ((second : List ℕ) → Among second (take m inners) → HasPast (IsCoefficientOfSkew None shape second) → ⊥) → HasPast (IsCoefficientOfSkew None shape inner) → ⊥
 exchanged_fits shape inner inners m o listed at small fit (c, d, past) = by (among_or_not d.parts (take m inners))
@@ -221,7 +221,7 @@ exchanged_fits shape inner inners m o listed at small fit (c, d, past) = by (amo
           past,
         )
 
--- ---- the lists kept
+-- ---- the lists so far, with one more
 
 pub lists_next : (shape : List ℕ) (inners : List (List ℕ)) (lists new : List WholeTerms) (inner : List ℕ) (list : WholeTerms) → IsAt inners (length lists) inner
     → IsSkewList shape inner list → new ≡ lists ++ list ∷ [] → HaveSkewLists shape inners lists → HaveSkewLists shape inners new
@@ -241,9 +241,9 @@ listed_fits shape inners lists have second m =
     let list = get_or lists r.0 [] in
     (have.at_index r.0 second list r.2 (record { within = r.1; is = get_or_default lists r.0 [] list r.1 })).fits
 
--- ---- one step
+-- ---- one step: the terms of a partition from the lists before
 
--- before the first partition whose size adds up
+-- the first partitions, those with more than `cells` cells, have the count 0, as they are too large
 pub front_exchanged : (shape inner : List ℕ) (inners : List (List ℕ)) (m cells count : ℕ) → IsPartition shape → ListsShapesInside shape inners → IsAt inners m inner → IsCountAbove inners cells count
     → size shape ≤ size inner + cells → ListsExchanged shape inner (take count inners) []
 front_exchanged shape inner inners m cells count o listed here above l = record {

@@ -1,4 +1,4 @@
--- The partitions inside a partition: which they are, and that each stands once.
+-- The partitions inside a partition: which they are, and that each occurs once.
 use Rattle.std.proofs.Common.{◌≡◌, ℕ, zero, suc, ◌+◌, ◌-◌, ◌≤◌, List, [], ◌∷◌, ◌++◌, append_assoc, append-nil, map, length, get_or, min, refl, sym, ap, ◌∙◌, subst, inl, inr, arith, true, flat_map}
 use Rattle.std.proofs.lemmas.List.{map-append}
 use Rattle.sym_model.specs.Sum.{Among, Once}
@@ -17,11 +17,11 @@ use Rattle.alternant_laws.proofs.FallingAlternants.{resize-without_last_zeros, w
 use Rattle.schur_laws.specs.InnerShapes.{up_to, shapes_inside}
 use Rattle.schur_laws.proofs.InnerShapeLists.{inside-tells, same-without_last_zeros, partition_inside}
 
--- the partitions inside
+-- the partitions inside a shape
 abbrev pub partitions_inside : List ℕ → List (List ℕ)
 partitions_inside shape = map without_last_zeros (shapes_inside shape (columns shape))
 
--- ---- each is one
+-- ---- each listed partition is inside
 
 pub record IsPart (shape inner : List ℕ) : Type 0 where
   pub partition : IsPartition inner
@@ -36,7 +36,7 @@ part_among shape inner m =
       inside = λ i. let e = same-without_last_zeros l.0 (i - 1) in let h = contains-tells shape l.0 r.inside i in omega arith;
     })
 
--- ---- and all are there
+-- ---- each partition inside is listed
 
 among_up_to : (j b : ℕ) → b ≤ j → Among b (up_to j)
 among_up_to j zero h = inl refl
@@ -75,7 +75,7 @@ size_within [] (b ∷ parts) e = let h = e 0 in let r = size_within [] parts (λ
     none (suc j) h = h
 size_within (a ∷ outer) (b ∷ parts) e = let h = e 0 in let r = size_within outer parts (λ j. e (suc j)) in omega arith
 
--- a partition inside one that is a label is a label
+-- if a shape is within the limits, each partition inside it is a label
 pub label_inside : (shape parts : List ℕ) → IsWithinLimits shape → IsPartition parts → Holds shape parts → is_label parts ≡ true
 label_inside shape parts l p h =
     let few = rows_within shape parts p.positive (Holds-get_or shape parts h) in
@@ -89,7 +89,7 @@ among_part shape parts p h =
     subst (λ l. Among l (partitions_inside shape)) (without_last_zeros-resize (length shape) parts p.positive few)
     (Among-map without_last_zeros (resize (length shape) parts) (shapes_inside shape (columns shape)) (padded_among shape (columns shape) parts p.falls (at 0) few at))
 
--- ---- each once
+-- ---- each partition inside is listed once
 
 once_up_to : (j : ℕ) → Once (up_to j)
 once_up_to j = (λ m. let r = after_among 0 j 0 m in let l = r.0 in absurd (omega arith), once_after 0 j)
@@ -116,7 +116,7 @@ once_partitions_inside shape =
     sym (resize-without_last_zeros (length shape) x r.rows) ∙ ap (resize (length shape)) e ∙ resize-without_last_zeros (length shape) y s.rows)
     (once_inside shape (columns shape))
 
--- ---- the recursion that lists them
+-- ---- the recursion that lists the inner shapes
 
 pub falls_next : (front : List ℕ) (b most : ℕ) → b ≤ most → Falls (front ++ most ∷ []) → Falls ((front ++ b ∷ []) ++ b ∷ [])
 falls_next [] b most h f = (omega arith, tt)
@@ -133,11 +133,11 @@ limits_front front most f h k = record {
   small = let l = size-without_last_zeros front in omega arith;
 }
 
--- the lists that begin with front and go on with these numbers from low on
+-- the lists that begin with front, continue with one of these numbers, and are inside the rows below
 abbrev pub listed_from : List ℕ → List ℕ → List ℕ → List (List ℕ)
 listed_from front below numbers = map (λ i. without_last_zeros (front ++ i)) (flat_map (λ b. map (λ i. b ∷ i) (shapes_inside below b)) numbers)
 
--- the numbers below one
+-- the numbers from 0 to b - 1
 abbrev pub below_it : ℕ → List ℕ
 below_it zero = []
 below_it (suc j) = up_to j

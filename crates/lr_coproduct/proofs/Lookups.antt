@@ -33,18 +33,18 @@ table_in terms c = record {
   proper = (and_parts (is_ordered printed_order terms) _ c).1;
 }
 
--- the labels are partitions
+-- each label of a canonical list is a partition
 pub label_in : (terms : WholeTerms) → IsCanonicalList printed_order is_label whole terms → (t : List ℕ × ℤ) → Among t terms → IsPartition t.0
 label_in terms c t m = (is_label-tells t.0 (and_parts _ (is_label t.0) (term-among is_label whole terms (table_in terms c).proper t m)).1).partition
 
--- a label is not before itself
+-- if x comes before y in the printed order, x is not y
 pub not_before : (x y : List ℕ) → printed_order x y ≡ Less → x ≡ y → ⊥
 not_before x y h e =
     let itself = tied_itself printed_order-total y in
     let less : printed_order y y ≡ Less = subst (λ (z : List ℕ). printed_order z y ≡ Less) e h in
     cc
 
--- ---- a binary search
+-- ---- a binary search in a canonical list
 
 pub member_at : {A : Type 0} (xs : List A) (i : ℕ) (d : A) → i < length xs → Among (get_or xs i d) xs
 member_at [] i d l = absurd (omega arith)

@@ -26,7 +26,7 @@ use Rattle.linear_combinations.proofs.Ordered.{StandsBefore, IsOrdered, is_order
 use Rattle.sparse_polys.specs.Labels.{pair_order_is_total}
 use Rattle.lr_coproduct.specs.PairTerms.{pair_sum, second_sum, with_first, AreBefore}
 
--- ---- their polynomial
+-- ---- the polynomial of the pairs
 
 pub sum_added : (n k : ℕ) (first : List ℕ) (list : WholeTerms) (old new : WholeTermsOf (List ℕ × List ℕ)) → new ≡ old ++ with_first first list
     → Same (pair_sum n k new) (plus (pair_sum n k old) (second_sum n k first list))
@@ -40,9 +40,9 @@ sum_added n k first list old new e α =
     let p = coefficient_plus (pair_sum n k old) (second_sum n k first list) α in
     omega (arith, ints)
 
--- ---- their order
+-- ---- the order of the pairs
 
--- pairs with one first partition are in the order of the second ones
+-- pairs with one first partition are in the order of their second ones
 with_first_before : (first label : List ℕ) (list : WholeTerms) → StandsBefore printed_order label list → StandsBefore pair_order (first, label) (with_first first list)
 with_first_before first label [] h = tt
 with_first_before first label (t ∷ list) h =
@@ -83,12 +83,12 @@ canonical_added first list old new e l c before was =
         let same : y.0.0 ≡ first = ap (λ (u : (List ℕ × List ℕ) × ℤ). u.0.0) s.2 in
         ap (λ (o : Ordering). ordering_then o (printed_order x.0.1 y.0.1)) (ap (printed_order x.0.0) same ∙ before x m)
 
--- what stands in an option that is there exactly under a condition
+-- if an option is `Some x`, and it is v if P holds and None otherwise, then x is v
 pub unwrapped : {A : Type 0} (P : Type 0) (o : Option A) (x v : A) → o ≡ Some x → SomeIff o P v → x ≡ v
 unwrapped P None x v e h = cc
 unwrapped P (Some y) x v e h = let same : y ≡ x = cc in sym same ∙ h.1
 
--- one term more
+-- after the pair of `first` and the next term is appended, the pairs are those of one more term of the list
 pub next_added : (first : List ℕ) (done next : WholeTerms) (second : List ℕ) (c : ℤ) (start old new : WholeTermsOf (List ℕ × List ℕ)) → done ++ (second, c) ∷ [] ≡ next
     → old ≡ start ++ with_first first done → new ≡ old ++ ((first, second), c) ∷ [] → new ≡ start ++ with_first first next
 next_added first done next second c start old new pushed e f =

@@ -1,4 +1,4 @@
--- Coefficients of pairs, when the terms with one more first partition are added.
+-- Coefficients of pairs after the terms with one more first partition are added.
 use Rattle.std.proofs.Common.{◌≡◌, ℕ, Bool, true, false, ◌&&◌, cond, List, [], ◌∷◌, ◌++◌, refl, ap, ◌∙◌, inl, inr, arith, ℤ, pos, ◌+ℤ◌}
 use Rattle.std.proofs.lemmas.Int.{ints}
 use Rattle.std.proofs.Math.IntN.{+ℤ_idl, +ℤ_idr}
@@ -13,7 +13,8 @@ appended : (old more : WholeTermsOf (List ℕ × List ℕ)) (first second : List
 appended [] more first second = let z = pair_coefficient more first second in omega (arith, ints)
 appended (t ∷ old) more first second = let r = appended old more first second in omega (arith, ints)
 
--- the terms with one first partition
+-- the coefficient of a pair in terms with the first partition `inner` is that of its second partition, or 0 if its
+-- first is another
 behind_one : (inner : List ℕ) (list : WholeTerms) (first second : List ℕ) → pair_coefficient (with_first inner list) first second ≡ cond (same inner first) (coefficient list second) (pos 0)
 behind_one inner [] first second = by (same inner first)
   where
@@ -28,7 +29,7 @@ behind_one inner (t ∷ list) first second = by (same inner first) (behind_one i
     by true e = ap (λ z. cond (same t.0 second) t.1 (pos 0) +ℤ z) e
     by false e = +ℤ_idl (pair_coefficient (with_first inner list) first second) ∙ e
 
--- a first partition that no pair has
+-- if no pair has the first partition `first`, the coefficient of each pair with it is 0
 none_behind : (old : WholeTermsOf (List ℕ × List ℕ)) (first second : List ℕ) → ((t : (List ℕ × List ℕ) × ℤ) → Among t old → t.0.0 ≡ first → ⊥) → pair_coefficient old first second ≡ pos 0
 none_behind [] first second apart = refl
 none_behind (t ∷ old) first second apart =
@@ -36,7 +37,7 @@ none_behind (t ∷ old) first second apart =
     ∙ +ℤ_idl (pair_coefficient old first second)
     ∙ none_behind old first second (λ u m. apart u (inr m))
 
--- ---- one first partition more
+-- ---- the counts after the terms with one more first partition are added
 
 pub count_here : (inner second : List ℕ) (list : WholeTerms) (old new : WholeTermsOf (List ℕ × List ℕ)) → new ≡ old ++ with_first inner list → AreBefore old inner
     → pair_coefficient new inner second ≡ coefficient list second

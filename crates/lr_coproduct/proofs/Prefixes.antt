@@ -9,7 +9,7 @@ at_among [] i x r = let l = r.within in absurd (omega arith)
 at_among (y ∷ xs) zero x r = inl r.is
 at_among (y ∷ xs) (suc i) x r = inr (at_among xs i x (let l = r.within in record { within = omega arith; is = r.is }))
 
--- one element more
+-- the first i + 1 elements are the first i and x
 pub take_next : {A : Type 0} (xs : List A) (i : ℕ) (x : A) → IsAt xs i x → take (i + 1) xs ≡ take i xs ++ (x ∷ [])
 take_next [] i x r = let l = r.within in absurd (omega arith)
 take_next (y ∷ xs) zero x r = ap (λ z. z ∷ take 0 xs) (sym r.is) ∙ ap (λ l. x ∷ l) (nothing xs)
@@ -21,7 +21,7 @@ take_next (y ∷ xs) (suc i) x r =
     let e : suc i + 1 ≡ suc (i + 1) = omega arith in
     ap (λ j. take j (y ∷ xs)) e ∙ ap (λ l. y ∷ l) (take_next xs i x (let l = r.within in record { within = omega arith; is = r.is }))
 
--- what holds at the element and at those before it
+-- if P holds for the element at i and for all before it, it holds for the first i + 1 elements
 pub either_at : {A : Type 0} (P : A → Type 0) (xs : List A) (i : ℕ) (x z : A) → IsAt xs i x → Among z (take (i + 1) xs) → P x → (Among z (take i xs) → P z) → P z
 either_at {A} P xs i x z r m here before = by (take i xs) (subst (λ l. Among z l) (take_next xs i x r) m) before
   where

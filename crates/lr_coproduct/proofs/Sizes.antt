@@ -11,7 +11,7 @@ use Rattle.sym_model.specs.PrintedOrder.{printed_order, falling_lexicographic}
 use Rattle.lr_coproduct.specs.InnerShapeList.{IsInPrintedOrder, IsAt, IsCountAbove}
 use Rattle.lr_coproduct.proofs.Lookups.{member_at}
 
--- of two partitions in the printed order the later one is not greater
+-- of two partitions in the printed order the later one has at most the size of the earlier
 printed_size : (x y : List ℕ) → printed_order x y ≡ Less → size y ≤ size x
 printed_size x y h = by (cases_lt (size x) (size y))
   where
@@ -30,7 +30,7 @@ sizes_fall (x ∷ xs) h zero (suc j) d l k = printed_size x (get_or xs j d) (h.0
 sizes_fall (x ∷ xs) h (suc i) zero d l k = absurd (omega arith)
 sizes_fall (x ∷ xs) h (suc i) (suc j) d l k = sizes_fall xs h.1 i j d (omega arith) (omega arith)
 
--- of two indexes the later one has no greater partition
+-- of two indexes the later one has a partition of at most the size
 later_size : (xs : List (List ℕ)) (i j : ℕ) (x y : List ℕ) → IsInPrintedOrder xs → IsAt xs i x → IsAt xs j y → i ≤ j → size y ≤ size x
 later_size xs i j x y h at_x at_y l =
     let s = sizes_fall xs h i j y l at_y.within in
@@ -38,7 +38,7 @@ later_size xs i j x y h at_x at_y l =
     let b = ap size (at_x.is ∙ get_or_default xs i x y at_x.within) in
     omega arith
 
--- ---- those of more than that number of cells
+-- ---- partitions with more than a number of cells
 
 pub parted : (xs : List (List ℕ)) (cells : ℕ) → IsInPrintedOrder xs → IsPartitionedBy (λ (x : List ℕ). nat_lt cells (size x)) xs
 parted xs cells h i j d l k e =
@@ -54,14 +54,14 @@ counted_above xs cells count bound p = record {
   after = λ i x at l. ltb-false cells (size x) (subst (λ (y : List ℕ). nat_lt cells (size y) ≡ false) (sym at.is) (p.1 i x l at.within));
 }
 
--- ---- sizes that do not add up
+-- ---- sizes that do not add up to that of the shape
 
--- after a partition of less than half the size of the shape
+-- if `inner` has less than half the cells of the shape, no partition from it on has the other cells as its size
 pub behind_small : (cells : ℕ) (xs : List (List ℕ)) (m : ℕ) (inner : List ℕ) → IsInPrintedOrder xs → IsAt xs m inner → 2 * size inner < cells
     → (i : ℕ) (x : List ℕ) → IsAt xs i x → m ≤ i → size inner + size x ≡ cells → ⊥
 behind_small cells xs m inner h at small i x here l e = let s = later_size xs m i inner x h at here l in omega arith
 
--- after those that are great enough
+-- from the index on after which the partitions are too small, the sizes of inner and of a partition do not add up to that of the shape
 pub behind_range : (cells : ℕ) (xs : List (List ℕ)) (m : ℕ) (inner : List ℕ) (less count at : ℕ) → IsInPrintedOrder xs → IsAt xs m inner → 2 * size inner < cells
     → IsCountAbove xs less count → size inner + less < cells → min count m ≤ at
     → (i : ℕ) (x : List ℕ) → IsAt xs i x → at ≤ i → size inner + size x ≡ cells → ⊥

@@ -20,7 +20,7 @@ use Rattle.lr_coproduct.specs.InnerShapeList.{IsInPrintedOrder, ListsShapesInsid
 use Rattle.lr_coproduct.proofs.InnerLists.{IsPart, partitions_inside, label_inside, part_among, among_part, once_partitions_inside}
 use Rattle.lr_coproduct.proofs.Prefixes.{IsAt, at_among}
 
--- ---- members
+-- ---- members of a list of shapes
 
 among_at : (xs : List (List ℕ)) (x : List ℕ) → Among x xs → Contains xs x
 among_at [] x m = absurd m
@@ -42,7 +42,7 @@ distinct (x ∷ xs) o = (apart xs (λ y m. m), distinct xs o.1)
     apart [] m = tt
     apart (y ∷ ys) m = (same_apart x y (λ e. o.0 (subst (λ z. Among z xs) (sym e) (m y (inl refl)))), apart ys (λ z k. m z (inr k)))
 
--- ---- order
+-- ---- two different partitions are in strict order
 
 not_after : (x y : List ℕ) → IsPartition x → IsPartition y → same x y ≡ false → is_lt (printed_order y x) ≡ false → printed_order x y ≡ Less
 not_after x y p q apart up = by (printed_order x y) refl

@@ -6,7 +6,7 @@ use Rattle.sym_model.specs.LabelLimits.{is_label}
 use Rattle.sym_model.specs.Partition.{IsPartition, Holds, size}
 use Rattle.sym_model.specs.PrintedOrder.{printed_order}
 
--- each partition stands in print strictly before all later ones
+-- each partition comes in the printed order strictly before all later ones
 abbrev pub IsInPrintedOrder : List (List ℕ) → Type 0
 IsInPrintedOrder [] = Unit {0}
 IsInPrintedOrder (x ∷ xs) =
@@ -20,12 +20,12 @@ pub record ListsShapesInside (shape : List ℕ) (inners : List (List ℕ)) : Typ
   pub inside : (inner : List ℕ) → Among inner inners → Holds shape inner
   pub all : (inner : List ℕ) → IsPartition inner → Holds shape inner → Among inner inners
 
--- the element at an index
+-- x is the element at the index i
 pub record IsAt {A : Type 0} (xs : List A) (i : ℕ) (x : A) : Type 0 where
   pub within : i < length xs
   pub is : x ≡ get_or xs i x
 
--- the first partitions of a list, as many as count, are those of more than that number of cells
+-- the first `count` partitions of a list are those with more than `cells` cells
 pub record IsCountAbove (inners : List (List ℕ)) (cells count : ℕ) : Type 0 where
   pub bound : count ≤ length inners
   pub before : (i : ℕ) (inner : List ℕ) → IsAt inners i inner → i < count → cells < size inner

@@ -14,7 +14,7 @@ use Rattle.sym_model.specs.WholeTerms.{same_pair}
 abbrev pub pair_sum : ℕ → ℕ → WholeTermsOf (List ℕ × List ℕ) → Poly
 pair_sum n k terms = combined (pair_polynomial n k) terms
 
--- the polynomial of terms labelled by second partitions, where the first is given
+-- the polynomial of terms labelled by second partitions, with a given first one
 abbrev pub second_sum : ℕ → ℕ → List ℕ → WholeTerms → Poly
 second_sum n k first terms =
     combined (λ (second : List ℕ). pair_polynomial n k (first, second)) terms

@@ -12,7 +12,7 @@ pub record IsSkewList (shape inner : List ℕ) (list : WholeTerms) : Type 0 wher
   pub meets : ExpandsInSchurs None (skew_schur shape inner) (as_fractions list)
   pub fits : HasPast (IsCoefficientOfSkew None shape inner) → ⊥
 
--- each list is that of the partition at its index
+-- each list is the skew Schur polynomial of the shape by the partition at its index
 pub record HaveSkewLists (shape : List ℕ) (inners : List (List ℕ))
     (lists : List (WholeTerms)) : Type 0 where
   pub at_index : (i : ℕ) (inner : List ℕ) (list : WholeTerms) → IsAt inners i inner

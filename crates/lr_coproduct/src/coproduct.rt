@@ -34,7 +34,7 @@ use std::alloc::Global;
 /// first and of the second. The coefficient of a pair is the number of lattice tableaux of the
 /// shape by the first partition with the second as content.
 ///
-/// It is refused as `Large` exactly where a coefficient is greater than 2^127 - 1.
+/// Returns `Large` if and only if a coefficient exceeds 2^127 - 1.
 pub fn coprod(alloc: Global, shape: &Partition) -> Result<Terms<Pair, Int>, SumFault>
     ensures meets { IfOk result
         (λ terms. IsCoproductOf shape.now (as_fractions terms)) }
@@ -43,8 +43,8 @@ pub fn coprod(alloc: Global, shape: &Partition) -> Result<Terms<Pair, Int>, SumF
     ensures fits { OnOk result (HasPast (IsCoproductCoefficient shape.now) → ⊥) }
 {
     let inners = inner_shapes(alloc, shape)?;
-    // The partitions inside and the terms for each of them come in the printed order,
-    // and so do the pairs.
+    // The partitions inside the shape and the terms for each of them are in the printed order, and
+    // so are the pairs.
     let mut pairs: Vec<(Pair, Int)> = Vec::new(alloc);
     let mut lists: Vec<Terms<Partition, Int>> = Vec::new(alloc);
     for at in 0..inners.len() {
@@ -54,8 +54,8 @@ pub fn coprod(alloc: Global, shape: &Partition) -> Result<Terms<Pair, Int>, SumF
     Ok(Terms::from_pairs(pairs).unwrap())
 }
 
-/// Adds the pairs whose first partition is `inner` at the end of those whose first partitions come
-/// before it, and the list of its terms after those of the partitions before it.
+/// Appends the pairs whose first partition is `inner` to those whose first partitions come before
+/// it, and the list of its terms to the lists.
 fn add_inner(
     alloc: Global,
     pairs: &mut Vec<(Pair, Int)>,
@@ -94,9 +94,9 @@ fn add_inner(
     Ok(())
 }
 
-/// The skew Schur polynomial of the shape by a partition in Schur polynomials: counted where the
-/// partition has at least half of the cells, as that skew shape is a small one, and else taken from
-/// the lists of the partitions before it.
+/// The skew Schur polynomial of the shape by a partition in Schur polynomials: counted if the
+/// partition has at least half of the cells, since the skew shape is then small, and otherwise read
+/// from the lists of the partitions before it.
 fn list_of(
     alloc: Global,
     shape: &Partition,

@@ -1,5 +1,5 @@
-//! The terms of a skew shape from those of others:
-//! the inner partition and a label may change places.
+//! The terms of a skew shape from those of others: the inner partition and a label may be
+//! exchanged.
 ghost use Rattle.std.specs.Prelude.{◌≡◌, ℕ, ◌*◌, ◌<◌, ℤ, pos, List, ◌∷◌, [], ◌++◌, false, None};
 ghost use Rattle.std.specs.Prelude.{length, IfOk, OnOk};
 ghost use Rattle.coeff_rings.specs.Fractions.{whole};
@@ -23,8 +23,8 @@ use partitions::Partition;
 use std::alloc::Global;
 
 /// The skew Schur polynomial of a shape by a partition of less than half its size, from those by
-/// the partitions that stand before it: where one of these has the label `inner` with a
-/// coefficient, it is a label here with the same one.
+/// the partitions that come before it: if the list of a partition ν has the label `inner` with some
+/// coefficient, the result has the label ν with the same one.
 pub(crate) fn exchanged(
     alloc: Global,
     shape: &Partition,

@@ -23,7 +23,7 @@ pub(crate) fn inner_shapes(alloc: Global, shape: &Partition) -> Result<Vec<Parti
     Ok(shapes)
 }
 
-/// Puts partitions into the printed order.
+/// Sorts partitions into the printed order.
 fn sort_shapes(shapes: &mut Vec<Partition>)
     ensures permutation { IsPermutation shapes.old.items shapes.new.items }
     ensures sorted { IsSorted printed_order shapes.new.items }
@@ -31,7 +31,7 @@ fn sort_shapes(shapes: &mut Vec<Partition>)
     shapes.sort_unstable_by(|a, b| a.cmp_printed(b));
 }
 
-/// How many partitions have more than that number of cells. They stand first in the printed order.
+/// The number of partitions with more than `cells` cells. They come first in the printed order.
 pub(crate) fn count_above(inners: &[Partition], cells: u16) -> usize
     requires { IsInPrintedOrder inners.now }
     ensures { IsCountAbove inners.now cells result }
@@ -39,7 +39,7 @@ pub(crate) fn count_above(inners: &[Partition], cells: u16) -> usize
     inners.partition_point(|inner| cells < inner.size())
 }
 
-/// Adds the partitions that begin with `numbers`, continue with a number of at most `most`, and are
+/// Adds the partitions that begin with `front`, continue with a number of at most `most`, and are
 /// contained in these rows.
 fn add_shapes(
     alloc: Global,

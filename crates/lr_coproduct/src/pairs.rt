@@ -12,8 +12,8 @@ use linear_combinations::Terms;
 use partitions::Partition;
 use sparse_polys::Pair;
 
-/// Adds the terms of a list at the end of pairs, each with the label that has `first` before its
-/// own, and the list at the end of the lists.
+/// Appends the terms of a list to the pairs, each with the label that has `first` before its own,
+/// and the list to the lists.
 pub(crate) fn add_list(
     pairs: &mut Vec<(Pair, Int)>,
     lists: &mut Vec<Terms<Partition, Int>>,
@@ -29,7 +29,7 @@ pub(crate) fn add_list(
     Ok(())
 }
 
-/// Adds the terms of a list at the end, each with the label that has `first` before its own.
+/// Appends the terms of a list, each with the label that has `first` before its own.
 fn add_pairs(
     pairs: &mut Vec<(Pair, Int)>,
     first: &Partition,
@@ -45,7 +45,7 @@ fn add_pairs(
     Ok(())
 }
 
-/// Adds a term at the end.
+/// Appends a term.
 fn add_pair(
     pairs: &mut Vec<(Pair, Int)>,
     first: &Partition,

@@ -1,4 +1,4 @@
--- Columns that are added letter by letter are those that may be next.
+-- Columns that are added letter by letter are the columns that may be next.
 use Rattle.std.proofs.Common.{◌≡◌, ℕ, zero, suc, ◌+◌, ◌-◌, ◌<◌, ◌≤◌, ◌==◌, ◌⊎◌, inl, inr, nat_le, Bool, true, false, cond, ◌&&◌, List, [], ◌∷◌, ◌++◌, append_assoc, append-nil, map, length, take, drop, refl, sym, ap, ap₂, ◌∙◌, arith}
 use Rattle.std.proofs.lemmas.Bool.{cases_lt, cases_eq, lt-ltb, le-ltb, le-leb, lt-leb, ne_eqb, eq-eqb}
 use Rattle.sym_model.specs.Partition.{after}
@@ -17,7 +17,7 @@ use Rattle.sym_model.specs.Sum.{sum_by}
 use Rattle.sym_model.proofs.NumberSums.{sum_by-ext, sum_by-each, sum_by-map, sum_by-cond}
 use Rattle.lr_product.proofs.Ranges.{after-numbers, range-passing, numbers-ext}
 
--- ---- sums and contents
+-- ---- the sum reached after some letters of a column
 
 pub join-nothing : (n : ℕ) (ν : List ℕ) → length ν ≡ n → join ν (content n []) ≡ ν
 join-nothing n ν e = sum_at_start n ν (omega arith) ∙ resize_same n ν e
@@ -73,9 +73,9 @@ drop_all [] [] = refl
 drop_all [] (a ∷ w) = refl
 drop_all (a ∷ s) w = drop_all s w
 
--- ---- one letter
+-- ---- one letter of a column
 
--- whether a letter is at most its right neighbour
+-- whether the letter b is at most its right neighbour, if it has one
 abbrev fits : ℕ → List ℕ → Bool
 fits b [] = true
 fits b (r ∷ right) = nat_le b r
@@ -134,9 +134,9 @@ end-within n false right a = by (a == 0)
     by true = omega arith
     by false = omega arith
 
--- ---- whole columns
+-- ---- a whole column, letter by letter
 
--- a column below a letter that goes on from a state
+-- the ways to complete a column below a letter, from a state
 abbrev goes_on : ℕ → List ℕ → ℕ → (List ℕ → List ℕ → ℕ) → List ℕ → List ℕ → List ℕ → ℕ
 goes_on n right a f ν w c =
     cond (is_chain may_stand_above (a ∷ c) && (pass_by_place nat_le c right && is_falling (join ν (content n c)))) (f (join ν (content n c)) (w ++ c)) 0
@@ -186,7 +186,7 @@ extended-next n line right f ν e =
     first [] = refl
     first (b ∷ c) = lt-ltb 0 (b + (1 - 0)) (omega arith)
 
--- ---- columns that are not kept
+-- ---- a column whose letters are not kept in the state
 
 forgotten : (n : ℕ) (line : List Bool) (right : List ℕ) (a : ℕ) (f : List ℕ → List ℕ → ℕ) (s w : List ℕ) → length s ≡ n
     → extended false n line right a f s ≡ extended true n line right a (seen false f) (s ++ w)

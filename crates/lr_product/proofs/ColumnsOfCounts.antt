@@ -1,4 +1,4 @@
--- Sums over the ways to add columns, in natural numbers and in whole ones.
+-- Sums over the ways to add columns, in natural numbers and in integers.
 use Rattle.std.proofs.Common.{◌≡◌, ℕ, Bool, true, false, cond, List, [], ◌∷◌, refl, ap, ◌∙◌, ℤ, pos}
 use Rattle.sym_model.specs.Polynomial.{join}
 use Rattle.sym_model.specs.Schur.{content}

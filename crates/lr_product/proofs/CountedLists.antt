@@ -39,11 +39,12 @@ equal_apart a b n = by (eq_states a b) refl
 
 -- ---- a table of terms by its look-ups
 
--- the look-ups find the counts
+-- looking up a label in the terms gives its count
 abbrev pub Finds : (List ℕ → ℕ) → WholeTerms → Type 0
 Finds count terms = (parts : List ℕ) → coefficient eq_states (pos 0) terms parts ≡ pos (count parts)
 
--- so the list has them as its coefficients, where no partition of more than n rows is counted
+-- a table whose look-ups find the counts has them as its coefficients if no partition with more than n rows is
+-- counted
 pub has_counts : (n : ℕ) (count : List ℕ → ℕ) (terms : WholeTerms) → IsCombination eq_states is_label whole terms → Finds count terms
     → ((parts : List ℕ) → n < rows parts → count parts ≡ 0) → HasCounts n count terms
 has_counts n count terms is finds short = record {
@@ -62,7 +63,7 @@ has_counts n count terms is finds short = record {
         sym (coefficient_of_term terms is.distinct t m) ∙ coefficient_found terms is.distinct t.0 ∙ finds t.0 ∙ ap pos (short t.0 l) in
         absurd (not_zero-is_reduced (whole t.1) (and_parts _ (is_label t.0) (term-among is_label whole terms is.proper t m)).0 (ap whole zero))
 
--- a list with the same look-ups
+-- if one list has the counts, so does a list with the same coefficients
 pub finds_same : (count : List ℕ → ℕ) (first second : WholeTerms) → HasSameCoefficients eq_states (pos 0) first second → Finds count first → Finds count second
 finds_same count first second e h parts = e parts ∙ h parts
 
@@ -70,9 +71,9 @@ finds_same count first second e h parts = e parts ∙ h parts
 pub held_small : (terms : WholeTerms) (count : List ℕ → ℕ) → AreHeld eq_states (pos 0) (FitsSigned w128) terms → Finds count terms → (parts : List ℕ) → count parts < 2 ^ 127
 held_small terms count h finds parts = let f = (subst (FitsSigned w128) (finds parts) (h.at_label parts)).sfits in omega arith
 
--- ---- one count more
+-- ---- the counts after one more entry
 
--- the sums of the first entries of a table
+-- the sum over the first i + 1 entries of a table is that over the first i and the next summand
 pub weighed-take : (n : ℕ) (g : List ℕ → List ℕ → ℕ) (es : List (List ℕ × ℕ)) (i : ℕ) (key : List ℕ) (w : ℕ) → slice_get es i ≡ Some (key, w) → weighed n g (take (i + 1) es) ≡ weighed n g (take i es) + w * at_state n g key
 weighed-take n g [] i key w h = cc
 weighed-take n g (e ∷ es) zero key w h =
@@ -95,16 +96,16 @@ weighed-front n g [] (suc i) = omega arith
 weighed-front n g (e ∷ es) zero = omega arith
 weighed-front n g (e ∷ es) (suc i) = let r = weighed-front n g es i in omega arith
 
--- the counts of the first entries
+-- the count of a partition in the first i entries
 abbrev pub counted : ℕ → List (List ℕ × ℕ) → ℕ → List ℕ → ℕ
 counted n es i parts = weighed n (comes_to parts) (take i es)
 
--- an entry that counts nothing
+-- an entry with count 0 changes no count
 pub counted-zero : (n : ℕ) (es : List (List ℕ × ℕ)) (i : ℕ) (key : List ℕ) (w : ℕ) (parts : List ℕ) → slice_get es i ≡ Some (key, w) → w ≡ 0 → counted n es (i + 1) parts ≡ counted n es i parts
 counted-zero n es i key w parts h z =
     weighed-take n (comes_to parts) es i key w h ∙ ap (λ v. counted n es i parts + v * at_state n (comes_to parts) key) z ∙ (let q : counted n es i parts + 0 * at_state n (comes_to parts) key ≡ counted n es i parts = omega arith in q)
 
--- the entry counts at its partition, and nowhere else
+-- the entry i adds its count at its own partition, and nothing at any other partition
 counted-more : (n : ℕ) (es : List (List ℕ × ℕ)) (i : ℕ) (key : List ℕ) (w : ℕ) (parts : List ℕ) → slice_get es i ≡ Some (key, w)
     → counted n es (i + 1) parts ≡ cond (eq_states (without_last_zeros (take n key)) parts) (counted n es i parts + w) (counted n es i parts)
 counted-more n es i key w parts h = weighed-take n (comes_to parts) es i key w h ∙ by (same_or_not (without_last_zeros (take n key)) parts)
@@ -140,7 +141,7 @@ finds_next n es i key sum w old new h is finds more parts =
     by true e = ap (λ z. z +ℤ pos w) (ap (coefficient eq_states (pos 0) old) (same_partition (without_last_zeros (take n key)) parts e) ∙ finds parts)
     by false e = finds parts
 
--- where the limit is met at the label, the count of the whole table is past it
+-- if one label reaches the limit after an entry, the count there of the whole table exceeds it
 pub past_next : (n m : ℕ) (es : List (List ℕ × ℕ)) (i : ℕ) (key sum : List ℕ) (w : ℕ) (old : WholeTerms) → slice_get es i ≡ Some (key, w) → sum ≡ take n key → IsReached n m (take n key)
     → Finds (counted n es i) old → ((k : ℕ) → coefficient eq_states (pos 0) old (without_last_zeros sum) ≡ pos k → 2 ^ 127 ≤ k + w)
     → IsPastSomewhere n (λ parts. weighed n (comes_to parts) es)
@@ -156,7 +157,7 @@ past_next n m es i key sum w old h is r finds large = record {
       omega arith;
 }
 
--- the sum is a partition within limits
+-- if a sum of at most 4,096 is reached in at most 512 places, it is, without its last zeros, a partition within the limits
 pub sum_within : (n : ℕ) (sum : List ℕ) → n ≤ 512 → IsReached n 4096 sum → IsWithinLimits (without_last_zeros sum)
 sum_within n sum h r = record {
   partition = IsPartition-without_last_zeros sum (falls_from_test sum r.falls);
@@ -164,7 +165,7 @@ sum_within n sum h r = record {
   small = let l = size-without_last_zeros sum in let e = r.small in omega arith;
 }
 
--- no partition of more rows is counted
+-- the count of a partition with more than n rows is 0
 pub counted-long : (n : ℕ) (es : List (List ℕ × ℕ)) (parts : List ℕ) → n < rows parts → weighed n (comes_to parts) es ≡ 0
 counted-long n [] parts h = refl
 counted-long n (e ∷ es) parts h =
@@ -173,7 +174,7 @@ counted-long n (e ∷ es) parts h =
     let y : e.1 * at_state n (comes_to parts) e.0 ≡ e.1 * 0 = ap (λ x. e.1 * x) z in
     omega arith
 
--- a list that has the coefficients of the empty one
+-- if a list has the coefficients of the empty list, it is empty
 pub same_as_none : (terms : WholeTerms) → IsCombination eq_states is_label whole terms → HasSameCoefficients eq_states (pos 0) [] terms → terms ≡ []
 same_as_none terms is e =
     by terms (length_same nat_list_eq_equiv same_partition (pos 0) whole refl terms [] is (IsCombination-empty eq_states is_label whole) (λ label. sym (e label)))

@@ -1,5 +1,5 @@
--- States that stand one after the other in one list: the state at an index, one more state at the
--- end, and a count put in the place of another.
+-- States kept one after the other in one list: the state at an index, one more state at the end, and a count replaced
+-- by another.
 use Rattle.std.proofs.Common.{◌≡◌, ℕ, zero, suc, ◌+◌, ◌*◌, ◌<◌, ◌≤◌, List, [], ◌∷◌, ◌++◌, length, take, drop, get_or, set, drop-drop, length-drop, refl, sym, ap, ap₂, ◌∙◌, arith}
 use Rattle.std.specs.Prelude.{Some, slice_get}
 use Rattle.std.specs.Map.{keys_of}
@@ -11,7 +11,7 @@ use Rattle.lr_product.specs.WeighedSum.{at_state, weighed}
 use Rattle.lr_product.specs.Capped.{Agree}
 use Rattle.lr_product.proofs.Agreeing.{agree_same, agree_then, agree_sum, agree_times}
 
--- as many as there are counts
+-- the number of states is the number of counts
 pub states_length : (w : ℕ) (ns cs : List ℕ) → length (counted_states w ns cs) ≡ length cs
 states_length w ns [] = refl
 states_length w ns (c ∷ cs) = ap suc (states_length w (drop w ns) cs)
@@ -19,7 +19,7 @@ states_length w ns (c ∷ cs) = ap suc (states_length w (drop w ns) cs)
 pub entries_length : (w : ℕ) (ns cs : List ℕ) (s : StateCounts) → record { width = w; entries = counted_states w ns cs } ≡ s → length cs ≡ length s.entries
 entries_length w ns cs s e = sym (states_length w ns cs) ∙ ap (λ (t : StateCounts). length t.entries) e
 
--- the numbers of a state that is there
+-- the numbers of state i are among all numbers, and the state and its count are read from them
 pub within_numbers : (w i k len : ℕ) → len ≡ k * w → i < k → i * w + w ≤ len
 within_numbers w i k len e h =
     let m = mul-le-mul_right w (let l : i + 1 ≤ k = omega arith in l) in
@@ -43,7 +43,7 @@ state_pushed w ns (d ∷ cs) s c h l =
     ap₂ (λ t (m : List ℕ). (t, d) ∷ counted_states w m (cs ++ c ∷ [])) (take-append-le w ns s first) (drop-append-le w ns s first)
     ∙ ap (λ (es : List (List ℕ × ℕ)). (take w ns, d) ∷ es) (state_pushed w (drop w ns) cs s c rest l)
 
--- the entry at an index apart from the others
+-- the weighed sum is that of the entry i and the rest, also after its count is replaced
 abbrev SplitsAt : ℕ → (List ℕ → List ℕ → ℕ) → ℕ → List ℕ → List ℕ → ℕ → ℕ → List ℕ → Type 0
 SplitsAt n f w ns cs i had state = (rest : ℕ) × (weighed n f (counted_states w ns cs) ≡ had * at_state n f state + rest)
     × ((v : ℕ) → weighed n f (counted_states w ns (set cs i v)) ≡ v * at_state n f state + rest)
@@ -68,7 +68,7 @@ agree_put n f w ns cs i had count v state h e a =
     let was = s.1 in
     agree_then _ _ _ (agree_same _ _ (s.2 v)) (agree_then _ _ _ more (agree_same _ _ (omega arith)))
 
--- the state of an entry
+-- the state at i is the state of the entry at i
 pub state_of_entry : (es : List (List ℕ × ℕ)) (i : ℕ) (state : List ℕ) (count : ℕ) → slice_get es i ≡ Some (state, count) → slice_get (keys_of es) i ≡ Some state
 state_of_entry [] i state count h = cc
 state_of_entry (e ∷ es) zero state count h = let here : e ≡ (state, count) = cc in ap (λ (x : List ℕ × ℕ). Some x.0) here

@@ -43,7 +43,7 @@ use Rattle.lr_product.proofs.ColumnsOfCounts.{over-states, over-ext}
 
 -- ---- counts that agree up to the limit
 
--- where there is no bound, nothing lies outside
+-- every f vanishes outside the empty bound, since no sum exceeds that bound
 pub no_bound : (f : List ℕ → List ℕ → ℕ) → VanishesOutside [] f
 no_bound f [] right h = absurd (cc)
 no_bound f (a ∷ ν) right h = absurd (cc)
@@ -84,7 +84,8 @@ schur-too_long : (m : ℕ) (start outer inner ν : List ℕ) → IsPartition sta
 schur-too_long m start outer inner ν p o i holds s q l k =
     coefficient_counts m m start outer inner ν (omega arith) p o i q l ∙ no_long_labels m start outer inner ν p o i holds s k
 
--- at each partition with at most m rows the count is the good count in n letters, and 0 where it has more than n rows
+-- at each partition with at most n rows the count is the good count in n letters, and at those with more than n and
+-- at most m rows it is 0
 pub record SameCounts (n m : ℕ) (good count : List ℕ → ℕ) : Type 0 where
   pub fewer : n ≤ m
   pub same_within : (ν : List ℕ) → IsPartition ν → rows ν ≤ n → count ν ≡ good ν
@@ -94,7 +95,7 @@ pub record SameCounts (n m : ℕ) (good count : List ℕ → ℕ) : Type 0 where
 abbrev pub Counts : ℕ → Poly → (List ℕ → ℕ) → Type 0
 Counts m f count = (ν : List ℕ) → IsPartition ν → rows ν ≤ m → schur_coefficient m ν f ≡ pos (count ν)
 
--- as many letters as there are variables, or as labels can have rows, are enough
+-- min(m, rows of start and outer together) letters are enough in m variables
 pub same_counts : (n m : ℕ) (start outer inner : List ℕ) (count : List ℕ → ℕ) → n ≤ m → min m (rows start + rows outer) ≤ n → IsPartition start → IsPartition outer → IsPartition inner → contains outer inner ≡ true → rows start ≤ n
     → Counts m (times (schur start m) (skew_schur outer inner m)) count → SameCounts n m (good_count n start outer inner) count
 same_counts n m start outer inner count most enough p o i holds s c = record {
@@ -107,11 +108,11 @@ same_counts n m start outer inner count most enough p o i holds s c = record {
       omega (arith, ints);
 }
 
--- no term has this label
+-- the coefficient of a label is 0 if no term has it
 pub no_label : (terms : WholeTerms) (ν : List ℕ) → ((t : List ℕ × ℤ) → Among t terms → t.0 ≡ ν → ⊥) → coefficient terms ν ≡ pos 0
 no_label terms ν h = total_none (λ (t : Term). cond (same t.0 ν) t.1 (pos 0)) terms (λ t m. ap (λ (b : Bool). cond b t.1 (pos 0)) (same_apart t.0 ν (h t m)))
 
--- the terms as fractions
+-- if a table has the counts, its terms as fractions list them
 pub lists_counts : (k : ℕ) (count : List ℕ → ℕ) (terms : WholeTerms)
     → HasCounts k count terms → ListsCounts k count (as_fractions terms)
 lists_counts k count terms c = whole_counts k count terms c.labels c.counts
@@ -144,11 +145,11 @@ past_in n m good count same_ones p = record {
   past = let z = same_ones.same_within p.parts p.partition p.within in let s = p.past in omega arith;
 }
 
--- the empty list, where nothing is counted
+-- the empty list has the counts if all counts are 0
 pub none_counted : (m : ℕ) (count : List ℕ → ℕ) → ((ν : List ℕ) → count ν ≡ 0) → HasCounts m count []
 none_counted m count e = record { table = IsCombination-empty (pointwise nat_eq) is_label whole; labels = λ t k. absurd k; counts = λ ν q l. sym (ap pos (e ν)) }
 
--- ---- coefficients past the limit
+-- ---- coefficients that exceed the limit
 
 pub has_past : (m : ℕ) (f : Poly) (count : List ℕ → ℕ) → Counts m f count → IsPastSomewhere m count → HasPast (IsSchurCoefficientOf f m)
 has_past m f count e p = (
@@ -164,7 +165,7 @@ has_none_past m f count e small (c, d, past) =
     let s = small d.parts d.partition d.within in
     absurd (omega arith)
 
--- ---- products
+-- ---- the counts of a product
 
 pub product_counts : (m : ℕ) (left right : List ℕ) → IsPartition left → IsPartition right → Counts m (schur_product (left ∷ right ∷ []) m) (product_count m left right)
 product_counts m left right p q ν r l = product_coefficients m left right ν p q r l
@@ -177,7 +178,7 @@ variables_same : (rows_given : Option ℕ) (k : ℕ) → unwrap_or rows_given k 
 variables_same None k = refl
 variables_same (Some n) k = refl
 
--- the rows of both factors are enough variables
+-- if no number of variables is given, the number of rows of both factors is used
 enough_same : (variables : Option ℕ) (left right : List ℕ) → unwrap_or variables (rows left + rows right) ≡ variables_or variables (size (map rows (left ∷ right ∷ [])))
 enough_same variables left right = variables_same variables (rows left + rows right) ∙ ap (variables_or variables) (let z : rows left + rows right ≡ rows left + (rows right + 0) = omega arith in z)
 
@@ -203,7 +204,7 @@ mult_fits variables m left right e p q small past =
     has_none_past m (schur_product (left ∷ right ∷ []) m) (product_count m left right) (product_counts m left right p q) small
     (subst (λ k. HasPast (IsSchurCoefficientOf (schur_product (left ∷ right ∷ []) k) k)) (sym (e ∙ enough_same variables left right)) past)
 
--- the list is the classical product
+-- if a list has the counts of a product, it is the classical product
 pub classical_answer : (k : ℕ) (left right : List ℕ) (terms : WholeTerms) → IsPartition left → IsPartition right → HasCounts k (product_count k left right) terms
     → Same terms (classical_product k (left ∷ right ∷ []))
 classical_answer k left right terms p q c α = by (cases_Bool (is_partition α)) (cases_lt k (rows α))
@@ -223,7 +224,7 @@ classical_answer k left right terms p q c α = by (cases_Bool (is_partition α))
         both (λ t m d. let r = c.labels t m in both_ways (is_partition α) e (is_partition-from α (subst IsPartition d r.0)))
         (λ t m d. let r = classical_product-term k (left ∷ right ∷ []) t m in both_ways (is_partition α) e (is_partition-from α (subst IsPartition d r.partition)))
 
--- a coefficient is at most the sum of the absolute values of all
+-- a coefficient is at most the sum of the absolute values of all coefficients
 coefficient_at_most : (terms : WholeTerms) (α : List ℕ) → coefficient terms α ≤ℤ pos (absolute_total terms)
 coefficient_at_most [] α = omega (arith, ints)
 coefficient_at_most (t ∷ terms) α = by (same t.0 α) (at_most t.1) (coefficient_at_most terms α)
@@ -254,7 +255,7 @@ pub heavy_if : (variables : Option ℕ) (m : ℕ) (left right : List ℕ) → m 
 heavy_if None m left right e p q past = tt
 heavy_if (Some k) m left right e p q past = heavy_answer k left right p q (subst (λ j. IsPastSomewhere j (product_count j left right)) e past)
 
--- ---- skews
+-- ---- the counts of a skew Schur polynomial
 
 skew_counts : (m : ℕ) (outer inner : List ℕ) → IsPartition outer → IsPartition inner → contains outer inner ≡ true → Counts m (skew_schur outer inner m) (skew_count outer inner)
 skew_counts m outer inner o i holds ν r l = skew_coefficients m outer inner ν o i holds r l
@@ -289,7 +290,7 @@ skew_fits variables m outer inner e o i holds small past =
 pub contains-false : (outer inner : List ℕ) → (Holds outer inner → ⊥) → contains outer inner ≡ false
 contains-false outer inner h = false_from_ne_true (contains outer inner) (λ e. h (contains-tells outer inner e))
 
--- where the inner partition does not lie inside, the polynomial is 0
+-- if inner does not lie inside outer, the skew Schur polynomial is 0
 skew_none : (outer inner : List ℕ) (n : ℕ) → contains outer inner ≡ false → skew_schur outer inner n ≡ []
 skew_none outer inner n h = ap (λ (b : Bool). map (λ (T : List (List ℕ)). (content n (letters_of T), pos 1)) (cond b (filter (semistandard inner) (fillings_of n (row_lengths outer inner))) [])) h
 
@@ -303,9 +304,9 @@ outside_fits variables outer inner h past =
     has_none_past m [] (λ ν. 0) (λ ν q l. coefficient_pair (times (alternant (staircase m)) []) (join ν (staircase m)) ∙ pair_times (alternant (staircase m)) [] (at_only (join ν (staircase m))) ∙ pair_zero (alternant (staircase m)))
     (λ ν q l. omega arith) (subst (λ (f : Poly). HasPast (IsSchurCoefficientOf f m)) (skew_none outer inner m h) past)
 
--- ---- one coefficient
+-- ---- one coefficient of a product
 
--- a product has the size of both factors together
+-- the count of a product is 0 if outer has another size than both factors together
 pub product_count-other_size : (outer left right : List ℕ) → IsPartition outer → IsPartition left → IsPartition right → (size left + size right ≡ size outer → ⊥) → product_count (rows outer) left right outer ≡ 0
 product_count-other_size outer left right o p q other =
     let n = rows outer in

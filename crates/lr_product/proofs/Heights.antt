@@ -1,4 +1,4 @@
--- The lines of the columns of a skew shape: how many there are, and which places they have.
+-- The lines of the columns of a skew shape: their number, and their places.
 use Rattle.std.proofs.Common.{◌≡◌, ℕ, zero, suc, ◌+◌, ◌-◌, ◌<◌, ◌≤◌, ◌⊎◌, inl, inr, nat_le, nat_lt, Bool, true, false, cond, List, [], ◌∷◌, ◌++◌, length, replicate, take, drop, get_or, refl, sym, ap, ap₂, ◌∙◌, arith}
 use Rattle.std.proofs.lemmas.Bool.{cases_lt, le-leb, lt-leb, lt-ltb, le-ltb}
 use Rattle.std.proofs.Math.Seq.{drop-cons}
@@ -111,7 +111,7 @@ places-drop zero (l ∷ lines) = omega arith
 places-drop (suc i) [] = omega arith
 places-drop (suc i) (l ∷ lines) = let r = places-drop i lines in omega arith
 
--- the columns from one on: that one and the others
+-- the column lines from index i on are the next line and those after it
 pub column-cons : (outer inner : List ℕ) (i : ℕ) → Falls outer → contains outer inner ≡ true → i < columns outer → drop i (column_lines outer inner) ≡ column_line (i + 1) outer inner ∷ drop (i + 1) (column_lines outer inner)
 column-cons outer inner i f c h =
     let e : suc i ≡ i + 1 = omega arith in

@@ -30,6 +30,6 @@ agree_end now all ways X letter end h p =
     let s : sum_by X (numbers_from letter (end - letter)) ≡ 0 = sum-end X letter end h in
     agree_then _ _ _ (agree_same _ _ ((let e : now ≡ now + ways * 0 = omega arith in e) ∙ ap (λ x. now + ways * x) (sym s))) p
 
--- a letter that leads to nothing adds nothing
+-- if x is 0, adding ways·x does not change a number up to the cap
 pub agree_without : (now ways x : ℕ) → x ≡ 0 → Agree now (now + ways * x)
 agree_without now ways x e = agree_same now (now + ways * x) (sym (ap (λ y. now + ways * y) e ∙ (let z : now + ways * 0 ≡ now = omega arith in z)))

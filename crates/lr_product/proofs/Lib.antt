@@ -1,4 +1,9 @@
 mod Agreeing
+mod RowWords
+mod RowTableaux
+mod RowFold
+mod RowFilling
+mod RowRounds
 mod Tables
 mod CountedStates
 mod Raising

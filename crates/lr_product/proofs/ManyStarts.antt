@@ -1,4 +1,4 @@
--- Tables that start with all labels of a list: what they come to is the product of the list with one factor more.
+-- Tables that start with all labels of a list count the coefficients of the product of the list and one more factor.
 use Rattle.std.proofs.Common.{◌≡◌, ℕ, ◌+◌, ◌*◌, ◌^◌, ◌<◌, ◌≤◌, ◌⊎◌, inl, inr, min, nat_abs, true, false, List, [], ◌∷◌, ◌++◌, refl, sym, ap, ap₂, ◌∙◌, subst, arith, ℤ, pos, negsuc, ◌+ℤ◌, ◌*ℤ◌}
 use Rattle.std.specs.Prelude.{◌≤ℤ◌, ◌<ℤ◌, Result, IfOk, OnOk}
 use Rattle.std.proofs.lemmas.Bool.{cases_lt, cases_Bool, both_ways}
@@ -28,7 +28,7 @@ use Rattle.sym_model.proofs.NumberSums.{sum_by-append}
 use Rattle.sym_model.proofs.NumberSums.{sum_by-among, sum_by-none}
 use Rattle.lr_product.proofs.Rounds.{start_within}
 
--- one label more
+-- appending a term t to the list adds |coefficient of t| times f of its label to the sum
 pub started-push : (n : ℕ) (f : List ℕ → List ℕ → ℕ) (done : WholeTerms) (t : Term)
     → started n f done + nat_abs t.1 * f (resize n t.0) [] ≡ started n f (done ++ t ∷ [])
 started-push n f done t =
@@ -37,7 +37,7 @@ started-push n f done t =
 
 module _ (n k : ℕ) (next : List ℕ) (product : WholeTerms) (q : IsPartition next) (may : AllMayMeet k next product) (most : n ≤ k)
     (enough : (t : Term) → Among t product → (rows t.0 ≤ n) × (min k (rows t.0 + rows next) ≤ n)) where
-  -- the labels leave the factor room
+  -- no label of the product is unreached: it has room for the cells of the factor
   pub starts_within : (m : ℕ) → m + size next ≤ 4096 → 4096 ≤ m + size next → started n (unreached n m) product ≡ 0
   starts_within m l g =
       sum_by-none (λ (t : List ℕ × ℤ). nat_abs t.1 * unreached n m (resize n t.0) []) product
@@ -47,7 +47,7 @@ module _ (n k : ℕ) (next : List ℕ) (product : WholeTerms) (q : IsPartition n
       let z = start_within n m t.0 [] h.partition (omega arith) in
       ap (λ x. nat_abs t.1 * x) z ∙ (let o : nat_abs t.1 * 0 ≡ 0 = omega arith in o))
 
-  -- how often the table comes to a partition, and the coefficient there of the product
+  -- the sum of the counts of ν over all starts in the list, which is the coefficient of ν in the product
   abbrev pub good_sum : List ℕ → ℕ
   good_sum ν = started n (over_states n (column_lines next []) (comes_to ν)) product
 
@@ -68,7 +68,7 @@ module _ (n k : ℕ) (next : List ℕ) (product : WholeTerms) (q : IsPartition n
         (λ t a. ap (λ x. nat_abs t.1 * x) ((at_label t a).none_past ν p l g) ∙ (let o : nat_abs t.1 * 0 ≡ 0 = omega arith in o));
   }
 
--- the coefficients of the product are the sums of the counts
+-- the coefficient of ν in the product is the sum of the counts of ν over all starts
 multiplied-counted : (k : ℕ) (next : List ℕ) (product : WholeTerms) → IsPartition next → AllMayMeet k next product → (ν : List ℕ) → IsPartition ν → rows ν ≤ k
     → coefficient (multiplied k next product) ν ≡ pos (sum_by (λ (t : List ℕ × ℤ). nat_abs t.1 * product_count k t.0 next ν) product)
 multiplied-counted k next [] q may ν p l = refl
@@ -84,7 +84,7 @@ multiplied-counted k next (t ∷ product) q may ν p l =
     positive (pos a) h c = refl
     positive (negsuc a) h c = absurd (omega (arith, ints))
 
--- a label that is no partition with at most k rows has no term
+-- the coefficient of the product is 0 at a list that is not a partition with at most k rows
 multiplied-outside : (k : ℕ) (next : List ℕ) (product : WholeTerms) (ν : List ℕ) → (IsPartition ν → rows ν ≤ k → ⊥) → coefficient (multiplied k next product) ν ≡ pos 0
 multiplied-outside k next product ν out =
     no_label (multiplied k next product) ν
@@ -99,7 +99,7 @@ module _ (k : ℕ) (next : List ℕ) (product : WholeTerms) (q : IsPartition nex
   counts : List ℕ → ℕ
   counts ν = sum_by (λ (t : List ℕ × ℤ). nat_abs t.1 * product_count k t.0 next ν) product
 
-  -- a statement of each label, by whether it is a partition with at most k rows
+  -- a statement holds for each label if it holds for partitions with at most k rows and for all others
   by_label : (P : List ℕ → Type 0) → ((ν : List ℕ) → IsPartition ν → rows ν ≤ k → P ν) → ((ν : List ℕ) → (IsPartition ν → rows ν ≤ k → ⊥) → P ν) → (ν : List ℕ) → P ν
   by_label P inside outside ν = by (cases_Bool (is_partition ν)) (cases_lt k (rows ν))
     where
@@ -139,7 +139,7 @@ module _ (k : ℕ) (next : List ℕ) (product : WholeTerms) (q : IsPartition nex
         omega (arith, ints);
   }
 
--- ---- the table that is reached
+-- ---- the table after all columns of the factor
 
 module _ (n k : ℕ) (next : List ℕ) (product : WholeTerms) (es : List (List ℕ × ℕ)) (q : IsPartition next) (may : AllMayMeet k next product) (most : n ≤ k)
     (enough : (t : Term) → Among t product → (rows t.0 ≤ n) × (min k (rows t.0 + rows next) ≤ n))

@@ -15,7 +15,7 @@ use Rattle.schur_laws.proofs.Duality.{counted, counted_tells, counted_by_columns
 use Rattle.schur_laws.proofs.ProductCounts.{product_by_shape, product_exchanged}
 use Rattle.lr_product.specs.LetterRoom.{room_in_row, letter_room, letters_within, IsOverfull}
 
--- ---- sums
+-- ---- sums over ranges of numbers
 
 add_up-plus : (f g : ℕ → ℕ) (a k : ℕ) → add_up (λ i. f i + g i) a k ≡ add_up f a k + add_up g a k
 add_up-plus f g a zero = omega arith
@@ -31,7 +31,7 @@ add_up-exchange f a m b (suc k) =
     ap (λ n. add_up (f b) a m + n) (add_up-exchange f a m (suc b) k)
     ∙ sym (add_up-plus (f b) (λ r. add_up (λ i. f i r) (suc b) k) a m)
 
--- ---- rows
+-- ---- the small letters in the rows of a tableau
 
 up_to_most : (k : ℕ) (w : List ℕ) → up_to_letter k w ≤ length w
 up_to_most k [] = omega arith
@@ -45,7 +45,7 @@ up_to_most k (a ∷ w) = by (cases_lt k a) (up_to_most k w)
     by l e = let o = one (nat_le a k) in omega arith
 
 module _ (n : ℕ) (ν λ' μ : List ℕ) (P : List (List ℕ)) (T : IsTableau n [] ν λ' μ P) where
-  -- the letters at most k stand below the zeros of the row k rows above
+  -- row k + r has at most λ'_r letters from 1 to k
   below : (k r s : ℕ) → s ≡ k + r → up_to_letter k (row P s) ≤ get_or λ' r 0
   below zero r s e =
       let d : s ≡ r = omega arith in
@@ -93,7 +93,7 @@ module _ (n : ℕ) (ν λ' μ : List ℕ) (P : List (List ℕ)) (T : IsTableau n
       nothing zero = omega arith
       nothing (suc i) = omega arith
 
--- ---- one row, or one number of letters, more
+-- ---- the room with one more row, or for one more letter
 
 pub room_next : (k : ℕ) (outer inner : List ℕ) (row room next : ℕ) → room ≡ letter_room k outer inner row → next ≡ room_in_row k outer inner row → room + next ≡ letter_room k outer inner (row + 1)
 room_next k outer inner row room next e f =
@@ -113,7 +113,7 @@ letters_next content at letters next e f =
     let u = ap (λ i. get_or content i 0) z in
     omega arith
 
--- the numbers of letters up to one, and the next
+-- if there is room for the letters up to each k ≤ at, and up to at + 1, there is for each k ≤ at + 1
 pub enough_next : (outer inner content : List ℕ) (at : ℕ) → ((k : ℕ) → k ≤ at → letters_within content k ≤ letter_room k outer inner (length outer))
     → letters_within content (at + 1) ≤ letter_room (at + 1) outer inner (length outer)
     → (k : ℕ) → k ≤ at + 1 → letters_within content k ≤ letter_room k outer inner (length outer)
@@ -123,7 +123,7 @@ enough_next outer inner content at h here k l = by (cases_lt k (at + 1))
     by (inl m) = h k (omega arith)
     by (inr m) = let e : at + 1 ≡ k = omega arith in subst (λ j. letters_within content j ≤ letter_room j outer inner (length outer)) e here
 
--- ---- the count
+-- ---- without room for the letters the count is 0
 
 pub no_room : (ν λ' μ : List ℕ) → IsPartition λ' → IsPartition μ → IsPartition ν → contains ν λ' ≡ true → IsOverfull ν λ' μ → product_count (rows ν) λ' μ ν ≡ 0
 no_room ν λ' μ p q r h over =
@@ -140,10 +140,10 @@ no_room ν λ' μ p q r h over =
         let g = over.2 in
         absurd (omega arith)
 
--- the same of the parts that the code holds
+-- if a, b and c are the lists outer, inner and content, `IsOverfull` holds of these if it holds of a, b and c
 pub overfull_tells : (outer inner content a b c : List ℕ) → a ≡ outer → b ≡ inner → c ≡ content → IsOverfull a b c → IsOverfull outer inner content
 overfull_tells outer inner content a b c e f g h = subst (λ x. IsOverfull x inner content) e (subst (λ y. IsOverfull a y content) f (subst (λ z. IsOverfull a b z) g h))
 
--- the two may be exchanged
+-- if `inner` and the content are exchanged, a shape without room has no good tableau either
 pub no_room_exchanged : (ν λ' μ : List ℕ) → IsPartition λ' → IsPartition μ → IsPartition ν → contains ν μ ≡ true → IsOverfull ν μ λ' → product_count (rows ν) λ' μ ν ≡ 0
 no_room_exchanged ν λ' μ p q r h over = product_exchanged λ' μ ν p q r ∙ no_room ν μ λ' q p r h over

@@ -1,4 +1,4 @@
--- The product of the first factors as a list, and what it is with one factor more.
+-- The product of the first factors as a list, and the product with one more factor.
 use Rattle.std.proofs.Common.{◌≡◌, ◌≤◌, ◌+◌, ◌^◌, inl, inr, ℕ, zero, suc, List, [], ◌∷◌, ◌++◌, append-nil, map, take, drop, refl, sym, ◌∙◌, ap, subst, arith, ℤ, pos, negsuc, ◌*ℤ◌, Option, Some, None}
 use Rattle.std.specs.Prelude.{◌≤ℤ◌, slice_get, nat_eq}
 use Rattle.std.specs.Cmp.Lexicographic.{pointwise}
@@ -33,7 +33,7 @@ use Rattle.product_laws.proofs.Expanding.{expands_whole}
 use Rattle.partitions.specs.FactorList.{AreFactors}
 use Rattle.lr_product.specs.ProductOfFactors.{AreSmallCounts, AllMayMeet}
 
--- ---- lists that are the same
+-- ---- two lists with the same coefficients
 
 small_same : (xs ys : WholeTerms) → Same xs ys → AreSmallCounts xs → AreSmallCounts ys
 small_same xs ys e small parts = let s = small parts in let x = e parts in (omega (arith, ints, s.0), omega (arith, ints, s.1))
@@ -41,16 +41,17 @@ small_same xs ys e small parts = let s = small parts in let x = e parts in (omeg
 Reaches-same : (k c : ℕ) (xs ys : WholeTerms) → Same xs ys → Reaches k c xs → Reaches k c ys
 Reaches-same k c xs ys e r = record { parts = r.parts; partition = r.partition; within = r.within; reaches = let x = e r.parts in let g = r.reaches in omega (arith, ints) }
 
--- ---- products of the first factors
+-- ---- the product of the first factors
 
--- the list is the product of these factors in k variables, with small counts, and in every number of variables that shows it
+-- the list is the classical product of these factors in k variables, with small counts, and expands their product for
+-- each given number of variables that k variables decide
 pub record IsPartial (k : ℕ) (front : List (List ℕ)) (product : WholeTerms) : Type 0 where
   pub table : IsCombination (pointwise nat_eq) is_label whole product
   pub classical : Same product (classical_product k front)
   pub small : AreSmallCounts (classical_product k front)
   pub expands : (given : Option ℕ) → IsShownIn given (size (map rows front)) k → ExpandsInSchurs given (schur_product front) (as_fractions product)
 
--- a term of the list is one of the classical product
+-- the properties of a term of the classical product of these factors
 pub record IsTermOf (k : ℕ) (front : List (List ℕ)) (t : Term) : Type 0 where
   pub partition : IsPartition t.0
   pub few : rows t.0 ≤ k
@@ -83,7 +84,7 @@ term_of k first rest product p is e t m =
     at_least_one (pos (suc a)) g n = omega (arith, ints)
     at_least_one (negsuc a) g n = absurd (omega (arith, ints))
 
--- ---- one factor more
+-- ---- the product with one more factor
 
 pub rows-push : (front : List (List ℕ)) (next : List ℕ) → size (map rows (front ++ next ∷ [])) ≡ size (map rows front) + rows next
 rows-push [] next = omega arith
@@ -115,7 +116,7 @@ multiplied_respects k next xs ys e =
         ∙ total_ext (λ (t : Term). pair (scale t.1 (classical_product k (t.0 ∷ next ∷ []))) φ) (λ (t : Term). t.1 *ℤ pair (classical_product k (t.0 ∷ next ∷ [])) φ)
         (λ t. pair_scale t.1 (classical_product k (t.0 ∷ next ∷ [])) φ) terms
 
--- the products of the terms are the product with one factor more
+-- the sum of the products of the terms and the next factor is the product with this factor
 pub step_same : (k : ℕ) (front : List (List ℕ)) (next : List ℕ) (product : WholeTerms) → ArePartitions front → IsPartition next → IsPartial k front product
     → Same (multiplied k next product) (classical_product k (front ++ next ∷ []))
 step_same k front next product p q h =
@@ -129,7 +130,7 @@ are_more [] next p q parts (inr m) = absurd m
 are_more (x ∷ front) next p q parts (inl e) = p parts (inl e)
 are_more (x ∷ front) next p q parts (inr m) = are_more front next (λ y n. p y (inr n)) q parts m
 
--- the variables that show a product with one factor more show it without
+-- if the variables decide a product with row bound b ≥ a, they decide one with row bound a
 shown_before : (given : Option ℕ) (a b k : ℕ) → a ≤ b → IsShownIn given b k → IsShownIn given a k
 shown_before None a b k h s = omega arith
 shown_before (Some n) a b k h s = s
@@ -159,7 +160,7 @@ partial_next k first rest next product after p q h is e small = record {
         Same_trans after (multiplied k next product) (classical_product k ((first ∷ rest) ++ next ∷ [])) e
         (step_same k (first ∷ rest) next product p q h)
 
--- ---- the first two factors
+-- ---- the product of the first two factors
 
 once_itself : (f : Poly) → Same (scale (pos 1) f ++ []) f
 once_itself f α = ap (λ (l : Poly). coefficient l α) (append-nil (scale (pos 1) f) ∙ scale_one f)
@@ -209,7 +210,7 @@ partial_two k left right product p q h is e small = record {
         (subst IsPartition (sym is) p, subst (λ l. rows l ≤ k) (sym is) h, subst (λ (l : List ℕ). IsShownIn given (rows l + rows right) k) (sym is) s)
     label t (inr m) given s = absurd m
 
--- ---- places in the list of all factors
+-- ---- the factors by their indices
 
 pub take_next : (xs : List (List ℕ)) (i : ℕ) (x : List ℕ) → slice_get xs i ≡ Some x → take (i + 1) xs ≡ take i xs ++ x ∷ []
 take_next [] i x h = cc
@@ -233,7 +234,7 @@ cells_within : (xs ys : List (List ℕ)) → size (map size xs) ≤ size (map si
 cells_within [] ys = omega arith
 cells_within (x ∷ xs) ys = let h = cells_within xs ys in omega arith
 
--- a product of the factors before one of them may meet it
+-- the product of the factors before `next` may be multiplied by it
 pub may_meet_at : (k i : ℕ) (factors : List (List ℕ)) (next : List ℕ) (product : WholeTerms) → AreFactors factors → 1 ≤ i → slice_get factors i ≡ Some next
     → IsPartial k (take i factors) product → AllMayMeet k next product
 may_meet_at k i factors next product f one at h = by (take i factors) refl h
@@ -257,7 +258,7 @@ may_meet_at k i factors next product f one at h = by (take i factors) refl h
     by (first ∷ rest) e g =
         may_meet k first rest next product (λ x m. f.small.partitions x (among_taken i factors x (subst (λ l. Among x l) (sym e) m))) g (within (first ∷ rest) e)
 
--- the next product
+-- multiplying the product of the first i factors by the next one gives that of the first i + 1
 pub partial_at : (k i : ℕ) (factors : List (List ℕ)) (next : List ℕ) (product after : WholeTerms) → AreFactors factors → 1 ≤ i → slice_get factors i ≡ Some next
     → IsPartial k (take i factors) product → IsCombination (pointwise nat_eq) is_label whole after
     → Same after (multiplied k next product) → AreSmallCounts (multiplied k next product) → IsPartial k (take (i + 1) factors) after
@@ -275,7 +276,7 @@ partial_at k i factors next product after f one at h is e small = by (take i fac
         (partial_next k first rest next product after (λ x m. f.small.partitions x (among_taken i factors x (subst (λ l. Among x l) (sym d) m)))
         (f.small.partitions next (among_at factors i next at)) g is e small)
 
--- a coefficient of the next product that is too large is one of the whole product
+-- if a coefficient of the product with the next factor exceeds the limit, so does one of the whole product
 pub large_at : (k i : ℕ) (factors : List (List ℕ)) (next : List ℕ) (product : WholeTerms) → AreFactors factors → 1 ≤ i → slice_get factors i ≡ Some next
     → ((parts : List ℕ) → Among parts factors → rows parts ≤ k) → IsPartial k (take i factors) product
     → Reaches k (2 ^ 127) (multiplied k next product) → Reaches k (2 ^ 127) (classical_product k factors)
@@ -301,7 +302,7 @@ large_at k i factors next product f one at few h r = by (take i factors) refl h
         (reaches_more k (2 ^ 127) first (rest ++ next ∷ []) (drop (i + 1) factors) (are_more (first ∷ rest) next are_front q)
         (λ x m. f.small.partitions x (among_dropped (i + 1) factors x m)) (λ x m. few x (among_dropped (i + 1) factors x m)) (omega arith) here)
 
--- ---- the first two places
+-- ---- the first two factors of the list
 
 pub record BeginWith (factors : List (List ℕ)) (left right : List ℕ) : Type 0 where
   pub taken : take 2 factors ≡ left ∷ right ∷ []
@@ -322,7 +323,7 @@ begin_with (x ∷ y ∷ factors) left right f a b =
       right_among = inr (inl (sym e));
     }
 
--- a coefficient of the first product that is too large is one of the whole product
+-- if a coefficient of the product of the first two factors exceeds the limit, so does one of the whole product
 pub large_first : (k : ℕ) (factors : List (List ℕ)) (left right : List ℕ) → AreFactors factors → BeginWith factors left right → ((parts : List ℕ) → Among parts factors → rows parts ≤ k)
     → Reaches k (2 ^ 127) (classical_product k (left ∷ right ∷ [])) → Reaches k (2 ^ 127) (classical_product k factors)
 large_first k factors left right f b few r =

@@ -1,4 +1,4 @@
--- Coefficients of a product past 2^127 - 1, by its list and by its definition.
+-- Coefficients of a product that exceed 2^127 - 1, by its list and by its definition.
 use Rattle.std.proofs.Common.{◌≡◌, ◌≤◌, ◌<◌, ◌^◌, ◌⊎◌, inl, inr, ℕ, max, List, [], ◌∷◌, map, refl, sym, ◌∙◌, ap, subst, arith, ℤ, pos, negsuc, Option, Some, None}
 use Rattle.std.specs.Prelude.{◌≤ℤ◌, ◌<ℤ◌, IsTrue}
 use Rattle.std.specs.Option.{unwrap_or}
@@ -23,7 +23,7 @@ use Rattle.lr_product.specs.ProductOfFactors.{AreSmallCounts}
 use Rattle.lr_product.specs.Counts.{IsPastSomewhere}
 use Rattle.lr_product.proofs.GoodCounts.{product_counts, has_past, has_none_past}
 
--- some Schur coefficient of the product in k variables is past 2^127 - 1
+-- some Schur coefficient of the product in k variables exceeds 2^127 - 1
 abbrev pub IsPastIn : ℕ → List (List ℕ) → Type 0
 IsPastIn k factors = (c : ℤ) × IsSchurCoefficientOf (schur_product factors k) k c × IsTrue (is_past c)
 
@@ -88,7 +88,7 @@ counts_small k left right p q fits =
     not_past_small k left (right ∷ []) (are_two left right p q)
     (has_none_past k (schur_product (left ∷ right ∷ []) k) (product_count k left right) (product_counts k left right p q) fits)
 
--- ---- factors with no rows
+-- ---- the product of factors without rows is 1
 
 one_in_none : (factors : List (List ℕ)) → size (map rows factors) ≡ 0 → schur_product factors 0 ≡ ([], pos 1) ∷ []
 one_in_none [] e = refl
@@ -128,7 +128,7 @@ none_reached first rest p e r =
     ∙ ap (λ f. schur_coefficient 1 [] f) (one_in_one (first ∷ rest) e) in
     omega (arith, ints)
 
--- ---- the answer of the command
+-- ---- a coefficient of the classical product over the limit is one of the product that the command asks for
 
 pub past_answer : (given : Option ℕ) (k : ℕ) (first : List ℕ) (rest : List (List ℕ)) → ArePartitions (first ∷ rest)
     → k ≡ unwrap_or given (max (size (map rows (first ∷ rest))) 1) → Reaches k (2 ^ 127) (classical_product k (first ∷ rest)) → HasPast (IsCoefficientOfProduct given (first ∷ rest))

@@ -1,4 +1,4 @@
--- The states of a table by their indices: what they add up to, and the list of terms that they make.
+-- The states of a table by their indices: their sums, and the list of terms that they make.
 use Rattle.std.proofs.Common.{◌≡◌, ℕ, zero, suc, ◌+◌, ◌*◌, ◌^◌, ◌<◌, ◌≤◌, ◌⊎◌, inl, inr, Bool, true, false, cond, List, [], ◌∷◌, ◌++◌, length, take, drop, refl, sym, ap, ◌∙◌, subst, arith, ℤ, pos, ◌+ℤ◌}
 use Rattle.std.specs.Prelude.{Some, None, slice_get, nat_eq, ◌<ℤ◌}
 use Rattle.std.specs.Cmp.Lexicographic.{pointwise}
@@ -30,7 +30,7 @@ use Rattle.lr_product.specs.Places.{entry_at, count_at, AreSmallTerms}
 use Rattle.lr_product.proofs.Steps.{IsReached, reached-tells, weighed-none}
 use Rattle.lr_product.proofs.CountedLists.{has_counts, counted-long, weighed-take, weighed-front}
 
--- ---- entries by index
+-- ---- the entries of a table by their indices
 
 pub none_at : (es : List (List ℕ × ℕ)) (at : ℕ) → slice_get es at ≡ None → entry_at es at ≡ ([], 0)
 none_at [] zero h = refl
@@ -54,14 +54,14 @@ past_at_end [] (suc at) h = refl
 past_at_end (e ∷ es) zero h = absurd (omega arith)
 past_at_end (e ∷ es) (suc at) h = past_at_end es at (omega arith)
 
--- one index more
+-- the sum over the indices up to `at` is that over the indices before it plus the summand at `at`
 pub sums_next : (n : ℕ) (es : List (List ℕ × ℕ)) (f : List ℕ → List ℕ → ℕ) (at : ℕ) (places : List ℕ) → at < length es → lists.sum_by (count_at n es f) places ≡ weighed n f (take at es)
     → lists.sum_by (count_at n es f) (places ++ at ∷ []) ≡ weighed n f (take (at + 1) es)
 sums_next n es f at places h e =
     sum_by_push (count_at n es f) places at ∙ ap (λ s. s + count_at n es f at) e
     ∙ sym (weighed-take n f es at (entry_at es at).0 (entry_at es at).1 (here_at es at h))
 
--- ---- what one index adds
+-- ---- the term that an index adds
 
 pub nothing_counted : (n : ℕ) (es : List (List ℕ × ℕ)) (f : List ℕ → List ℕ → ℕ) (at : ℕ) (z : ℤ) → (entry_at es at).1 ≡ 0 → z ≡ z +ℤ pos (count_at n es f at)
 nothing_counted n es f at z e =
@@ -100,7 +100,7 @@ pushed_small old new label z w e c l small t m = by (among_pushed old (label, z)
     by (inl k) = small t k
     by (inr d) = let q : t.1 ≡ z = ap (λ (x : List ℕ × ℤ). x.1) d in omega (arith, ints)
 
--- ---- a count past the limit
+-- ---- the table has a count over the limit
 
 pub reached_at : (n : ℕ) (es : List (List ℕ × ℕ)) (i : ℕ) (key : List ℕ) (w : ℕ) → weighed n (unreached n 4096) es ≡ 0 → slice_get es i ≡ Some (key, w) → 0 < w → IsReached n 4096 (take n key)
 reached_at n es i key w z h some = reached-tells n 4096 (take n key) (drop n key) (weighed-none n (unreached n 4096) es i key w z h some)
@@ -129,7 +129,7 @@ past_at n es at z l = by (cases_lt at (length es))
     by (inl h) = there (here_at es at h)
     by (inr h) = let e = ap (λ (x : List ℕ × ℕ). x.1) (past_at_end es at h) in absurd (omega arith)
 
--- ---- a canonical list with these coefficients
+-- ---- a canonical list is a table of terms
 
 table_of : (terms : WholeTerms) → IsCanonicalList printed_order is_label whole terms → IsCombination (pointwise nat_eq) is_label whole terms
 table_of terms c = record {

@@ -1,4 +1,4 @@
--- Letters that lead to no whole column, and sums that still fall where a number is raised.
+-- Letters that lead to no complete column, and sums that stay decreasing when a number is raised.
 use Rattle.std.proofs.Common.{◌≡◌, ℕ, zero, suc, ◌+◌, ◌-◌, ◌<◌, ◌≤◌, ◌==◌, ◌⊎◌, inl, inr, nat_le, nat_lt, Bool, true, false, cond, ◌&&◌, ◌||◌, List, [], ◌∷◌, ◌++◌, length, take, drop, get_or, length-append, refl, sym, ap, ap₂, ◌∙◌, arith}
 use Rattle.std.proofs.lemmas.Bool.{ne_eqb, lt-leb, le-leb, lt-ltb, le-ltb, cases_lt, and_parts, and_from, or_parts, or_cases, eqb-true, leb-true, leb-false, ltb-true, ltb-false, eqb-false, and_cases}
 use Rattle.sym_model.specs.GoodTableau.{is_falling}
@@ -11,7 +11,7 @@ use Rattle.sym_model.specs.Sum.{sum_by}
 use Rattle.sym_model.proofs.NumberSums.{sum_by-zero}
 use Rattle.lr_product.proofs.ColumnExtension.{end-within}
 
--- ---- numbers of a state after a letter
+-- ---- the numbers of a state after a letter is appended
 
 pub get-append : (s w : List ℕ) (j : ℕ) → j < length s → get_or (s ++ w) j 0 ≡ get_or s j 0
 get-append [] w j h = absurd (omega arith)
@@ -36,14 +36,14 @@ length-marked kept b s = let l = length-append (raised b s) (mark kept b) in let
 numbers-zero : (X : ℕ → ℕ) (low k : ℕ) → ((b : ℕ) → low ≤ b → b < low + k → X b ≡ 0) → sum_by X (numbers_from low k) ≡ 0
 numbers-zero X low k e = numbers-ext X (λ b. 0) low k e ∙ sum_by-zero (numbers_from low k)
 
--- no place outside the shape lies below a letter
+-- a place outside the shape cannot follow a letter, so no column is complete
 none_outside : (kept : Bool) (n : ℕ) (line : List Bool) (right : List ℕ) (above : ℕ) (f : List ℕ → List ℕ → ℕ) (s : List ℕ) → 0 < above → extended kept n (false ∷ line) right above f s ≡ 0
 none_outside kept n line right above f s h =
     ap (λ t. sum_by (λ b. extended kept n line (drop 1 right) b f (raised b s ++ mark kept b)) (numbers_from 0 (cond t 1 0 - 0))) (ne_eqb above 0 (λ e. absurd (omega arith)))
 
--- ---- states from which every column comes to nothing
+-- ---- states that no column completes
 
--- each list that has the numbers of s before the place above comes to nothing
+-- f is 0 at every state with a decreasing sum that agrees with s at the places before above
 abbrev pub Hopeless : ℕ → (List ℕ → List ℕ → ℕ) → ℕ → List ℕ → Type 0
 Hopeless n f above s = (t : List ℕ) → n ≤ length t → ((j : ℕ) → j < above → get_or t j 0 ≡ get_or s j 0) → cond (is_falling (take n t)) (at_state n f t) 0 ≡ 0
 
@@ -74,13 +74,13 @@ not_falling (suc i) (suc (suc n)) (a ∷ b ∷ t) h l g = by (nat_le b a) (not_f
     by true e = e
     by false e = refl
 
-get-take : (i n : ℕ) (t : List ℕ) → i < n → get_or (take n t) i 0 ≡ get_or t i 0
+pub get-take : (i n : ℕ) (t : List ℕ) → i < n → get_or (take n t) i 0 ≡ get_or t i 0
 get-take i zero t h = absurd (omega arith)
 get-take i (suc n) [] h = refl
 get-take zero (suc n) (a ∷ t) h = refl
 get-take (suc i) (suc n) (a ∷ t) h = get-take i n t (omega arith)
 
-not_within : (i : ℕ) (ν bound : List ℕ) → i < length bound → get_or bound i 0 < get_or ν i 0 → pass_by_place nat_le ν bound ≡ false
+pub not_within : (i : ℕ) (ν bound : List ℕ) → i < length bound → get_or bound i 0 < get_or ν i 0 → pass_by_place nat_le ν bound ≡ false
 not_within i [] [] h g = absurd (omega arith)
 not_within i [] (b ∷ bound) h g = absurd (omega arith)
 not_within i (a ∷ ν) [] h g = absurd (omega arith)
@@ -91,7 +91,7 @@ not_within (suc i) (a ∷ ν) (b ∷ bound) h g = by (nat_le a b) (not_within i 
     by true e = e
     by false e = refl
 
--- a letter whose number can't rise leads to nothing
+-- a letter leads to no complete column if its number cannot be raised
 pub stuck : (kept : Bool) (n : ℕ) (bound : List ℕ) (f : List ℕ → List ℕ → ℕ) (i : ℕ) (s : List ℕ) → VanishesOutside bound f → i < n → n ≤ length s → length bound ≤ n
     → can_rise bound i s ≡ false → Hopeless n f (suc i) (raised (suc i) s ++ mark kept (suc i))
 stuck kept n bound f i s vanishes h l m e t long same =
@@ -131,7 +131,7 @@ stuck kept n bound f i s vanishes h l m e t long same =
     by (inl a) = high (or_parts (i == 0) (nat_lt (get_or s i 0) (get_or s (i - 1) 0)) a)
     by (inr b) = outside (or_parts (nat_le (length bound) i) (nat_lt (get_or s i 0) (get_or bound i 0)) b)
 
--- where the letters left are fewer than the places below, no column is whole
+-- if fewer letters are left than places below, no column is complete
 pub too_few : (kept : Bool) (n : ℕ) (line : List Bool) (right : List ℕ) (above : ℕ) (f : List ℕ → List ℕ → ℕ) (s : List ℕ) → 0 < above → above ≤ n → n < above + length line
     → extended kept n line right above f s ≡ 0
 too_few kept n [] right above f s h k l = absurd (omega arith)
@@ -142,7 +142,7 @@ too_few kept n (true ∷ line) right above f s h k l =
     let e = end-within n true right above in
     too_few kept n line (drop 1 right) b f (raised b s ++ mark kept b) (omega arith) (omega arith) (omega arith))
 
--- so the letters for a place may end where they are too few for the places below
+-- the letters for a place may end before too few are left for the places below
 pub fewer_letters : (kept : Bool) (n : ℕ) (cell : Bool) (line : List Bool) (right : List ℕ) (above : ℕ) (f : List ℕ → List ℕ → ℕ) (s : List ℕ)
     → sum_by (λ b. extended kept n line (drop 1 right) b f (raised b s ++ mark kept b)) (numbers_from (least_letter cell above) (letters_end (n - length line) cell right above - least_letter cell above))
     ≡ extended kept n (cell ∷ line) right above f s
@@ -179,7 +179,7 @@ fewer_letters kept n true line right above f s = by (letters_end (n - length lin
             sym (numbers-ext X (λ b. cond (nat_lt b short) (X b) 0) (above + 1) (end - (above + 1)) (λ b low high. each b low (omega arith) (cases_lt b short))
             ∙ range-front (λ b. nat_lt b short) X short (above + 1) (end - (above + 1)) (λ b low high. lt-ltb b short high) (λ b low high g. le-ltb b short high) (omega arith))
 
--- ---- sums that still fall
+-- ---- a sum is still decreasing after a number is raised
 
 raised-falls_first : (s : List ℕ) → is_falling s ≡ true → is_falling (raised 1 s) ≡ true
 raised-falls_first [] h = refl
@@ -222,7 +222,7 @@ take-raised (suc n) zero (a ∷ s) w h = ap (λ l. a ∷ l) (take-raised n zero 
 take-raised (suc n) (suc zero) (a ∷ s) w h = ap (λ l. (a + 1) ∷ l) (take-raised n zero s w (omega arith))
 take-raised (suc n) (suc (suc b)) (a ∷ s) w h = ap (λ l. a ∷ l) (take-raised n (suc b) s w (omega arith))
 
--- the sum still falls where the number can rise
+-- the sum stays decreasing if its number at i can be raised
 pub falls-raised : (n : ℕ) (bound : List ℕ) (i : ℕ) (s w : List ℕ) → i < n → n ≤ length s → can_rise bound i s ≡ true → is_falling (take n s) ≡ true → is_falling (take n (raised (suc i) s ++ w)) ≡ true
 falls-raised n bound zero s w h l e falls = ap is_falling (take-raised n 1 s w l) ∙ raised-falls_first (take n s) falls
 falls-raised n bound (suc i) s w h l e falls =
@@ -236,7 +236,7 @@ falls-raised n bound (suc i) s w h l e falls =
 pub falls-unraised : (n : ℕ) (s w : List ℕ) → n ≤ length s → is_falling (take n s) ≡ true → is_falling (take n (s ++ w)) ≡ true
 falls-unraised n s w l falls = ap is_falling (take-raised n zero s w l) ∙ falls
 
--- ---- a letter with and without room
+-- ---- a letter whose number in the sum can be raised, and one whose number cannot
 
 pub no_room : (kept : Bool) (n : ℕ) (line : List Bool) (right : List ℕ) (f : List ℕ → List ℕ → ℕ) (bound : List ℕ) (b : ℕ) (s : List ℕ) → VanishesOutside bound f → b ≤ n → n ≤ length s → length bound ≤ n
     → ((b == 0) || can_rise bound (b - 1) s) ≡ false → extended kept n line right b f (raised b s ++ mark kept b) ≡ 0

@@ -1,4 +1,4 @@
--- What follows for an answer that is there.
+-- A statement that holds in every case also holds for a result `Ok`.
 use Rattle.std.specs.Prelude.{Result, Ok, Err, OnOk}
 
 pub on_any : {T E P : Type 0} (r : Result T E) → P → OnOk r P

@@ -50,7 +50,7 @@ resize-full zero (a ∷ s) h l = absurd (omega arith)
 resize-full (suc n) [] h l = absurd (omega arith)
 resize-full (suc n) (a ∷ s) h l = ap (λ x. a ∷ x) (resize-full n s (omega arith) (omega arith))
 
--- ---- the bound
+-- ---- states that exceed the bound at some place
 
 within-more : (ν κ bound : List ℕ) → pass_by_place nat_le ν bound ≡ false → pass_by_place nat_le (join ν κ) bound ≡ false
 within-more [] κ [] h = absurd (cc)
@@ -84,14 +84,14 @@ vanishes-next n line bound kept f v ν right h =
     under true e = e
     under false e = refl
 
--- what a function sees with no column vanishes where it does
+-- a function that vanishes outside the bound does so too if it is given no column
 vanishes-seen : (kept : Bool) (bound : List ℕ) (f : List ℕ → List ℕ → ℕ) → VanishesOutside bound f → VanishesOutside bound (seen kept f)
 vanishes-seen true bound f v ν right h = v ν right h
 vanishes-seen false bound f v ν right h = v ν [] h
 
--- ---- one column more
+-- ---- the table after one more column
 
--- before the first column
+-- before the first column the table counts the starts
 pub start_counts : (n : ℕ) (outer inner : List ℕ) (starts : List (List ℕ × ℕ)) (at : ℕ) → Falls outer
     → contains outer inner ≡ true → at ≡ columns outer → (f : List ℕ → List ℕ → ℕ)
     → Agree (weighed n (seen (nat_lt 0 at) f) starts)
@@ -107,14 +107,14 @@ pub start_reached : (n m : ℕ) (outer inner : List ℕ) (starts : List (List �
 start_reached n m outer inner starts at z =
     weighed-weaker n m (m + places (drop at (column_lines outer inner))) starts (omega arith) z
 
--- the one start, in n places
+-- the table with only the start has all its states reached
 pub first_reached : (n m : ℕ) (start : List ℕ) (es : List (List ℕ × ℕ)) → IsPartition start → size start ≤ m
     → ((f : List ℕ → List ℕ → ℕ) → Agree (weighed n f es) (f (resize n start) []))
     → weighed n (unreached n m) es ≡ 0
 first_reached n m start es p room agree =
     agree_zero _ _ (agree (unreached n m)) (start_within n m start [] p room)
 
--- the column before one and the others
+-- the lines from `at` - 1 on are the line of column `at` and those after it
 last_column : (outer inner : List ℕ) (at : ℕ) → Falls outer → contains outer inner ≡ true → 0 < at → at ≤ columns outer
     → drop (at - 1) (column_lines outer inner) ≡ column_line at outer inner ∷ drop at (column_lines outer inner)
 last_column outer inner at fall c h k =
@@ -126,7 +126,7 @@ places_last : (outer inner : List ℕ) (at : ℕ) (line : List Bool) → Falls o
 places_last outer inner at line fall c h k is =
     ap places (last_column outer inner at fall c h k) ∙ ap (λ (l : List Bool). length l + places (drop at (column_lines outer inner))) (sym is)
 
--- before a column is added, the states leave it room
+-- before a column is added, the states have room for its cells
 pub round_room : (n m : ℕ) (outer inner : List ℕ) (es : List (List ℕ × ℕ)) (at : ℕ) (line : List Bool) → Falls outer
     → contains outer inner ≡ true → 0 < at → at ≤ columns outer → m + size outer ≤ 4096
     → line ≡ column_line at outer inner
@@ -138,7 +138,7 @@ round_room n m outer inner es at line fall c h k room is z =
     let s = places-lines outer inner c in
     (weighed-weaker n _ (4096 - length line) es (omega arith) z, omega arith)
 
--- and after it they are those with one column more
+-- after a column is added, the table counts all ways with one column more
 pub round_counts : (n : ℕ) (outer inner bound : List ℕ) (starts es new : List (List ℕ × ℕ)) (at : ℕ)
     (line : List Bool) (kept : Bool) → Falls outer → contains outer inner ≡ true → 0 < at → at ≤ columns outer
     → line ≡ column_line at outer inner → kept ≡ nat_lt 1 at
@@ -180,7 +180,7 @@ round_reached n m outer inner new at line fall c h k is z =
     let p = places_last outer inner at line fall c h k is in
     weighed-weaker n _ (m + places (drop (at - 1) (column_lines outer inner))) new (omega arith) z
 
--- after the last column
+-- after the last column, the table counts all ways to add the columns
 pub last_counts : (n : ℕ) (outer inner : List ℕ) (starts es : List (List ℕ × ℕ)) (at : ℕ) (f : List ℕ → ℕ) → at ≤ 0
     → Agree (weighed n (seen (nat_lt 0 at) (λ ν right. f ν)) es)
     (weighed n (over_states n (drop at (column_lines outer inner)) (seen (nat_lt 0 at) (λ ν right. f ν))) starts)

@@ -34,11 +34,11 @@ weighed-none n g (e ∷ es) zero key w z h l =
     positive_factor w (at_state n g key) l (ap (λ (x : List ℕ × ℕ). x.1 * at_state n g x.0) (sym here) ∙ (let q : e.1 * at_state n g e.0 ≡ 0 = omega arith in q))
 weighed-none n g (e ∷ es) (suc i) key w z h l = weighed-none n g es i key w (omega arith) h l
 
--- 0 where all three truth values are true, else 1
+-- 0 if all three truth values are true, else 1
 abbrev no_of : Bool → Bool → Bool → ℕ
 no_of p q r = cond (p && (q && r)) 0 1
 
--- a state that is reached
+-- a reached sum: n numbers, decreasing, with a sum of at most m
 pub record IsReached (n m : ℕ) (ν : List ℕ) : Type 0 where
   pub long : length ν ≡ n
   pub small : size ν ≤ m

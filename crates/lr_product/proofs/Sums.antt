@@ -58,7 +58,7 @@ agree_counted now rest all rest' ways x saturated next p e o s a =
     agree_entry now next rest all rest' ways ways x p e (agree_same ways ways refl)
     (agree_then _ _ _ a (record { below = λ h. let q = ap (λ y. ways * y) o in omega arith; past = λ h. let q = ap (λ y. ways * y) o in omega arith }))
 
--- sums that come to a partition lie inside it
+-- if a sum exceeds `outer` at some place, it is not `outer` without its last zeros
 pub comes-inside : (outer ν right : List ℕ) → pass_by_place nat_le ν outer ≡ false → comes_to outer ν right ≡ 0
 comes-inside outer ν right h = ap (λ t. cond t 1 0) (by_places ν outer h)
   where
@@ -93,7 +93,7 @@ comes-inside outer ν right h = ap (λ t. cond t 1 0) (by_places ν outer h)
         split (inl l) rec = front a (without_last_zeros ν') b outer' l
         split (inr l) rec = rest a (without_last_zeros ν') b outer' (rec (tail (nat_le a b) (le-leb a b l) g))
 
--- what a table counts at a partition is the count of the product
+-- the count of a table at a partition is that of the product
 pub states-shape : (inner content outer : List ℕ) → IsPartition inner → IsPartition content → IsPartition outer → contains outer inner ≡ true
     → over_states (rows content) (column_lines outer inner) (comes_to content) (resize (rows content) []) [] ≡ product_count (rows outer) inner content outer
 states-shape inner content outer p q r h =

@@ -10,7 +10,7 @@ pub weighed-append : (n : ℕ) (f : List ℕ → List ℕ → ℕ) (es ds : List
 weighed-append n f [] ds = omega arith
 weighed-append n f (e ∷ es) ds = let i = weighed-append n f es ds in omega arith
 
--- a new state goes last
+-- if a new state is appended with a count, each weighed sum increases by the count times f of the state
 pub agree_new : (n : ℕ) (f : List ℕ → List ℕ → ℕ) (es new : List (List ℕ × ℕ)) (state : List ℕ) (count : ℕ) → new ≡ es ++ (state, count) ∷ []
     → Agree (weighed n f new) (weighed n f es + count * at_state n f state)
 agree_new n f es new state count e =

@@ -1,4 +1,4 @@
--- Counts of good tableaux by the partition that they come to.
+-- Counts of good tableaux T by the partition start + content(T).
 use Rattle.std.specs.Prelude.{◌≡◌, ℕ, ◌^◌, ◌≤◌, nat_eq, ℤ, pos, List, []}
 use Rattle.std.specs.Cmp.Lexicographic.{pointwise}
 use Rattle.sym_model.specs.Sum.{Among}
@@ -11,8 +11,8 @@ use Rattle.linear_combinations.specs.Entries.{IsCombination}
 use Rattle.tableau_laws.specs.ColumnFold.{column_lines}
 use Rattle.lr_product.specs.WeighedSum.{over_states, comes_to}
 
--- how many good tableaux of outer/inner for start, with entries from 1 to n, come to a partition,
--- counted column by column
+-- the number of good tableaux T of outer/inner for start, with entries from 1 to n, such that start + content(T) is
+-- the partition; counted column by column
 abbrev pub good_count : ℕ → List ℕ → List ℕ → List ℕ → List ℕ → ℕ
 good_count n start outer inner parts =
     over_states n (column_lines outer inner) (comes_to parts) (resize n start) []
@@ -24,8 +24,8 @@ pub record IsPastSomewhere (n : ℕ) (count : List ℕ → ℕ) : Type 0 where
   pub within : rows parts ≤ n
   pub past : 2 ^ 127 ≤ count parts
 
--- the terms have the counts as their coefficients: each label stands once and is a partition with
--- at most k rows, and for each such partition what its terms come to is its count
+-- the counts are the coefficients of the terms: each label occurs once and is a partition with at most k rows, and
+-- the coefficient of each such partition is its count
 pub record HasCounts (k : ℕ) (count : List ℕ → ℕ) (terms : WholeTerms) : Type 0 where
   pub table : IsCombination (pointwise nat_eq) is_label whole terms
   pub labels : (t : List ℕ × ℤ) → Among t terms → IsPartition t.0 × (rows t.0 ≤ k)

@@ -1,23 +1,24 @@
--- How many small letters the columns of a skew shape can hold: one with h cells holds at most k of
--- the letters from 1 to k, and at most h.
+-- The number of small letters that the columns of a skew shape can hold: a column of h cells holds at most min(h, k)
+-- of the letters from 1 to k.
 use Rattle.std.specs.Prelude.{◌≡◌, ℕ, ◌+◌, ◌-◌, ◌<◌, ◌≤◌, nat_lt, min, true, cond, List, length}
 use Rattle.std.specs.Prelude.{get_or}
 use Rattle.sym_model.specs.Partition.{size}
 use Rattle.sym_model.specs.Schur.{contains}
 use Rattle.schur_laws.proofs.Interlacing.{add_up}
 
--- how many cells of the row r of outer/inner, counted from 0, have fewer than k cells above them in
--- their columns
+-- the number of cells of the row r of outer/inner, counted from 0, that have fewer than k cells above them in their
+-- columns
 abbrev pub room_in_row : ℕ → List ℕ → List ℕ → ℕ → ℕ
 room_in_row k outer inner r =
     cond (nat_lt r k) (get_or outer r 0) (min (get_or outer r 0) (get_or inner (r - k) 0))
     - get_or inner r 0
 
--- the same of the first m rows: so many of the letters from 1 to k they hold at most
+-- the number of cells of the first m rows that have fewer than k cells above them: at most this many letters from 1
+-- to k fit
 abbrev pub letter_room : ℕ → List ℕ → List ℕ → ℕ → ℕ
 letter_room k outer inner m = add_up (room_in_row k outer inner) 0 m
 
--- how many letters from 1 to k a content has
+-- the number of letters from 1 to k of a content
 abbrev pub letters_within : List ℕ → ℕ → ℕ
 letters_within content k = add_up (λ i. get_or content i 0) 0 k
 
@@ -27,7 +28,7 @@ IsOverfull outer inner content =
     (k : ℕ) × (k ≤ length content)
     × (letter_room k outer inner (length outer) < letters_within content k)
 
--- what a content of lattice tableaux of outer/inner meets, and inner too if the two are exchanged
+-- the conditions on the content of a lattice tableau of outer/inner, and on inner if the two are exchanged
 pub record MayHaveContent (outer inner content : List ℕ) : Type 0 where
   pub sizes : size inner + size content ≡ size outer
   pub inner_inside : contains outer inner ≡ true

@@ -7,3 +7,4 @@ pub mod Counts
 pub mod ProductOfFactors
 pub mod LetterRoom
 pub mod Places
+pub mod RowExtension

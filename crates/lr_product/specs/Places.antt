@@ -4,7 +4,7 @@ use Rattle.sym_model.specs.Sum.{Among}
 use Rattle.sym_model.specs.WholeTerms.{WholeTerms}
 use Rattle.lr_product.specs.WeighedSum.{at_state}
 
--- the entry at an index; past the last one an empty state that counts nothing
+-- the entry at an index; after the last one an empty state with count 0
 abbrev pub entry_at : List (List ℕ × ℕ) → ℕ → List ℕ × ℕ
 entry_at entries at = get_or {A = List ℕ × ℕ} entries at ([], 0)
 

@@ -25,37 +25,36 @@ weighed n f entries = sum_by (λ (e : List ℕ × ℕ). e.1 * at_state n f e.0) 
 abbrev pub started : ℕ → (List ℕ → List ℕ → ℕ) → WholeTerms → ℕ
 started n f terms = sum_by (λ (t : List ℕ × ℤ). nat_abs t.1 * f (resize n t.0) []) terms
 
--- the sum over the columns of a line that may be next of f of the sum that is then reached and the
--- column
+-- the sum of f(sum reached, column) over the columns c of a line that may be next after ν and right
 abbrev pub next_states : ℕ → List Bool → (List ℕ → List ℕ → ℕ) → List ℕ → List ℕ → ℕ
 next_states n line f ν right =
     sum_by (λ c. cond (may_be_next n ν right c) (f (join ν (content n c)) c) 0)
     (words_over n line)
 
--- the same over all ways to add columns of these lines, which are listed from the leftmost on and
--- added from the rightmost on
+-- the sum of f over all ways to add columns of these lines, which are listed from the leftmost and added from the
+-- rightmost
 abbrev pub over_states : ℕ → List (List Bool) → (List ℕ → List ℕ → ℕ) → List ℕ → List ℕ → ℕ
 over_states n [] f ν right = f ν right
 over_states n (line ∷ lines) f ν right = over_states n lines (next_states n line f) ν right
 
--- 1 where ν isn't a falling list of n numbers that add up to at most m, 0 where it is
+-- 0 if ν is a decreasing list of n numbers whose sum is at most m, otherwise 1
 abbrev pub unreached : ℕ → ℕ → List ℕ → List ℕ → ℕ
 unreached n m ν right = cond ((length ν == n) && (nat_le (size ν) m && is_falling ν)) 0 1
 
--- f is 0 where some number of the sum is greater than that of the bound at its place;
--- the bound may be shorter than the sum
+-- f is 0 if some number of the sum is greater than that of the bound at its place; the bound may be shorter than the
+-- sum
 abbrev pub VanishesOutside : List ℕ → (List ℕ → List ℕ → ℕ) → Type 0
 VanishesOutside bound f = (ν right : List ℕ) → pass_by_place nat_le ν bound ≡ false → f ν right ≡ 0
 
--- what f sees of a sum and the column added last, where that column is kept or not
+-- f applied to a sum and the column added last; to the empty column if that column is not kept
 abbrev pub seen : Bool → (List ℕ → List ℕ → ℕ) → List ℕ → List ℕ → ℕ
 seen true f ν right = f ν right
 seen false f ν right = f ν []
 
--- how many places the lines have
+-- the number of places of all lines together
 abbrev pub places : List (List Bool) → ℕ
 places lines = sum_by (λ (line : List Bool). length line) lines
 
--- 1 where the sum reached, without the zeros at its end, is this partition; 0 elsewhere
+-- 1 if the sum reached, without its last zeros, is this partition; 0 otherwise
 abbrev pub comes_to : List ℕ → List ℕ → List ℕ → ℕ
 comes_to parts ν right = cond (same (without_last_zeros ν) parts) 1 0

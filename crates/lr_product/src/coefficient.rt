@@ -19,10 +19,10 @@ use partitions::Partition;
 use std::alloc::Global;
 
 /// The coefficient of the Schur polynomial of `outer` in the product of those of `left` and
-/// `right`: the number of good tableaux of the shape `right` for the start `left` that come to
+/// `right`: the number of good tableaux T of the shape `right` such that `left` + content(T) is
 /// `outer`.
 ///
-/// It is refused as `Large` exactly where it is past 2^127 - 1.
+/// Returns `Large` if and only if it exceeds 2^127 - 1.
 pub fn coef(
     alloc: Global,
     outer: &Partition,
@@ -41,8 +41,8 @@ pub fn coef(
     count_in(alloc, outer, left, right)
 }
 
-/// The coefficient, as a count of lattice tableaux of the shape `outer` by the greater factor with
-/// the content of the other, as that shape is the smaller one.
+/// The coefficient, as the number of lattice tableaux of the shape `outer` by the greater factor
+/// whose content is the other one: that shape has the fewest cells.
 fn count_in(
     alloc: Global,
     outer: &Partition,
@@ -63,8 +63,8 @@ fn count_in(
     count_inside(alloc, outer, left, right)
 }
 
-/// The count of the lattice tableaux of the shape `outer` by `inner` with a content. With no more
-/// letters than the content has parts there are the same.
+/// The number of lattice tableaux of the shape `outer` by `inner` with the content `content`. Only
+/// letters up to the number of its parts occur, so no others are tried.
 fn count_inside(
     alloc: Global,
     outer: &Partition,
@@ -92,7 +92,7 @@ fn count_inside(
     Ok(Int::new(count as i128))
 }
 
-/// The number of ways to come to a sum, or the cap where there are more.
+/// The count of the states whose sum begins with `parts`, or the cap if it is greater.
 fn count_of(table: &States, parts: &[u16]) -> u128
     requires { ArePositive parts.now }
     ensures agrees { Agree result
@@ -110,7 +110,7 @@ fn count_of(table: &States, parts: &[u16]) -> u128
     count
 }
 
-/// Whether the first numbers are these.
+/// Whether `numbers` begins with `parts`.
 fn begins_with(numbers: &[u16], parts: &[u16]) -> bool
     ensures { result ≡ pointwise nat_eq (take (length parts.now) numbers.now) parts.now }
 {

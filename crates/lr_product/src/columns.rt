@@ -9,6 +9,7 @@ ghost use Rattle.lr_product.specs.WeighedSum.{weighed, over_states, unreached, V
 ghost use Rattle.lr_product.specs.Capped.{Agree};
 ghost use Rattle.lr_product.specs.ColumnLine.{column_line};
 
+use crate::rows::with_shape;
 use crate::states::States;
 use crate::step::with_column;
 use crate::table::Table;
@@ -16,9 +17,8 @@ use calc_base::NoMemory;
 use partitions::Partition;
 use std::alloc::Global;
 
-/// For each sum that a start and the content of a good tableau come to the number of these
-/// tableaux, which are those of a skew shape in `letters` letters. Sums in which some number is
-/// greater than that of the bound at its place may be missing.
+/// For each partition ν, the number of good tableaux T of a skew shape with entries up to `letters`
+/// such that `start` + content(T) = ν. Those ν that exceed the bound at some place may be missing.
 pub(crate) fn ways_by_columns(
     alloc: Global,
     start: &[u16],
@@ -43,10 +43,10 @@ pub(crate) fn ways_by_columns(
     ensures shape { OnOk result (IsPartition outer.now) }
 {
     let starts = first_table(alloc, start, letters)?;
-    with_columns(alloc, starts, outer, inner, letters, bound)
+    with_shape(alloc, starts, outer, inner, letters, bound)
 }
 
-/// The table after all columns of a skew shape in `letters` letters, within a bound.
+/// The table after all columns of a skew shape in `letters` letters, with sums within a bound.
 pub(crate) fn with_columns(
     alloc: Global,
     starts: States,
@@ -80,7 +80,7 @@ pub(crate) fn with_columns(
     Ok(table)
 }
 
-/// For each row that reaches a column whether its place in the column is a cell.
+/// For each row that reaches a column, whether its place in the column is a cell.
 fn line_of(alloc: Global, outer: &[u16], inner: &[u16], column: u16) -> Result<Vec<bool>, NoMemory>
     ensures { IfOk result (λ line. line.items ≡ column_line column outer.now inner.now) }
 {
@@ -94,7 +94,7 @@ fn line_of(alloc: Global, outer: &[u16], inner: &[u16], column: u16) -> Result<V
     Ok(line)
 }
 
-/// The table with the start alone, padded with zeros, once and with no column.
+/// The table whose only state is the start, padded with zeros, before any column, with count 1.
 fn first_table(alloc: Global, start: &[u16], letters: u16) -> Result<States, NoMemory>
     requires { rows start.now ≤ letters }
     ensures { IfOk result (λ table. (f : List ℕ → List ℕ → ℕ)
@@ -105,7 +105,7 @@ fn first_table(alloc: Global, start: &[u16], letters: u16) -> Result<States, NoM
     Ok(table.into_states())
 }
 
-/// Adds a count to that of a start, padded with zeros and with no column.
+/// Adds a count to that of the state that is a start, padded with zeros, before any column.
 pub(crate) fn add_start(
     alloc: Global,
     table: &mut Table,
@@ -125,7 +125,7 @@ pub(crate) fn add_start(
     table.add(&state, count)
 }
 
-/// The numbers with zeros after them, `len` in all.
+/// The numbers followed by zeros, `len` numbers in all.
 fn padded(alloc: Global, numbers: &[u16], len: u16) -> Result<Vec<u16>, NoMemory>
     requires { length numbers.now ≤ len }
     ensures { IfOk result (λ state. state.items ≡ resize len numbers.now) }

@@ -18,10 +18,10 @@ use linear_combinations::{Lin, Terms};
 use partitions::Partition;
 use std::alloc::Global;
 
-/// For each partition the number of good tableaux of a skew shape for a start, in `letters`
-/// letters, that come to it.
+/// For each partition ν, the number of good tableaux T of a skew shape with entries up to `letters`
+/// such that `start` + content(T) = ν.
 ///
-/// It is refused as `Large` exactly where such a number is past 2^127 - 1.
+/// Returns `Large` if and only if such a number exceeds 2^127 - 1.
 pub(crate) fn good_counts(
     alloc: Global,
     start: &[u16],
@@ -54,7 +54,8 @@ pub(crate) fn no_terms(alloc: Global) -> Result<Terms<Partition, Int>, SumFault>
     Ok(terms.sorted_terms()?)
 }
 
-/// The numbers of ways to come to each sum, by the partition that the sum is.
+/// The list of terms that a table stands for: each label is a sum without its last zeros, and its
+/// coefficient the count of that sum.
 pub(crate) fn terms_of_table(
     alloc: Global,
     table: States,
@@ -76,8 +77,8 @@ pub(crate) fn terms_of_table(
     collected_terms(alloc, table, letters)
 }
 
-/// The same for a table that may have sums of several sizes, or one sum twice: the counts are
-/// collected by label.
+/// The list of terms of a table that may have sums of several sizes, or one sum twice: the counts
+/// are collected by label.
 fn collected_terms(
     alloc: Global,
     table: States,
@@ -105,7 +106,7 @@ fn collected_terms(
     Ok(terms.sorted_terms()?)
 }
 
-/// Adds a count to the coefficient of the partition that a sum is.
+/// Adds a count to the coefficient of a sum without its last zeros.
 fn add_sum(
     alloc: Global,
     terms: &mut Lin<Partition, Int>,

@@ -11,23 +11,25 @@ use crate::letters::{end_of_letters, has_room, least_letter, place, rest_of, tak
 use crate::table::Table;
 use calc_base::NoMemory;
 
-/// What stays the same while a column is added.
+/// The data that do not change while a column is added.
 #[derive(Clone, Copy)]
 pub(crate) struct Column {
     /// The number of letters.
     pub(crate) letters: u16,
-    /// Whether the column stands after the sum in the states that are reached,
-    /// as a further column needs it.
+    /// Whether the states reached keep the letters of this column after the sum, since a further
+    /// column needs them.
     pub(crate) is_kept: bool,
     /// The number of ways to reach the state that the column is added to.
     pub(crate) ways: u128,
 }
 
-/// Adds the ways to go on along a line, below the letter `above` and left of the column `right`,
-/// from a state with the sum reached and the letters of the column so far.
+/// Adds the ways to complete a column from a state: `line` has the remaining places, which lie
+/// below the letter `above` and left of the column `right`. The state is the sum so far and the
+/// letters of the column so far.
 ///
-/// The bound is the greatest that each place of the sum may be, as far as it goes. A letter with
-/// which the sum would not fall, or would leave the bound, is skipped, as no later letter mends it.
+/// `bound` has the greatest value of each number of the sum; it may be shorter than the sum. A
+/// letter is skipped if the sum would not be decreasing with it or would exceed the bound, since no
+/// later letter repairs either.
 pub(crate) fn extend(
     table: &mut Table,
     state: &mut Vec<u16>,

@@ -1,8 +1,9 @@
 //! The product of several Schur polynomials in Schur polynomials.
 ghost use Rattle.std.specs.Prelude.{◌≡◌, ℕ, false, ◌+◌, List, Option, [], ◌∷◌, ◌^◌, ◌≤◌, ◌<◌, ◌↔◌};
-ghost use Rattle.std.specs.Prelude.{length, map, slice_get, Some, IsTrue, IfOk, OnOk, IsErrOf};
+ghost use Rattle.std.specs.Prelude.{length, map, slice_get, Some, IsTrue, IfOk, IfSome, OnOk, IsErrOf};
 ghost use Rattle.std.specs.Option.{ForSome};
 ghost use Rattle.sym_model.specs.Partition.{size, rows as number_of_rows};
+ghost use Rattle.sym_model.specs.Polynomial.{Same};
 ghost use Rattle.sym_model.specs.Sum.{Among};
 ghost use Rattle.sym_model.specs.WholeTerms.{as_fractions};
 ghost use Rattle.sym_model.specs.Products.{ExpandsInSchurs, schur_product, classical_product};
@@ -20,9 +21,9 @@ use partitions::{Factors, Partition};
 use std::alloc::Global;
 
 /// The product of the Schur polynomials of all factors in Schur polynomials: in every number of
-/// variables, or in K variables, with the labels of at most K rows alone, if `rows` is K.
+/// variables, or in K variables, with only the labels of at most K rows, if `rows` is K.
 ///
-/// It is refused as `Large` exactly if a coefficient exceeds 2^127 - 1.
+/// Returns `Large` if and only if a coefficient exceeds 2^127 - 1.
 pub fn mult_all(
     alloc: Global,
     factors: &Factors,
@@ -34,6 +35,10 @@ pub fn mult_all(
     ensures large { IsErrOf result SumFault.Large
         → HasPast (IsCoefficientOfProduct rows factors.now) }
     ensures fits { OnOk result (HasPast (IsCoefficientOfProduct rows factors.now) → ⊥) }
+
+    // In a number of variables it is the classical product.
+    ensures classical { IfOk result (λ terms. IfSome rows (λ k.
+        Same terms (classical_product k factors.now))) }
 {
     let variables = rows.unwrap_or(factors.rows().max(1));
     if has_longer(factors, variables) {
@@ -74,6 +79,8 @@ fn product_in(
     ensures meets { IfOk result (λ terms. (given : Option ℕ)
         → IsShownIn given (size (map number_of_rows factors.now)) variables
         → ExpandsInSchurs given (schur_product factors.now) (as_fractions terms)) }
+    ensures classical { IfOk result (λ terms.
+        Same terms (classical_product variables factors.now)) }
     ensures small { OnOk result (AreSmallCounts (classical_product variables factors.now)) }
     ensures large { IsErrOf result SumFault.Large
         → Reaches variables (2 ^ 127) (classical_product variables factors.now) }

@@ -1,4 +1,4 @@
-//! Coefficients that are 0 as a shape has no room for a content.
+//! Coefficients that are 0 because a shape has no room for a content.
 ghost use Rattle.std.specs.Prelude.{◌≡◌, ◌<◌, ◌≤◌, ◌↔◌, length, get_or, IsTrue, IsFalse};
 ghost use Rattle.sym_model.specs.Partition.{rows};
 ghost use Rattle.sym_model.specs.GoodTableau.{product_count};
@@ -8,7 +8,7 @@ ghost use Rattle.lr_product.specs.LetterRoom.{IsOverfull, MayHaveContent};
 
 use partitions::Partition;
 
-/// Whether sizes, containment or the room for small letters tell that the shape `outer` by `inner`
+/// Whether sizes, containment or the room for small letters show that the shape `outer` by `inner`
 /// has no lattice tableau with this content. The test treats `inner` and the content alike, as they
 /// may be exchanged.
 pub(crate) fn has_no_room(outer: &Partition, inner: &Partition, content: &Partition) -> bool
@@ -50,7 +50,7 @@ fn is_overfull(outer: &[u16], inner: &[u16], content: &[u16]) -> bool
     false
 }
 
-/// How many letters from 1 to `k` the columns of the shape can hold.
+/// The number of letters from 1 to `k` that the columns of the shape can hold.
 fn room_up_to(outer: &[u16], inner: &[u16], k: usize) -> u32
     requires { length outer.now ≤ 512 }
     ensures { result ≡ letter_room k outer.now inner.now (length outer.now) }
@@ -62,7 +62,7 @@ fn room_up_to(outer: &[u16], inner: &[u16], k: usize) -> u32
     room
 }
 
-/// How many cells of a row, counted from 0, have fewer than `k` cells above them.
+/// The number of cells of a row, counted from 0, that have fewer than `k` cells above them.
 fn room_in_row(outer: &[u16], inner: &[u16], k: usize, row: usize) -> u16
     ensures { result ≡ room_in_row_of k outer.now inner.now row }
 {
@@ -73,8 +73,8 @@ fn room_in_row(outer: &[u16], inner: &[u16], k: usize, row: usize) -> u16
     end.saturating_sub(part_at(inner, row))
 }
 
-/// The part of a row, counted from 0; 0 past the last one.
-fn part_at(parts: &[u16], row: usize) -> u16
+/// The part of a row, counted from 0; 0 after the last row.
+pub(crate) fn part_at(parts: &[u16], row: usize) -> u16
     ensures { result ≡ get_or parts.now row 0 }
 {
     parts.get(row).copied().unwrap_or(0)

@@ -1,4 +1,4 @@
-//! The letters of a column, and what a letter does to a state.
+//! The letters of a column, and their effect on a state.
 ghost use Rattle.std.specs.Prelude.{◌≡◌, ◌+◌, ◌-◌, ◌^◌, ◌<◌, ◌≤◌, ◌==◌, ◌||◌, List, ℕ, ◌++◌};
 ghost use Rattle.std.specs.Prelude.{length, drop, slice_index, OnOk, IfOk};
 ghost use Rattle.lr_product.specs.Extension.{raised, mark, can_rise as can_rise_at};
@@ -6,7 +6,7 @@ ghost use Rattle.lr_product.specs.Extension.{least_letter as least_letter_of, le
 
 use calc_base::NoMemory;
 
-/// Whether a letter may be placed: the sum still falls with it, and stays within the bound.
+/// Whether a letter may be placed: the sum stays decreasing, and within the bound.
 pub(crate) fn has_room(numbers: &[u16], letter: u16, bound: &[u16]) -> bool
     requires { letter ≤ length numbers.now }
     ensures { result ≡ ((letter == 0) || can_rise_at bound.now (letter - 1) numbers.now) }
@@ -22,7 +22,7 @@ fn can_rise(numbers: &[u16], at: usize, bound: &[u16]) -> bool
     (at == 0 || numbers[at] < numbers[at - 1]) && (bound.len() <= at || numbers[at] < bound[at])
 }
 
-/// The least letter for a place.
+/// The least letter for a place below the letter `above`.
 pub(crate) fn least_letter(cell: bool, above: u16) -> u16
     requires { above ≤ 512 }
     ensures { result ≡ least_letter_of cell above }
@@ -30,7 +30,8 @@ pub(crate) fn least_letter(cell: bool, above: u16) -> u16
     if cell { above + 1 } else { 0 }
 }
 
-/// The number past the greatest letter for a place, where letters are left for the places below.
+/// One more than the greatest letter for a place, so that enough letters are left for the `below`
+/// places under it.
 pub(crate) fn end_of_letters(
     letters: u16,
     cell: bool,
@@ -63,8 +64,8 @@ pub(crate) fn rest_of(right: &[u16]) -> &[u16]
     if right.is_empty() { right } else { &right[1..] }
 }
 
-/// Raises the sum at a letter's place, and where the column is kept puts the letter, or a 0 outside
-/// the shape, at its end. It gives the length before.
+/// Adds 1 to the number of `letter` in the sum and, if the column is kept, appends the letter (0
+/// outside the shape). Returns the length before.
 pub(crate) fn place(state: &mut Vec<u16>, letter: u16, is_kept: bool) -> Result<usize, NoMemory>
     requires within { letter ≤ length state.old.items }
     requires room { 0 < letter → slice_index state.old.items (letter - 1) < 2 ^ 16 - 1 }
@@ -80,7 +81,7 @@ pub(crate) fn place(state: &mut Vec<u16>, letter: u16, is_kept: bool) -> Result<
     Ok(len)
 }
 
-/// Raises the sum at a letter's place.
+/// Adds 1 to the number of `letter` in the sum.
 fn raise(state: &mut Vec<u16>, letter: u16)
     requires within { letter ≤ length state.old.items }
     requires room { 0 < letter → slice_index state.old.items (letter - 1) < 2 ^ 16 - 1 }
@@ -93,7 +94,7 @@ fn raise(state: &mut Vec<u16>, letter: u16)
     }
 }
 
-/// Takes a letter back that was placed when the state had this length.
+/// Undoes `place` of a letter; `len` is the length that the state had before it.
 pub(crate) fn take_back(state: &mut Vec<u16>, len: usize, letter: u16)
     requires within { letter ≤ length state.old.items }
     ensures { (before after : List ℕ) → state.old.items ≡ raised letter before ++ after

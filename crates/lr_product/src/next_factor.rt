@@ -1,4 +1,4 @@
-//! A list of terms times one factor more: all labels go through the columns of the factor together.
+//! A list of terms times one more factor: all labels go through the columns of the factor together.
 ghost use Rattle.std.specs.Prelude.{◌≡◌, ℕ, ◌^◌, ◌≤◌, ℤ, pos, ◌≤ℤ◌, nat_eq, List, IfOk, OnOk};
 ghost use Rattle.std.specs.Prelude.{IsErrOf};
 ghost use Rattle.std.specs.Cmp.Lexicographic.{pointwise};
@@ -14,8 +14,9 @@ ghost use Rattle.lr_product.specs.Capped.{Agree};
 ghost use Rattle.lr_product.specs.ProductOfFactors.{AreSmallCounts, AllMayMeet};
 ghost use Rattle.lr_product.specs.WeighedSum.{started, weighed};
 
-use crate::columns::{add_start, with_columns};
+use crate::columns::add_start;
 use crate::counts::terms_of_table;
+use crate::rows::with_shape;
 use crate::states::States;
 use crate::table::Table;
 use calc_base::{NoMemory, SumFault};
@@ -24,7 +25,7 @@ use linear_combinations::Terms;
 use partitions::Partition;
 use std::alloc::Global;
 
-/// The most rows that a label of a list has.
+/// The greatest number of rows of a label of the list; 0 if there is none.
 fn most_rows(product: &Terms<Partition, Int>) -> u16
     ensures most { (t : List ℕ × ℤ) → Among t product.now → rows t.0 ≤ result }
     ensures within { result ≤ 512 }
@@ -36,8 +37,8 @@ fn most_rows(product: &Terms<Partition, Int>) -> u16
     most
 }
 
-/// The table that has each label, in `letters` places and with no column,
-/// as often as its coefficient says.
+/// The table whose states are the labels of the list, in `letters` places and before any column,
+/// with their coefficients as counts.
 fn starts_of(
     alloc: Global,
     product: &Terms<Partition, Int>,
@@ -61,11 +62,10 @@ fn starts_of(
     Ok(table.into_states())
 }
 
-/// The list of the products of all labels and a factor in that number of variables, each times the
-/// count of its label. More letters than a label and the factor have rows together count no more
-/// tableaux.
+/// The product of a list of Schur polynomials and the Schur polynomial of `next`, in `variables`
+/// variables. Letters beyond the rows of a label and the factor together add no tableaux.
 ///
-/// It is refused as `Large` exactly where a coefficient is past 2^127 - 1.
+/// Returns `Large` if and only if a coefficient exceeds 2^127 - 1.
 pub(crate) fn times_factor(
     alloc: Global,
     product: &Terms<Partition, Int>,
@@ -84,6 +84,6 @@ pub(crate) fn times_factor(
 {
     let letters = variables.min(most_rows(product) + next.rows());
     let starts = starts_of(alloc, product, letters)?;
-    let table = with_columns(alloc, starts, next, &[], letters, &[])?;
+    let table = with_shape(alloc, starts, next, &[], letters, &[])?;
     terms_of_table(alloc, table, letters)
 }

@@ -22,11 +22,11 @@ use partitions::Partition;
 use std::alloc::Global;
 
 /// The product of the Schur polynomials of `left` and `right` in Schur polynomials: in every number
-/// of variables, or in K variables, with the labels of at most K rows alone, if `rows` is K. The
+/// of variables, or in K variables, with only the labels of at most K rows, if `rows` is K. The
 /// coefficient of a label is the number of good tableaux of the shape `right` for the start `left`
 /// that reach it (Littlewood and Richardson).
 ///
-/// It is refused as `Large` exactly if a coefficient exceeds 2^127 - 1.
+/// Returns `Large` if and only if a coefficient exceeds 2^127 - 1.
 pub fn mult(
     alloc: Global,
     left: &Partition,
@@ -49,8 +49,8 @@ pub fn mult(
         → HasPast (IsCoefficientOfProduct rows (left.now ∷ right.now ∷ [])) }
     ensures fits { OnOk result (HasPast (IsCoefficientOfProduct rows (left.now ∷ right.now ∷ [])) → ⊥) }
 
-    // In a number of variables it is the classical product, and a coefficient that is too large
-    // makes the sum of all so.
+    // In K variables the list is the classical product, and if the result is `Large`, the sum of
+    // the absolute values of all coefficients is at least 2^127.
     ensures classical { IfOk result (λ terms. IfSome rows (λ k.
         Same terms (classical_product k (left.now ∷ right.now ∷ [])))) }
     ensures heavy { IsErrOf result SumFault.Large → IfSome rows (λ k.
@@ -86,8 +86,8 @@ pub(crate) fn counts_in(
     counts_from(alloc, left, right, variables)
 }
 
-/// The same counts, with these two in their places. With more letters than both factors have rows
-/// there are no more tableaux.
+/// The counts of good tableaux of the shape `right` for the start `left`, without exchanging the
+/// two. Letters beyond the rows of both factors together add no tableaux.
 fn counts_from(
     alloc: Global,
     left: &Partition,

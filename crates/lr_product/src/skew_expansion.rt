@@ -20,11 +20,11 @@ use partitions::Partition;
 use std::alloc::Global;
 
 /// The skew Schur polynomial of `outer` by `inner` in Schur polynomials: in every number of
-/// variables, or in K variables, with the labels of at most K rows alone, if `rows` is K. It is 0
-/// if `inner` does not lie inside `outer`; otherwise the coefficient of a label is the number of
+/// variables, or in K variables, with only the labels of at most K rows, if `rows` is K. It is 0 if
+/// `inner` does not lie inside `outer`; otherwise the coefficient of a label is the number of
 /// lattice tableaux of the shape `outer` by `inner` with this content.
 ///
-/// It is refused as `Large` exactly if a coefficient exceeds 2^127 - 1.
+/// Returns `Large` if and only if a coefficient exceeds 2^127 - 1.
 pub fn skew(
     alloc: Global,
     outer: &Partition,
@@ -53,7 +53,7 @@ pub fn skew(
 }
 
 /// The counts of lattice tableaux of the shape, for the partitions with no more rows than there are
-/// variables. With more letters than `outer` has rows there are no more tableaux.
+/// variables. Letters beyond the rows of `outer` add no tableaux.
 fn counts_in(
     alloc: Global,
     outer: &Partition,

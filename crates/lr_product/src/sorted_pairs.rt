@@ -14,8 +14,8 @@ use coeff_rings::Int;
 use partitions::Partition;
 use std::alloc::Global;
 
-/// The partitions that the sums are, with the numbers of ways to come to them: in the printed order
-/// if all sums have one size.
+/// The sums of the states without their last zeros, with their counts: in the printed order if all
+/// sums have one size.
 pub(crate) fn sorted_pairs(
     alloc: Global,
     table: &States,
@@ -50,14 +50,14 @@ fn places_of(alloc: Global, table: &States) -> Result<Vec<usize>, NoMemory>
     Ok(places)
 }
 
-/// Sorts indices by the sums of their states, in falling lexicographic order.
+/// Sorts indices by the sums of their states, in decreasing lexicographic order.
 fn sort_places(table: &States, letters: u16, places: &mut Vec<usize>)
     ensures { IsPermutation places.old.items places.new.items }
 {
     places.sort_unstable_by(|a, b| sum_at(table, letters, *b).cmp(&sum_at(table, letters, *a)));
 }
 
-/// The sum of the state at an index, nothing past the last one.
+/// The sum of the state at an index; empty if there is no such state.
 fn sum_at(table: &States, letters: u16, at: usize) -> &[u16] {
     match table.get(at) {
         Some((state, _)) => &state[..usize::from(letters).min(state.len())],
@@ -65,7 +65,7 @@ fn sum_at(table: &States, letters: u16, at: usize) -> &[u16] {
     }
 }
 
-/// Adds the sum at an index and its count at the end, unless the count is 0.
+/// Appends the sum at an index and its count, unless the count is 0.
 fn add_place(
     alloc: Global,
     pairs: &mut Vec<(Partition, Int)>,

@@ -10,15 +10,14 @@ use calc_base::NoMemory;
 use std::alloc::Global;
 use std::marker::Model;
 
-/// Counts from here on are kept as this number.
+/// The cap: greater counts are kept as this number.
 pub(crate) const CAP: u128 = 1 << 127;
 
-/// States of one length, each with its count. A state is the sum reached, in as many places as
-/// there are letters, and after it the letters of the column added last, where a further column
-/// needs them.
+/// States of one length, each with its count. A state is the sum reached, in one place for each
+/// letter, followed by the letters of the column added last if a further column needs them.
 #[derive(Drop)]
 pub(crate) struct States {
-    /// How many numbers a state has.
+    /// The length of each state.
     width: usize,
     /// The numbers of the states, one state after the other.
     numbers: Vec<u16>,
@@ -40,7 +39,7 @@ impl Model for States {
 }
 
 impl States {
-    /// No states of this length, with room for a number of them.
+    /// No states, of length `width`, with room for `room` of them.
     pub(crate) fn with_room(alloc: Global, width: usize, room: usize) -> Result<States, NoMemory>
         ensures width { IfOk result (λ s. s.width ≡ width) }
         ensures none { IfOk result (λ s. s.entries ≡ []) }
@@ -69,7 +68,7 @@ impl States {
         (&self.numbers[start..start + self.width], self.counts[at])
     }
 
-    /// The state and the count at an index, `None` exactly past the last one.
+    /// The state and the count at an index; `None` if and only if there is no such state.
     pub(crate) fn get(&self, at: usize) -> Option<(&[u16], u128)>
         ensures { option_map (λ e. (e.0.now, e.1)) result ≡ slice_get self.now.entries at }
     {
@@ -87,7 +86,7 @@ impl States {
         at < self.len() && self.entry(at).0 == state
     }
 
-    /// Puts a state with its count at the end.
+    /// Appends a state with its count.
     pub(crate) fn push(&mut self, state: &[u16], count: u128) -> Result<(), NoMemory>
         requires { length state.now ≡ self.old.width }
         ensures width { OnOk result (self.new.width ≡ self.old.width) }

@@ -35,7 +35,7 @@ pub(crate) fn with_column(
         → weighed letters (unreached letters (m + length line.now)) next.entries ≡ 0) }
 {
     let width = width_of(letters, line, is_kept);
-    // Where the room is a power of two, a table mostly takes the memory of the last but one.
+    // If the room is a power of two, a table can mostly reuse the memory of the last but one.
     let room = table.len().next_power_of_two();
     let mut next = Table::with_room(alloc, width, room)?;
     let mut reached: Vec<u16> = Vec::new(alloc);
@@ -51,7 +51,7 @@ pub(crate) fn with_column(
     Ok(next.into_states())
 }
 
-/// How many numbers a state has after a column of this line.
+/// The length of a state after a column of this line.
 fn width_of(letters: u16, line: &[bool], is_kept: bool) -> usize
     requires { length line.now ≤ 4096 }
     ensures { result ≡ letters + cond is_kept (length line.now) 0 }
@@ -62,7 +62,8 @@ fn width_of(letters: u16, line: &[bool], is_kept: bool) -> usize
     usize::from(letters)
 }
 
-/// Adds the ways to put a column next to a state. The states are reached in the buffer `reached`.
+/// Adds the ways to add a column to a state. The buffer `reached` is used for the states that
+/// arise.
 fn add_columns(
     reached: &mut Vec<u16>,
     next: &mut Table,

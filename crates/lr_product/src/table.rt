@@ -17,8 +17,8 @@ const SPREAD: u64 = 0x9E37_79B9_7F4A_7C15;
 #[derive(Drop)]
 pub(crate) struct Table {
     states: States,
-    /// In the slot of a state stands its index and one more, in a free one 0. A state is in the
-    /// first slot from that of its hash on that was free. At most half of the slots are taken.
+    /// The slot of a state holds its index plus 1; a free slot holds 0. A state is in the first
+    /// slot, from that of its hash on, that was free. At most half of the slots are taken.
     slots: Vec<u32>,
 }
 
@@ -31,7 +31,7 @@ impl Model for Table {
 }
 
 impl Table {
-    /// The table of no states of this length, with room for a number of them.
+    /// An empty table for states of length `width`, with room for `room` of them.
     pub(crate) fn with_room(alloc: Global, width: usize, room: usize) -> Result<Table, NoMemory>
         ensures width { IfOk result (λ t. t.width ≡ width) }
         ensures none { IfOk result (λ t. t.entries ≡ []) }
@@ -60,8 +60,8 @@ impl Table {
         }
     }
 
-    /// Puts a new state with its count into a free slot, and makes more slots where half of them
-    /// are taken then.
+    /// Adds a new state with its count in a free slot, and doubles the slots if half of them are
+    /// then taken.
     fn put(&mut self, slot: usize, state: &[u16], count: u128) -> Result<(), NoMemory>
         requires { length state.now ≡ self.old.width }
         ensures width { OnOk result (self.new.width ≡ self.old.width) }
@@ -89,7 +89,7 @@ impl Table {
     }
 }
 
-/// The index of a state, or else the slot for it.
+/// The index of a state as `Ok`, or the slot for it as `Err`.
 fn find(slots: &[u32], states: &States, state: &[u16]) -> Result<usize, usize>
     ensures within { IfOk result (λ at. at < length states.now.entries) }
     ensures state { IfOk result (λ at. slice_get (keys_of states.now.entries) at
@@ -113,8 +113,8 @@ fn find(slots: &[u32], states: &States, state: &[u16]) -> Result<usize, usize>
     Err(slot)
 }
 
-/// The slot of that number of in which the search for a state begins. Four numbers are mixed in at
-/// a time.
+/// The slot, among `len`, in which the search for a state begins. Four numbers are mixed in at a
+/// time.
 fn first_slot(state: &[u16], len: usize) -> usize {
     let mut hash: u64 = 0;
     for numbers in state.chunks(4) {
@@ -139,7 +139,7 @@ fn joined(a: u16, b: u16, c: u16, d: u16) -> u64 {
     u64::from(a) | u64::from(b) << 16 | u64::from(c) << 32 | u64::from(d) << 48
 }
 
-/// Notes in a slot the index of a state. States past the first 2^32 have no slots.
+/// Writes the index of a state into a slot. States after the first 2^32 get no slots.
 fn note(slots: &mut [u32], slot: usize, at: usize) {
     let Ok(number) = u32::try_from(at.saturating_add(1)) else {
         return;
@@ -149,7 +149,7 @@ fn note(slots: &mut [u32], slot: usize, at: usize) {
     }
 }
 
-/// So many slots, with these states in them.
+/// `len` slots, filled for these states.
 fn slots_of(alloc: Global, states: &States, len: usize) -> Result<Vec<u32>, NoMemory> {
     let mut slots: Vec<u32> = vec![in alloc; 0; len]?;
     for at in 0..states.len() {
@@ -161,7 +161,7 @@ fn slots_of(alloc: Global, states: &States, len: usize) -> Result<Vec<u32>, NoMe
     Ok(slots)
 }
 
-/// The count, or the cap where it is past that.
+/// The count, or the cap if the count exceeds it.
 pub(crate) fn capped(count: u128) -> u128
     ensures capped { Agree result count }
     ensures within { result ≤ 2 ^ 127 }

@@ -1,3 +1,5 @@
 pub mod OneCover
 pub mod MonkSteps
 pub mod MonkGains
+pub mod ShortPerms
+pub mod ShortCovers

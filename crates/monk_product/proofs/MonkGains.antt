@@ -1,4 +1,4 @@
--- What a list of Schubert polynomials gains by Monk's rule.
+-- The terms that a list of Schubert polynomials gains by Monk's rule.
 use Rattle.std.proofs.Common.{◌≡◌, ℕ, ◌+◌, ◌*◌, ◌^◌, ◌≤◌, max, Bool, true, false, cond, List, [], ◌∷◌, ◌++◌, length, refl, sym, ap, ap₂, ◌∙◌, inl, inr, arith, ℤ, pos, negsuc, ◌*ℤ◌}
 use Rattle.std.specs.Prelude.{nat_abs, neg_ℤ, nat_eq}
 use Rattle.std.specs.Cmp.Lexicographic.{pointwise, nat_list_eq_equiv}
@@ -13,19 +13,18 @@ use Rattle.sym_model.specs.Schubert.{schubert_in}
 use Rattle.sym_model.specs.Sum.{Among}
 use Rattle.sym_model.specs.WholeTerms.{combined, WholeTerms}
 use Rattle.sym_model.proofs.Exponents.{same_from}
-use Rattle.sym_model.proofs.Polynomials.{pair_determined, pair_ext, pair_factor, pair_total, pair_times, times_respects, Same_refl, Same_trans, In_restrict}
-use Rattle.sym_model.proofs.PolynomialLaws.{one-times}
+use Rattle.sym_model.proofs.Polynomials.{pair_ext, pair_factor, pair_total, pair_times}
 use Rattle.sym_model.proofs.Ring.{product-one}
 use Rattle.sym_model.proofs.Sums.{total_among, total_ext}
 use Rattle.sym_model.proofs.WholeTerms.{pair_of_combined}
-use Rattle.schubert_laws.proofs.LowerPermutations.{identity_is_one}
 use Rattle.linear_combinations.specs.Labels.{same_partition}
 use Rattle.linear_combinations.specs.Gains.{mass_at, scaled, replaced, Gains, Overflows}
 use Rattle.linear_combinations.proofs.Totals.{term-among}
 use Rattle.linear_combinations.proofs.Gains.{replaced_over, scaled_append, mass_at_append, over_only_within, mass_at_within}
-use Rattle.linear_combinations.proofs.Masses.{scaled_each, labels_append, labels_each, labels_replaced, mass_replaced, mass_at_replaced, labels_gained}
+use Rattle.sym_model.proofs.WholeTerms.{labels_append}
+use Rattle.linear_combinations.proofs.Masses.{scaled_each, labels_each, labels_replaced, mass_replaced, mass_at_replaced, labels_gained}
 use Rattle.transition_walk.proofs.Covers.{up_within, down_within}
-use Rattle.transition_walk.proofs.Labels.{label_one_line, one_one_line}
+use Rattle.transition_walk.proofs.Labels.{label_one_line}
 use Rattle.monk_product.specs.Monk.{IsPermutationTable, AreShort, over, mass, each_with, monk_terms, over_covers, greatest_length, count_of}
 use Rattle.monk_product.specs.MonkLaws.{over_terms, mass_terms}
 use Rattle.monk_product.proofs.MonkSteps.{pair_monk}
@@ -33,9 +32,7 @@ use Rattle.monk_product.proofs.OneCover.{one_cover}
 use Rattle.linear_combinations.proofs.Weighed.{gains_mass}
 use Rattle.sym_model.proofs.Integers.{product-neg_one}
 
--- ---- the terms of one product
-
--- c times them, as they are added
+-- the terms of c·x_r·S_w, as c times the covers with j > r followed by -c times those with i < r
 pub monk_scaled : (c : ℤ) (r : ℕ) (w : List ℕ) → each_with c (covers_up r w) ++ each_with (neg_ℤ c) (covers_down r w) ≡ scaled c (monk_terms r w)
 monk_scaled c r w =
     sym (scaled_append c (each_with (pos 1) (covers_up r w)) (each_with (negsuc 0) (covers_down r w))
@@ -51,7 +48,7 @@ at_count x a (v ∷ vs) one = by (pointwise nat_eq x v) refl (at_count x a vs on
     by true e r = let s = ap (λ (t : Bool). cond {A = ℕ} t 1 0) (same_from v x (sym (same_partition x v e))) in omega arith
     by false e r = omega arith
 
--- each permutation stands once among them at most
+-- each permutation occurs at most once among the terms
 once_terms : (r : ℕ) (w x : List ℕ) → IsOneLine w → 1 ≤ r → mass_at (pointwise nat_eq) x (monk_terms r w) ≤ 1
 once_terms r w x o h =
     let a = mass_at_append (pointwise nat_eq) x (each_with (pos 1) (covers_up r w)) (each_with (negsuc 0) (covers_down r w)) in
@@ -96,7 +93,7 @@ module _ (r : ℕ) (first : 1 ≤ r) (list : WholeTerms) where
         let d = mass_at_replaced (monk_terms r) (pointwise nat_eq) o.0 list (λ t m. once_terms r t.0 o.0 (one_line is t m) first) in
         omega arith
 
-  -- the sums of the product, by Monk's rule at each label
+  -- with each label w replaced by its covers, as in Monk's rule for x_r, the sum of the Schubert polynomials of the list is x_r times the sum before
   pub pair_product : (n : ℕ) (φ : List ℕ → ℤ) → IsPermutationTable list → over (over_covers r (λ w. pair (schubert_in w n) φ)) list ≡ pair (times (variable_in r n) (combined (λ w. schubert_in w n) list)) φ
   pair_product n φ is =
       sym (pair_times (variable_in r n) (combined (λ w. schubert_in w n) list) φ
@@ -115,13 +112,3 @@ pub longest : (terms : WholeTerms) (r : ℕ) → AreShort (max r (greatest_lengt
 longest [] r t m = absurd m
 longest (u ∷ terms) r t (inl e) = let l = ap (λ (v : List ℕ × ℤ). length v.0) e in omega arith
 longest (u ∷ terms) r t (inr m) = let l = longest terms r t m in omega arith
-
--- the identity leaves the list
-pub alone : (n : ℕ) (φ : List ℕ → ℤ) (list : WholeTerms) → over (λ x. pair (schubert_in x n) φ) list ≡ over (λ x. pair (times (schubert_in (1 ∷ []) n) (schubert_in x n)) φ) list
-alone n φ list =
-    total_ext (λ (t : List ℕ × ℤ). t.1 *ℤ pair (schubert_in t.0 n) φ) (λ (t : List ℕ × ℤ). t.1 *ℤ pair (times (schubert_in (1 ∷ []) n) (schubert_in t.0 n)) φ)
-    (λ t. ap (λ z. t.1 *ℤ z)
-    (sym (pair_determined (times (schubert_in (1 ∷ []) n) (schubert_in t.0 n)) (schubert_in t.0 n) φ
-    (Same_trans (times (schubert_in (1 ∷ []) n) (schubert_in t.0 n)) (times (one n) (schubert_in t.0 n)) (schubert_in t.0 n)
-    (times_respects (schubert_in (1 ∷ []) n) (one n) (schubert_in t.0 n) (schubert_in t.0 n) (identity_is_one (1 ∷ []) n one_one_line refl) (Same_refl (schubert_in t.0 n)))
-    (one-times n (schubert_in t.0 n) (In_restrict n (polynomials.schubert t.0))))))) list

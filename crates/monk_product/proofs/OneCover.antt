@@ -1,6 +1,5 @@
--- A permutation is a cover of another at a place at most once: its letter at the place tells which other place it was
--- exchanged with.
---     one_cover      it stands at most once in both lists of covers
+-- A permutation x is a cover of w at the place r in at most one way: the letter of x at r determines the other place of the exchange.
+--     one_cover      x occurs at most once in the two lists of covers of w at r
 use Rattle.std.proofs.Common.{◌≡◌, ℕ, zero, suc, ◌+◌, ◌-◌, ◌<◌, ◌≤◌, ◌==◌, max, Bool, true, false, cond, List, [], ◌∷◌, map, length, get_or, refl, sym, ap, ◌∙◌, subst, inl, inr, arith, length-append, eqb-true, filter}
 use Rattle.std.proofs.lemmas.Bool.{cases_lt, eq-eqb}
 use Rattle.sym_model.specs.Sum.{Among, Once}
@@ -17,8 +16,6 @@ use Rattle.schubert_laws.proofs.TransitionFromOne.{get_past}
 use Rattle.schubert_laws.proofs.Swaps.{get_swap_left, get_swap_right, among_get}
 use Rattle.schubert_laws.proofs.Ranks.{letter_within}
 use Rattle.monk_product.specs.Monk.{count_of}
-
--- ---- the letters at the places that are exchanged
 
 reaches : (w : List ℕ) (j : ℕ) → j ≤ length (with_fixed j w)
 reaches w j =
@@ -69,7 +66,7 @@ letters_apart w i j o h l e = elim (cases_lt (j - 1) (length w)) [
       ]
 ]
 
--- ---- how many places have a letter
+-- ---- the number of places j of a list js at which w has the letter y
 
 abbrev hits : List ℕ → ℕ → List ℕ → ℕ
 hits w y [] = 0

@@ -1,2 +1,3 @@
 pub mod Monk
 pub mod MonkLaws
+pub mod ShortPerms

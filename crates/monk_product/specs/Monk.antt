@@ -1,4 +1,4 @@
--- Lists of permutations with whole coefficients, and Monk's rule on them.
+-- Lists of permutations with integer coefficients, and Monk's rule on them.
 use Rattle.std.specs.Prelude.{ℕ, ◌+◌, ◌≤◌, ℤ, pos, negsuc, ◌-ℤ◌, nat_eq, cond, max, List, [], ◌∷◌}
 use Rattle.std.specs.Prelude.{◌++◌, length}
 use Rattle.std.specs.Cmp.Lexicographic.{pointwise}
@@ -11,21 +11,19 @@ use Rattle.linear_combinations.specs.Entries.{IsCombination}
 pub use Rattle.linear_combinations.specs.Gains.{over, mass, each_with}
 use Rattle.sym_model.specs.WholeTerms.{WholeTerms}
 
--- each permutation stands once, with a coefficient that is not 0
+-- each permutation occurs once, with a coefficient that is not 0
 abbrev pub IsPermutationTable : WholeTerms → Type 0
 IsPermutationTable terms = IsCombination (pointwise nat_eq) is_permutation_label whole terms
 
--- each label has at most that number of letters
+-- each label has at most `most` letters
 abbrev pub AreShort : ℕ → WholeTerms → Type 0
 AreShort most terms = (t : List ℕ × ℤ) → Among t terms → length t.0 ≤ most
 
--- Σ_{j>r} w·t_rj − Σ_{i<r} w·t_ir over the covers of w: the product of its Schubert polynomial and
--- x_r
+-- Σ_{j>r} w·t_rj − Σ_{i<r} w·t_ir over the covers of w: the product of S_w and x_r
 abbrev pub monk_terms : ℕ → List ℕ → WholeTerms
 monk_terms r w = each_with (pos 1) (covers_up r w) ++ each_with (negsuc 0) (covers_down r w)
 
--- the sum of a test function over the covers with the other place greater less that over those with
--- it smaller
+-- the sum of φ over the covers w·t_rj with j > r less its sum over the covers w·t_ir with i < r
 abbrev pub over_covers : ℕ → (List ℕ → ℤ) → List ℕ → ℤ
 over_covers r φ w = total φ (covers_up r w) -ℤ total φ (covers_down r w)
 
@@ -34,7 +32,7 @@ abbrev pub greatest_length : WholeTerms → ℕ
 greatest_length [] = 0
 greatest_length (t ∷ terms) = max (length t.0) (greatest_length terms)
 
--- how often a permutation stands in a list
+-- the number of times that a permutation occurs in a list
 abbrev pub count_of : List ℕ → List (List ℕ) → ℕ
 count_of x [] = 0
 count_of x (v ∷ vs) = cond (same v x) 1 0 + count_of x vs

@@ -1,27 +1,31 @@
--- What the impls of `TimesVar` cite: a product of Schubert polynomials under the transition rule,
--- and the terms of Monk's rule.
-use Rattle.std.proofs.Common.{◌≡◌, ℕ, ◌+◌, ◌≤◌, max, true, List, length, sym, ap, ◌∙◌, arith, ℤ}
+-- Lemmas that the implementations of `Factor` and `Rule` by `TimesVar` cite: a product of Schubert polynomials under
+-- the transition rule, and the terms of Monk's rule.
+use Rattle.std.proofs.Common.{◌≡◌, ℕ, ◌+◌, ◌≤◌, max, true, List, [], ◌∷◌, length, refl, sym, ap, ◌∙◌}
+use Rattle.std.proofs.Common.{arith, ℤ}
 use Rattle.std.proofs.Common.{pos, negsuc, ◌+ℤ◌}
 use Rattle.std.proofs.lemmas.Int.{ints}
 use Rattle.sym_model.specs.DividedDifference.{variable_in}
 use Rattle.sym_model.specs.LabelLimits.{is_permutation_label}
 use Rattle.sym_model.specs.Permutation.{IsOneLine, IsTransition, times_swap, covers_up, covers_down}
-use Rattle.sym_model.specs.Polynomial.{Poly, plus, negate, times, pair}
+use Rattle.sym_model.specs.Polynomial.{Poly, one, plus, negate, times, pair}
+use Rattle.sym_model.specs.Schubert as polynomials
 use Rattle.sym_model.specs.Schubert.{schubert_in, schuberts_in}
 use Rattle.sym_model.specs.Sum.{total}
 use Rattle.sym_model.proofs.Polynomials.{pair_times_each, pair_determined, Same_refl, Same_sym}
-use Rattle.sym_model.proofs.Polynomials.{times_respects}
-use Rattle.sym_model.proofs.PolynomialLaws.{times_comm, times_assoc, pair_times_comm}
+use Rattle.sym_model.proofs.Polynomials.{times_respects, Same_trans, In_restrict}
+use Rattle.sym_model.proofs.PolynomialLaws.{one-times, times_comm, times_assoc, pair_times_comm}
 use Rattle.sym_model.proofs.PolynomialLaws.{pair_times_plus, pair_times_minus}
 use Rattle.sym_model.proofs.Sums.{total_ext}
+use Rattle.schubert_laws.proofs.LowerPermutations.{identity_is_one}
 use Rattle.schubert_laws.proofs.Members.{place_within}
 use Rattle.schubert_laws.proofs.MonkFromOne.{monk_in}
 use Rattle.schubert_laws.proofs.TransitionFromOne.{transition}
 use Rattle.linear_combinations.proofs.Gains.{over_append, each_over}
-use Rattle.linear_combinations.proofs.Masses.{mass_append, mass_each, labels_append, labels_each}
+use Rattle.sym_model.proofs.WholeTerms.{labels_append}
+use Rattle.linear_combinations.proofs.Masses.{mass_append, mass_each, labels_each}
 use Rattle.transition_walk.specs.Transitions.{IsShort}
 use Rattle.transition_walk.proofs.Covers.{count_covers, up_within, down_within}
-use Rattle.transition_walk.proofs.Labels.{label_one_line}
+use Rattle.transition_walk.proofs.Labels.{label_one_line, one_one_line}
 use Rattle.transition_walk.specs.Growth.{GrowsBy}
 use Rattle.monk_product.specs.Monk.{over, mass, each_with, monk_terms, over_covers}
 
@@ -43,7 +47,18 @@ mass_terms r w h =
     let n = count_covers r w h in
     omega arith
 
--- ---- products under the transition rule
+-- ---- products under the transition rule of the covers
+
+-- the Schubert polynomial of the identity is 1
+pub monk_start : (n : ℕ) (φ : List ℕ → ℤ) (label : List ℕ)
+    → pair (times (schubert_in (1 ∷ []) n) (schubert_in label n)) φ ≡ pair (schubert_in label n) φ
+monk_start n φ label =
+    pair_determined (times (schubert_in (1 ∷ []) n) (schubert_in label n)) (schubert_in label n) φ
+    (Same_trans (times (schubert_in (1 ∷ []) n) (schubert_in label n))
+    (times (one n) (schubert_in label n)) (schubert_in label n)
+    (times_respects (schubert_in (1 ∷ []) n) (one n) (schubert_in label n) (schubert_in label n)
+    (identity_is_one (1 ∷ []) n one_one_line refl) (Same_refl (schubert_in label n)))
+    (one-times n (schubert_in label n) (In_restrict n (polynomials.schubert label))))
 
 monk_step_of : (n r : ℕ) (p : Poly) (w : List ℕ) (φ : List ℕ → ℤ) → IsOneLine w → 1 ≤ r
     → pair (times p (times (variable_in r n) (schubert_in w n))) φ
@@ -114,7 +129,7 @@ monk_step n r s φ w label o t is =
     (sym (over_terms r (λ x. pair (times (schubert_in (times_swap r s w) n) (schubert_in x n)) φ)
     label))
 
--- ---- how far a label grows
+-- ---- the number of letters of the labels does not grow beyond k
 
 pub monk_grows : (k r : ℕ) (v label : List ℕ) → IsShort k v → 1 ≤ r → r ≤ k → r ≤ 255 → k ≤ 254
     → length label ≤ k
@@ -130,3 +145,14 @@ monk_grows k r v label short first last place small few = record {
       (λ x m. down_within r (k + 1) label x (omega arith) m));
   few = let m = mass_terms r label first in omega arith;
 }
+
+-- the same for a factor that takes at most 31 letters
+pub monk_grows_short : (k r : ℕ) (v label : List ℕ) → IsShort k v → 1 ≤ r → r ≤ k → r ≤ 255
+    → k ≤ 31 → length label ≤ k
+    → GrowsBy length (λ w. (1 ≤ r) × (r ≤ 31) × (length w ≤ 31)) (monk_terms r) k 0 label
+monk_grows_short k r v label short first last place small few =
+    let more = monk_grows k r v label short first last place (omega arith) few in record {
+      taken = (first, omega arith, omega arith);
+      labels = more.labels;
+      few = more.few;
+    }

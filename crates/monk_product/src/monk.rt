@@ -15,11 +15,11 @@ use perm_codes::Perm;
 use std::alloc::Global;
 use transition_walk::Factor;
 
-/// A list of Schubert polynomials with whole coefficients.
+/// A list of Schubert polynomials with integer coefficients.
 pub(crate) type Sum = Lin<Perm, Int>;
 
-/// Monk's rule: x_r·S_w is the sum over the covers w·t_rj with j > r less the sum over the covers
-/// w·t_ir with i < r.
+/// The rule that multiplies by x_r: by Monk's rule, x_r·S_w is the sum of the S of the covers
+/// w·t_rj with j > r, less the sum of those of the covers w·t_ir with i < r.
 #[derive(Drop)]
 pub(crate) struct TimesVar {
     pub(crate) r: u16,
@@ -44,7 +44,7 @@ impl Factor<Perm> for TimesVar {
     ghost use Rattle.std.specs.Prelude.{length};
     ghost use Rattle.sym_model.specs.Polynomial.{pair, times};
     ghost use Rattle.sym_model.specs.Schubert.{schubert_in};
-    ghost use Rattle.monk_product.specs.MonkLaws.{monk_step, monk_grows};
+    ghost use Rattle.monk_product.specs.MonkLaws.{monk_start, monk_step, monk_grows};
 
     ghost made = { λ r v. record { r = r } };
 
@@ -54,11 +54,15 @@ impl Factor<Perm> for TimesVar {
 
     ghost extra = { 0 };
 
+    ghost polynomial = { λ n x. schubert_in x n };
+
     ghost product = { λ n φ w x. pair (times (schubert_in w n) (schubert_in x n)) φ };
 
     fn at(r: u16, _lower: &Perm) -> TimesVar {
         TimesVar { r }
     }
+
+    ghost start = { monk_start };
 
     ghost step = { monk_step };
 
@@ -69,8 +73,7 @@ impl Factor<Perm> for TimesVar {
 /// is from 1 to 254, and each label has at most 254 letters.
 ///
 /// The weight of the product is at most that of the list times the greater of r and the greatest
-/// number of letters of a label. It is refused as `Large` only where the weight of the list is
-/// 2^127 or more.
+/// number of letters of a label. Returns `Large` only if the weight of the list is 2^127 or more.
 pub fn times_var(alloc: Global, list: Sum, r: u16) -> Result<Sum, SumFault>
     requires first { 1 ≤ r }
     requires last { r ≤ 254 }

@@ -13,6 +13,8 @@ ghost use Rattle.sym_model.specs.Products.{IsSchubertProductOf};
 ghost use Rattle.sym_model.specs.PastLimit.{pair_weight};
 
 use crate::monk::TimesVar;
+use crate::short_monk::written_out;
+use crate::short_perm::{MOST_LETTERS, ShortPerm};
 use calc_base::SumFault;
 use coeff_rings::Int;
 use linear_combinations::Terms;
@@ -24,7 +26,7 @@ use transition_walk::product_of;
 /// the printed order of their permutations. The greater number of letters and the smaller number of
 /// inversions add up to at most 255.
 ///
-/// It is refused as `Large` only where the weight of the pair is 2^127 or more.
+/// Returns `Large` only if the weight of the pair is 2^127 or more.
 pub fn schubmult(alloc: Global, u: &Perm, v: &Perm) -> Result<Terms<Perm, Int>, SumFault>
     requires { max (length u.now) (length v.now) + inversions (shorter u.now v.now) ≤ 255 }
     ensures meets { IfOk result (λ terms.
@@ -38,8 +40,8 @@ pub fn schubmult(alloc: Global, u: &Perm, v: &Perm) -> Result<Terms<Perm, Int>, 
     }
 }
 
-/// The product, where the transition rule works off the first permutation on the Schubert
-/// polynomial of the second.
+/// The product of S_w and S_other, by the transition rule on `w` with `other` as the label that is
+/// multiplied.
 fn act(alloc: Global, w: &Perm, other: &Perm) -> Result<Terms<Perm, Int>, SumFault>
     requires { max (length w.now) (length other.now) + inversions w.now ≤ 255 }
     ensures value { IfOk result (λ terms. (n : ℕ)
@@ -49,6 +51,24 @@ fn act(alloc: Global, w: &Perm, other: &Perm) -> Result<Terms<Perm, Int>, SumFau
         → 2 ^ 127 ≤ nat_abs (value_at_ones (polynomials.schubert w.now))
         * (max (length w.now) (length other.now) + inversions w.now) ^ inversions w.now }
 {
+    if usize::from(w.len().max(other.len()) + w.inversions()) <= MOST_LETTERS {
+        return act_shortly(alloc, w, other);
+    }
     let sum = product_of::<Perm, TimesVar>(alloc, w, other)?;
     Ok(sum.sorted_terms()?)
+}
+
+/// The same, if the greater number of letters and the inversions of the first permutation add up to
+/// at most 32: no permutation that the transition rule meets has more letters.
+fn act_shortly(alloc: Global, w: &Perm, other: &Perm) -> Result<Terms<Perm, Int>, SumFault>
+    requires { max (length w.now) (length other.now) + inversions w.now ≤ 32 }
+    ensures value { IfOk result (λ terms. (n : ℕ)
+        → Represents (λ x. schubert_in x n) (as_fractions terms)
+        (times (schubert_in w.now n) (schubert_in other.now n)) 1) }
+    ensures large { IsErrOf result SumFault.Large
+        → 2 ^ 127 ≤ nat_abs (value_at_ones (polynomials.schubert w.now))
+        * (max (length w.now) (length other.now) + inversions w.now) ^ inversions w.now }
+{
+    let sum = product_of::<ShortPerm, TimesVar>(alloc, w, &ShortPerm::of(other))?;
+    Ok(written_out(alloc, sum.sorted_terms()?)?)
 }

@@ -1,8 +1,8 @@
--- How a program counts the arrangements that make ν: part by part of ν, each taken as b from the one label and the rest
--- from the other (specs/MonomialProduct).
+-- The arrangements that make ν, counted as a program does: part by part of ν, of which b comes from one label and the
+-- rest from the other (specs/MonomialProduct).
 --     arrangements-cons     of a list with a first part x: over the different parts b of the left label, and b = 0
---     arrangements-lacking  none where a label has a part greater than all parts of ν
---     arrangements-sizes    none where the sizes of the labels do not add up to that of ν
+--     arrangements-lacking  none if a label has a part greater than all parts of ν
+--     arrangements-sizes    none if the sizes of the labels do not add up to that of ν
 --     arrangements-comm     the two labels may be exchanged
 use Rattle.std.proofs.Common.{◌≤◌, ◌+◌, ◌≡◌, ◌⊎◌, ℕ, zero, suc, ◌-◌, Bool, true, false, ◌&&◌, cond, eqb, leb, List, [], ◌∷◌, length, sym, ◌∙◌, ap, ap₂, refl, inl, inr, arith, ℤ, pos, ◌*ℤ◌, map}
 use Rattle.std.proofs.lemmas.Int.{ints}
@@ -22,14 +22,14 @@ use Rattle.monomial_laws.proofs.PowerSums.{total_distinct-only}
 use Rattle.monomial_laws.proofs.Splits.{total_splits, length-splits, coefficient_times}
 use Rattle.sym_model.specs.Bounded.{AreBelow}
 
--- 1 where the sorted parts of both are the labels
+-- 1 if s.0 sorts to the partition l and s.1 to r, else 0
 abbrev sorts_to_both : List ℕ → List ℕ → List ℕ × List ℕ → ℤ
 sorts_to_both l r s = cond (same (sorted_parts s.0) l && same (sorted_parts s.1) r) (pos 1) (pos 0)
 
 count : (l r ν : List ℕ) → pos (arrangements l r ν) ≡ total (sorts_to_both l r) (splits ν)
 count l r ν = length-select (λ (s : List ℕ × List ℕ). same (sorted_parts s.0) l && same (sorted_parts s.1) r) (splits ν)
 
--- b put into a partition gives l where b is a part of l, or 0, and the partition is what is left
+-- inserting b into a partition gives l if and only if b is 0 or a part of l, and the partition is l without b
 inserted : (b : ℕ) (p l : List ℕ) → IsPartition p → IsPartition l → same (insert_part b p) l ≡ (has b (0 ∷ l) && same p (without_one b l))
 inserted zero p l h k =
     tests_agree (same p l) (has 0 (0 ∷ l) && same p (without_one 0 l))
@@ -48,7 +48,7 @@ inserted (suc b) p l h k =
     same_from (insert_part (suc b) p) l
     (ap (insert_part (suc b)) (same_true p (without_one (suc b) l) u.1) ∙ insert_part-without_one (suc b) l (omega arith) k.falls m))
 
--- a sum over the numbers up to x that stand in a list, by the different numbers of the list
+-- a sum over the numbers up to x that occur in a list, by the different numbers of the list
 among_up_to : (f : ℕ → ℤ) (x : ℕ) (numbers : List ℕ) → total (λ (b : ℕ). cond (has b numbers) (f b) (pos 0)) (down_from x) ≡ total (λ (c : ℕ). cond (leb c x) (f c) (pos 0)) (distinct numbers)
 among_up_to f x numbers =
     total_ext (λ (b : ℕ). cond (has b numbers) (f b) (pos 0)) (λ (b : ℕ). total (λ (c : ℕ). cond (eqb c b) (f c) (pos 0)) (distinct numbers)) (λ b. sym (total_distinct-only f b numbers)) (down_from x)
@@ -63,7 +63,8 @@ among_up_to f x numbers =
     ∙ total_down_from-only (λ b. f c) c x)
     (distinct numbers)
 
--- in how many ways a list with the first part x is made
+-- the number of ways to make x ∷ ν is the sum, over the different b ≤ x that are 0 or a part of l and for which x - b is 0 or a part of r, of the
+-- number of ways to make ν from l without b and r without x - b
 pub arrangements-cons : (x : ℕ) (ν l r : List ℕ) → IsPartition l → IsPartition r
     → pos (arrangements l r (x ∷ ν))
     ≡ total (λ (b : ℕ). cond (leb b x) (cond (has (x - b) (0 ∷ r)) (pos (arrangements (without_one b l) (without_one (x - b) r) ν)) (pos 0)) (pos 0)) (distinct (0 ∷ l))
@@ -107,7 +108,7 @@ arrangements-cons x ν l r p q =
         (outside (has (x - b) (0 ∷ r)) (sorts_to_both (without_one b l) (without_one (x - b) r)) (splits ν)
         ∙ ap (λ z. cond (has (x - b) (0 ∷ r)) z (pos 0)) (sym (count (without_one b l) (without_one (x - b) r) ν)))
 
--- ---- labels with a part that is too great
+-- ---- labels l that have a part greater than all parts of ν
 
 has-without_one : (k b : ℕ) (numbers : List ℕ) → (b ≡ k → ⊥) → has k numbers ≡ true → has k (without_one b numbers) ≡ true
 has-without_one k b [] n h = h
@@ -118,7 +119,7 @@ has-without_one k b (c ∷ numbers) n h = by (cases_eq c b) (cases_eq c k) (has-
     by (inr i) (inl e) r = rw (ne_eqb c b i, eq-eqb c k e) refl
     by (inr i) (inr j) r = rw (ne_eqb c b i, ne_eqb c k j) (r (sym (has_past k c numbers j) ∙ h))
 
--- with a part of the left label greater than all parts of ν there is no way
+-- if l has a part k greater than all parts of ν, there is no way to make ν
 pub arrangements-lacking : (k : ℕ) (ν l r : List ℕ) → IsPartition l → IsPartition r → has k l ≡ true → AreBelow k ν → arrangements l r ν ≡ 0
 arrangements-lacking k [] [] r p q h a = absurd (cc)
 arrangements-lacking k [] (c ∷ l) r p q h a = refl
@@ -139,7 +140,7 @@ arrangements-lacking k (x ∷ ν) l r p q h a =
     by b true e false f = refl
     by b false e z f = refl
 
--- ---- the coefficient of a product
+-- ---- the coefficient of m_ν in m_l·m_r
 
 pub coefficient-product : (l r ν : List ℕ) → coefficient (times (monomial l (length ν)) (monomial r (length ν))) ν ≡ pos (arrangements l r ν)
 coefficient-product l r ν =
@@ -170,7 +171,7 @@ arrangements-comm l r ν =
     as_number : {a b : ℕ} → pos a ≡ pos b → a ≡ b
     as_number {a} {b} e = omega (arith, ints)
 
--- ---- sizes
+-- ---- the sizes of l, r and ν
 
 pub down_from-below : (c b : ℕ) → Among b (down_from c) → b ≤ c
 down_from-below zero b (inl e) = omega arith
@@ -188,7 +189,7 @@ sizes-splits (c ∷ ν) s m =
     let b = down_from-below c r.0 r.1 in
     omega (arith, ap (λ (p : List ℕ × List ℕ). size p.0) u.2, ap (λ (p : List ℕ × List ℕ). size p.1) u.2)
 
--- the sizes of the labels add up to that of ν, or there is no way
+-- if |l| + |r| is not |ν|, there is no way to make ν
 pub arrangements-sizes : (l r ν : List ℕ) → (size l + size r ≡ size ν → ⊥) → arrangements l r ν ≡ 0
 arrangements-sizes l r ν n =
     as_number

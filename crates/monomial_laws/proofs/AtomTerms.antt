@@ -28,7 +28,8 @@ monomials_agree test other n d h γ = coefficient-monomials test n d γ ∙ by (
     by true e = ap (λ t. cond t (pos 1) (pos 0)) (h γ (eqb-true (size γ) d (and_parts (eqb (length γ) n) (eqb (size γ) d) e).1))
     by false e = refl
 
--- a list of one label whose test agrees
+-- if `test` holds, among the exponent lists γ with the sum d, exactly for those that sort to `parts`, the list with the one label `parts` is the sum
+-- of the monomials that pass `test`
 list-one : (parts : List ℕ) (d : ℕ) (test : List ℕ → Bool) → size parts ≡ d → ((γ : List ℕ) → size γ ≡ d → same (sorted_parts γ) parts ≡ test γ) → IsList ((parts, pos 1) ∷ []) (λ n. monomials test n d)
 list-one parts d test s h n =
     Same_trans (in_monomials ((parts, pos 1) ∷ []) n) (monomial parts n) (monomials test n d)
@@ -36,7 +37,7 @@ list-one parts d test s h n =
     (subst (λ k. Same (monomials (λ α. same (sorted_parts α) parts) n k) (monomials test n d)) (sym s)
     (monomials_agree (λ α. same (sorted_parts α) parts) test n d h))
 
--- ---- e_k
+-- ---- e_k is the monomial symmetric polynomial of k ones
 
 pub Falls-ones : (k : ℕ) → Falls (replicate k 1)
 Falls-ones zero = tt
@@ -75,7 +76,7 @@ list-elementary k =
     (λ t. at_most_one-from γ (let i = ap length (same_true (sorted_parts γ) (replicate k 1) t) ∙ length-replicate k 1 in omega arith))
     (λ t. same_from (sorted_parts γ) (replicate k 1) (sorted-at_most_one γ t ∙ ap (λ j. replicate j 1) e)))
 
--- ---- p_k
+-- ---- p_k is the monomial symmetric polynomial of one part
 
 sorted-none : (γ : List ℕ) → size γ ≡ 0 → sorted_parts γ ≡ []
 sorted-none [] e = refl
@@ -117,7 +118,7 @@ list-power_sum k h =
     positive : (γ : List ℕ) → sorted_parts γ ≡ k ∷ [] → 0 < times_in k γ
     positive γ e = omega (arith, times_in-sorted_parts k γ h, ap (times_in k) e, once)
 
--- ---- h_k
+-- ---- h_k is the sum of the monomial symmetric polynomials of all partitions of k
 
 pub list-complete : (k : ℕ) → IsList (complete_terms k) (complete_of k)
 list-complete k n =

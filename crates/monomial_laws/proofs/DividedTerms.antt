@@ -1,6 +1,6 @@
--- A list with whole coefficients, each divided by D (specs/ExpressionTerms).
---     value-divided           its value, labels read as any polynomials
---     expansion_divided       the fractions stand for the list divided by D
+-- A list with integer coefficients, each divided by D (specs/ExpressionTerms).
+--     value-divided           its value, with any polynomials for the labels
+--     expansion_divided       the fractions expand the list divided by D
 use Rattle.std.proofs.Common.{◌≡◌, ◌⊎◌, ℕ, ◌*◌, ◌/◌, ◌%◌, ◌<◌, cond, List, [], ◌∷◌, map, sym, ◌∙◌, ap, ap₂, subst, refl, inl, inr, arith, ℤ, pos, ◌+ℤ◌, ◌*ℤ◌}
 use Rattle.std.specs.Int.{◌∣◌}
 use Rattle.std.proofs.Math.Nat.{div-mul_cancel, dvd-mul_right, dvd-mul_left}
@@ -45,7 +45,7 @@ over-there q (u ∷ terms) o t (inr m) =
     (over-there q terms o.1 t m)
     ∙ +ℤ_idl (t.1.0 *ℤ pos (q / t.1.1))
 
--- a label is one of the list, or it is not
+-- a label occurs in the list, or it does not
 pub among_or_not : (label : List ℕ) (terms : Terms (List ℕ)) → ((t : List ℕ × Fraction) × Among t terms × (t.0 ≡ label)) ⊎ (Among label (labels_of terms) → ⊥)
 among_or_not label [] = inr (λ m. m)
 among_or_not label (t ∷ terms) = by (same_or_not t.0 label) (among_or_not label terms)
@@ -66,9 +66,10 @@ divides-denominators [] t m = absurd m
 divides-denominators (u ∷ terms) t (inl e) = subst (λ (v : List ℕ × Fraction). v.1.1 ∣ (u.1.1 * denominators terms)) (sym e) (dvd-mul_right u.1.1 (denominators terms))
 divides-denominators (u ∷ terms) t (inr m) = dvd_trans t.1.1 (divides-denominators terms t m) (dvd-mul_left (denominators terms) u.1.1)
 
--- ---- the list divided by D
+-- ---- lists of fractions that are an integer list divided by D
 
--- each term of the list is D times smaller than the whole coefficient of its label, and labels that are missing have none
+-- each coefficient of the list is the integer coefficient of its label divided by D, and labels that do not occur
+-- have the coefficient 0
 pub record IsDivided (D : ℕ) (whole : WholeTerms) (terms : Terms (List ℕ)) : Type 0 where
   pub once : Once (labels_of terms)
   pub positive : 0 < denominators terms
@@ -107,7 +108,8 @@ cleared-combined polynomial q (t ∷ terms) = ap (plus (scale (t.1.0 *ℤ pos (q
 pub cleared-over : (q n : ℕ) (terms : Terms (List ℕ)) → cleared (λ label. monomial label n) q terms ≡ in_monomials (over q terms) n
 cleared-over q n terms = cleared-combined (λ label. monomial label n) q terms
 
--- the value of the list, labels read as any polynomials, and the combination of the whole coefficients
+-- with any polynomials for the labels, D times the value of the list of fractions is the product of its denominators times the value of the integer
+-- list W
 pub value-divided : (polynomial : List ℕ → Poly) (D : ℕ) (W : WholeTerms) (terms : Terms (List ℕ)) → IsDivided D W terms → (α : List ℕ)
     → pos D *ℤ coefficient (value_by polynomial terms) α ≡ pos (denominators terms) *ℤ coefficient (combined polynomial W) α
 value-divided polynomial D W terms d α =
@@ -121,7 +123,7 @@ value-divided polynomial D W terms d α =
     ∙ pair_scale (pos (denominators terms)) W ψ
     ∙ ap (λ z. pos (denominators terms) *ℤ z) (sym (coefficient-combined polynomial W α))
 
--- the list over a number that all its denominators divide
+-- if each denominator of a list divides m, the list is `over m terms` divided by m
 pub IsDivided-over : (m : ℕ) (terms : Terms (List ℕ)) → 0 < denominators terms → Once (labels_of terms) → ((t : List ℕ × Fraction) → Among t terms → m % t.1.1 ≡ 0) → IsDivided m (over m terms) terms
 IsDivided-over m terms positive is w = record {
   once = is;
@@ -134,7 +136,7 @@ IsDivided-over m terms positive is w = record {
   missing = λ label n. over-missing m terms label n;
 }
 
--- the fractions stand for the list divided by D, in every number of variables
+-- the fractions expand the list divided by D, in every number of variables
 pub expansion_divided : (D : ℕ) (whole : WholeTerms) (terms : Terms (List ℕ)) (f : ℕ → Poly) → IsDivided D whole terms → IsList whole f → (n : ℕ) → IsExpansionOf Basis.monomials terms n (f n) D
 expansion_divided D whole terms f d h n =
     let q = denominators terms in
@@ -152,5 +154,3 @@ expansion_divided D whole terms f d h n =
           (list-scale (pos q) whole n)
           (scale_respects (pos q) (in_monomials whole n) (f n) (h n)))));
     }
-
--- ---- bounds

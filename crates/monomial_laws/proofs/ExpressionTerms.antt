@@ -1,5 +1,5 @@
 -- Lists of terms in m that are the cleared value of an expression (specs/ExpressionTerms).
---     cleared-number .. cleared-product      what a list is for each kind of expression, from lists for its parts
+--     cleared-number .. cleared-product      the list of each kind of expression, from lists for its parts
 use Rattle.std.proofs.Common.{◌≡◌, ℕ, ◌/◌, List, [], ◌∷◌, sym, ◌∙◌, ap, ap₂, ℤ, pos, ◌+ℤ◌, ◌*ℤ◌, neg_ℤ}
 use Rattle.sym_model.specs.Polynomial.{Poly, coefficient, Same, one, pair, plus, scale, negate, times}
 use Rattle.sym_model.specs.Partition.{IsPartition}
@@ -44,16 +44,16 @@ list-negate A n =
     ∙ ap neg_ℤ (sym (pair-combined (λ label. monomial label n) A φ))
     ∙ sym (pair_negate (in_monomials A n) φ))
 
--- a list with the same summed coefficients is the same
+-- if B has the same summed coefficients as A, and A is the list of f in m, so is B
 pub list_respects : (A B : WholeTerms) (f : ℕ → Poly) → Same A B → IsList A f → IsList B f
 list_respects A B f e h n =
     Same_trans (in_monomials B n) (in_monomials A n) (f n)
     (Same_sym (in_monomials A n) (in_monomials B n) (combined_respects (λ label. monomial label n) A B e))
     (h n)
 
--- ---- the kinds of expressions
+-- ---- the list of each kind of expression
 
--- a number as a list
+-- the list with the term 1 and the coefficient a is the number a
 list-number : (a n : ℕ) → Same (in_monomials (([], pos a) ∷ []) n) (scale (pos a) (one n))
 list-number a n =
     same_from_pair (in_monomials (([], pos a) ∷ []) n) (scale (pos a) (one n))
@@ -81,7 +81,7 @@ scaled q A e h n =
     (list-scale (pos q) A n)
     (scale_respects (pos q) (in_monomials A n) (cleared_value e n) (h n))
 
--- a sum, both lists times what is lacking to the least common multiple
+-- the lists of two expressions, times the factors to the least common multiple, add up to a list of their sum
 pub cleared-sum : (A B : WholeTerms) (e f : Tree) → IsCleared A e → IsCleared B f
     → IsCleared (plus (scale (pos (lcm (denominator e) (denominator f) / denominator e)) A) (scale (pos (lcm (denominator e) (denominator f) / denominator f)) B)) (sum e f)
 cleared-sum A B e f h k n =
@@ -97,7 +97,7 @@ cleared-sum A B e f h k n =
     (in_monomials (scale (pos r) B) n) (scale (pos r) (cleared_value f n))
     (scaled q A e h n) (scaled r B f k n))
 
--- products of lists
+-- a list with the coefficients of the product of A and B is a list of the product of f and g
 pub list-product : (A B C : WholeTerms) (f g : ℕ → Poly) → IsList A f → IsList B g
     → ((ν : List ℕ) → IsPartition ν → coefficient C ν ≡ product_coefficient A B ν) → IsList C (λ n. times (f n) (g n))
 list-product A B C f g h k e n =
@@ -109,9 +109,9 @@ pub cleared-product : (A B C : WholeTerms) (e f : Tree) → IsCleared A e → Is
     → ((ν : List ℕ) → IsPartition ν → coefficient C ν ≡ product_coefficient A B ν) → IsCleared C (product e f)
 cleared-product A B C e f h k p = list-product A B C (cleared_value e) (cleared_value f) h k p
 
--- ---- atoms
+-- ---- the lists of e_k, h_k, p_k and m_λ
 
--- no factor, and one factor more
+-- the list with the empty label and the coefficient 1 is the product over no factor, which is 1
 pub list-no_factor : (f : ℕ → ℕ → Poly) → IsList (([], pos 1) ∷ []) (product_over f [])
 list-no_factor f n =
     same_from_pair (in_monomials (([], pos 1) ∷ []) n) (one n)
@@ -121,7 +121,7 @@ pub list-factor : (f : ℕ → ℕ → Poly) (k : ℕ) (parts : List ℕ) (A B C
     → ((ν : List ℕ) → IsPartition ν → coefficient C ν ≡ product_coefficient A B ν) → IsList C (product_over f (k ∷ parts))
 list-factor f k parts A B C h i e = list-product A B C (f k) (product_over f parts) h i e
 
--- one label
+-- the list with the one label λ and the coefficient 1 is m_λ
 pub list-monomial : (parts : List ℕ) → IsList ((parts, pos 1) ∷ []) (monomial parts)
 list-monomial parts n =
     same_from_pair (in_monomials ((parts, pos 1) ∷ []) n) (monomial parts n)

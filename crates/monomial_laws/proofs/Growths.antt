@@ -1,11 +1,11 @@
--- How factorials and growths rise.
+-- Factorials are positive and increasing, and no basis has a greater growth than p.
 use Rattle.std.proofs.Common.{◌≡◌, ℕ, zero, suc, ◌+◌, ◌-◌, ◌*◌, ◌^◌, ◌<◌, ◌≤◌, subst, arith}
 use Rattle.std.proofs.lemmas.Nat.{mul-le}
 use Rattle.std.proofs.Math.Nat.{one-le-pow, pow-le-pow_left}
 use Rattle.sym_model.specs.Expansion.{Basis, elementaries, completes, power_sums, schurs}
 use Rattle.sym_model.specs.Weight.{factorial, growth}
 
--- ---- factorials
+-- ---- factorials are positive and increasing
 
 pub factorial-positive : (d : ℕ) → 0 < factorial d
 factorial-positive zero = omega arith
@@ -21,7 +21,7 @@ factorial-far d (suc j) = let e : suc j + d ≡ suc (j + d) = omega arith in let
 pub factorial-mono : (d e : ℕ) → d ≤ e → factorial d ≤ factorial e
 factorial-mono d e h = let i : (e - d) + d ≡ e = omega arith in subst (λ k. factorial d ≤ factorial k) i (factorial-far d (e - d))
 
--- ---- growths
+-- ---- the growth of a degree into p is the greatest, and at least 1
 
 plain-growth : (d : ℕ) → suc d ^ suc d ≤ factorial (suc d) * (2 * suc d) ^ suc d
 plain-growth d =
@@ -29,7 +29,7 @@ plain-growth d =
     let q = mul-le 1 (suc d ^ suc d) (factorial (suc d)) ((2 * suc d) ^ suc d) (factorial-positive (suc d)) p in
     omega arith
 
--- no target grows more than p
+-- no target has a greater growth than p
 pub growth-most : (target : Basis) (d : ℕ) → growth target d ≤ growth power_sums d
 growth-most target zero = omega arith
 growth-most Basis.monomials (suc d) = plain-growth d

@@ -1,4 +1,4 @@
--- Majorants of polynomials (specs/Majorant), and what they say of an expression.
+-- Majorants of polynomials (specs/Majorant), and bounds of the value of an expression.
 --     majorant-times                       majorants of products and multiples
 --     majorant-monomials, -product_over    (x_1 + .. + x_n)^d is a majorant of the atoms of degree d
 --     bounded_value                        N of an expression bounds its value
@@ -28,7 +28,7 @@ use Rattle.sym_model.specs.ListWeight.{factorials}
 use native.Mathlib.Nat.{mul-le-mul_left}
 use lib.IntN.{+ℤ_idr}
 
--- ---- numbers within numbers
+-- ---- absolute values of sums of integers
 
 pub total_within_total : {A : Type 0} (f g : A → ℤ) (xs : List A) → ((x : A) → Among x xs → pos (nat_abs (f x)) ≤ℤ g x) → pos (nat_abs (total f xs)) ≤ℤ total g xs
 total_within_total f g [] h = omega (arith, ints)
@@ -48,7 +48,7 @@ product_within a b (pos c) (pos d) h k =
 product_within a b (negsuc c) d h k = absurd (omega (arith, ints))
 product_within a b (pos c) (negsuc d) h k = absurd (omega (arith, ints))
 
--- ---- sums, multiples, products
+-- ---- majorants of sums, multiples and products
 
 pub majorant_respects : (F G f g : Poly) → Same F G → Same f g → IsMajorant F f → IsMajorant G g
 majorant_respects F G f g e k m α = subst (λ z. pos (nat_abs z) ≤ℤ coefficient G α) (k α) (subst (λ z. pos (nat_abs (coefficient f α)) ≤ℤ z) (e α) (m α))
@@ -80,11 +80,11 @@ majorant-append : (n : ℕ) (ds es : List ℕ) (f g : Poly) → IsMajorant (powe
 majorant-append n ds es f g h k α =
     omega (arith, ints, powers-append ds es n α, coefficient_plus f g α, h α, k α)
 
--- one power
+-- if (x_1 + .. + x_n)^d is a majorant of f, so is the sum of the powers with the exponent list (d)
 majorant-one : (d n : ℕ) (f : Poly) → IsMajorant (power d n) f → IsMajorant (powers (d ∷ []) n) f
 majorant-one d n f h α = subst (λ z. pos (nat_abs (coefficient f α)) ≤ℤ z) (sym (coefficient-powers (d ∷ []) n α ∙ +ℤ_idr (coefficient (power d n) α))) (h α)
 
--- ---- the atoms
+-- ---- (x_1 + .. + x_n)^d is a majorant of the atoms of degree d
 
 pub majorant-monomials : (test : List ℕ → Bool) (n d : ℕ) → IsMajorant (power d n) (monomials test n d)
 majorant-monomials test n d γ = subst (λ z. pos (nat_abs z) ≤ℤ coefficient (power d n) γ) (sym (coefficient-monomials test n d γ)) (by (is_exponent_list n d γ) refl (test γ))
@@ -109,7 +109,7 @@ majorant-product_over f n i h (k ∷ parts) =
     (Same_refl (times (f k n) (product_over f parts n)))
     (majorant-times n (power k n) (power (size parts) n) (f k n) (product_over f parts n) (In-power k n) (In-power (size parts) n) (i k) (In-product_over f parts n i) (h k) (majorant-product_over f n i h parts))
 
--- ---- expressions
+-- ---- the value of an expression is bounded by its numerator and its degree
 
 pub In-atom : (basis : Basis) (parts : List ℕ) (n : ℕ) → In n (basis_polynomial basis parts n)
 In-atom Basis.monomials parts n = In-monomials (λ α. same (sorted_parts α) parts) n (size parts)
@@ -142,7 +142,7 @@ In-cleared_value (difference e f) n =
     (In_negate n (scale (pos (q / denominator f)) (cleared_value f n)) (In_scale n (pos (q / denominator f)) (cleared_value f n) (In-cleared_value f n)))
 In-cleared_value (product e f) n = In_times n (cleared_value e n) (cleared_value f n) (In-cleared_value e n) (In-cleared_value f n)
 
--- the exponents of sums, products and multiples
+-- if no exponent of ds is above d, none of ds repeated q times is
 low-copies : (d q : ℕ) (ds : List ℕ) → ((k : ℕ) → Among k ds → k ≤ d) → (k : ℕ) → Among k (copies q ds) → k ≤ d
 low-copies d zero ds h k m = absurd m
 low-copies d (suc q) ds h k m = by (Among_from_append k ds (copies q ds) m) (low-copies d q ds h k)
@@ -224,7 +224,7 @@ bounded-weaken N M d e n f h k b = record {
   majorant = b.majorant;
 }
 
--- what a majorant is bounded by bounds the polynomial
+-- if F is a majorant of f and is bounded by N at the degree d, so is f
 pub bounded-majorant : (N d n : ℕ) (F f : Poly) → IsMajorant F f → IsBounded N d n F → IsBounded N d n f
 bounded-majorant N d n F f m b = record {
   exponents = b.exponents;
@@ -267,7 +267,7 @@ bounded_value (difference e f) n =
 bounded_value (product e f) n =
     bounded-times (numerator e) (numerator f) (degree e) (degree f) n (cleared_value e n) (cleared_value f n) (In-cleared_value e n) (In-cleared_value f n) (bounded_value e n) (bounded_value f n)
 
--- ---- what a bound says of a coefficient
+-- ---- if f is bounded by N at the degree d, the coefficient of x^α times Π α_i! is at most N·|α|! in absolute value
 
 within_multiple : (c l N : ℕ) (P : ℤ) (F D : ℕ) → pos c ≤ℤ (pos l *ℤ P) → l ≤ N → pos 0 ≤ℤ P → P *ℤ pos F ≡ pos D → c * F ≤ N * D
 within_multiple c l N (pos p) F D h k s e =
@@ -290,7 +290,7 @@ coefficient_bound N top n f b α e =
     within_trans : (x y z : ℤ) → x ≤ℤ y → y ≤ℤ z → x ≤ℤ z
     within_trans x y z h k = omega (arith, ints)
 
--- past the degree there is nothing
+-- if f is bounded at the degree d, the coefficient of x^α is 0 for each α with a sum above d
 pub coefficient-higher : (N d n : ℕ) (f : Poly) → IsBounded N d n f → (α : List ℕ) → length α ≡ n → d < size α → coefficient f α ≡ pos 0
 coefficient-higher N d n f b α e high =
     let none : coefficient (powers b.exponents n) α ≡ pos 0 =

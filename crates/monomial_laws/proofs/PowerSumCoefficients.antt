@@ -1,5 +1,5 @@
--- The coefficients of a power sum in the monomial basis, one part after another: that of a partition is the sum over
--- its rows from which the part can be taken.
+-- The coefficients of a power sum in the monomial basis, one part after another: the coefficient of a partition is
+-- the sum over its rows from which the part can be subtracted.
 use Rattle.std.proofs.Common.{◌≡◌, ℕ, cond, eqb, List, length, sym, ◌∙◌, ap, pos}
 use Rattle.std.proofs.lemmas.Bool.{eq-eqb, cond-true}
 use Rattle.sym_model.specs.Polynomial.{same, coefficient}
@@ -11,7 +11,7 @@ use Rattle.sym_model.proofs.Polynomials.{at_only, coefficient_pair, pair_ext}
 use Rattle.sym_model.proofs.Monomials.{coefficient-monomial}
 use Rattle.sym_model.proofs.WholeTerms.{coefficient-combined}
 
--- a list of terms in the monomial basis has at x^γ the coefficient of the partition that γ sorts to
+-- the coefficient at x^γ of a list of terms in the monomial basis is that of the partition that γ sorts to
 pub coefficient-monomial_terms : (terms : WholeTerms) (n : ℕ) (γ : List ℕ) → length γ ≡ n
     → coefficient (combined (λ label. monomial label n) terms) γ ≡ coefficient terms (sorted_parts γ)
 coefficient-monomial_terms terms n γ long =

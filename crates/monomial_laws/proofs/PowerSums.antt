@@ -1,7 +1,7 @@
 -- A power sum times a monomial symmetric polynomial (specs/PowerSumProduct).
 --     power_sum_times_monomial    p_a·m_λ is the sum of its terms `raised_terms a λ`, in every number of variables
 --
--- The coefficient of x^α in p_a·m_λ counts the places of α from which a can be taken so that λ is left
+-- The coefficient of x^α in p_a·m_λ counts the places of α from which a can be subtracted so that λ is left
 -- (`coefficient-power_sum_times`). Such a place has a number a + b of α, b a part of λ or 0, and α sorts to λ with
 -- b raised; each place of α with that number will do.
 use Rattle.std.proofs.Common.{◌≡◌, ◌⊎◌, ℕ, zero, suc, ◌+◌, ◌-◌, ◌<◌, ◌≤◌, Bool, true, false, ◌&&◌, ◌||◌, cond, eqb, leb, List, [], ◌∷◌, map, length, replicate, sym, ◌∙◌, ap, ap₂, refl, inl, inr, arith, ℤ, pos, ◌+ℤ◌, ◌*ℤ◌}
@@ -25,9 +25,9 @@ use Rattle.sym_model.proofs.WholeTerms.{coefficient-combined}
 use Rattle.sym_model.proofs.Ring.{product-one}
 use lib.IntN.{+ℤ_idl, +ℤ_idr, *ℤ-zero}
 
--- ---- the places of a list
+-- ---- the numbers of a list, each with the others
 
--- each number with the list of the others
+-- each number of α with the list of the other numbers
 abbrev pub spots : List ℕ → List (ℕ × List ℕ)
 spots [] = []
 spots (c ∷ α) = (c, α) ∷ map (λ (s : ℕ × List ℕ). (s.0, c ∷ s.1)) (spots α)
@@ -42,7 +42,7 @@ length-lowered a (c ∷ α) γ m = by (leb a c) (Among_from_append γ (cond (leb
     by false (inl u) r = absurd u
     by b (inr u) r = let s = Among_from_map (λ (δ : List ℕ). c ∷ δ) γ (lowered a α) u in ap length s.2 ∙ ap suc (r s.0 s.1)
 
--- none of them is empty
+-- no list obtained by subtracting a at a place is empty
 total_lowered-empty : (a : ℕ) (α : List ℕ) → total (λ (γ : List ℕ). at_only γ []) (lowered a α) ≡ pos 0
 total_lowered-empty a [] = refl
 total_lowered-empty a (c ∷ α) =
@@ -53,7 +53,7 @@ total_lowered-empty a (c ∷ α) =
     by true = refl
     by false = refl
 
--- β with a added in one place is α as often as β is α with a taken from one place
+-- the number of ways to get α from β by adding a in one place is that to get β from α by subtracting a in one place
 pub total_one_place-join : (a n : ℕ) (β α : List ℕ) → length β ≡ n → total (λ (ε : List ℕ). at_only α (join ε β)) (one_place a n) ≡ total (λ (γ : List ℕ). at_only γ β) (lowered a α)
 total_one_place-join a zero [] α l = sym (total_lowered-empty a α)
 total_one_place-join a zero (b ∷ β) α l = absurd (omega arith)
@@ -91,7 +91,7 @@ total_one_place-join a (suc n) (b ∷ β) (c ∷ α) l =
         ∙ row (eqb b c) h
         ∙ sym (total_map (λ (γ : List ℕ). at_only γ (b ∷ β)) (λ (γ : List ℕ). c ∷ γ) (lowered a α))
 
--- the coefficient of x^α in p_a·g: a is taken from each place in turn
+-- the coefficient of x^α in p_a·g is the sum of those of g over the lists obtained from α by subtracting a at a place
 pub coefficient-power_sum_times : (a n : ℕ) (g : Poly) (α : List ℕ) → 0 < a → In n g → coefficient (times (power_sum_of a n) g) α ≡ total (coefficient g) (lowered a α)
 coefficient-power_sum_times a n g α h i =
     coefficient_pair (times (power_sum_of a n) g) α
@@ -102,7 +102,8 @@ coefficient-power_sum_times a n g α h i =
     ∙ pair_total g (λ (γ : List ℕ) (β : List ℕ). at_only γ β) (lowered a α)
     ∙ total_ext (λ (γ : List ℕ). pair g (at_only γ)) (coefficient g) (λ γ. sym (coefficient_pair g γ)) (lowered a α)
 
--- what is left after taking, sorted: by the number at the place and the others
+-- a sum of χ(γ sorted) over the lists γ obtained from α by subtracting a at a place is the sum of χ over the numbers c ≥ a of α, with c - a inserted
+-- among the others, sorted
 total_lowered-sorted : (a : ℕ) (χ : List ℕ → ℤ) (α : List ℕ) → total (λ (γ : List ℕ). χ (sorted_parts γ)) (lowered a α) ≡ total (λ (s : ℕ × List ℕ). cond (leb a s.0) (χ (insert_part (s.0 - a) (sorted_parts s.1))) (pos 0)) (spots α)
 total_lowered-sorted a χ [] = refl
 total_lowered-sorted a χ (c ∷ α) =
@@ -122,7 +123,7 @@ total_lowered-sorted a χ (c ∷ α) =
     by true = +ℤ_idr (χ (insert_part (c - a) (sorted_parts α)))
     by false = refl
 
--- the number at a place put back among the others sorts as the whole list
+-- inserting a number of α among the sorted other numbers gives α sorted
 total_spots-sorted : (ψ : ℕ → List ℕ → ℤ) (α : List ℕ) → total (λ (s : ℕ × List ℕ). ψ s.0 (insert_part s.0 (sorted_parts s.1))) (spots α) ≡ total (λ (c : ℕ). ψ c (sorted_parts α)) α
 total_spots-sorted ψ [] = refl
 total_spots-sorted ψ (c ∷ α) =
@@ -135,9 +136,9 @@ total_spots-sorted ψ (c ∷ α) =
     (spots α)
     ∙ total_spots-sorted (λ k l. ψ k (insert_part c l)) α)
 
--- ---- the places of α at which λ is left
+-- ---- the places of α from which a can be subtracted so that λ is left
 
--- 1 where the number k and the sorted list `whole` come from λ by raising k - a, and 0 elsewhere
+-- 1 if the number k and the sorted list `whole` come from λ by replacing k - a by k, else 0
 abbrev pub raised_here : ℕ → List ℕ → ℕ → List ℕ → ℤ
 raised_here a parts k whole = cond (leb a k) (cond (has (k - a) (0 ∷ parts)) (cond (same whole (raise a (k - a) parts)) (pos 1) (pos 0)) (pos 0)) (pos 0)
 
@@ -164,7 +165,7 @@ lowered_here a k ρ parts h q p = by (leb a k) refl
         (lowered_from_raised a (k - a) ρ parts h p r.0 (ap (λ n. insert_part n ρ) back ∙ same_true (insert_part k ρ) (raise a (k - a) parts) r.1))))
         ∙ and_cond (has (k - a) (0 ∷ parts)) (same (insert_part k ρ) (raise a (k - a) parts))
 
--- the left side: the places from which a can be taken so that λ is left
+-- the number of lists obtained from α by subtracting a at a place that sort to λ is the sum of `raised_here` over the entries of α
 total_lowered-is : (a : ℕ) (parts α : List ℕ) → 0 < a → IsPartition parts → total (λ (γ : List ℕ). cond (same (sorted_parts γ) parts) (pos 1) (pos 0)) (lowered a α) ≡ total (λ (k : ℕ). raised_here a parts k (sorted_parts α)) α
 total_lowered-is a parts α h p =
     total_lowered-sorted a (λ l. cond (same l parts) (pos 1) (pos 0)) α
@@ -175,9 +176,10 @@ total_lowered-is a parts α h p =
     (spots α)
     ∙ total_spots-sorted (raised_here a parts) α
 
--- ---- the terms of the product
+-- ---- the terms of p_a·m_λ
 
--- of the different numbers of a list at most one is k
+-- a sum over the different numbers of a list, restricted to the number k, is its value at k, or 0 if k is not in
+-- the list
 pub total_distinct-only : (g : ℕ → ℤ) (k : ℕ) (numbers : List ℕ) → total (λ (b : ℕ). cond (eqb b k) (g b) (pos 0)) (distinct numbers) ≡ cond (has k numbers) (g k) (pos 0)
 total_distinct-only g k [] = refl
 total_distinct-only g k (c ∷ numbers) = by (has c numbers) refl (cases_eq c k) (total_distinct-only g k numbers)
@@ -191,7 +193,7 @@ total_distinct-only g k (c ∷ numbers) = by (has c numbers) refl (cases_eq c k)
         rw (eq-eqb c k i) (omega (arith, ints, ap g i))
     by false e (inr n) r = rw (ne_eqb c k n) (+ℤ_idl (total (λ (b : ℕ). cond (eqb b k) (g b) (pos 0)) (distinct numbers)) ∙ r)
 
--- how often k stands in a list, as a sum
+-- the multiplicity of k in α is the sum of 1 over the entries of α equal to k
 pub total_times_in : (k : ℕ) (α : List ℕ) → total (λ (c : ℕ). cond (eqb c k) (pos 1) (pos 0)) α ≡ pos (times_in k α)
 total_times_in k [] = refl
 total_times_in k (c ∷ α) = by (eqb c k) (total_times_in k α)
@@ -200,9 +202,9 @@ total_times_in k (c ∷ α) = by (eqb c k) (total_times_in k α)
     by true e = omega (arith, ints)
     by false e = omega (arith, ints)
 
--- ---- the law
+-- ---- p_a·m_λ is the sum of its terms
 
--- b is what is left of c when a is taken
+-- c is a + b if and only if a ≤ c and b is c - a
 taken : (a b c : ℕ) (x : ℤ) → cond (eqb c (a + b)) x (pos 0) ≡ cond (leb a c) (cond (eqb b (c - a)) x (pos 0)) (pos 0)
 taken a b c x = by (cases_lt c a)
   where
@@ -215,7 +217,8 @@ taken a b c x = by (cases_lt c a)
         (λ t. let u = eqb-true b (c - a) t in eq-eqb c (a + b) (omega arith)) in
         rw (e, le-leb a c h) refl
 
--- what one term gives at α, place by place
+-- the multiplicity of a + b times the coefficient at α of m_μ, μ being `parts` with a part b raised to a + b, is a
+-- sum over the entries of α
 term_at : (a b n : ℕ) (parts α : List ℕ) → 0 < a
     → pos (times_in (a + b) (raise a b parts)) *ℤ coefficient (monomial (raise a b parts) n) α
     ≡ cond (eqb (length α) n) (total (λ (c : ℕ). cond (leb a c) (cond (eqb b (c - a)) (cond (same (sorted_parts α) (raise a b parts)) (pos 1) (pos 0)) (pos 0)) (pos 0)) α) (pos 0)
@@ -241,7 +244,7 @@ term_at a b n parts α h =
         ∙ sym (total_times_in (a + b) α)
         ∙ total_ext (λ (c : ℕ). cond (eqb c (a + b)) (pos 1) (pos 0)) (λ (c : ℕ). cond (leb a c) (cond (eqb b (c - a)) (pos 1) (pos 0)) (pos 0)) (λ c. taken a b c (pos 1)) α
 
--- the right side at α
+-- the coefficient at α of the sum of the terms of p_a·m_λ is a sum of `raised_here` over the entries of α, or 0 if α does not have n places
 coefficient-raised_terms : (a n : ℕ) (parts α : List ℕ) → 0 < a → coefficient (combined (λ label. monomial label n) (raised_terms a parts)) α ≡ cond (eqb (length α) n) (total (λ (k : ℕ). raised_here a parts k (sorted_parts α)) α) (pos 0)
 coefficient-raised_terms a n parts α h =
     coefficient-combined (λ label. monomial label n) (raised_terms a parts) α
@@ -264,7 +267,7 @@ coefficient-raised_terms a n parts α h =
     F : ℕ → ℕ → ℤ
     F c b = cond (leb a c) (cond (eqb b (c - a)) (X b) (pos 0)) (pos 0)
 
--- the left side at α
+-- the coefficient of p_a·m_λ at α is a sum over the entries of α, or 0 if α does not have n places
 coefficient-power_sum_monomial : (a n : ℕ) (parts α : List ℕ) → 0 < a → IsPartition parts → coefficient (times (power_sum_of a n) (monomial parts n)) α ≡ cond (eqb (length α) n) (total (λ (k : ℕ). raised_here a parts k (sorted_parts α)) α) (pos 0)
 coefficient-power_sum_monomial a n parts α h p =
     coefficient-power_sum_times a n (monomial parts n) α h (In-monomials (λ α. same (sorted_parts α) parts) n (size parts))
@@ -276,6 +279,6 @@ coefficient-power_sum_monomial a n parts α h p =
     ∙ total_cond (eqb (length α) n) (λ (γ : List ℕ). cond (same (sorted_parts γ) parts) (pos 1) (pos 0)) (lowered a α)
     ∙ ap (λ x. cond (eqb (length α) n) x (pos 0)) (total_lowered-is a parts α h p)
 
--- p_a·m_λ in n variables is the sum of its terms
+-- p_a·m_λ in n variables is the sum of the terms `raised_terms a λ`
 pub power_sum_times_monomial : (a n : ℕ) (parts : List ℕ) → 0 < a → IsPartition parts → Same (times (power_sum_of a n) (monomial parts n)) (combined (λ label. monomial label n) (raised_terms a parts))
 power_sum_times_monomial a n parts h p α = coefficient-power_sum_monomial a n parts α h p ∙ sym (coefficient-raised_terms a n parts α h)

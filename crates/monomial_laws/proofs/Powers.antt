@@ -1,6 +1,6 @@
 -- The powers of x_1 + .. + x_n (specs/Majorant).
 --     power-add                   a product of two powers is a power
---     coefficient_power           the coefficient of x^α times Π α_i! is d!, or 0 where α has another sum
+--     coefficient_power           the coefficient of x^α times Π α_i! is d! if α has the sum d, else 0
 --     powers-product              a product of two sums of powers
 use Rattle.std.proofs.Common.{◌≡◌, ◌⊎◌, ℕ, zero, suc, ◌+◌, ◌-◌, ◌*◌, ◌<◌, ◌≤◌, Bool, true, false, ◌&&◌, cond, eqb, leb, List, [], ◌∷◌, ◌++◌, map, length, replicate, sym, ◌∙◌, ap, ap₂, subst, refl, inl, inr, arith, ℤ, pos, negsuc, ◌+ℤ◌, ◌*ℤ◌, flat_map}
 use Rattle.std.specs.Prelude.{◌≤ℤ◌}
@@ -26,7 +26,7 @@ use Rattle.sym_model.specs.ListWeight.{factorials}
 use native.Mathlib.Nat.{mul-le-mul_left}
 use lib.IntN.{*ℤ-zero, zero-*ℤ, *ℤ_comm}
 
--- ---- powers
+-- ---- the exponents of a product, and powers of x_1 + .. + x_n
 
 pub In-product_over : (f : ℕ → ℕ → Poly) (parts : List ℕ) (n : ℕ) → ((k : ℕ) → In n (f k n)) → In n (product_over f parts n)
 In-product_over f [] n i = In_one n
@@ -53,9 +53,9 @@ power-add (suc d) e n =
     (times_respects p p (power (d + e) n) (times (power d n) (power e n)) (Same_refl p) (power-add d e n))
     (Same_sym (times (times p (power d n)) (power e n)) (times p (times (power d n) (power e n))) (times_assoc p (power d n) (power e n))))
 
--- ---- the coefficients of a power
+-- ---- the coefficient of x^α in (x_1 + .. + x_n)^d
 
--- what is left when 1 is taken from a place
+-- if γ is α with 1 subtracted at a place, its sum is one less than that of α
 size-lowered : (α γ : List ℕ) → Among γ (lowered 1 α) → suc (size γ) ≡ size α
 size-lowered [] γ m = absurd m
 size-lowered (c ∷ α) γ m = by (leb 1 c) refl (Among_from_append γ (cond (leb 1 c) (((c - 1) ∷ α) ∷ []) []) (map (λ (δ : List ℕ). c ∷ δ) (lowered 1 α)) m) (size-lowered α)
@@ -71,7 +71,8 @@ lowered-suc c α =
     ap (λ b. cond b (((suc c - 1) ∷ α) ∷ []) [] ++ map (λ (γ : List ℕ). suc c ∷ γ) (lowered 1 α)) (le-leb 1 (suc c) (omega arith))
     ∙ ap (λ n. (n ∷ α) ∷ map (λ (γ : List ℕ). suc c ∷ γ) (lowered 1 α)) (let e : suc c - 1 ≡ c = omega arith in e)
 
--- taking 1 from each place in turn divides Π α_i! by the number there
+-- if γ is α with c replaced by c - 1 at a place, Π γ_i! is Π α_i! divided by c; so if f(γ)·Π γ_i! is the same k for all these γ, their sum times Π
+-- α_i! is |α|·k
 factorials-lowered : (α : List ℕ) (f : List ℕ → ℤ) (k : ℤ) → ((γ : List ℕ) → Among γ (lowered 1 α) → f γ *ℤ pos (factorials γ) ≡ k)
     → total f (lowered 1 α) *ℤ pos (factorials α) ≡ pos (size α) *ℤ k
 factorials-lowered [] f k h = zero-*ℤ (pos 1) ∙ sym (zero-*ℤ k)
@@ -112,7 +113,7 @@ factorials-lowered (suc c ∷ α) f k h =
         sym (scaled (f (suc c ∷ γ)) (suc c * factorial c) (factorials γ))
         ∙ r (suc c ∷ γ) (inr (Among-map (λ (γ : List ℕ). suc c ∷ γ) γ (lowered 1 α) m))))
 
--- 1 has one term, at the exponents 0
+-- in the polynomial 1 the coefficient of x^α is 1 if all α_i are 0, and otherwise 0
 coefficient-one : (α : List ℕ) → coefficient (one (length α)) α *ℤ pos (factorials α) ≡ cond (eqb (size α) 0) (pos 1) (pos 0)
 coefficient-one [] = refl
 coefficient-one (zero ∷ α) =
@@ -124,7 +125,7 @@ coefficient-one (suc c ∷ α) =
     ∙ zero-*ℤ (pos (factorials (suc c ∷ α)))
     ∙ ap (λ b. cond b (pos 1) (pos 0)) (sym (ne_eqb (suc c + size α) 0 (λ e. omega arith)))
 
--- the coefficient of x^α in (x_1 + .. + x_n)^d times Π α_i! is d!
+-- if α has n places and the sum d, the coefficient of x^α in (x_1 + .. + x_n)^d times Π α_i! is d!; for another sum it is 0
 pub coefficient_power : (d n : ℕ) (α : List ℕ) → length α ≡ n → coefficient (power d n) α *ℤ pos (factorials α) ≡ cond (eqb (size α) d) (pos (factorial d)) (pos 0)
 coefficient_power zero n α long = ap (λ m. coefficient (one m) α *ℤ pos (factorials α)) (sym long) ∙ coefficient-one α
 coefficient_power (suc d) n α long =
@@ -149,7 +150,7 @@ pub factorials-positive : (α : List ℕ) → 0 < factorials α
 factorials-positive [] = omega arith
 factorials-positive (a ∷ α) = let p = mul-le-mul_left (factorial a) (factorials-positive α) in omega (arith, p, factorial-positive a)
 
--- a factor of a natural number by a positive one is one
+-- if z·a = b for natural numbers a > 0 and b, then z is not negative, at least 1 if b is positive, and 0 if b is 0
 factor : (z : ℤ) (a b : ℕ) → 0 < a → z *ℤ pos a ≡ pos b → (pos 0 ≤ℤ z) × (0 < b → pos 1 ≤ℤ z) × (b ≡ 0 → z ≡ pos 0)
 factor (pos zero) a b h e = (omega (arith, ints), λ l. absurd (omega (arith, ints)), λ i. refl)
 factor (pos (suc k)) a b h e =
@@ -166,7 +167,7 @@ as_number false n = refl
 whole_coefficient : (d n : ℕ) (α : List ℕ) → length α ≡ n → coefficient (power d n) α *ℤ pos (factorials α) ≡ pos (cond (eqb (size α) d) (factorial d) 0)
 whole_coefficient d n α long = coefficient_power d n α long ∙ as_number (eqb (size α) d) (factorial d)
 
--- no coefficient is negative
+-- no coefficient of (x_1 + .. + x_n)^d is negative
 pub power-nonnegative : (d n : ℕ) (α : List ℕ) → pos 0 ≤ℤ coefficient (power d n) α
 power-nonnegative d n α = by (cases_eq (length α) n)
   where
@@ -174,19 +175,19 @@ power-nonnegative d n α = by (cases_eq (length α) n)
     by (inl e) = (factor (coefficient (power d n) α) (factorials α) (cond (eqb (size α) d) (factorial d) 0) (factorials-positive α) (whole_coefficient d n α e)).0
     by (inr e) = rw (coefficient_outside n (power d n) α (In-power d n) e) (omega (arith, ints))
 
--- each monomial of degree d stands in it
+-- each monomial of degree d in n variables has a positive coefficient in (x_1 + .. + x_n)^d
 pub power-positive : (d n : ℕ) (α : List ℕ) → length α ≡ n → size α ≡ d → pos 1 ≤ℤ coefficient (power d n) α
 power-positive d n α e i =
     (factor (coefficient (power d n) α) (factorials α) (cond (eqb (size α) d) (factorial d) 0) (factorials-positive α) (whole_coefficient d n α e)).1
     (rw (eq-eqb (size α) d i) (factorial-positive d))
 
--- and no other
+-- a monomial of a degree other than d has the coefficient 0 in (x_1 + .. + x_n)^d
 pub power-elsewhere : (d n : ℕ) (α : List ℕ) → length α ≡ n → (size α ≡ d → ⊥) → coefficient (power d n) α ≡ pos 0
 power-elsewhere d n α e i =
     (factor (coefficient (power d n) α) (factorials α) (cond (eqb (size α) d) (factorial d) 0) (factorials-positive α) (whole_coefficient d n α e)).2
     (rw (ne_eqb (size α) d i) refl)
 
--- ---- sums of powers
+-- ---- sums of powers of x_1 + .. + x_n
 
 pub pair-powers : (exponents : List ℕ) (n : ℕ) (φ : List ℕ → ℤ) → pair (powers exponents n) φ ≡ total (λ (d : ℕ). pair (power d n) φ) exponents
 pair-powers exponents n φ = pair_each (λ (d : ℕ). power d n) exponents φ
@@ -227,7 +228,7 @@ pub length-sums : (ds es : List ℕ) → length (sums ds es) ≡ length ds * len
 length-sums [] es = omega arith
 length-sums (d ∷ ds) es = length-append (map (λ (e : ℕ). d + e) es) (sums ds es) ∙ ap₂ ◌+◌ (length-map es (λ (e : ℕ). d + e)) (length-sums ds es) ∙ omega arith
 
--- the exponents as often as a number says
+-- the list of exponents repeated q times
 abbrev pub copies : ℕ → List ℕ → List ℕ
 copies zero ds = []
 copies (suc q) ds = ds ++ copies q ds
@@ -251,7 +252,7 @@ powers-copies (suc q) ds n α =
     more : (z : ℤ) → z +ℤ pos q *ℤ z ≡ pos (suc q) *ℤ z
     more z = ap (λ y. y +ℤ pos q *ℤ z) (sym (one-product z)) ∙ sym (distributes_right (pos 1) (pos q) z) ∙ ap (λ k. pos k *ℤ z) (let e : 1 + q ≡ suc q = omega arith in e)
 
--- a sum of powers has at most as many times the multinomial as it has powers
+-- the coefficient of x^α, α of sum d, in a sum of powers of x_1 + .. + x_n is at most that in the power d, times the number of powers
 pub powers-few : (ds : List ℕ) (n d : ℕ) (α : List ℕ) → length α ≡ n → size α ≡ d → coefficient (powers ds n) α ≤ℤ (pos (length ds) *ℤ coefficient (power d n) α)
 powers-few ds n d α e i = rw (coefficient-powers ds n α) (by ds)
   where

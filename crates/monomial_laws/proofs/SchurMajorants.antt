@@ -20,13 +20,13 @@ use Rattle.sym_model.proofs.Tableaux.{row_lengths-none}
 use Rattle.sym_model.proofs.Lists.{map-among}
 use Rattle.sym_model.proofs.Contents.{map-zeros, content-none}
 
--- ---- words by their content
+-- ---- words and their content
 
--- how often each number from m + 1 to m + n stands in the word
+-- the number of times that each of the letters m + 1, .., m + n occurs in the word w
 abbrev content_after : ℕ → ℕ → List ℕ → List ℕ
 content_after m n w = map (λ (k : ℕ). times_in k w) (after m n)
 
--- of the letters past m none is at most m
+-- the letters of `after (m + j + 1) n` are greater than m
 letters_past : (m n j a : ℕ) → Among a (after (m + suc j) n) → m < a
 letters_past m zero j a h = absurd h
 letters_past m (suc n) j a (inl e) = omega arith
@@ -37,7 +37,7 @@ past m zero a u = absurd u
 past m (suc n) a (inl e) = omega arith
 past m (suc n) a (inr u) = letters_past (m + 1) n zero a u
 
--- the content of one letter has 1 in one place
+-- among the letters m + 1, .., m + n, the content of the word of one letter a has 1 at the place of a and 0 elsewhere
 one_place-letters : (m n : ℕ) → one_place 1 n ≡ map (λ (a : ℕ). content_after m n (a ∷ [])) (after m n)
 one_place-letters m zero = refl
 one_place-letters m (suc n) =
@@ -57,12 +57,12 @@ one_place-letters m (suc n) =
     map-map f g [] = refl
     map-map f g (x ∷ xs) = ap (λ l. g (f x) ∷ l) (map-map f g xs)
 
--- a letter in front adds its own content
+-- the content of the word a ∷ w is the content of a plus that of w, place by place
 content-cons : (m n a : ℕ) (w : List ℕ) → content_after m n (a ∷ w) ≡ join (content_after m n (a ∷ [])) (content_after m n w)
 content-cons m zero a w = refl
 content-cons m (suc n) a w = ap₂ ◌∷◌ (let e : cond (eqb a (m + 1)) 1 0 + times_in (m + 1) w ≡ cond (eqb a (m + 1)) 1 0 + 0 + times_in (m + 1) w = omega arith in e) (content-cons (m + 1) n a w)
 
--- (x_1 + .. + x_n)^d over the words of d letters
+-- (x_1 + .. + x_n)^d is the sum over the words of d letters
 pub pair-power : (d n : ℕ) (φ : List ℕ → ℤ) → pair (power d n) φ ≡ total (λ (w : List ℕ). φ (content n w)) (words n d)
 pair-power zero n φ = pair_one n φ ∙ ap φ (sym (content-none n)) ∙ sym (+ℤ_idr (φ (content n [])))
 pair-power (suc d) n φ =
@@ -80,9 +80,9 @@ pair-power (suc d) n φ =
     (after 0 n)
     ∙ sym (total_each (λ (w : List ℕ). φ (content n w)) (λ (a : ℕ). map (λ (w : List ℕ). a ∷ w) (words n d)) (after 0 n))
 
--- ---- fillings are words
+-- ---- fillings, read row by row, are words
 
--- a word of j + k letters is one of j letters and one of k
+-- a sum over the words of j letters followed by words of k letters is the sum over the words of j + k letters
 total_words-add : (n j k : ℕ) (h : List ℕ → ℤ) → total (λ (v : List ℕ). total (λ (w : List ℕ). h (v ++ w)) (words n k)) (words n j) ≡ total h (words n (j + k))
 total_words-add n zero k h = +ℤ_idr (total h (words n k)) ∙ ap (λ i. total h (words n i)) (let e : k ≡ 0 + k = omega arith in e)
 total_words-add n (suc j) k h =
@@ -98,7 +98,7 @@ total_words-add n (suc j) k h =
     ∙ sym (total_each h (λ (a : ℕ). map (λ (w : List ℕ). a ∷ w) (words n (j + k))) (after 0 n))
     ∙ ap (λ i. total h (words n i)) (let e : suc (j + k) ≡ suc j + k = omega arith in e)
 
--- the fillings with rows of given lengths, read row by row, are the words
+-- a sum over the fillings with rows of the given lengths, read row by row, is the sum over the words with that number of letters
 total_fillings : (n : ℕ) (lengths : List ℕ) (h : List ℕ → ℤ) → total (λ (filling : List (List ℕ)). h (letters_of filling)) (fillings_of n lengths) ≡ total h (words n (size lengths))
 total_fillings n [] h = refl
 total_fillings n (k ∷ lengths) h =
@@ -112,14 +112,14 @@ total_fillings n (k ∷ lengths) h =
     (words n k)
     ∙ total_words-add n k (size lengths) h
 
--- ---- the Schur polynomial
+-- ---- s_λ is bounded by the power |λ| of x_1 + .. + x_n
 
 pub In-schur : (parts : List ℕ) (n : ℕ) → In n (schur parts n)
 In-schur parts n =
     In_map n (λ (filling : List (List ℕ)). (content n (letters_of filling), pos 1)) (tableaux n parts [])
     (λ filling m. length-map (after 0 n) (λ (k : ℕ). times_in k (letters_of filling)) ∙ length_after 0 n)
 
--- a sum over some of the elements of numbers that are not negative
+-- if f is nowhere negative, its sum over the elements that pass a test is at least 0 and at most its sum over all
 total_select-within : {A : Type 0} (f : A → ℤ) (test : A → Bool) (xs : List A) → ((x : A) → pos 0 ≤ℤ f x) → (pos 0 ≤ℤ total f (filter test xs)) × (total f (filter test xs) ≤ℤ total f xs)
 total_select-within f test [] h = (omega (arith, ints), omega (arith, ints))
 total_select-within {A} f test (x ∷ xs) h = by (test x) (h x) (total_select-within f test xs h)

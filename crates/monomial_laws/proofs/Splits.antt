@@ -1,6 +1,6 @@
 -- Products by their coefficients, and m_λ·m_μ (specs/MonomialProduct).
 --     coefficient_times        the coefficient of x^α in f·g: over all ways to split α
---     monomial_product         m_λ·m_μ is each list of terms with these coefficients
+--     monomial_product         m_λ·m_μ has each list of terms with these coefficients
 use Rattle.std.proofs.Common.{◌≡◌, ◌⊎◌, ℕ, zero, suc, ◌+◌, ◌-◌, ◌<◌, ◌≤◌, Bool, true, false, ◌&&◌, cond, eqb, leb, List, [], ◌∷◌, map, length, sym, ◌∙◌, ap, ap₂, refl, inl, inr, arith, ℤ, pos, ◌+ℤ◌, ◌*ℤ◌}
 use Rattle.std.proofs.lemmas.Bool.{cases_lt, le-leb, lt-leb, eq-eqb, ne_eqb, eqb-true}
 use Rattle.sym_model.specs.Sum.{total, Among}
@@ -19,9 +19,9 @@ use Rattle.monomial_laws.proofs.PowerSumCoefficients.{coefficient-monomial_terms
 use Rattle.sym_model.proofs.Monomials.{total_down_from-only, In-monomials}
 use lib.IntN.{+ℤ_idr, zero-*ℤ, *ℤ_comm}
 
--- ---- the ways to split an exponent list
+-- ---- pairs of exponent lists that add up to ν
 
--- a sum over the splits of a list, by its first number
+-- a sum over the splits of c ∷ ν is the sum, over b ≤ c, of that over the splits of ν with b in front of one list and c - b in front of the other
 pub total_splits : (φ : List ℕ → List ℕ → ℤ) (c : ℕ) (ν : List ℕ)
     → total (λ (s : List ℕ × List ℕ). φ s.0 s.1) (splits (c ∷ ν))
     ≡ total (λ (b : ℕ). total (λ (s : List ℕ × List ℕ). φ (b ∷ s.0) ((c - b) ∷ s.1)) (splits ν)) (down_from c)
@@ -33,7 +33,7 @@ total_splits φ c ν =
     (λ b. total_map (λ (s : List ℕ × List ℕ). φ s.0 s.1) (λ (s : List ℕ × List ℕ). (b ∷ s.0, (c - b) ∷ s.1)) (splits ν))
     (down_from c)
 
--- both lists have as many places
+-- both lists of a split have the length of ν
 pub length-splits : (ν : List ℕ) (s : List ℕ × List ℕ) → Among s (splits ν) → (length s.0 ≡ length ν) × (length s.1 ≡ length ν)
 length-splits [] s (inl e) = (ap (λ (p : List ℕ × List ℕ). length p.0) e, ap (λ (p : List ℕ × List ℕ). length p.1) e)
 length-splits [] s (inr m) = absurd m
@@ -43,11 +43,11 @@ length-splits (c ∷ ν) s m =
     let k = length-splits ν u.0 u.1 in
     (ap (λ (p : List ℕ × List ℕ). length p.0) u.2 ∙ ap suc k.0, ap (λ (p : List ℕ × List ℕ). length p.1) u.2 ∙ ap suc k.1)
 
--- 1 where the two lists are β and γ
+-- 1 if the two lists are β and γ, else 0
 abbrev both_only : List ℕ → List ℕ → List ℕ × List ℕ → ℤ
 both_only β γ s = cond (same β s.0) (cond (same γ s.1) (pos 1) (pos 0)) (pos 0)
 
--- β and γ are a split of α where their sum is α
+-- for β and γ of the length of α, the pair (β, γ) is a split of α once if β + γ = α, and otherwise not at all
 total_splits-only : (α β γ : List ℕ) → length β ≡ length α → length γ ≡ length α
     → total (both_only β γ) (splits α) ≡ at_only α (join β γ)
 total_splits-only [] [] [] h k = refl
@@ -100,7 +100,7 @@ total_splits-only (a ∷ α) (b ∷ β) (c ∷ γ) h k =
         inner true q = refl
         inner false q = refl
 
--- the coefficient of x^α in a product of polynomials in n variables: over all ways to split α
+-- the coefficient of x^α in f·g is the sum, over all ways to split α, of the products of the coefficients of f and g
 pub coefficient_times : (n : ℕ) (f g : Poly) (α : List ℕ) → In n f → In n g → length α ≡ n
     → coefficient (times f g) α ≡ total (λ (s : List ℕ × List ℕ). coefficient f s.0 *ℤ coefficient g s.1) (splits α)
 coefficient_times n f g α i j long =
@@ -134,9 +134,9 @@ coefficient_times n f g α i j long =
     product true false = refl
     product false q = sym (zero-*ℤ (cond q (pos 1) (pos 0)))
 
--- ---- splits by their sorted parts
+-- ---- sums over splits of functions of the two sorted lists
 
--- the sum over the splits of ν of a number for the sorted parts of both
+-- the sum, over the splits (β, γ) of ν, of ψ(β sorted, γ sorted)
 abbrev pub sorted_total : (List ℕ → List ℕ → ℤ) → List ℕ → ℤ
 sorted_total ψ ν = total (λ (s : List ℕ × List ℕ). ψ (sorted_parts s.0) (sorted_parts s.1)) (splits ν)
 
@@ -151,7 +151,7 @@ sorted_total-cons ψ c ν = total_splits (λ x y. ψ (sorted_parts x) (sorted_pa
 sorted_total-zero : (ψ : List ℕ → List ℕ → ℤ) (ν : List ℕ) → sorted_total ψ (0 ∷ ν) ≡ sorted_total ψ ν
 sorted_total-zero ψ ν = sorted_total-cons ψ 0 ν ∙ +ℤ_idr (sorted_total ψ ν)
 
--- the rest of the list may be exchanged for one with the same sums
+-- if the sums over the splits of ν and ρ are equal for every ψ, so are those over the splits of c ∷ ν and c ∷ ρ
 sorted_total-rest : (ν ρ : List ℕ) → ((ψ : List ℕ → List ℕ → ℤ) → sorted_total ψ ν ≡ sorted_total ψ ρ) → (ψ : List ℕ → List ℕ → ℤ) (c : ℕ) → sorted_total ψ (c ∷ ν) ≡ sorted_total ψ (c ∷ ρ)
 sorted_total-rest ν ρ e ψ c =
     sorted_total-cons ψ c ν
@@ -208,7 +208,7 @@ sorted_total-sorted : (ν : List ℕ) (ψ : List ℕ → List ℕ → ℤ) → s
 sorted_total-sorted [] ψ = refl
 sorted_total-sorted (a ∷ ν) ψ = sorted_total-insert a (sorted_parts ν) ψ ∙ sorted_total-rest (sorted_parts ν) ν (sorted_total-sorted ν) ψ a
 
--- ---- the product of two lists in m
+-- ---- the product of two lists of terms in m
 
 pub arrangements-total : (left right ν : List ℕ)
     → pos (arrangements left right ν) ≡ total (λ (s : List ℕ × List ℕ). at_only (sorted_parts s.0) left *ℤ at_only (sorted_parts s.1) right) (splits ν)
@@ -227,7 +227,7 @@ arrangements-total left right ν =
     by true false = refl
     by false q = sym (zero-*ℤ (cond q (pos 1) (pos 0)))
 
--- it is made of the products of all pairs of labels
+-- the coefficient at ν of the product of two lists is the sum, over all pairs of labels l and r, of their coefficients times `arrangements l r ν`
 pub product_coefficient-arrangements : (left right : WholeTerms) (ν : List ℕ)
     → product_coefficient left right ν ≡ pair left (λ l. pair right (λ r. pos (arrangements l r ν)))
 product_coefficient-arrangements left right ν =
@@ -262,7 +262,8 @@ In-monomial_terms terms n =
     In_each n (λ (t : List ℕ × ℤ). scale t.1 (monomial t.0 n)) terms
     (λ t m. In_scale n t.1 (monomial t.0 n) (In-monomials (λ α. same (sorted_parts α) t.0) n (size t.0)))
 
--- a list of terms with these coefficients at all partitions is the product, in every number of variables
+-- if a list of terms has `product_coefficient left right ν` as its coefficient at every partition ν, it is the product of the polynomials of `left`
+-- and `right`, in every number of variables
 pub terms_product : (left right terms : WholeTerms) → ((ν : List ℕ) → IsPartition ν → coefficient terms ν ≡ product_coefficient left right ν)
     → (n : ℕ) → Same (times (combined (λ label. monomial label n) left) (combined (λ label. monomial label n) right)) (combined (λ label. monomial label n) terms)
 terms_product left right terms h n =
@@ -282,7 +283,7 @@ terms_product left right terms h n =
     ∙ sym (h (sorted_parts α) (IsPartition-sorted_parts α))
     ∙ sym (coefficient-monomial_terms terms n α long))
 
--- one label alone
+-- the list with the one label λ and the coefficient 1 is m_λ
 single : (label : List ℕ) (n : ℕ) → Same (combined (λ l. monomial l n) ((label, pos 1) ∷ [])) (monomial label n)
 single label n =
     same_from_pair (combined (λ l. monomial l n) ((label, pos 1) ∷ [])) (monomial label n)

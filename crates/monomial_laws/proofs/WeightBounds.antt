@@ -1,7 +1,7 @@
 -- The weight of an expression bounds every number of its conversion into m (specs/ExpressionTerms).
---     coefficient_within_factorial   a coefficient is at most N times the factorial of the degree
---     coefficient_within_growth      a coefficient is at most N times the growth at the degree
---     product_within_growth          so is a coefficient of the product of two lists with absolute values
+--     coefficient_within_factorial   a coefficient is at most N·d!, d being the degree
+--     coefficient_within_growth      a coefficient is at most N times the growth at d
+--     product_within_growth          the product of two lists, with absolute values, has coefficients of at most the product of the bounds
 use Rattle.std.proofs.Common.{◌≡◌, ◌⊎◌, ℕ, zero, suc, ◌+◌, ◌-◌, ◌*◌, ◌/◌, ◌^◌, ◌<◌, ◌≤◌, cond, List, [], ◌∷◌, length, sym, ◌∙◌, ap, ap₂, subst, refl, inl, inr, arith, ℤ, pos, ◌+ℤ◌, ◌*ℤ◌}
 use Rattle.std.specs.Prelude.{nat_abs, ◌≤ℤ◌}
 use Rattle.std.proofs.lemmas.Int.{ints}
@@ -33,7 +33,7 @@ use Rattle.sym_model.proofs.Numbers.{times-more, positive_factor}
 use native.Mathlib.Nat.{div-mul_cancel, dvd-mul_left, mul-le-mul_left, pow-suc}
 use lib.IntN.{+ℤ_idl}
 
--- ---- the growth
+-- ---- bounds for factorials and for the growth
 
 factorial-within : (d : ℕ) → factorial d ≤ suc d ^ d
 factorial-within zero = omega arith
@@ -43,7 +43,7 @@ factorial-within (suc d) =
     let r = mul-le (suc d) (factorial d) (suc (suc d)) (suc (suc d) ^ d) (omega arith) (omega arith) in
     rw (pow-suc (suc (suc d)) d) (omega arith)
 
--- d! is at most the growth into m
+-- d! is at most the growth into m at the degree d
 pub factorial-within_growth : (d : ℕ) → factorial d ≤ growth Basis.monomials d
 factorial-within_growth zero = omega arith
 factorial-within_growth (suc d) =
@@ -68,9 +68,9 @@ growth-mono d e h = let i : (e - d) + d ≡ e = omega arith in subst (λ k. grow
 pub growth-positive : (d : ℕ) → 0 < growth Basis.monomials d
 growth-positive d = let h = growth-mono 0 d (omega arith) in omega arith
 
--- ---- coefficients
+-- ---- bounds for the coefficients of a bounded polynomial
 
--- no coefficient is more than the bound times the factorial of the degree
+-- if f is bounded by N at the degree d, no coefficient of f exceeds N·d!
 pub coefficient_within_factorial : (N d n : ℕ) (f : Poly) → IsBounded N d n f → (α : List ℕ) → length α ≡ n → nat_abs (coefficient f α) ≤ N * factorial d
 coefficient_within_factorial N d n f b α e = by (cases_lt d (size α))
   where
@@ -82,7 +82,7 @@ coefficient_within_factorial N d n f b α e = by (cases_lt d (size α))
         let u = mul-le-mul_left (nat_abs (coefficient f α)) (factorials-positive α) in
         omega arith
 
--- what is bounded by N at the degree d has no coefficient above N times the growth at d
+-- if f is bounded by N at the degree d, no coefficient of f exceeds N times the growth at d
 pub coefficient_within_growth : (N d n : ℕ) (f : Poly) → IsBounded N d n f → (α : List ℕ) → length α ≡ n → nat_abs (coefficient f α) ≤ N * growth Basis.monomials d
 coefficient_within_growth N d n f b α e = by (cases_lt d (size α))
   where
@@ -96,7 +96,7 @@ coefficient_within_growth N d n f b α e = by (cases_lt d (size α))
         let u = mul-le-mul_left (nat_abs (coefficient f α)) (factorials-positive α) in
         omega arith
 
--- a list with its coefficients made positive
+-- if a label does not occur in a list, it has the coefficient 0 there and in the list of absolute values
 absolute-missing : (terms : WholeTerms) (label : List ℕ) → (Among label (labels terms) → ⊥) → (coefficient terms label ≡ pos 0) × (coefficient (absolute terms) label ≡ pos 0)
 absolute-missing [] label h = (refl, refl)
 absolute-missing (t ∷ terms) label h =
@@ -117,7 +117,7 @@ coefficient-absolute (t ∷ terms) label o = by (same_or_not t.0 label) (coeffic
     by (inr n) r =
         rw (same_apart t.0 label n, +ℤ_idl (coefficient terms label), +ℤ_idl (coefficient (absolute terms) label)) r
 
--- it has the same bound
+-- if a list in m is bounded by N at the degree d, so is the list with the absolute values of its coefficients
 pub bounded-absolute : (N d n : ℕ) (terms : WholeTerms) → Once (labels terms) → IsBounded N d n (in_monomials terms n) → IsBounded N d n (in_monomials (absolute terms) n)
 bounded-absolute N d n terms o b = record {
   exponents = b.exponents;
@@ -142,7 +142,7 @@ bounded-absolute N d n terms o b = record {
         (sym (coefficient_outside n (in_monomials (absolute terms) n) α (In-monomial_terms (absolute terms) n) e))
         (nonnegative (coefficient (in_monomials terms n) α) (coefficient (powers b.exponents n) α) (b.majorant α))
 
--- the coefficients of a product of lists are those of the polynomial
+-- the coefficient of x^ν in the product of the polynomials of two lists A and B is `product_coefficient A B ν`
 pub coefficient-list_product : (A B : WholeTerms) (ν : List ℕ) → coefficient (times (in_monomials A (length ν)) (in_monomials B (length ν))) ν ≡ product_coefficient A B ν
 coefficient-list_product A B ν =
     let n = length ν in
@@ -153,7 +153,7 @@ coefficient-list_product A B ν =
     (splits ν)
     (λ s m. let k = length-splits ν s m in ap₂ ◌*ℤ◌ (coefficient-monomial_terms A n s.0 k.0) (coefficient-monomial_terms B n s.1 k.1))
 
--- so the product of two lists with absolute values has no coefficient above the product of the bounds
+-- no coefficient of the product of two lists with absolute values exceeds the product of the bounds
 pub product_within_growth : (N M d e : ℕ) (A B : WholeTerms) → Once (labels A) → Once (labels B)
     → ((n : ℕ) → IsBounded N d n (in_monomials A n)) → ((n : ℕ) → IsBounded M e n (in_monomials B n))
     → (ν : List ℕ) → nat_abs (product_coefficient (absolute A) (absolute B) ν) ≤ N * M * growth Basis.monomials (d + e)
@@ -165,9 +165,9 @@ product_within_growth N M d e A B o p h k ν =
     (bounded-absolute N d n A o (h n)) (bounded-absolute M e n B p (k n)))
     ν refl)
 
--- ---- weights
+-- ---- weights of expressions
 
--- the common multiple of two positive numbers
+-- (lcm(a, b)/a)·a is lcm(a, b)
 pub lcm-left : (a b : ℕ) → 0 < a → lcm a b / a * a ≡ lcm a b
 lcm-left a b h =
     let g = IsGcd-gcd a b in
@@ -197,7 +197,7 @@ denominator-positive (difference e f) h = lcm-positive (denominator e) (denomina
 denominator-positive (product e f) h =
     let r = mul-le (suc zero) (suc zero) (denominator e) (denominator f) (denominator-positive e h.0) (denominator-positive f h.1) in omega arith
 
--- the number that completes a denominator to the common multiple is positive
+-- if the denominators of e and f are positive, so is their least common multiple divided by that of e
 pub complement_left : (e f : Tree) → HasDenominators e → HasDenominators f → 0 < lcm (denominator e) (denominator f) / denominator e
 complement_left e f h k =
     positive_factor (lcm (denominator e) (denominator f) / denominator e) (denominator e) (lcm (denominator e) (denominator f))
@@ -222,7 +222,7 @@ numerator-positive (difference e f) h =
 numerator-positive (product e f) h =
     let r = mul-le (suc zero) (suc zero) (numerator e) (numerator f) (numerator-positive e h.0) (numerator-positive f h.1) in omega arith
 
--- the weight is at least N times the growth, and at least D
+-- the weight of e is at least N times the growth at its degree, and at least its denominator D
 pub growth-within_weight : (e : Tree) → HasDenominators e → numerator e * growth Basis.monomials (degree e) ≤ weight Basis.monomials e
 growth-within_weight e h = mul-le (numerator e) (growth Basis.monomials (degree e)) (numerator e * denominator e) (growth Basis.monomials (degree e)) (times-more (numerator e) (denominator e) (denominator-positive e h)) (omega arith)
 

@@ -24,11 +24,11 @@ use Rattle.sym_model.specs.WholeTerms.{WholeTerms, combined}
 abbrev pub in_monomials : WholeTerms → ℕ → Poly
 in_monomials terms n = combined (λ label. monomial label n) terms
 
--- the list is a family of polynomials, one for each number of variables
+-- the list has the value f n in n variables, for every n
 abbrev pub IsList : WholeTerms → (ℕ → Poly) → Type 0
 IsList terms f = (n : ℕ) → Same (in_monomials terms n) (f n)
 
--- the list is the cleared value of the expression
+-- the list is the cleared value of the expression e
 abbrev pub IsCleared : WholeTerms → Tree → Type 0
 IsCleared terms e = IsList terms (cleared_value e)
 

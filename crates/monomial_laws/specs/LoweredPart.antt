@@ -1,7 +1,7 @@
--- A number taken from one part (it goes the other way from a raised part).
+-- Subtracting a number from one part, the inverse of raising a part.
 use Rattle.std.specs.Prelude.{ℕ, ◌-◌, List, [], ◌∷◌, ◌++◌, map, cond, nat_le}
 
--- the lists got by taking a from one number that is at least a
+-- the lists obtained by subtracting a from one number that is at least a
 abbrev pub lowered : ℕ → List ℕ → List (List ℕ)
 lowered a [] = []
 lowered a (c ∷ α) =

@@ -1,9 +1,7 @@
--- Bounds of all coefficients of a polynomial at once: majorants (Cauchy),
--- here sums of powers of x_1 + .. + x_n.
--- The coefficient of x^α in (x_1 + .. + x_n)^d is the multinomial d!/Π α_i! where α has the sum d,
--- and 0 elsewhere.
--- Sums and products of majorants are majorants of sums and products, so a bound is a list of the
--- exponents of the powers: sums append the lists, products add each exponent to each.
+-- Bounds of all coefficients of a polynomial at once: majorants (Cauchy), here sums of powers of x_1 + .. + x_n. The
+-- coefficient of x^α in (x_1 + .. + x_n)^d is the multinomial d!/Π α_i! if α has the sum d, and 0 otherwise. Sums and
+-- products of majorants are majorants of sums and products, so a bound is a list of the exponents of the powers: sums
+-- append the lists, products add each exponent to each.
 use Rattle.std.specs.Prelude.{ℕ, ◌≤◌, pos, nat_abs, ◌≤ℤ◌, List, length, replicate, flat_map}
 use Rattle.sym_model.specs.Sum.{Among}
 use Rattle.sym_model.specs.Polynomial.{Poly, coefficient}

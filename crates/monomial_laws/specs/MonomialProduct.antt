@@ -1,5 +1,4 @@
--- The product of two monomial symmetric polynomials:
--- how often each partition stands in it (Macdonald, I.2).
+-- The product of two monomial symmetric polynomials: the coefficient of each partition (Macdonald, I.2).
 use Rattle.std.specs.Prelude.{ℕ, ◌-◌, ◌&&◌, ℤ, ◌*ℤ◌, List, [], ◌∷◌, map, length, filter, flat_map}
 use Rattle.sym_model.specs.Sum.{total}
 use Rattle.sym_model.specs.Polynomial.{same, coefficient}
@@ -7,21 +6,21 @@ use Rattle.sym_model.specs.Partition.{sorted_parts}
 use Rattle.sym_model.specs.Bases.{down_from}
 use Rattle.sym_model.specs.WholeTerms.{WholeTerms}
 
--- all pairs of exponent lists, of as many places as ν, that add up to ν place by place
+-- all pairs of exponent lists of the length of ν that add up to ν place by place
 abbrev pub splits : List ℕ → List (List ℕ × List ℕ)
 splits [] = ([], []) ∷ []
 splits (c ∷ ν) =
     flat_map (λ (b : ℕ). map (λ (s : List ℕ × List ℕ). (b ∷ s.0, (c - b) ∷ s.1)) (splits ν))
     (down_from c)
 
--- in how many ways ν is an arrangement of λ plus an arrangement of μ, zeros being put in: the
--- coefficient of m_ν in m_λ·m_μ
+-- the number of ways to write ν as an arrangement of λ plus an arrangement of μ, with zeros inserted: the coefficient
+-- of m_ν in m_λ·m_μ
 abbrev pub arrangements : List ℕ → List ℕ → List ℕ → ℕ
 arrangements left right ν =
     length (filter (λ (s : List ℕ × List ℕ). same (sorted_parts s.0) left
     && same (sorted_parts s.1) right) (splits ν))
 
--- the coefficient of m_ν in the product of two lists of terms in m: over all ways to split ν
+-- the coefficient of m_ν in the product of two lists of terms in m: the sum over all ways to split ν
 abbrev pub product_coefficient : WholeTerms → WholeTerms → List ℕ → ℤ
 product_coefficient left right ν =
     total (λ (s : List ℕ × List ℕ). coefficient left (sorted_parts s.0)

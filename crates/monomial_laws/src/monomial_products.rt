@@ -7,9 +7,10 @@ ghost use Rattle.sym_model.specs.Bases.{monomial};
 ghost use Rattle.sym_model.specs.WholeTerms.{WholeTerms, combined};
 ghost use Rattle.monomial_laws.specs.MonomialProduct.{arrangements, product_coefficient};
 
-/// The product of two monomial symmetric polynomials has each partition ν as often as ν is an
-/// arrangement of the one label plus an arrangement of the other, in every number of variables; so
-/// two lists of terms are multiplied coefficient by coefficient, over all pairs of their labels.
+/// In the product of two monomial symmetric polynomials, the coefficient of a partition ν is the
+/// number of ways to write ν as an arrangement of one label plus an arrangement of the other, in
+/// every number of variables; so two lists of terms are multiplied coefficient by coefficient, over
+/// all pairs of their labels.
 ///
 /// Examples: m_(1)·m_(1) = m_(2) + 2·m_(1,1), and m_(2,1)·m_(1) has m_(2,1,1) twice.
 pub fn monomial_product_law()

@@ -1,4 +1,4 @@
--- The first arrangement of a list of numbers in falling lexicographic order, and the one that comes next.
+-- The first arrangement of a list of numbers in decreasing lexicographic order, and the next one.
 use Rattle.std.proofs.Common.{◌≡◌, ◌⊎◌, ℕ, zero, suc, ◌+◌, ◌-◌, ◌<◌, ◌≤◌, Bool, true, false, cond, eqb, List, [], ◌∷◌, ◌++◌, map, length, replicate, refl, sym, ap, ap₂, subst, ◌∙◌, inl, inr, arith, nat_le, reverse, take, drop, get_or, length-append, length-drop, length-take, append_assoc, filter, flat_map}
 use Rattle.std.proofs.Math.Nat.{eq-or-lt_of_le}
 use Rattle.std.proofs.lemmas.List.{length-reverse, length-replicate, reverse-append, take-append-drop, get_or-take, get_or-append-add, take_more}
@@ -21,9 +21,9 @@ use Rattle.sym_model.proofs.Lists.{select-each, select-map, select-none, select-
 use Rattle.partitions.specs.Arranging.{beginning_with, beginning_below, arrangements_after, Rises}
 use Rattle.sym_model.specs.Bounded.{AreAtLeast}
 
--- ---- lists that are chosen from
+-- ---- lists made for each of the numbers a, .., 1
 
--- where the greatest numbers give nothing
+-- if f(c) is empty for each c from b + 1 to a, the lists of f for a, .., 1 are those for b, .., 1
 each-skip :
     (f : ℕ → List (List ℕ)) (a b : ℕ) → b ≤ a → ((c : ℕ) → b < c → c ≤ a → f c ≡ [])
     → flat_map f (down_from a) ≡ flat_map f (down_from b)
@@ -40,9 +40,9 @@ each-none f zero none = ap (λ xs. xs ++ []) (none 0 (omega arith))
 each-none f (suc a) none =
     ap₂ (λ xs ys. xs ++ ys) (none (suc a) (omega arith)) (each-none f a (λ c h. none c (omega arith)))
 
--- ---- sorted lists
+-- ---- lists in decreasing order
 
--- one number put into two sorted lists
+-- inserting b into two sorted lists σ and τ gives equal lists if and only if σ and τ are equal
 same-insert_part : (b : ℕ) (σ τ : List ℕ) → same (insert_part b σ) (insert_part b τ) ≡ same σ τ
 same-insert_part b σ τ = by (same_or_not σ τ)
   where
@@ -51,15 +51,15 @@ same-insert_part b σ τ = by (same_or_not σ τ)
     by (inr n) =
         same_apart (insert_part b σ) (insert_part b τ) (λ e. n (insert_part-injective b σ τ e)) ∙ sym (same_apart σ τ n)
 
--- lists of as many numbers that have each positive number equally often sort alike
+-- if each positive number has the same multiplicity in α and β, both sort to the same partition
 pub sorted-from_counts : (α β : List ℕ) → ((k : ℕ) → 0 < k → times_in k α ≡ times_in k β) → sorted_parts α ≡ sorted_parts β
 sorted-from_counts α β h =
     partition_from_counts (sorted_parts α) (sorted_parts β) (IsPartition-sorted_parts α) (IsPartition-sorted_parts β)
     (λ k p. times_in-sorted_parts k α p ∙ h k p ∙ sym (times_in-sorted_parts k β p))
 
--- ---- which lists begin with a number
+-- ---- the arrangements that begin with a given number
 
--- none, where the number is not one of the numbers
+-- if c > 0 is not among the numbers of α, no arrangement of α begins with c
 absent : (c : ℕ) (α : List ℕ) (n d : ℕ) → 0 < c → times_in c α ≡ 0 → beginning_with c (sorted_parts α) n d ≡ []
 absent c α n d p none =
     ap (map (λ β. c ∷ β))
@@ -70,7 +70,7 @@ absent c α n d p none =
     times_in-insert_part c c (sorted_parts β) p ∙ ap (λ b. cond b 1 0 + times_in c (sorted_parts β)) (eq-eqb c c refl) in
     omega (arith, ap (times_in c) e, times_in-sorted_parts c α p))))
 
--- none with a zero, where each number is positive
+-- if all numbers of α are positive, sorting keeps all of them, so none of the arrangements has a 0
 ArePositive-rows : (α : List ℕ) → ArePositive α → length (sorted_parts α) ≡ length α
 ArePositive-rows [] p = refl
 ArePositive-rows (a ∷ α) p = one_more a (sorted_parts α) p.0 ∙ ap suc (ArePositive-rows α p.1)
@@ -95,7 +95,7 @@ no_zero α n d p h =
     let places = (members_of-exponent_lists β n (d - 0) m).0 in
     omega (arith, ap length e, ArePositive-rows α p))))
 
--- ---- the first arrangement
+-- ---- the first arrangement of a list
 
 -- the lists of n numbers with the sum d that sort to these parts
 abbrev pub sorting_to : List ℕ → ℕ → ℕ → List (List ℕ)
@@ -109,7 +109,7 @@ sorting_to-each parts n d =
     ∙ each-ext (λ a. filter test (map (λ α. a ∷ α) (exponent_lists n (d - a)))) (λ b. beginning_with b parts n d) (down_from d)
     (λ a. select-map test (λ α. a ∷ α) (exponent_lists n (d - a)))
 
--- the lists that begin with the first number of b ∷ g, where g is the first arrangement of the others
+-- if g is the first arrangement of its numbers, the arrangements of b ∷ g that begin with b start with b ∷ g
 beginning_with-head :
     (b : ℕ) (g : List ℕ) → sorting_to (sorted_parts g) (length g) (size g) ≡ g ∷ arrangements_after g
     → beginning_with b (sorted_parts (b ∷ g)) (length g) (b + size g) ≡ (b ∷ g) ∷ map (λ α. b ∷ α) (arrangements_after g)
@@ -130,14 +130,14 @@ head zero g first = ap (λ xs. xs ++ []) (beginning_with-head zero g first)
 head (suc b) g first =
     ap (λ xs. xs ++ beginning_below (suc b) (sorted_parts (suc b ∷ g)) (length g) (suc b + size g)) (beginning_with-head (suc b) g first)
 
--- no number of a falling list is greater than the first
+-- no number of a weakly decreasing list is greater than the first
 greater_absent : (c b : ℕ) (g : List ℕ) → Falls (b ∷ g) → b < c → times_in c (b ∷ g) ≡ 0
 greater_absent c b [] f h = ap (λ t. cond t 1 0 + 0) (ne_eqb b c (omega arith))
 greater_absent c b (d ∷ g) f h =
     ap (λ t. cond t 1 0 + times_in c (d ∷ g)) (ne_eqb b c (omega arith))
     ∙ omega (arith, greater_absent c d g f.1 (omega (arith, f.0)))
 
--- a falling list stands first among its arrangements
+-- a weakly decreasing list is the first of its arrangements
 pub first_arrangement :
     (g : List ℕ) → Falls g → sorting_to (sorted_parts g) (length g) (size g) ≡ g ∷ arrangements_after g
 unfolding arrangements_after
@@ -149,7 +149,7 @@ first_arrangement (b ∷ g) f =
     (λ c h l. absent c (b ∷ g) (length g) (b + size g) (omega arith) (greater_absent c b g f h))
     ∙ head b g (first_arrangement g (Falls_tail b g f))
 
--- ---- the one that comes next
+-- ---- the arrangement after a given one
 
 Rises_tail : (a : ℕ) (s : List ℕ) → Rises (a ∷ s) → Rises s
 Rises_tail a [] r = tt
@@ -165,7 +165,7 @@ ArePositive-rising : (a : ℕ) (s : List ℕ) → Rises (a ∷ s) → 0 < a → 
 ArePositive-rising a [] r h = (h, tt)
 ArePositive-rising a (b ∷ s) r h = (h, ArePositive-rising b s r.1 (omega (arith, r.0)))
 
--- nothing comes after a rising list
+-- there is no arrangement after a weakly increasing list
 pub arrangements_after-rising : (s : List ℕ) → Rises s → arrangements_after s ≡ []
 unfolding arrangements_after
 arrangements_after-rising [] r = refl
@@ -186,8 +186,8 @@ arrangements_after-rising (a ∷ s) r =
         each_number (suc c) h z =
             absent (suc c) (suc b ∷ s) (length s) (suc b + size s) (omega arith) (smaller_absent (suc c) (suc b) s r (omega arith))
 
--- where the numbers after the first rise: the greatest number that is smaller than the first comes to the front, and
--- the others fall
+-- if the numbers after the first are weakly increasing, the next arrangement begins with the greatest number b below
+-- the first one a, followed by the others in weakly decreasing order
 pub arrangements_after-step :
     (a b : ℕ) (s g : List ℕ) → Rises s → Falls g → b < a → length s ≡ length g
     → ((k : ℕ) → times_in k (a ∷ s) ≡ times_in k (b ∷ g)) → ((c : ℕ) → b < c → c < a → times_in c (a ∷ s) ≡ 0)
@@ -206,7 +206,7 @@ arrangements_after-step (suc a) b s g r f h l counts between =
     ∙ ap₂ (λ n d. flat_map (λ c. beginning_with c (sorted_parts (b ∷ g)) n d) (down_from b)) l sum
     ∙ head b g (first_arrangement g f)
 
--- the numbers in front stay
+-- if `next` follows `now`, and both have the same numbers, `front ++ next` follows `front ++ now`
 pub arrangements_after-append :
     (front now next : List ℕ) → arrangements_after now ≡ next ∷ arrangements_after next
     → sorted_parts now ≡ sorted_parts next → length now ≡ length next
@@ -228,7 +228,7 @@ arrangements_after-append (a ∷ front) now next h p l =
     sorted-append [] now next p = p
     sorted-append (b ∷ front) now next p = ap (insert_part b) (sorted-append front now next p)
 
--- ---- the exchange of a number with the first smaller one of a falling list
+-- ---- exchanging a number with the first smaller one of a weakly decreasing list
 
 reverse-cons : (a : ℕ) (s : List ℕ) → reverse (a ∷ s) ≡ reverse s ++ a ∷ []
 reverse-cons a s = reverse-append (a ∷ []) s
@@ -282,7 +282,7 @@ Falls-reverse (a ∷ s) r =
     subst Falls (sym (reverse-cons a s))
     (Falls-push (reverse s) a (Falls-reverse s (Rises_tail a s r)) (AtLeast-reverse a s (AtLeast-rising a a s (omega arith) r)))
 
--- the next arrangement, as it is made: the rising end is turned round, and the number in front of it changes places
+-- if the end s of a list is weakly increasing and the number a before it is greater than one of s, the next arrangement reverses s and exchanges a
 -- with the first number there that is smaller
 pub next_arrangement :
     (before s front back : List ℕ) (a b : ℕ) → Rises s → reverse s ≡ front ++ b ∷ back → AreAtLeast a front → b < a
@@ -304,7 +304,7 @@ next_arrangement before s front back a b r e m h =
     arrangements_after-append before (a ∷ s) (b ∷ (front ++ a ∷ back)) step
     (sorted-from_counts (a ∷ s) (b ∷ (front ++ a ∷ back)) (λ k p. counts k)) (ap suc places)
 
--- ---- the places of these parts in a list
+-- ---- the next arrangement by the places of the buffer
 
 Rises-short : (xs : List ℕ) → length xs ≤ 1 → Rises xs
 Rises-short [] h = tt
@@ -360,7 +360,7 @@ swap_parts before front back a b i j e f =
     ∙ set-append_seam (before ++ b ∷ front) b back a
     ∙ append_assoc before (b ∷ front) (a ∷ back)
 
--- the last number of a list with its end turned round
+-- the last number of a list whose end from `behind` on is reversed is the number at `behind` before
 pub last-turned :
     (old : List ℕ) (behind : ℕ) → behind < length old
     → get_or (take behind old ++ reverse (drop behind old)) (length (take behind old ++ reverse (drop behind old)) - 1) 0
@@ -376,7 +376,8 @@ last-turned old behind h =
     ap (λ l. get_or l (length l - 1) 0) parts ∙ ap (λ n. get_or (rest ++ c ∷ []) n 0) long
     ∙ get_or-append_seam rest c [] 0
 
--- the list at three steps: before, with its end turned round, and with two numbers exchanged
+-- `old` is the list at the start, `turned` the list with its weakly increasing end reversed, and `new` the list with two numbers exchanged: then
+-- `new` is the next arrangement
 pub next_by_places :
     (old turned new : List ℕ) (behind low : ℕ) → 0 < behind → behind < length old
     → Rises (drop behind old) → turned ≡ take behind old ++ reverse (drop behind old)
@@ -423,7 +424,7 @@ next_by_places old turned new behind low p h r e l m below above f =
     ap arrangements_after whole ∙ next_arrangement before s front back a b r tail least smaller
     ∙ ap (λ l. l ∷ arrangements_after l) (sym new_is)
 
--- ---- the first one of a partition
+-- ---- a partition followed by zeros is the first arrangement
 
 Falls-padded : (parts : List ℕ) (n : ℕ) → Falls parts → Falls (parts ++ replicate n 0)
 Falls-padded [] n f = Falls-zeros n

@@ -14,8 +14,6 @@ IsWithinLimits-conjugate parts h few = record {
   small = omega (arith, size-conjugate parts h.partition.falls, h.small);
 }
 
--- ---- one number more
-
 pub map_after-more : (f : ℕ → ℕ) (k : ℕ) → map f (after 0 (k + 1)) ≡ map f (after 0 k) ++ f (k + 1) ∷ []
 map_after-more f k =
     let e : 0 + k + 1 ≡ k + 1 = omega arith in

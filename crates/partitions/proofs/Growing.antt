@@ -24,7 +24,8 @@ more_partitions (shape ∷ shapes) next are is parts (inr later) =
 not_more : (a b : ℕ) → (b < a → ⊥) → a ≤ b
 not_more a b h = omega (arith, h)
 
--- factors and one more that makes them not too big
+-- if `shapes` are fewer than 8 factors with these sums, and `next` does not make them too big, they are factors with `next` appended, whose sums are
+-- greater by its size and rows
 pub HasSums-grown : (shapes items : List (List ℕ)) (next : List ℕ) (cells many a b : ℕ) → HasSums shapes cells many → IsPartition next
     → length shapes < 8 → (AreTooBig (shapes ++ next ∷ []) → ⊥) → items ≡ shapes ++ next ∷ [] → a ≡ size next → b ≡ rows next
     → HasSums items (cells + a) (many + b)
@@ -42,7 +43,7 @@ HasSums-grown shapes items next cells many a b had is room small e cells_are row
   rows_are = let e = more_rows shapes next in omega (arith, had.rows_are);
 })
 
--- the sums tell whether the factors with one more are too big
+-- the factors with `next` appended are too big if and only if the sums with its size and rows added exceed 4096 or 512
 pub AreTooBig-grown : (shapes : List (List ℕ)) (next : List ℕ) (cells many a b : ℕ) → HasSums shapes cells many
     → a ≡ size next → b ≡ rows next
     → (AreTooBig (shapes ++ next ∷ []) → (4096 < cells + a) ⊎ (512 < many + b))

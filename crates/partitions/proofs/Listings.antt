@@ -1,4 +1,4 @@
--- The first partition of a list, and the one that comes next.
+-- The first partition of a list, and the next one.
 use Rattle.std.proofs.Common.{◌≡◌, ℕ, zero, suc, ◌+◌, ◌-◌, ◌<◌, ◌≤◌, min, List, [], ◌∷◌, ◌++◌, map, length, sym, ◌∙◌, ap, ap₂, refl, arith, flat_map}
 use Rattle.std.proofs.Math.Nat.{min-le_right, le-min, min-eq_left}
 use Rattle.sym_model.specs.Partition.{ArePositive, size}
@@ -7,7 +7,7 @@ use Rattle.sym_model.proofs.PartitionLists.{partitions_within-rows}
 use Rattle.sym_model.proofs.Parts.{size-append}
 use Rattle.partitions.specs.Listing.{greatest_within, partitions_after, AreOnes}
 
--- ---- the greatest parts
+-- ---- the greatest partition of d with parts up to `most`
 
 min-positive : (m d : ℕ) → 0 < m → 0 < min m (suc d)
 min-positive m d h = let one : 1 ≤ m = omega arith in let other : 1 ≤ suc d = omega arith in le-min one other
@@ -32,7 +32,7 @@ ArePositive-greatest_within (suc rows) (suc d) most p =
     let positive : 0 < min most (suc d) = min-positive most d (p (omega arith)) in
     (positive, ArePositive-greatest_within rows (suc d - min most (suc d)) (min most (suc d)) (λ _. positive))
 
--- one part of it
+-- if d > 0, the greatest partition of d with parts up to `most` begins with a = min(most, d), followed by that of d - a with parts up to a
 pub greatest_within-step :
     (d most rows : ℕ) → 0 < d → 0 < rows
     → greatest_within d most rows ≡ min most d ∷ greatest_within (d - min most d) (min most d) (rows - 1)
@@ -43,7 +43,7 @@ greatest_within-step (suc d) most (suc rows) h g =
     let e : suc rows - 1 ≡ rows = omega arith in
     ap (λ r. min most (suc d) ∷ greatest_within (suc d - min most (suc d)) (min most (suc d)) r) (sym e)
 
--- ---- it stands first
+-- ---- the greatest partition is the first one
 
 partitions_within-none : (rows d : ℕ) → 0 < d → partitions_within d 0 rows ≡ []
 unfolding partitions_within
@@ -56,7 +56,8 @@ partitions_within-none (suc rows) (suc d) h =
 same_size : (d e m n : ℕ) → d ≡ e → m ≡ n → partitions_within d m d ≡ partitions_within e n e
 same_size d e m n p q = ap₂ (λ x y. partitions_within x y x) p q
 
--- the lists that begin with a number up to a, where those after the first part a begin with g
+-- if the partitions of suc d with the first part a begin with a ∷ g, then the list of those with a first part up to a begins with a ∷ g and goes on
+-- with those after it
 starts :
     (rows d a : ℕ) (g : List ℕ) → 0 < a → a ≤ suc d → d ≤ rows → size g ≡ suc d - a
     → partitions_within (suc d - a) a rows ≡ g ∷ partitions_after g
@@ -91,13 +92,13 @@ partitions_within-first (suc rows) (suc d) most h p =
     (size-greatest_within rows (suc d - min most (suc d)) (min most (suc d)) room (λ _. positive))
     (partitions_within-first rows (suc d - min most (suc d)) (min most (suc d)) room (λ _. positive))
 
--- ---- the one that comes next
+-- ---- the partition after a given one
 
 pub size-AreOnes : (xs : List ℕ) → AreOnes xs → size xs ≡ length xs
 size-AreOnes [] o = refl
 size-AreOnes (a ∷ xs) o = omega (arith, o.0, size-AreOnes xs o.1)
 
--- nothing comes after ones
+-- if all parts are 1, no partition follows
 pub partitions_after-ones : (xs : List ℕ) → AreOnes xs → partitions_after xs ≡ []
 unfolding partitions_after
 partitions_after-ones [] o = refl
@@ -108,7 +109,7 @@ partitions_after-ones (a ∷ xs) o =
     ∙ partitions_within-none (a + size xs) (a + size xs) (omega (arith, o.0)) in
     ap₂ (λ xs ys. map (λ x. a ∷ x) xs ++ ys) (partitions_after-ones xs o.1) none
 
--- after a part above 1 and then ones come the partitions with that part one smaller
+-- if a part a > 1 is followed only by parts 1, the next partition is the greatest one of this size with no part above a - 1
 pub partitions_after-part :
     (a rows : ℕ) (ones : List ℕ) → 1 < a → AreOnes ones → a + length ones ≤ rows
     → partitions_after (a ∷ ones)
@@ -125,7 +126,7 @@ pub ArePositive-append : (xs ys : List ℕ) → ArePositive xs → ArePositive y
 ArePositive-append [] ys p q = q
 ArePositive-append (x ∷ xs) ys p q = (p.0, ArePositive-append xs ys p.1 q)
 
--- the parts in front stay
+-- if `next` follows `now`, of the same size, then `front ++ next` follows `front ++ now`
 pub partitions_after-append :
     (front now next : List ℕ) → partitions_after now ≡ next ∷ partitions_after next → size now ≡ size next
     → partitions_after (front ++ now) ≡ (front ++ next) ∷ partitions_after (front ++ next)

@@ -13,7 +13,7 @@ nat_cmp-zero b h = sym (nat_cmp_is b 0 Greater h)
 zero-nat_cmp : (b : ℕ) → 0 < b → nat_cmp 0 b ≡ Less
 zero-nat_cmp b h = sym (nat_cmp_is 0 b Less h)
 
--- at positive numbers, a missing one being 0 is the order of lists turned round
+-- for lists of positive numbers, decreasing lexicographic order, with 0 for missing numbers, is the reversed order of lists
 pub falling_lexicographic-slice_cmp :
     (xs ys : List ℕ) → ArePositive xs → ArePositive ys → falling_lexicographic xs ys ≡ slice_cmp nat_cmp ys xs
 falling_lexicographic-slice_cmp [] [] p q = refl
@@ -24,7 +24,7 @@ falling_lexicographic-slice_cmp (x ∷ xs) [] p q =
 falling_lexicographic-slice_cmp (x ∷ xs) (y ∷ ys) p q =
     ap (ordering_then (nat_cmp y x)) (falling_lexicographic-slice_cmp xs ys p.1 q.1)
 
--- the printed order of partitions by the order of lists
+-- for lists of positive numbers, comparing first by size and then by the reversed order of lists gives the printed order
 pub printed_order-slice_cmp :
     (xs ys : List ℕ) → ArePositive xs → ArePositive ys
     → ordering_then (nat_cmp (size ys) (size xs)) (slice_cmp nat_cmp ys xs) ≡ printed_order xs ys

@@ -1,4 +1,4 @@
--- Falling lists, sizes, and zeros at the end of a list.
+-- Weakly decreasing lists, sizes, and zeros at the end of a list.
 use Rattle.std.proofs.Common.{◌≡◌, ℕ, zero, suc, ◌+◌, ◌-◌, ◌<◌, ◌≤◌, List, [], ◌∷◌, ◌++◌, length, take, get_or, refl, sym, ap, ◌∙◌, subst, arith, length-take}
 use Rattle.std.proofs.lemmas.List.{take_more, get_or-take}
 use Rattle.sym_model.specs.Partition.{IsPartition, Falls, ArePositive, size, in_front, without_last_zeros}
@@ -12,7 +12,7 @@ in_front-push : (a : ℕ) (xs : List ℕ) (b : ℕ) → in_front a (xs ++ b ∷ 
 in_front-push a [] b = in_front-more a b []
 in_front-push a (x ∷ xs) b = in_front-more a x (xs ++ b ∷ [])
 
--- a list whose last number is positive stays as it is
+-- a list whose last number is positive has no zeros to remove
 pub without_last_zeros-positive :
     (xs : List ℕ) (b : ℕ) → 0 < b → without_last_zeros (xs ++ b ∷ []) ≡ xs ++ b ∷ []
 without_last_zeros-positive [] zero h = absurd (omega arith)
@@ -20,7 +20,7 @@ without_last_zeros-positive [] (suc b) h = refl
 without_last_zeros-positive (x ∷ xs) b h =
     ap (in_front x) (without_last_zeros-positive xs b h) ∙ in_front-push x xs b
 
--- where the last of the first n + 1 numbers is 0, the first n numbers give the same list
+-- if the number at index n is 0, the first n and the first n + 1 numbers give the same list without zeros
 pub cut-zero :
     (xs : List ℕ) (n : ℕ) → n < length xs → get_or xs n 0 ≡ 0
     → without_last_zeros (take n xs) ≡ without_last_zeros (take (n + 1) xs)
@@ -28,7 +28,7 @@ cut-zero xs n h z =
     sym (ap without_last_zeros (take_more xs n 0 h) ∙ ap (λ a. without_last_zeros (take n xs ++ a ∷ [])) z
     ∙ without_last_zeros-zero (take n xs))
 
--- where it is positive, they stay as they are
+-- if the number at index n is positive, the first n + 1 numbers have no zeros to remove
 pub cut-positive :
     (xs : List ℕ) (n : ℕ) → n < length xs → 0 < get_or xs n 0
     → without_last_zeros (take (n + 1) xs) ≡ take (n + 1) xs
@@ -36,7 +36,7 @@ cut-positive xs n h p =
     ap without_last_zeros (take_more xs n 0 h) ∙ without_last_zeros-positive (take n xs) (get_or xs n 0) p
     ∙ sym (take_more xs n 0 h)
 
--- a list falls where no number is greater than the one before it
+-- a list is weakly decreasing if no number is greater than the one before it
 pub Falls-from :
     (xs : List ℕ) → ((k : ℕ) → suc k < length xs → get_or xs (suc k) 0 ≤ get_or xs k 0) → Falls xs
 Falls-from [] h = tt
@@ -60,7 +60,7 @@ Falls-take xs n m h =
     let here : k < n = omega arith in
     rw (get_or-take n xs (suc k) 0, get_or-take n xs k 0) (h k below))
 
--- a list that falls rises nowhere
+-- in a weakly decreasing list no number is greater than the one before it
 pub Falls-rises : (xs : List ℕ) (at : ℕ) → Falls xs → RisesFirstAt xs at → ⊥
 Falls-rises xs zero f r = omega (arith, r.later)
 Falls-rises xs (suc k) f r =
@@ -68,7 +68,7 @@ Falls-rises xs (suc k) f r =
     let up : get_or xs k 0 < get_or xs (suc k) 0 = subst (λ i. get_or xs i 0 < get_or xs (suc k) 0) e r.rises in
     omega (arith, Falls-at xs f k r.within)
 
--- the first rise is not after another rise
+-- after the first increase of a list there is no other first one
 rises-first :
     (xs : List ℕ) (a b : ℕ) → RisesFirstAt xs a → RisesFirstAt xs b → a < b → ⊥
 rises-first xs zero b r s h = omega (arith, r.later)
@@ -83,11 +83,11 @@ rises-first xs (suc k) b r s h =
     rw (get_or-take b xs (suc k) 0, get_or-take b xs k 0) at down in
     omega arith
 
--- there is one first rise
+-- if a and b are both the first place with an increase, a is b
 pub rises-same : (xs : List ℕ) (a b : ℕ) → RisesFirstAt xs a → RisesFirstAt xs b → a ≡ b
 rises-same xs a b r s = omega (arith, rises-first xs a b r s, rises-first xs b a s r)
 
--- a falling list without zeros at its end is a partition
+-- a weakly decreasing list without zeros at its end is a partition
 in_front-positive : (a : ℕ) (xs : List ℕ) → (Falls xs → ArePositive xs) → Falls (in_front a xs) → ArePositive (in_front a xs)
 in_front-positive zero [] p f = tt
 in_front-positive (suc a) [] p f = (omega arith, tt)

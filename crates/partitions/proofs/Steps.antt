@@ -10,12 +10,13 @@ use Rattle.sym_model.proofs.Parts.{size-append}
 use Rattle.partitions.specs.Listing.{greatest_within, partitions_after, AreOnes, HoldsParts}
 use Rattle.partitions.proofs.Listings.{greatest_within-step, size-AreOnes, partitions_after-part, partitions_after-append, ArePositive-append, size-greatest_within, ArePositive-greatest_within, partitions_within-first}
 
--- the buffer after a write of all its places
+-- writing n numbers into a buffer makes them its first n places
 pub all_written : (n : ℕ) (xs ys : List ℕ) → length xs ≡ n → take n (xs ++ drop (length xs) ys) ≡ xs
 all_written n xs ys e =
     subst (λ k. take k (xs ++ drop (length xs) ys) ≡ xs) e (take-append_seam xs (drop (length xs) ys))
 
--- one part written
+-- writing min(part, left) into the buffer, and after it the greatest partition of the rest, gives the same list as writing the greatest partition of
+-- `left`
 pub fill-step :
     (xs : List ℕ) (at left part p : ℕ) → at < length xs → 0 < left → p ≡ min part left
     → take (at + 1) (set xs at p) ++ greatest_within (left - p) p (length (set xs at p) - (at + 1))
@@ -37,7 +38,7 @@ ArePositive-back : (xs ys : List ℕ) → ArePositive (xs ++ ys) → ArePositive
 ArePositive-back [] ys p = p
 ArePositive-back (x ∷ xs) ys p = ArePositive-back xs ys p.1
 
--- the parts in the buffer are those in front, one part above 1, and ones
+-- the parts in the buffer are its first above - 1 places, the part at above - 1, which is more than 1, and then only parts 1
 pub record Cuts (buffer : List ℕ) (rows above : ℕ) : Type 0 where
   pub parts :
       take rows buffer ≡ take (above - 1) buffer ++ get_or buffer (above - 1) 0 ∷ drop above (take rows buffer)
@@ -93,7 +94,7 @@ cuts buffer rows above h nonzero within ones other_part =
       room = omega arith;
     }
 
--- the partition that is then written comes next
+-- the partition that is written after a `Cuts` step is the next one after the partition in the buffer
 pub next_is :
     (buffer : List ℕ) (rows above : ℕ) (next : List ℕ) → Cuts buffer rows above
     → next ≡ take (above - 1) buffer
@@ -142,7 +143,7 @@ next_holds buffer next rows above result h c l r e =
           ∙ omega (arith, c.sum, l, size-greatest_within room (p + (rows - above)) (p - 1) fits (λ _. omega (arith, c.part)));
     }
 
--- the first partition of d in a buffer of d places
+-- filling a buffer of d places with the greatest partition of d gives a buffer that holds the parts of a partition of d
 pub first_holds :
     (d : ℕ) (before after : List ℕ) (rows : ℕ) → d ≤ 512 → length before ≡ d → length after ≡ d → rows ≤ length after
     → take rows after ≡ take 0 before ++ greatest_within d d (length before - 0) → HoldsParts after rows

@@ -1,5 +1,4 @@
--- How the arrangements of numbers in places are listed one after the other:
--- what comes after one of them.
+-- The order of the arrangements of numbers in places: the arrangements after a given one.
 use Rattle.std.specs.Prelude.{ℕ, zero, suc, ◌+◌, ◌-◌, ◌≤◌, List, [], ◌∷◌, ◌++◌, map, length, filter}
 use Rattle.std.specs.Prelude.{flat_map}
 use Rattle.sym_model.specs.Polynomial.{same}
@@ -8,19 +7,19 @@ use Rattle.sym_model.specs.Bases.{down_from, exponent_lists}
 use Rattle.partitions.specs.declared.listing.Stage.{Stage}
 use Rattle.partitions.specs.declared.listing.Stage.TheVariants.{New, Listing, Ended}
 
--- the lists that begin with b, have n numbers more, the sum d, and sort to these parts
+-- the lists that begin with b, followed by n numbers, with the sum d, that sort to these parts
 abbrev pub beginning_with : ℕ → List ℕ → ℕ → ℕ → List (List ℕ)
 beginning_with b parts n d =
     map (λ α. b ∷ α) (filter (λ α. same (insert_part b (sorted_parts α)) parts)
     (exponent_lists n (d - b)))
 
--- those that begin with a number below a
+-- the lists that begin with a number below a, followed by n numbers, with the sum d, that sort to these parts
 abbrev pub beginning_below : ℕ → List ℕ → ℕ → ℕ → List (List ℕ)
 beginning_below zero parts n d = []
 beginning_below (suc a) parts n d = flat_map (λ b. beginning_with b parts n d) (down_from a)
 
--- the arrangements of the same numbers after this one in falling lexicographic order: first those
--- with the same first number, then those with a smaller one
+-- the arrangements of the same numbers after this one in decreasing lexicographic order: first those with the same
+-- first number, then those with a smaller one
 unfoldable pub arrangements_after : List ℕ → List (List ℕ)
 arrangements_after [] = []
 arrangements_after (a ∷ α) =
@@ -33,7 +32,7 @@ Rises [] = Unit {0}
 Rises (a ∷ []) = Unit {0}
 Rises (a ∷ b ∷ numbers) = (a ≤ b) × Rises (b ∷ numbers)
 
--- the arrangements still to come, where these numbers are in the buffer
+-- the arrangements that are still to be listed, if these numbers are in the buffer
 abbrev pub arrangements_at : Stage → List ℕ → List (List ℕ)
 arrangements_at New numbers = numbers ∷ arrangements_after numbers
 arrangements_at Listing numbers = arrangements_after numbers

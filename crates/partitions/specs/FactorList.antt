@@ -1,4 +1,4 @@
--- Which lists of partitions are the factors of a product.
+-- The lists of partitions that are the factors of a product.
 use Rattle.std.specs.Prelude.{◌≡◌, ℕ, ◌<◌, ◌≤◌, ◌⊎◌, List, length, map}
 use Rattle.sym_model.specs.Sum.{Among}
 use Rattle.sym_model.specs.Partition.{IsPartition, size, rows}
@@ -17,7 +17,7 @@ pub record AreSmall (shapes : List (List ℕ)) : Type 0 where
   pub cells : cells_of shapes ≤ 4096
   pub rows : rows_of shapes ≤ 512
 
--- 2 to 8 such shapes
+-- 2 to 8 partitions, with at most 4096 cells and at most 512 rows in all
 pub record AreFactors (shapes : List (List ℕ)) : Type 0 where
   pub least : 2 ≤ length shapes
   pub most : length shapes ≤ 8
@@ -27,7 +27,7 @@ pub record AreFactors (shapes : List (List ℕ)) : Type 0 where
 abbrev pub AreTooBig : List (List ℕ) → Type 0
 AreTooBig shapes = (4096 < cells_of shapes) ⊎ (512 < rows_of shapes)
 
--- the shapes are factors, with that number of cells and rows
+-- the shapes are 2 to 8 factors, with `cells` cells and `rows` rows in all
 pub record HasSums (shapes : List (List ℕ)) (cells rows : ℕ) : Type 0 where
   pub factors : AreFactors shapes
   pub cells_are : cells ≡ cells_of shapes

@@ -1,20 +1,19 @@
--- How the partitions of a number are listed one after the other: what stands first,
--- and what comes after a partition.
+-- The order of the partitions of a number: the first one, and those after a given one.
 use Rattle.std.specs.Prelude.{◌≡◌, ℕ, zero, suc, ◌+◌, ◌-◌, ◌≤◌, min, List, [], ◌∷◌, ◌++◌, map}
 use Rattle.std.specs.Prelude.{length, take}
 use Rattle.sym_model.specs.Partition.{ArePositive, size}
 use Rattle.sym_model.specs.PartitionList.{partitions_within}
 
--- the first partition of a size with no part above `most` and at most that number of rows:
--- each part as great as it can be
+-- the first partition of a size in decreasing lexicographic order with no part above `most` and at most `rows` rows,
+-- if there is one: each part as great as it can be
 unfoldable pub greatest_within : ℕ → ℕ → ℕ → List ℕ
 greatest_within zero most rows = []
 greatest_within (suc left) most zero = []
 greatest_within (suc left) most (suc rows) =
     let a = min most (suc left) in a ∷ greatest_within (suc left - a) a rows
 
--- the partitions of the same size after this one in falling lexicographic order: first those with
--- the same first part, then those with a smaller one
+-- the partitions of the same size after this one in decreasing lexicographic order: first those with the same first
+-- part, then those with a smaller one
 unfoldable pub partitions_after : List ℕ → List (List ℕ)
 partitions_after [] = []
 partitions_after (a ∷ parts) =
@@ -26,8 +25,7 @@ abbrev pub AreOnes : List ℕ → Type 0
 AreOnes [] = Unit {0}
 AreOnes (a ∷ numbers) = (a ≡ 1) × AreOnes numbers
 
--- the first `rows` places of the buffer hold positive numbers,
--- and it has as many places as their sum, at most 512
+-- the first `rows` places of the buffer hold positive numbers, and its length is their sum, at most 512
 pub record HoldsParts (buffer : List ℕ) (rows : ℕ) : Type 0 where
   pub rows_in : rows ≤ length buffer
   pub few : length buffer ≤ 512

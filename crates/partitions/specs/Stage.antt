@@ -1,16 +1,16 @@
--- What a lister of partitions has before it, and what is current.
+-- The items of a lister of partitions: those still to be listed, and the current one, for each stage of the lister.
 use Rattle.std.specs.Prelude.{ℕ, List, [], ◌∷◌, Option, Some, None}
 use Rattle.partitions.specs.declared.listing.Stage.{Stage}
 use Rattle.partitions.specs.declared.listing.Stage.TheVariants.{New, Listing, Ended}
 use Rattle.partitions.specs.Listing.{partitions_after}
 
--- the partitions still to come, where these parts are in the buffer
+-- the partitions that are still to be listed, if these parts are in the buffer
 abbrev pub rest_at : Stage → List ℕ → List (List ℕ)
 rest_at New parts = parts ∷ partitions_after parts
 rest_at Listing parts = partitions_after parts
 rest_at Ended parts = []
 
--- the current one
+-- the current partition, if these parts are in the buffer
 abbrev pub item_at : Stage → List ℕ → Option (List ℕ)
 item_at New parts = None
 item_at Listing parts = Some parts

@@ -14,7 +14,7 @@ use std::alloc::Global;
 use std::marker::Model;
 
 /// The distinct arrangements of the parts of a partition, and of zeros, in a number of places: in
-/// falling lexicographic order, each once. A `Lister` that works in one buffer.
+/// decreasing lexicographic order, each once. A `Lister` that uses one buffer.
 #[derive(Drop)]
 pub struct Arrangements {
     numbers: Vec<u16>,
@@ -33,8 +33,8 @@ impl Model for Arrangements {
 }
 
 impl Arrangements {
-    /// The arrangements of the parts of `shape` in `places` places, none of them current. There are
-    /// at least as many places as parts, and at most 512.
+    /// A lister of the arrangements of the parts of `shape` in `places` places, without a current
+    /// one. There are at least as many places as parts, and at most 512.
     pub fn new(alloc: Global, shape: &Partition, places: u16) -> Result<Arrangements, NoMemory>
         requires rows { rows shape.now ≤ places }
         requires few { places ≤ 512 }
@@ -79,7 +79,7 @@ impl Lister for Arrangements {
     }
 }
 
-/// Writes the arrangement that comes next over this one; false where this was the last one.
+/// Replaces this arrangement by the next one; returns false if this was the last one.
 fn next_in_place(numbers: &mut [u16]) -> bool
     ensures next { OnTrue result (arrangements_after numbers.old
         ≡ numbers.new ∷ arrangements_after numbers.new) }
@@ -97,7 +97,7 @@ fn next_in_place(numbers: &mut [u16]) -> bool
     true
 }
 
-/// The place at which the longest end begins in which no number is smaller than the one before it.
+/// The place at which the longest weakly increasing end begins.
 fn rising_end(numbers: &[u16]) -> usize
     ensures rises { Rises (drop result numbers.now) }
     ensures within { 0 < result → result < length numbers.now }
@@ -111,7 +111,7 @@ fn rising_end(numbers: &[u16]) -> usize
     at
 }
 
-/// Turns the numbers from `start` on round.
+/// Reverses the numbers from `start` on.
 fn reverse_from(numbers: &mut [u16], start: usize)
     requires { start ≤ length numbers.old }
     ensures { numbers.new ≡ take start numbers.old ++ reverse (drop start numbers.old) }

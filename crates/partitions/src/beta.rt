@@ -8,7 +8,7 @@ use smallvec::SmallVec;
 use std::alloc::{AllocError, Global};
 use std::marker::Model;
 
-/// A beta list. Up to 16 entries are kept with no memory taken.
+/// A beta list. A list of up to 16 entries allocates no memory.
 #[derive(Debug, Drop)]
 pub struct Beta {
     entries: SmallVec<u16, 16>,

@@ -6,8 +6,8 @@ ghost use Rattle.sym_model.specs.Partition.{Falls, columns};
 use smallvec::SmallVec;
 use std::alloc::{AllocError, Global};
 
-/// The length of each column of falling parts,
-/// from the first column on. At most 16 columns take no memory.
+/// The length of each column of weakly decreasing parts, from the first column on. Up to 16 columns
+/// allocate no memory.
 pub(crate) fn column_lengths(alloc: Global, parts: &[u16]) -> Result<SmallVec<u16, 16>, AllocError>
     requires falls { Falls parts.now }
     requires few { length parts.now ≤ 512 }
@@ -24,8 +24,8 @@ pub(crate) fn column_lengths(alloc: Global, parts: &[u16]) -> Result<SmallVec<u1
     Ok(lengths)
 }
 
-/// How many of the falling parts are at least `least`,
-/// where all of them are among the first `most`.
+/// The number of weakly decreasing parts that are at least `least`; all of these are among the
+/// first `most`.
 fn rows_reaching(parts: &[u16], most: usize, least: u16) -> usize
     requires falls { Falls parts.now }
     requires within { most ≤ length parts.now }

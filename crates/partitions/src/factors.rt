@@ -8,7 +8,7 @@ use calc_base::NoMemory;
 use std::alloc::Global;
 use std::marker::Model;
 
-/// The most factors, and the most cells and the most rows of all factors together.
+/// The greatest number of factors, and of cells and rows of all factors together.
 const MAX_FACTORS: usize = 8;
 
 const MAX_CELLS: u16 = 4096;
@@ -40,8 +40,8 @@ impl Model for Factors {
 impl Factors {
     /// Two factors.
     ///
-    /// They are refused as `TooBig` exactly where they have more than 4,096 cells or more than 512
-    /// rows together.
+    /// Returns `TooBig` if and only if they have more than 4,096 cells or more than 512 rows
+    /// together.
     pub fn pair(alloc: Global, left: Partition, right: Partition) -> Result<Factors, FactorsFault>
         ensures ok { IfOk result (λ factors. factors ≡ left ∷ right ∷ []) }
         ensures too_many { ¬ IsErrOf result FactorsFault.TooMany }
@@ -62,11 +62,11 @@ impl Factors {
         })
     }
 
-    /// Puts one more factor after the others.
+    /// Appends one more factor.
     ///
-    /// It is refused as `TooMany` exactly where there are eight factors, else as `TooBig` exactly
-    /// where the factors would have more than 4,096 cells or more than 512 rows in all. Where it is
-    /// refused the factors are as before.
+    /// Returns `TooMany` if and only if there are eight factors, otherwise `TooBig` if and only if
+    /// the factors would have more than 4,096 cells or more than 512 rows in all. On an error the
+    /// factors are unchanged.
     pub fn push(&mut self, next: Partition) -> Result<(), FactorsFault>
         ensures ok { OnOk result (self.new ≡ self.old ++ next ∷ []) }
         ensures kept { OnErr result (self.new ≡ self.old) }
@@ -84,14 +84,15 @@ impl Factors {
         Ok(())
     }
 
-    /// Whether the factors would have too many cells or rows with this one after them.
+    /// Whether the factors would have too many cells or rows with this one appended.
     fn is_too_big_with(&self, next: &Partition) -> bool
         ensures { IsTrue result ↔ AreTooBig (self.now ++ next.now ∷ []) }
     {
         is_too_big(self.cells + next.size(), self.rows + next.rows())
     }
 
-    /// Puts a factor for which there is room after the others.
+    /// Appends a factor; the caller guarantees that there are fewer than 8 and that the sums stay
+    /// within the limits.
     fn grow(&mut self, next: Partition) -> Result<(), NoMemory>
         requires room { length self.old < 8 }
         requires small { AreTooBig (self.old ++ next ∷ []) → ⊥ }
@@ -106,7 +107,7 @@ impl Factors {
         Ok(())
     }
 
-    /// How many factors there are. It takes no memory.
+    /// The number of factors. It allocates no memory.
     pub fn len(&self) -> usize
         ensures value { result ≡ length self.now }
         ensures limits { AreFactors self.now }
@@ -114,8 +115,8 @@ impl Factors {
         self.factors.len()
     }
 
-    /// The factor at the place `i`, counted from 0. None exactly where there are no more than `i`
-    /// factors. It takes no memory.
+    /// The factor at the place `i`, counted from 0; None if and only if there are at most `i`
+    /// factors. It allocates no memory.
     pub fn get(&self, i: usize) -> Option<&Partition>
         ensures value { MatchOption result (length self.now ≤ i)
             (λ factor. slice_get self.now i ≡ Some factor.now) }
@@ -124,7 +125,7 @@ impl Factors {
         self.factors.get(i)
     }
 
-    /// The rows of all factors together. It takes no memory.
+    /// The rows of all factors together. It allocates no memory.
     pub fn rows(&self) -> u16
         ensures value { result ≡ rows_of self.now }
         ensures limits { AreFactors self.now }

@@ -1,4 +1,4 @@
-//! Why a list of factors is not made, or takes no further factor.
+//! The errors of lists of factors.
 ghost use Rattle.std.specs.Prelude.{◌≡◌};
 ghost use Rattle.partitions.specs.declared.factors_fault.FactorsFault.TheVariants.{NoMemory as no_memory};
 
@@ -6,7 +6,7 @@ use calc_base::NoMemory;
 use std::alloc::{AllocError, AllocFailed};
 use thiserror::Error;
 
-/// Why a list of factors is not made, or takes no further factor.
+/// The reasons for which a list of factors is not made, or takes no further factor.
 #[derive(Clone, Copy, Debug, PartialEq, Eq, Hash, Error)]
 pub enum FactorsFault {
     /// There would be more than 8 factors.
@@ -15,7 +15,7 @@ pub enum FactorsFault {
     /// They would have more than 4,096 cells or 512 rows together.
     #[error("more than 4096 cells or 512 rows in all")]
     TooBig,
-    /// Memory was refused.
+    /// Memory could not be allocated.
     #[error("out of memory")]
     NoMemory,
 }

@@ -1,4 +1,4 @@
-//! Why a list of numbers is not taken as a partition.
+//! The errors of lists of numbers that are not partitions.
 ghost use Rattle.std.specs.Prelude.{◌≡◌};
 ghost use Rattle.partitions.specs.declared.fault.PartFault.TheVariants.{NoMemory as no_memory};
 
@@ -6,7 +6,7 @@ use calc_base::NoMemory;
 use std::alloc::AllocError;
 use thiserror::Error;
 
-/// Why a list of numbers is not taken as a partition.
+/// The reasons for which a list of numbers is not a partition within the limits.
 #[derive(Clone, Copy, Debug, PartialEq, Eq, Hash, Error)]
 pub enum PartFault {
     /// There are more than 512 parts.
@@ -18,7 +18,7 @@ pub enum PartFault {
     /// They have more than 4,096 cells together.
     #[error("more than 4096 cells")]
     TooBig,
-    /// Memory was refused.
+    /// Memory could not be allocated.
     #[error("out of memory")]
     NoMemory,
 }

@@ -16,13 +16,13 @@ pub(crate) enum Stage {
     Ended,
 }
 
-/// The partitions of a number in falling lexicographic order, each once:
-/// a `Lister` that works in one buffer.
+/// The partitions of a number in decreasing lexicographic order, each once: a `Lister` that uses
+/// one buffer.
 #[derive(Drop)]
 pub struct PartitionsOf {
     /// One place for each row that a partition of the number can have.
     buffer: Vec<u16>,
-    /// How many places the parts take.
+    /// The number of places that the parts take.
     rows: usize,
     stage: Stage,
 }
@@ -44,7 +44,7 @@ impl Model for PartitionsOf {
 }
 
 impl PartitionsOf {
-    /// The partitions of `d`, none of them current. `d` is at most 512.
+    /// A lister of the partitions of `d`, without a current one. `d` is at most 512.
     pub fn new(alloc: Global, d: u16) -> Result<PartitionsOf, NoMemory>
         requires { d ≤ 512 }
         ensures rest { IfOk result (λ l. ⟦<PartitionsOf as Lister>⟧.rest l ≡ partitions_of d) }
@@ -90,8 +90,8 @@ impl Lister for PartitionsOf {
     }
 }
 
-/// Writes the partition that comes next over the one in the first `rows` places, and gives its
-/// number of rows; None where that was the last one.
+/// Replaces the partition in the first `rows` places by the next one, and returns its number of
+/// rows; None if that was the last one.
 fn next_in_place(buffer: &mut [u16], rows: usize) -> Option<usize>
     requires { HoldsParts buffer.old rows }
     ensures next { MatchOption result
@@ -109,7 +109,7 @@ fn next_in_place(buffer: &mut [u16], rows: usize) -> Option<usize>
     Some(fill(buffer, above - 1, part - 1, part + ones))
 }
 
-/// How many parts stand before the ones at the end.
+/// The number of parts before the parts 1 at the end.
 fn rows_above_one(parts: &[u16]) -> usize
     ensures within { result ≤ length parts.now }
     ensures ones { AreOnes (drop result parts.now) }
@@ -123,7 +123,7 @@ fn rows_above_one(parts: &[u16]) -> usize
 }
 
 /// Writes the first partition of `left` with no part above `most` from the place `start` on, and
-/// gives the place after it.
+/// returns the place after it.
 fn fill(buffer: &mut [u16], start: usize, most: u16, left: u16) -> usize
     requires room { start + left ≤ length buffer.old }
     requires most { 0 < left → 0 < most }

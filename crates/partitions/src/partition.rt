@@ -27,14 +27,13 @@ use std::cmp::Ordering;
 use std::hash::{Hash, Hasher};
 use std::marker::Model;
 
-/// The most rows, and the most cells, of a partition.
+/// The greatest numbers of rows and of cells of a partition.
 const MAX_ROWS: usize = 512;
 
 const MAX_CELLS: u32 = 4096;
 
-/// A partition: a weakly falling list of positive numbers,
-/// its parts. It has at most 512 parts and at most 4,096 cells.
-/// Up to 16 parts are kept with no memory taken.
+/// A partition: a weakly decreasing list of positive numbers, its parts. It has at most 512 parts
+/// and at most 4,096 cells. Up to 16 parts allocate no memory.
 #[derive(Debug, Drop)]
 pub struct Partition {
     parts: SmallVec<u16, 16>,
@@ -54,12 +53,11 @@ impl Model for Partition {
 }
 
 impl Partition {
-    /// The partition with these parts, where zeros at the end are dropped.
+    /// The partition with these parts, without the zeros at the end.
     ///
-    /// It is refused as `TooMany` where more than 512 numbers are left, else as `Rising` at the
-    /// first place, counted from 0, with a number greater than the one before it, else as `TooBig`
-    /// where their sum is past 4,096.
-    /// At most 16 parts take no memory.
+    /// Returns `TooMany` if more than 512 numbers are left, otherwise `Rising` at the first place,
+    /// counted from 0, with a number greater than the one before it, otherwise `TooBig` if their
+    /// sum exceeds 4,096. Up to 16 parts allocate no memory.
     pub fn from_parts(alloc: Global, parts: &[u16]) -> Result<Partition, PartFault>
         ensures ok { IfOk result (λ p. p ≡ without_last_zeros parts.now) }
         ensures limits { OnOk result (IsWithinLimits (without_last_zeros parts.now)) }
@@ -89,8 +87,8 @@ impl Partition {
         Ok(with_cells(alloc, parts, cells as u16)?)
     }
 
-    /// The partition with these parts, of which the caller knows that they are one. At most 16
-    /// parts take no memory.
+    /// The partition with these parts, which the caller guarantees to be a partition within the
+    /// limits. Up to 16 parts allocate no memory.
     pub fn from_valid_parts(alloc: Global, parts: &[u16]) -> Result<Partition, NoMemory>
         requires { IsWithinLimits parts.now }
         ensures ok { IfOk result (λ p. p ≡ parts.now) }
@@ -99,8 +97,8 @@ impl Partition {
         with_cells(alloc, parts, sum_of(parts) as u16)
     }
 
-    /// The partition with these numbers, of which the caller knows that they are one with zeros at
-    /// their end, which are dropped. At most 16 parts take no memory.
+    /// The partition with these numbers without the zeros at the end, which the caller guarantees
+    /// to be a partition within the limits. Up to 16 parts allocate no memory.
     pub fn from_valid_numbers(alloc: Global, numbers: &[u16]) -> Result<Partition, NoMemory>
         requires { IsWithinLimits (without_last_zeros numbers.now) }
         ensures ok { IfOk result (λ p. p ≡ without_last_zeros numbers.now) }
@@ -133,7 +131,7 @@ impl Partition {
         self.parts().len() as u16
     }
 
-    /// Part `i`, counted from 1; 0 past the last row.
+    /// Part `i`, counted from 1; 0 after the last row.
     pub fn part(&self, i: u16) -> u16
         requires { 1 ≤ i }
         ensures value { result ≡ part self.now i }
@@ -159,9 +157,8 @@ impl Partition {
         true
     }
 
-    /// How this partition and `other` stand in print: the greater size first,
-    /// then falling lexicographic order.
-    /// `Equal` only for equal partitions.
+    /// Compares this partition with `other` in the printed order: the greater size first, then
+    /// decreasing lexicographic order. `Equal` only for equal partitions.
     pub fn cmp_printed(&self, other: &Partition) -> Ordering
         ensures value { result ≡ printed_order self.now other.now }
         ensures equal { result ≡ Ordering.Equal → self.now ≡ other.now }
@@ -173,7 +170,7 @@ impl Partition {
             .then(other.parts().cmp(&self.parts()))
     }
 
-    /// An equal partition. At most 16 parts take no memory.
+    /// An equal partition. Up to 16 parts allocate no memory.
     pub fn copy(&self) -> Result<Partition, NoMemory>
         ensures ok { IfOk result (λ copy. copy ≡ self.now) }
         ensures inline { rows self.now ≤ 16 → IsOk result }
@@ -182,7 +179,7 @@ impl Partition {
     }
 
     /// The conjugate: its part i is the number of parts that are at least i. The first part is at
-    /// most 512. At most 16 columns take no memory.
+    /// most 512. Up to 16 columns allocate no memory.
     pub fn conjugate(&self) -> Result<Partition, NoMemory>
         requires { columns self.now ≤ 512 }
         ensures ok { IfOk result (λ p. p ≡ conjugate self.now) }
@@ -194,8 +191,8 @@ impl Partition {
         })
     }
 
-    /// Takes the last cell of the row `row`, counted from 1,
-    /// away. That row is longer than the next one.
+    /// Removes the last cell of the row `row`, counted from 1. That row is longer than the next
+    /// one.
     pub fn remove_corner(&mut self, row: u16)
         requires counted { 1 ≤ row }
         requires corner { part self.old (row + 1) < part self.old row }
@@ -216,8 +213,8 @@ impl Partition {
         Ok(Beta::new(lengthened(*self.parts.allocator(), self.parts(), k)?))
     }
 
-    /// The partition whose beta list of this length is `b`,
-    /// a strictly falling list of at most 512 numbers.
+    /// The partition whose beta list of this length is `b`, a strictly decreasing list of at most
+    /// 512 numbers.
     pub fn from_beta(alloc: Global, b: &[u16]) -> Result<Partition, NoMemory>
         requires few { length b.now ≤ 512 }
         requires limits { IsWithinLimits (from_beta b.now) }

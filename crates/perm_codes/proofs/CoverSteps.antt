@@ -24,12 +24,12 @@ map-push : {A B : Type 0} (f : A → B) (xs : List A) (x : A) → map f (xs ++ x
 map-push f [] x = refl
 map-push f (y ∷ xs) x = ap (λ z. f y ∷ z) (map-push f xs x)
 
--- w·t_ij for places i < j of w, counted from 0
+-- if a < b are places of w, w·t with t exchanging a + 1 and b + 1 is w with these letters exchanged, without its last fixed letters
 pub swap_in : (w : List ℕ) (a b : ℕ) → a < b → b < length w → times_swap (a + 1) (b + 1) w ≡ kept (swap w a b)
 swap_in w a b h l =
     ap₂ (λ i j. times_swap i j w) (add-one a) (add-one b) ∙ kept_swap w a b h l ∙ ap kept (sym (swap_is w a b (omega arith) l))
 
--- the list of covers is one longer where the test says so
+-- the covers of w among f(start + 1), .., f(start + n + 1) are those among the first n, and the last one if it has one inversion more than w
 pub one_more_place :
     (w : List ℕ) (f : ℕ → List ℕ) (start n : ℕ) (t : Bool) → (inversions (f (start + n + 1)) == inversions w + 1) ≡ t
     → covers_among w (map f (after start (n + 1))) ≡ covers_among w (map f (after start n)) ++ cond t (f (start + n + 1) ∷ []) []
@@ -39,7 +39,7 @@ one_more_place w f start n t e =
     ∙ select-append (λ (v : List ℕ). inversions v == inversions w + 1) (map f (after start n)) (f (start + n + 1))
     ∙ ap (λ s. covers_among w (map f (after start n)) ++ cond s (f (start + n + 1) ∷ []) []) e
 
--- the test at two places
+-- the exchange of the places a + 1 and b + 1 gives a cover of w if and only if the list with these letters exchanged has one inversion more than w
 pub test_in :
     (w : List ℕ) (a b : ℕ) → a < b → b < length w → IsShortPermutation w
     → (inversions (times_swap (a + 1) (b + 1) w) == inversions w + 1) ≡ (inversions (swap w a b) == inversions w + 1)
@@ -47,7 +47,7 @@ test_in w a b h l s =
     ap (λ n. n == inversions w + 1)
     (ap inversions (swap_in w a b h l) ∙ inversions_kept (swap w a b) (short_swap w a b (omega arith) l s).one_line)
 
--- ---- fixed letters do not matter
+-- ---- fixed letters added to w do not change its covers
 
 map_after : {B : Type 0} (f g : ℕ → B) (a k : ℕ) → ((j : ℕ) → a < j → f j ≡ g j) → map f (after a k) ≡ map g (after a k)
 map_after f g a zero h = refl
@@ -72,7 +72,7 @@ pub covers_down_fixed : (w : List ℕ) (r n : ℕ) → n ≤ 255 → IsWithinLim
 covers_down_fixed w r n h l =
     sym (covers_down_kept r (with_fixed n w) (short_fixed n w h l).one_line) ∙ ap (covers_down r) (kept_fixed n w l)
 
--- ---- one place more
+-- ---- covers with one more place tried
 
 -- the covers of w at place p with the other place from p + 1 on, up to q
 abbrev pub found_up_to : List ℕ → ℕ → ℕ → List (List ℕ)

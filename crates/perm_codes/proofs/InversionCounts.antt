@@ -1,4 +1,4 @@
--- How many inversions a permutation of some letters has at most.
+-- The greatest number of inversions of a permutation with a given number of letters.
 use Rattle.std.proofs.Common.{◌≡◌, ℕ, zero, suc, ◌+◌, ◌-◌, ◌≤◌, List, [], ◌∷◌, length, refl, ap, arith}
 use Rattle.sym_model.specs.PlaceOrders.{inversions}
 use Rattle.schubert_laws.proofs.FixedTails.{pairs}

@@ -1,5 +1,6 @@
--- The printed order of permutations as they are kept is the order of their lists of letters: where one list is the front
--- of the other, the next letter of the longer one is no fixed one, or one after it is none, and so greater.
+-- The printed order of permutations without fixed letters at the end is the order of their lists of letters: if one
+-- list is the front of the other, the next letter of the longer one, or one after it, is not fixed, and so it is
+-- greater.
 use Rattle.std.proofs.Common.{◌≡◌, ℕ, ◌+◌, ◌<◌, ◌≤◌, ◌==◌, List, [], ◌∷◌, ◌++◌, length, refl, sym, ap, ◌∙◌, subst, arith, inl, inr, ◌⊎◌, Bool, true, false, cond, eq-eqb, length-append, append_assoc}
 use Rattle.std.specs.Cmp.{nat_cmp_is}
 use Rattle.std.specs.Cmp.Lexicographic.{slice_cmp}
@@ -17,7 +18,7 @@ use Rattle.sym_model.proofs.Sums.{Among-append_right, length_within}
 use Rattle.sym_model.proofs.AfterLists.{length_after, among_after}
 use Rattle.perm_codes.specs.Limits.{IsWithinLimits}
 
--- ---- what follows a whole permutation in a longer one
+-- ---- a list that is the front of another one
 
 apart : (p u : List ℕ) (x : ℕ) → Once (p ++ u) → Among x u → Among x p → ⊥
 apart [] u x o m n = n
@@ -58,7 +59,7 @@ beyond i b u e a o x m =
     let d : x ≡ b → ⊥ = λ q. o (subst (λ y. Among y u) q m) in
     omega arith
 
--- letters above i, read against fixed ones: they come later, or are all fixed
+-- compared with fixed letters after place i, the letters u, all above i, come later or are all fixed themselves
 abbrev IsLater : ℕ → List ℕ → Type 0
 IsLater i u = ((rising_letters i [] u ≡ Less) × (rising_letters i u [] ≡ Greater)) ⊎ (without_fixed_from (i + 1) u ≡ [])
 
@@ -81,7 +82,7 @@ later i (b ∷ u) a o = elim (cases_eq b (i + 1)) [
     )
     by e (inr n) = inr (dropped (i + 1) b (without_fixed_from (i + 1 + 1) u) e n)
 
--- ---- one letter after the other
+-- ---- two lists compared letter by letter
 
 front_tail : (i a : ℕ) (u w : List ℕ) → in_front_unless_fixed i a u ≡ a ∷ w → u ≡ w
 front_tail i a [] w e = by (a == i) e
@@ -156,7 +157,7 @@ pub permutation_order-slice_cmp :
     → ordering_then (nat_cmp (inversions v) (inversions w)) (slice_cmp nat_cmp v w) ≡ permutation_order v w
 permutation_order-slice_cmp v w l m = ap (ordering_then (nat_cmp (inversions v) (inversions w))) (sym (letters_order v w l m))
 
--- ---- lists that tie are the same
+-- ---- lists that compare as equal are equal
 
 slice_cmp-equal : (v w : List ℕ) → slice_cmp nat_cmp v w ≡ Equal → v ≡ w
 slice_cmp-equal [] [] h = refl

@@ -1,4 +1,4 @@
--- Where a list of letters is a permutation, and a list of entries a code, place by place.
+-- Tests, place by place, of lists that are permutations and of lists that are codes.
 use Rattle.std.proofs.Common.{◌≡◌, ℕ, zero, suc, ◌+◌, ◌<◌, ◌≤◌, List, [], ◌∷◌, length, take, get_or, sym, ap, subst, arith, inl, inr, true, ◌==◌, ◌||◌, ◌∙◌, eq-eqb}
 use Rattle.std.specs.List.{list_any}
 use Rattle.std.proofs.Math.Bool.{or-true}
@@ -8,7 +8,7 @@ use Rattle.sym_model.specs.Permutation.{IsOneLine, IsCode}
 use Rattle.schubert_laws.proofs.Swaps.{among_get}
 use Rattle.perm_codes.specs.Limits.{ExceedsFirstAt, IsNewLetter, IsShortPermutation, OffendsFirstAt}
 
--- ---- letters
+-- ---- lists of letters that are permutations
 
 place_of : (a : ℕ) (w : List ℕ) → Among a w → (k : ℕ) × (k < length w) × (get_or w k 0 ≡ a)
 place_of a [] m = absurd m
@@ -34,7 +34,7 @@ new_once (a ∷ w) o zero l m = absurd m
 new_once (a ∷ w) o (suc k) l (inl e) = o.0 (subst (λ b. Among b w) e (among_get k 0 w (omega arith)))
 new_once (a ∷ w) o (suc k) l (inr m) = new_once w o.1 k (omega arith) m
 
--- where each letter is new, the list is a permutation
+-- if each letter is new, the list is a permutation
 pub one_line_from_new : (w : List ℕ) → ((k : ℕ) → k < length w → IsNewLetter w k) → IsOneLine w
 one_line_from_new w h = record {
   letters = λ a m.
@@ -49,7 +49,7 @@ new_letter w k o l =
     let r = o.letters (get_or w k 0) (among_get k 0 w l) in
     record { positive = r.0; within = r.1; new = new_once w o.once k l }
 
--- the test on the letters before says whether one occurs there
+-- if some letter of w equals a, a is among w
 pub among_from_any : (a : ℕ) (w : List ℕ) → list_any (λ b. b == a) w ≡ true → Among a w
 among_from_any a [] h = cc
 among_from_any a (b ∷ w) h = elim (cases_eq b a) [
@@ -71,7 +71,7 @@ short_letter w k d s l =
     let r = (s.one_line.letters (get_or w k d) (among_get k d w l)).1 in
     omega arith
 
--- ---- codes
+-- ---- lists of numbers that are codes
 
 pub is_code_from : (cs : List ℕ) → ((k : ℕ) → k < length cs → get_or cs k 0 + k + 1 ≤ length cs) → IsCode cs
 is_code_from [] h = tt

@@ -1,5 +1,5 @@
--- How many inversions a list has after two of its letters changed places: where the first is the smaller, one more and
--- two for each letter between them in place and in size; otherwise as many fewer.
+-- The number of inversions of a list after two of its letters are exchanged: if the first is smaller, the old number
+-- plus 1 plus 2 for each letter between them both in place and in value; otherwise the old number minus the same.
 use Rattle.std.proofs.Common.{◌≡◌, ℕ, zero, suc, ◌+◌, ◌-◌, ◌*◌, ◌<◌, ◌≤◌, ◌&&◌, ◌||◌, ◌==◌, nat_lt, Bool, true, false, not, List, [], ◌∷◌, length, take, drop, get_or, set, refl, sym, ap, ap₂, ◌∙◌, subst, arith, cond, inl, inr, eq-eqb, add-one, count_by}
 use Rattle.std.specs.List.{swap, list_any}
 use Rattle.std.proofs.lemmas.List.{take-set-le}
@@ -13,11 +13,11 @@ use Rattle.schubert_laws.proofs.MonkFromOne.{swap_is}
 use Rattle.schubert_laws.proofs.Transition.{once_get}
 use Rattle.schubert_laws.proofs.Swaps.{swap_at, length-swap_at, smaller_swap, once_swap, swap_twice, get_swap_left, get_swap_right, among_get}
 
--- whether a letter lies between two others
+-- whether the letter a is greater than low and smaller than high
 abbrev pub lies_between : ℕ → ℕ → ℕ → Bool
 lies_between low high a = nat_lt low a && nat_lt a high
 
--- how many of the first n letters do
+-- the number of the first n letters of w that are greater than low and smaller than high
 abbrev between : ℕ → ℕ → ℕ → List ℕ → ℕ
 between low high n w = count_by (lies_between low high) (take n w)
 
@@ -30,7 +30,8 @@ below_both low high a h = ap (λ s. cond {A = ℕ} (s && nat_lt a high) 1 0) (na
 above_both : (low high a : ℕ) → low < a → high ≤ a → cond {A = ℕ} (lies_between low high a) 1 0 ≡ 0
 above_both low high a h l = ap₂ (λ s t. cond {A = ℕ} (s && t) 1 0) (lt-ltb low a h) (nat_lt-false a high l)
 
--- what one letter after the first counts for
+-- a letter a has after the exchange of low and high as many inversions with them as before, and 2 more if it is
+-- between them
 one_letter : (low high a : ℕ) → low < high → (low ≡ a → ⊥) → (a ≡ high → ⊥)
     → cond {A = ℕ} (nat_lt a high) 1 0 + cond {A = ℕ} (nat_lt low a) 1 0
     ≡ cond {A = ℕ} (nat_lt a low) 1 0 + cond {A = ℕ} (nat_lt high a) 1 0 + 2 * cond {A = ℕ} (lies_between low high a) 1 0
@@ -60,7 +61,7 @@ one_letter low high a h n m = elim (cases_lt low a) [
       omega arith
 ]
 
--- the first letter of a list with one after it
+-- if the first letter x is smaller than that at place b, exchanging them adds 1 to the number of inversions, and 2 for each letter between them
 first_swapped : (x b : ℕ) (w : List ℕ) → b < length w → Once (x ∷ w) → x < get_or w b x
     → smaller (get_or w b x) (set w b x) + inversions (set w b x)
     ≡ smaller x w + inversions w + 1 + 2 * between x (get_or w b x) b w
@@ -76,7 +77,8 @@ first_swapped x (suc b) (z ∷ w) l o h =
     let k = sum_by-cons (λ a. cond (lies_between x (get_or w b x) a) 1 0) z (take b w) in
     omega arith
 
--- two letters of a list, with n letters between them, the first the smaller
+-- if the first of two letters is smaller, exchanging them adds 1 to the number of inversions, and 2 for each letter between them in place and in
+-- value
 swapped_rising : (a b n d : ℕ) (w : List ℕ) → b ≡ suc a + n → b < length w → Once w → get_or w a d < get_or w b d
     → inversions (swap_at a b w) ≡ inversions w + 1 + 2 * between (get_or w a d) (get_or w b d) n (drop (suc a) w)
 swapped_rising a b n d [] e l o h = absurd (omega arith)
@@ -93,14 +95,15 @@ swapped_rising (suc a) (suc b) n d (x ∷ w) e l o h =
     let s = smaller_swap x a b w in
     omega arith
 
--- the letters between them stay
+-- exchanging the letters at a and b does not change the letters between them
 same_between : (a b n : ℕ) (w : List ℕ) → b ≡ suc a + n → take n (drop (suc a) (swap_at a b w)) ≡ take n (drop (suc a) w)
 same_between a b n [] e = refl
 same_between a zero n (x ∷ w) e = absurd (omega arith)
 same_between zero (suc b) n (x ∷ w) e = take-set-le n w b x (omega arith)
 same_between (suc a) (suc b) n (x ∷ w) e = same_between a b n w (omega arith)
 
--- the first the greater
+-- if the first of two letters is greater, exchanging them takes 1 from the number of inversions, and 2 for each letter between them in place and in
+-- value
 swapped_falling : (a b n d : ℕ) (w : List ℕ) → b ≡ suc a + n → b < length w → Once w → get_or w b d < get_or w a d
     → inversions w ≡ inversions (swap_at a b w) + 1 + 2 * between (get_or w b d) (get_or w a d) n (drop (suc a) w)
 swapped_falling a b n d w e l o f =
@@ -113,9 +116,10 @@ swapped_falling a b n d w e l o f =
     ∙ ap₂ (λ low high. inversions (swap_at a b w) + 1 + 2 * between low high n (drop (suc a) (swap_at a b w))) x y
     ∙ ap (λ v. inversions (swap_at a b w) + 1 + 2 * count_by (lies_between (get_or w b d) (get_or w a d)) v) (same_between a b n w e)
 
--- ---- as counts
+-- ---- the number of inversions as a count
 
--- the number of inversions where the first is the smaller, and where it is the greater
+-- if the letter at a is smaller than that at b > a, exchanging them adds 1 to the number of inversions, and 2 for each letter between them in place
+-- and in value
 pub rising_count : (a b : ℕ) (w : List ℕ) → a < b → b < length w → Once w → get_or w a 0 < get_or w b 0
     → inversions (swap w a b)
     ≡ inversions w + 1 + 2 * count_by (lies_between (get_or w a 0) (get_or w b 0)) (take (b - (a + 1)) (drop (a + 1) w))
@@ -132,7 +136,7 @@ falling_count a b w h l o f =
     ∙ ap (λ k. inversions (swap_at a b w) + 1 + 2 * count_by (lies_between (get_or w b 0) (get_or w a 0)) (take (b - k) (drop k w))) (sym (add-one a))
     ∙ ap (λ v. inversions v + 1 + 2 * count_by (lies_between (get_or w b 0) (get_or w a 0)) (take (b - (a + 1)) (drop (a + 1) w))) (sym (swap_is w a b (omega arith) l))
 
--- ---- as tests
+-- ---- one more inversion, as a test of the letters between
 
 none_step : (t s : Bool) (k : ℕ) → (t || s) ≡ false → (s ≡ false → k ≡ 0) → cond t 1 0 + k ≡ 0
 none_step true s k h r = cc
@@ -153,7 +157,8 @@ some_counted p (a ∷ w) h =
     let k = sum_by-cons (λ b. cond (p b) 1 0) a w in
     omega arith
 
--- the test on the letters between says whether there is one more inversion
+-- if the letter at a is smaller than that at b > a, exchanging them makes one more inversion if and only if no letter between them in place is
+-- between them in value
 pub rising_test : (a b : ℕ) (w : List ℕ) → a < b → b < length w → Once w → get_or w a 0 < get_or w b 0
     → not (list_any (lies_between (get_or w a 0) (get_or w b 0)) (take (b - (a + 1)) (drop (a + 1) w)))
     ≡ (inversions (swap w a b) == inversions w + 1)

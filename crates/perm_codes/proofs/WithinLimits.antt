@@ -1,4 +1,5 @@
--- What is a permutation within the limits: a kept one, one with letters exchanged or added, one made of a code.
+-- Permutations within the limits: one without fixed letters at the end, one with letters exchanged or added, one made
+-- of a code.
 use Rattle.std.proofs.Common.{◌≡◌, ℕ, ◌+◌, ◌-◌, ◌<◌, ◌≤◌, List, [], ◌∷◌, length, sym, ap, ◌∙◌, subst, arith, length-append}
 use Rattle.std.specs.List.{swap}
 use Rattle.sym_model.specs.Partition.{after}

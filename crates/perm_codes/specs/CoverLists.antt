@@ -1,7 +1,7 @@
 -- The covers of a permutation at a place, as a value.
 use Rattle.std.specs.Prelude.{ℕ, List}
 
--- those where the other place is greater, and those where it is smaller
+-- the covers w·t_rj with j > r, and the covers w·t_ir with i < r
 pub record CoverLists : Type 0 where
   pub up : List (List ℕ)
   pub down : List (List ℕ)

@@ -1,4 +1,4 @@
--- What the type `Perm` holds, and which list of letters or code is refused.
+-- The permutations that the type `Perm` holds, and the lists of letters and codes that are refused.
 use Rattle.std.specs.Prelude.{◌≡◌, ℕ, ◌+◌, ◌<◌, ◌≤◌, List, length, take, slice_index}
 use Rattle.sym_model.specs.Sum.{Among}
 use Rattle.sym_model.specs.PlaceOrders.{inversions}
@@ -10,12 +10,12 @@ pub record IsShortPermutation (w : List ℕ) : Type 0 where
   pub some : 0 < length w
   pub few : length w ≤ 255
 
--- a permutation as it is kept, of at most 255 letters
+-- a permutation without fixed letters at its end, of at most 255 letters
 pub record IsWithinLimits (w : List ℕ) : Type 0 where
   pub kept : IsKept w
   pub few : length w ≤ 255
 
--- the same, and the number of its inversions
+-- a permutation within the limits, and the number of its inversions
 pub record HasInversions (w : List ℕ) (count : ℕ) : Type 0 where
   pub limits : IsWithinLimits w
   pub count_is : count ≡ inversions w
@@ -27,7 +27,7 @@ pub record IsNewLetter (w : List ℕ) (at : ℕ) : Type 0 where
   pub within : slice_index w at ≤ length w
   pub new : ¬ Among (slice_index w at) (take at w)
 
--- the place `at` is the first whose letter is not such a one
+-- the place `at` is the first whose letter is not such a new letter
 pub record OffendsFirstAt (w : List ℕ) (at : ℕ) : Type 0 where
   pub inside : at < length w
   pub offends : ¬ IsNewLetter w at

@@ -13,8 +13,8 @@ use smallvec::SmallVec;
 use std::alloc::Global;
 use std::marker::Model;
 
-/// The covers of a permutation at a place: the result if the letter there changes places with
-/// another and exactly one more inversion is made.
+/// The covers of a permutation w at a place r: the permutations w·t_rj and w·t_ir with exactly one
+/// more inversion, which arise by exchanging the letter at r with another one.
 #[derive(Drop)]
 pub struct Covers {
     up: Vec<Perm>,
@@ -30,22 +30,22 @@ impl Model for Covers {
 }
 
 impl Covers {
-    /// The covers with the other place greater, which rises.
+    /// The covers w·t_rj with j > r, by increasing j.
     pub fn up(&self) -> &[Perm]
         ensures { result.now ≡ self.now.up }
     {
         self.up.as_slice()
     }
 
-    /// The covers with the other place smaller, which rises.
+    /// The covers w·t_ir with i < r, by increasing i.
     pub fn down(&self) -> &[Perm]
         ensures { result.now ≡ self.now.down }
     {
         self.down.as_slice()
     }
 
-    /// The covers at a place, counted from 0, of the permutation with these letters, the other
-    /// places being theirs. The inversions of a cover are counted by the caller.
+    /// The covers, at the place `place` counted from 0, of the permutation with these letters; only
+    /// places of these letters are tried. `count` is the number of inversions of a cover.
     pub(crate) fn of_letters(
         alloc: Global,
         letters: &[u8],
@@ -68,7 +68,7 @@ impl Covers {
     }
 }
 
-/// The covers where the letter at a place, counted from 0, changes places with one further right.
+/// The covers that exchange the letter at `place`, counted from 0, with one at a greater place.
 fn covers_above(
     alloc: Global,
     letters: &[u8],
@@ -92,7 +92,7 @@ fn covers_above(
     Ok(covers)
 }
 
-/// The covers where the letter at a place, counted from 0, changes places with one further left.
+/// The covers that exchange the letter at `place`, counted from 0, with one at a smaller place.
 pub(crate) fn covers_below(
     alloc: Global,
     letters: &[u8],

@@ -1,4 +1,4 @@
-//! Why a list of numbers is not taken as the letters of a permutation, or as its code.
+//! The errors of lists of letters and of codes.
 ghost use Rattle.std.specs.Prelude.{◌≡◌};
 ghost use Rattle.perm_codes.specs.declared.fault.PermFault.TheVariants.{NoMemory as no_memory};
 
@@ -6,7 +6,7 @@ use calc_base::NoMemory;
 use std::alloc::AllocError;
 use thiserror::Error;
 
-/// Why a list of numbers is not taken as the letters of a permutation, or as its code.
+/// The reasons for which a list of numbers is not the letters of a permutation, or not its code.
 #[derive(Clone, Copy, Debug, PartialEq, Eq, Hash, Error)]
 pub enum PermFault {
     /// There is no letter.
@@ -15,10 +15,10 @@ pub enum PermFault {
     /// There are more than 255 letters.
     #[error("more than 255 letters")]
     TooMany,
-    /// The number at the place `at`, counted from 0, can't stand there.
+    /// The number at the place `at`, counted from 0, is not allowed there.
     #[error("the number at place {at} can't stand there")]
     Letter { at: usize },
-    /// Memory was refused.
+    /// Memory could not be allocated.
     #[error("out of memory")]
     NoMemory,
 }

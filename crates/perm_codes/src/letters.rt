@@ -1,4 +1,4 @@
-//! Lists of letters: what is read off them, and how they are made.
+//! Functions on lists of letters: tests, counts, and permutations made of letters or codes.
 ghost use Rattle.std.specs.Prelude.{◌≡◌, ℕ, ◌+◌, ◌<◌, ◌≤◌, ◌==◌, ◌&&◌, nat_lt, length, take, swap};
 ghost use Rattle.std.specs.Prelude.{IsOk, IfOk, MatchOption};
 ghost use Rattle.std.specs.List.{count_by, list_any};
@@ -11,7 +11,7 @@ ghost use Rattle.perm_codes.specs.Limits.{ExceedsFirstAt, IsShortPermutation, Of
 use smallvec::SmallVec;
 use std::alloc::{AllocError, Global};
 
-/// The letters of a permutation. Up to 16 are kept with no memory taken.
+/// The letters of a permutation. Up to 16 letters allocate no memory.
 pub(crate) type Letters = SmallVec<u8, 16>;
 
 /// The first place, counted from 0, whose letter is 0,
@@ -40,7 +40,7 @@ pub(crate) fn first_excess(code: &[u16]) -> Option<usize>
     None
 }
 
-/// How many letters are smaller than `bound`.
+/// The number of letters smaller than `bound`.
 pub(crate) fn count_smaller(bound: u8, letters: &[u8]) -> u16
     requires { length letters.now ≤ 255 }
     ensures count { result ≡ smaller bound letters.now }
@@ -49,7 +49,7 @@ pub(crate) fn count_smaller(bound: u8, letters: &[u8]) -> u16
     letters.iter().filter(|letter| **letter < bound).count() as u16
 }
 
-/// The number of inversions.
+/// The number of inversions of the list of letters.
 pub(crate) fn count_inversions(letters: &[u8]) -> u16
     requires { length letters.now ≤ 255 }
     ensures { result ≡ inversions letters.now }
@@ -61,7 +61,8 @@ pub(crate) fn count_inversions(letters: &[u8]) -> u16
     count
 }
 
-/// The last descent.
+/// The last place, counted from 1, whose letter is greater than the next one; None if there is
+/// none.
 pub(crate) fn find_last_descent(letters: &[u8]) -> Option<u16>
     requires some { 0 < length letters.now }
     requires few { length letters.now ≤ 255 }
@@ -77,7 +78,7 @@ pub(crate) fn find_last_descent(letters: &[u8]) -> Option<u16>
     None
 }
 
-/// How many letters stand before the fixed ones at the end; the first letter is always one of them.
+/// The number of letters before the fixed ones at the end; at least 1.
 pub(crate) fn count_kept(letters: &[u8]) -> usize
     ensures { take result letters.now ≡ kept letters.now }
 {
@@ -88,9 +89,8 @@ pub(crate) fn count_kept(letters: &[u8]) -> usize
     len
 }
 
-/// Whether the letters at two places, counted from 0, in each other's place make one more
-/// inversion: the first is the smaller, and no letter between them is greater than the one and
-/// smaller than the other.
+/// Whether exchanging the letters at two places, counted from 0, makes exactly one more inversion:
+/// the first is the smaller one, and no letter between them in place is between them in value.
 pub(crate) fn makes_one_inversion(letters: &[u8], first: usize, second: usize) -> bool
     requires order { first < second }
     requires inside { second < length letters.now }
@@ -122,7 +122,7 @@ pub(crate) fn inversions_exchanged(letters: &[u8], first: usize, second: usize, 
     }
 }
 
-/// How many letters are greater than the one number and smaller than the other.
+/// The number of letters greater than `low` and smaller than `high`.
 fn count_between(letters: &[u8], low: u8, high: u8) -> u16
     requires { length letters.now ≤ 255 }
     ensures { result ≡ count_by (λ letter. nat_lt low letter && nat_lt letter high) letters.now }
@@ -133,7 +133,7 @@ fn count_between(letters: &[u8], low: u8, high: u8) -> u16
         .count() as u16
 }
 
-/// Whether some letter is greater than the one number and smaller than the other.
+/// Whether some letter is greater than `low` and smaller than `high`.
 fn has_between(letters: &[u8], low: u8, high: u8) -> bool
     ensures { result ≡ list_any (λ letter. nat_lt low letter && nat_lt letter high) letters.now }
 {
@@ -181,7 +181,7 @@ pub(crate) fn choose(alloc: Global, code: &[u16]) -> Result<Letters, AllocError>
     Ok(list)
 }
 
-/// Puts the letters at two places, counted from 0, in each other's place.
+/// Exchanges the letters at two places, counted from 0.
 pub(crate) fn exchange(letters: &mut Letters, first: usize, second: usize)
     requires first { first < length letters.old.items }
     requires second { second < length letters.old.items }

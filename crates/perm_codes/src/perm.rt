@@ -26,11 +26,11 @@ use std::cmp::Ordering;
 use std::hash::{Hash, Hasher};
 use std::marker::Model;
 
-/// The most letters of a permutation.
+/// The greatest number of letters of a permutation.
 const MAX_LETTERS: usize = 255;
 
 /// A permutation in one-line form, of 1 to 255 letters, without fixed letters at its end; the
-/// identity keeps the letter 1. Up to 16 letters are kept with no memory taken.
+/// identity keeps the letter 1. Up to 16 letters allocate no memory.
 #[derive(Debug, Drop)]
 pub struct Perm {
     letters: Letters,
@@ -49,12 +49,11 @@ impl Model for Perm {
 }
 
 impl Perm {
-    /// The permutation with these letters, where fixed letters at the end are dropped.
+    /// The permutation with these letters, without the fixed letters at the end.
     ///
-    /// It is refused as `Empty` where there is no letter, as `TooMany` where there are more than
-    /// 255, else as `Letter` at the first place, counted from 0, whose letter is 0, is greater than
-    /// the number of letters or occurs earlier.
-    /// At most 16 letters take no memory.
+    /// Returns `Empty` if there is no letter, `TooMany` if there are more than 255, otherwise
+    /// `Letter` at the first place, counted from 0, whose letter is 0, is greater than the number
+    /// of letters or occurs earlier. Up to 16 letters allocate no memory.
     pub fn from_letters(alloc: Global, letters: &[u16]) -> Result<Perm, PermFault>
         ensures ok { IfOk result (λ w. w ≡ kept letters.now) }
         ensures limits { OnOk result (IsShortPermutation letters.now) }
@@ -76,8 +75,8 @@ impl Perm {
         Ok(Perm::from_valid_letters(alloc, letters)?)
     }
 
-    /// The permutation with these letters, of which the caller knows that they are one. At most 16
-    /// letters take no memory.
+    /// The permutation with these letters, which the caller guarantees to be one. Up to 16 letters
+    /// allocate no memory.
     pub fn from_valid_letters(alloc: Global, letters: &[u16]) -> Result<Perm, NoMemory>
         requires { IsShortPermutation letters.now }
         ensures ok { IfOk result (λ w. w ≡ kept letters.now) }
@@ -88,8 +87,8 @@ impl Perm {
 
     /// The permutation whose code, followed by zeros up to the length of this list, is this list.
     ///
-    /// It is refused as `Empty` and `TooMany` where `from_letters` is, else as `Letter` at the
-    /// first place, counted from 0, whose entry is greater than the number of entries after it.
+    /// Returns `Empty` and `TooMany` as `from_letters` does, otherwise `Letter` at the first place,
+    /// counted from 0, whose entry is greater than the number of entries after it.
     pub fn from_code(alloc: Global, code: &[u16]) -> Result<Perm, PermFault>
         ensures ok { IfOk result (λ w. w ≡ from_code code.now) }
         ensures is_code { OnOk result (IsCode code.now) }
@@ -126,7 +125,7 @@ impl Perm {
         self.letters().len() as u16
     }
 
-    /// The letter at place `i`, counted from 1; past the end the letters are fixed.
+    /// The letter at place `i`, counted from 1; after the last letter each letter is fixed.
     pub fn letter(&self, i: u16) -> u16
         requires { 1 ≤ i }
         ensures value { result ≡ letter self.now i }
@@ -146,7 +145,8 @@ impl Perm {
         self.inversions
     }
 
-    /// The last place whose letter is greater than the next. None exactly for the identity.
+    /// The last place whose letter is greater than the next one; None if and only if this is the
+    /// identity.
     pub fn last_descent(&self) -> Option<u16>
         ensures value { result ≡ last_descent self.now }
         ensures identity { (result ≡ None) ↔ (self.now ≡ 1 ∷ []) }
@@ -155,8 +155,8 @@ impl Perm {
         find_last_descent(self.letters())
     }
 
-    /// How this permutation and `other` stand in print: fewer inversions first, then rising
-    /// lexicographic order of the letters. `Equal` only for equal permutations.
+    /// Compares this permutation with `other` in the printed order: fewer inversions first, then
+    /// increasing lexicographic order of the letters. `Equal` only for equal permutations.
     pub fn cmp_printed(&self, other: &Perm) -> Ordering
         ensures value { result ≡ permutation_order self.now other.now }
         ensures equal { result ≡ Ordering.Equal → self.now ≡ other.now }
@@ -167,7 +167,7 @@ impl Perm {
             .then(self.letters().cmp(&other.letters()))
     }
 
-    /// An equal permutation. At most 16 letters take no memory.
+    /// An equal permutation. Up to 16 letters allocate no memory.
     pub fn copy(&self) -> Result<Perm, NoMemory>
         ensures ok { IfOk result (λ copy. copy ≡ self.now) }
         ensures inline { length self.now ≤ 16 → IsOk result }
@@ -190,8 +190,8 @@ impl Perm {
         Word::from_slice(*self.letters.allocator(), &code[..letters.len()])
     }
 
-    /// The permutation with the letters at the places `i` and `j`, counted from 1,
-    /// in each other's place.
+    /// The permutation with the letters at the places `i` and `j`, counted from 1, exchanged. `i`
+    /// is smaller than `j`, which is at most 255.
     pub fn times_swap(&self, i: u16, j: u16) -> Result<Perm, NoMemory>
         requires first { 1 ≤ i }
         requires order { i < j }
@@ -205,8 +205,8 @@ impl Perm {
         Ok(Perm::exchanged(letters, first, second, count))
     }
 
-    /// The permutations with exactly one more inversion that come of this one where the letter at
-    /// place `r`, counted from 1, changes places with another.
+    /// The permutations with exactly one more inversion that arise by exchanging the letter at
+    /// place `r`, counted from 1, with another one. `r` and the number of letters are at most 254.
     pub fn covers_at(&self, r: u16) -> Result<Covers, NoMemory>
         requires place { 1 ≤ r }
         requires last { r ≤ 254 }
@@ -224,8 +224,8 @@ impl Perm {
         )
     }
 
-    /// The permutations with exactly one more inversion that come of this one where the letter at
-    /// place `r`, counted from 1, changes places with one further left, which rises.
+    /// The permutations w·t_ir with i < r, for w this permutation, that have exactly one more
+    /// inversion than w, by increasing i. The place `r`, counted from 1, is at most 255.
     pub fn covers_down(&self, r: u16) -> Result<Vec<Perm>, NoMemory>
         requires place { 1 ≤ r }
         requires last { r ≤ 255 }
@@ -240,7 +240,7 @@ impl Perm {
         )
     }
 
-    /// The permutation with these letters, but for the fixed ones at the end.
+    /// The permutation with these letters, without the fixed ones at the end.
     fn trimmed(letters: Letters) -> Perm
         requires { IsShortPermutation letters.items }
         ensures { result ≡ kept letters.items }
@@ -249,8 +249,8 @@ impl Perm {
         Perm::of_count(letters, count)
     }
 
-    /// The permutation with these letters, but for the fixed ones at the end,
-    /// whose inversions are counted.
+    /// The permutation with these letters, without the fixed ones at the end; `count` is the number
+    /// of its inversions.
     fn of_count(letters: Letters, count: u16) -> Perm
         requires letters { IsShortPermutation letters.items }
         requires count { count ≡ inversions letters.items }
@@ -265,8 +265,8 @@ impl Perm {
         }
     }
 
-    /// The permutation with these letters, those at two places, counted from 0, in each other's
-    /// place, where the inversions that it then has are known.
+    /// The permutation with these letters, of which those at two places, counted from 0, are
+    /// exchanged; `count` is the number of its inversions.
     pub(crate) fn exchanged(letters: Letters, first: usize, second: usize, count: u16) -> Perm
         requires permutation { IsShortPermutation letters.items }
         requires first { first < length letters.items }

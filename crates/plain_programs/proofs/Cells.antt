@@ -1,15 +1,15 @@
--- How many cells the first rows of a skew shape have.
+-- The number of cells in the first rows of a skew shape.
 use Rattle.std.proofs.Common.{◌≡◌, ℕ, zero, suc, ◌+◌, ◌-◌, ◌≤◌, List, length, get_or, ◌∙◌, ap, arith, flat_map}
 use Rattle.std.proofs.lemmas.List.{length-map, length-append}
 use Rattle.sym_model.specs.Partition.{part, after, cells, row_cells}
 use Rattle.plain_programs.proofs.WordLists.{each_after-more}
 use Rattle.sym_model.proofs.AfterLists.{length_after}
 
--- the cells of the rows 1, .., k
+-- the cells of the rows 1, .., k of outer/inner
 abbrev pub cells_to : List ℕ → List ℕ → ℕ → List (ℕ × ℕ)
 cells_to outer inner k = flat_map (row_cells outer inner) (after 0 k)
 
--- one row more, counted from 0
+-- the number of cells in the rows 1, .., k + 1 is that in the rows 1, .., k plus the length of row k + 1
 pub cells_to-more : (outer inner : List ℕ) (k : ℕ) → length (cells_to outer inner (k + 1)) ≡ length (cells_to outer inner k) + (get_or outer k 0 - get_or inner k 0)
 cells_to-more outer inner k =
     let row = row_cells outer inner (k + 1) in

@@ -14,12 +14,12 @@ use Rattle.plain_programs.specs.PlainLists.{sum_of, part_polynomial, product_pol
 use Rattle.plain_programs.specs.declared.bases.PlainBasis.{PlainBasis}
 use Rattle.plain_programs.specs.declared.bases.PlainBasis.TheVariants.{Elementary, Complete, PowerSum}
 
--- each list has the sum d
+-- each list has the sum of its numbers equal to d
 abbrev pub HaveSize : ℕ → List (List ℕ) → Type 0
 HaveSize d [] = Unit {0}
 HaveSize d (α ∷ αs) = (size α ≡ d) × HaveSize d αs
 
--- each term has the degree d
+-- each term of the polynomial has the degree d
 abbrev pub HasDegree : ℕ → Poly → Type 0
 HasDegree d [] = Unit {0}
 HasDegree d (t ∷ f) = (size t.0 ≡ d) × HasDegree d f
@@ -40,7 +40,7 @@ have_size-select d test (α ∷ αs) h = by (have_size-select d test αs h.1) (t
     by rest true = (h.0, rest)
     by rest false = rest
 
--- exponent lists of the sum d have the sum d
+-- each of the exponent lists of n places with the sum d has the sum d
 pub exponent_lists-size : (n d : ℕ) → HaveSize d (exponent_lists n d)
 exponent_lists-size zero d = by (eqb d 0) refl
   where
@@ -97,7 +97,7 @@ product_over-degree f h [] n = one-degree n
 product_over-degree f h (k ∷ parts) n =
     times-degree k (size parts) (f k n) (product_over f parts n) (h k n) (product_over-degree f h parts n)
 
--- the polynomial of a part is the sum of the monomials that its basis keeps
+-- e_k, h_k and p_k are the sums of those monomials of degree k that `keeps` selects for the basis
 pub part_polynomial-is : (basis : PlainBasis) (k n : ℕ) → part_polynomial basis k n ≡ monomials (keeps basis k) n k
 part_polynomial-is Elementary k n = refl
 part_polynomial-is Complete k n = refl
@@ -106,7 +106,7 @@ part_polynomial-is PowerSum k n = refl
 pub part_polynomial-degree : (basis : PlainBasis) (k n : ℕ) → HasDegree k (part_polynomial basis k n)
 part_polynomial-degree basis k n = subst (HasDegree k) (sym (part_polynomial-is basis k n)) (monomials-degree (keeps basis k) n k)
 
--- sums of monomials, multiplied
+-- the product of two sums of monomials is the sum of the products
 pub sum_of-times : (αs βs : List (List ℕ)) → sum_of (flat_map (λ α. map (λ β. join α β) βs) αs) ≡ times (sum_of αs) (sum_of βs)
 sum_of-times [] βs = refl
 sum_of-times (α ∷ αs) βs =
@@ -120,7 +120,7 @@ sum_of-times (α ∷ αs) βs =
     row [] = refl
     row (β ∷ βs) = ap (λ zs. (join α β, pos 1) ∷ zs) (row βs)
 
--- the element at a place is among the lists
+-- the element of xs at a place i is among the lists of xs
 pub among-item : (xs : List (Vec ℕ)) (i : ℕ) (x : Vec ℕ) → i < length xs → x ≡ get_or xs i x → Among x.items (map (λ (y : Vec ℕ). y.items) xs)
 among-item [] i x h e = absurd (omega arith)
 among-item (y ∷ xs) zero x h e = inl (ap (λ (z : Vec ℕ). z.items) e)
@@ -133,7 +133,7 @@ can_multiply d e f g αs βs h k l p q α β m n =
     let b = size-among e βs β (have_size-from_sum e βs (subst (HasDegree e) (sym q) l)) n in
     omega arith
 
--- the parts after the first, as a slice gives them
+-- a slice without its first part is the list of the parts after the first
 pub rest-is : (parts : List ℕ) → 1 ≤ length parts → take (length parts - 1) (drop 1 parts) ≡ drop 1 parts
 rest-is [] h = absurd (omega arith)
 rest-is (a ∷ parts) h = ap (λ n. take n parts) (by (length parts)) ∙ take-length parts
@@ -145,24 +145,25 @@ pub size-first : (parts : List ℕ) → 1 ≤ length parts → size parts ≡ ge
 size-first [] h = absurd (omega arith)
 size-first (a ∷ parts) h = ap (λ ps. a + size ps) (sym (rest-is (a ∷ parts) h))
 
--- the product over the parts is that of the first and of the rest
+-- the polynomial of the first part times the product over the others is the product over all parts
 pub product_over-first : (f : ℕ → ℕ → Poly) (parts : List ℕ) (n : ℕ) → 1 ≤ length parts → times (f (get_or parts 0 0) n) (product_over f (take (length parts - 1) (drop 1 parts)) n) ≡ product_over f parts n
 product_over-first f [] n h = absurd (omega arith)
 product_over-first f (k ∷ parts) n h = ap (λ ps. times (f k n) (product_over f ps n)) (rest-is (k ∷ parts) h)
 
--- two sums of monomials and their product
+-- if αs are the monomials of the first part, βs those of the product over the others, and `all` the products of each of αs with each of βs, then the
+-- sum of `all` is the product over all parts
 pub product-is : (f : ℕ → ℕ → Poly) (parts : List ℕ) (n : ℕ) (αs βs all : List (List ℕ)) → 1 ≤ length parts → sum_of αs ≡ f (get_or parts 0 0) n → sum_of βs ≡ product_over f (take (length parts - 1) (drop 1 parts)) n → all ≡ flat_map (λ α. map (λ β. join α β) βs) αs → sum_of all ≡ product_over f parts n
 product-is f parts n αs βs all h p q e =
     ap sum_of e ∙ (sum_of-times αs βs ∙ (ap (λ g. times g (sum_of βs)) p ∙ (ap (λ g. times (f (get_or parts 0 0) n) g) q ∙ product_over-first f parts n h)))
 
--- the test of equal lists as the program's `==` gives it
+-- the tests `same` and `pointwise nat_eq` of lists agree
 pub same-pointwise : (xs ys : List ℕ) → same xs ys ≡ pointwise nat_eq xs ys
 same-pointwise [] [] = refl
 same-pointwise [] (y ∷ ys) = refl
 same-pointwise (x ∷ xs) [] = refl
 same-pointwise (x ∷ xs) (y ∷ ys) = ap (λ b. eqb x y && b) (same-pointwise xs ys)
 
--- the polynomial of a partition as a product over its parts
+-- the polynomial of a partition is the product over its parts
 pub product_polynomial-is : (basis : PlainBasis) (parts : List ℕ) (n : ℕ) → product_polynomial basis parts n ≡ product_over (part_polynomial basis) parts n
 product_polynomial-is Elementary parts n = refl
 product_polynomial-is Complete parts n = refl

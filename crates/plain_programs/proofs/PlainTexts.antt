@@ -1,4 +1,4 @@
--- What the loops of the plain program for blocks keep.
+-- Invariants of the loops of the plain program for blocks.
 use Rattle.std.proofs.Common.{◌≡◌, ℕ, suc, ◌-◌, ◌≤◌, length, take, get_or, arith, List, [], ◌∷◌, ◌++◌, drop, sym, ap, ◌∙◌, decimal, append_assoc, append-nil}
 use Rattle.std.proofs.Math.Seq.{take-length}
 use Rattle.sym_model.specs.PrintedBlock.{numbers_text}
@@ -12,7 +12,7 @@ pub numbers_text-first : (a : ℕ) (numbers : List ℕ) → numbers_text (a ∷ 
 numbers_text-first a [] = sym (append-nil (decimal a))
 numbers_text-first a (b ∷ numbers) = ap (λ text. decimal a ++ (44 ∷ text)) (numbers_text-first b numbers)
 
--- the first number written, the others are left
+-- after the first number is written, the comma and number of each other one follow
 pub first_written : (new old numbers : List ℕ) → 1 ≤ length numbers → new ≡ old ++ decimal (get_or numbers 0 0) → new ++ comma_numbers (drop 0 (take (length numbers - 1) (drop 1 numbers))) ≡ old ++ numbers_text numbers
 first_written new old [] h e = absurd (omega arith)
 first_written new old (a ∷ rest) h e =

@@ -1,10 +1,10 @@
--- One reflection of a list, with what follows it.
+-- One reflection of a list, and the reflections after it.
 use Rattle.std.proofs.Common.{◌≡◌, ℕ, ◌<◌, ◌≤◌, false, List, sym, ◌∙◌, ap, ap₂, arith, ℤ, Option}
 use Rattle.sym_model.specs.BetaList.{has_equal_entries, sorted_falling, sorting_sign}
 use Rattle.sym_model.specs.AlcoveReduction.{spread, squares, reflected, with_sign, reflected_into_alcove}
 use Rattle.strip_laws.proofs.Reflections.{reflect_again, squares_fall, squares_sorted}
 
--- a list, its reflection, the reflection sorted, and the sign of sorting
+-- `next` is the reflection of `list`, which has a spread over n; `falling` is `next` in decreasing order, and `sign` the sign of sorting it
 pub record Reflects (n : ℕ) (list next falling : List ℕ) (sign : ℤ) : Type 0 where
   pub positive : 1 ≤ n
   pub far : n < spread list

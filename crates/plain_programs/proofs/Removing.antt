@@ -1,7 +1,7 @@
 -- One removal of a rim hook, by its rows first, .., last, counted from 0.
---     removal_found      the rows of `left_part` are what a removal leaves
---     none_in_rows       where the tests fail, no removal has these rows
---     fewer_rows         a removal leaves no row more
+--     removal_found      a removal leaves the rows of `left_part`
+--     none_in_rows       if the tests fail, no removal has these rows
+--     fewer_rows         a removal does not increase the number of rows
 use Rattle.std.proofs.Common.{◌≡◌, ℕ, ◌+◌, ◌-◌, ◌<◌, ◌≤◌, ◌⊎◌, List, length, get_or, sym, ◌∙◌, ap, subst, refl, inl, inr, arith}
 use Rattle.std.proofs.lemmas.Bool.{cases_lt, cases_eq}
 use Rattle.std.proofs.lemmas.Bool.Decides.{nat_tests}
@@ -16,7 +16,7 @@ use Rattle.sym_model.proofs.SortedParts.{IsPartition-without_last_zeros}
 use Rattle.sym_model.proofs.Parts.{past_end, get_or-without_last_zeros, at_least_one, part-get_or, Falls_from_places}
 use Rattle.plain_programs.specs.Removed.{left_part, HasNoneInRows}
 
--- ---- parts by place
+-- ---- parts of a partition, by place from 0
 
 falls_at : (parts : List ℕ) → Falls parts → (i : ℕ) → get_or parts (i + 1) 0 ≤ get_or parts i 0
 falls_at parts f i =
@@ -25,7 +25,7 @@ falls_at parts f i =
     let c = falls_part parts f (i + 1) (omega arith) in
     omega (arith, a, b, c)
 
--- ---- the rows that are left
+-- ---- the rows that are left after a removal
 
 left_above : (shape : List ℕ) (first last rest i : ℕ) → i < first → left_part shape first last rest i ≡ get_or shape i 0
 left_above shape first last rest i h = grind (arith, nat_tests)
@@ -39,7 +39,7 @@ left_last shape first last rest i h e = grind (arith, nat_tests)
 left_below : (shape : List ℕ) (first last rest i : ℕ) → first ≤ last → last < i → left_part shape first last rest i ≡ get_or shape i 0
 left_below shape first last rest i h l = grind (arith, nat_tests)
 
--- a shape and a removal with these rows that leaves rest in the last of them
+-- the tests for a removal with these rows, which leaves `rest` cells in the last of them
 pub record Fits (n : ℕ) (shape : List ℕ) (first last rest : ℕ) : Type 0 where
   pub partition : IsPartition shape
   pub ordered : first ≤ last
@@ -99,7 +99,7 @@ pub record IsLeft (n : ℕ) (shape left : List ℕ) (first last : ℕ) : Type 0 
   pub removal : IsRemoval n shape left
   pub height : height shape left ≡ last - first + 1
 
--- the numbers are these rows
+-- row i + 1 of the partition `numbers` is `left_part shape first last rest i`, for every i
 abbrev AreLeft : List ℕ → List ℕ → ℕ → ℕ → ℕ → Type 0
 AreLeft numbers shape first last rest = (i : ℕ) → get_or numbers i 0 ≡ left_part shape first last rest i
 
@@ -114,7 +114,7 @@ partition_left n shape numbers first last rest h v =
     let c = left_falls n shape first last rest i h in
     omega (arith, a, b, c)))
 
--- a row counted from 1 is one counted from 0
+-- each row number i ≥ 1, counted from 1, is k + 1 for a row number k counted from 0
 row_before : (i : ℕ) → 1 ≤ i → (k : ℕ) × (i ≡ k + 1)
 row_before i h = (i - 1, omega arith)
 
@@ -177,9 +177,9 @@ removal_found n shape numbers first last rest h v =
       height = omega (arith, t, o);
     }
 
--- ---- no removal
+-- ---- the rows first to last from which no rim hook can be removed
 
--- the last row after a removal with these rows
+-- bounds for the last row after a removal with these rows
 record Bounds (n : ℕ) (shape : List ℕ) (first last rest : ℕ) : Type 0 where
   cells : rest + n ≡ get_or shape first 0 + (last - first)
   end : rest < get_or shape last 0
@@ -212,7 +212,7 @@ none_in_rows n shape first last (inr t) left p h e =
     let y = b.end in
     omega (arith, x, y, t)
 
--- ---- the rows of what is left
+-- ---- the number of rows after a removal
 
 pub fewer_rows : (n : ℕ) (shape left : List ℕ) → IsRemoval n shape left → length left ≤ length shape
 fewer_rows n shape left r = elim (cases_lt (length shape) (length left)) [

@@ -1,7 +1,7 @@
--- Looking for a removal through all first and last rows.
---     search_on       one more first row without a removal
---     no_removal      no rows, no removal
---     goes_on         a removal and what follows it
+-- The search for a removal through all first and last rows.
+--     search_on       if no removal begins in a row before `first` and none in `first`, none begins in a row up to `first`
+--     no_removal      if no removal begins in any row, there is none
+--     goes_on         a removal, and the removals after it
 use Rattle.std.proofs.Common.{◌≡◌, ℕ, suc, ◌+◌, ◌-◌, ◌<◌, ◌≤◌, ◌⊎◌, false, Option, Some, None, is_some, List, length, sym, ◌∙◌, ap, subst, inl, inr, arith, ℤ, ◌*ℤ◌}
 use Rattle.std.proofs.lemmas.Bool.{cases_lt}
 use Rattle.sym_model.specs.Partition.{IsPartition}

@@ -1,4 +1,4 @@
--- Lists that loops build up.
+-- Lists that are built by a loop, one element after another.
 use Rattle.std.proofs.Common.{◌≡◌, ℕ, zero, suc, ◌+◌, ◌-◌, ◌≢◌, List, [], ◌∷◌, ◌++◌, map, take, reverse, length, get_or, Bool, true, false, cond, ◌<◌, sym, ◌∙◌, ap, refl, arith, append-nil, add-one, filter, flat_map}
 use Rattle.std.proofs.lemmas.List.{take_more, map-append, reverse-append}
 use Rattle.sym_model.specs.Partition.{after}
@@ -7,7 +7,7 @@ use Rattle.sym_model.proofs.Lists.{each-append}
 pub each-one : {A B : Type 0} (f : A → List B) (x : A) → flat_map f (x ∷ []) ≡ f x
 each-one f x = append-nil (f x)
 
--- mapping over one more number
+-- the list a + 1, .., a + k + 1 is the list a + 1, .., a + k followed by a + k + 1
 pub after-more : (a k : ℕ) → after a (k + 1) ≡ after a k ++ ((a + k + 1) ∷ [])
 after-more a zero = rw (add-one 0) (ap (λ n. n ∷ []) (omega arith))
 after-more a (suc k) =
@@ -19,7 +19,7 @@ each_after-more f k =
     let e : 0 + k + 1 ≡ k + 1 = omega arith in
     ap (flat_map f) (after-more 0 k) ∙ each-append f (after 0 k) ((0 + k + 1) ∷ []) ∙ ap (λ z. flat_map f (after 0 k) ++ z) (each-one f (0 + k + 1) ∙ ap f e)
 
--- one element more of a list that is read through g
+-- the flat map of f over the first i + 1 elements is that over the first i, followed by f of the element at i
 pub each_take-more : {A B C : Type 0} (f : B → List C) (g : A → B) (xs : List A) (i : ℕ) (x : A) → i < length xs → x ≡ get_or xs i x
     → flat_map f (map g (take (i + 1) xs)) ≡ flat_map f (map g (take i xs)) ++ f (g x)
 each_take-more f g xs i x h e =
@@ -28,7 +28,7 @@ each_take-more f g xs i x h e =
     ∙ each-append f (map g (take i xs)) (g x ∷ [])
     ∙ ap (λ l. flat_map f (map g (take i xs)) ++ l) (each-one f (g x))
 
--- mapping over decreasing numbers takes the greatest first
+-- the flat map over j + k, .., j + 1 is f(j + k), followed by the flat map over j + k - 1, .., j + 1
 pub each_reverse-after : {B : Type 0} (f : ℕ → List B) (j k : ℕ) → k ≢ 0 → flat_map f (reverse (after j k)) ≡ f (j + k) ++ flat_map f (reverse (after j (k - 1)))
 each_reverse-after f j k h =
     let e : k ≡ k - 1 + 1 = omega arith in

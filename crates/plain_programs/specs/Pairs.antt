@@ -1,4 +1,4 @@
--- The plain pair of a pair of tableaux.
+-- The lists of rows of a pair of tableaux.
 use Rattle.std.specs.Prelude.{ℕ, List}
 use Rattle.plain_programs.specs.Words.{words_of}
 use Rattle.plain_programs.specs.declared.insertion.TableauPair.{TableauPair}

@@ -1,4 +1,4 @@
--- The plain value of a term.
+-- Terms of the plain program as terms of the model.
 use Rattle.std.specs.Prelude.{ℕ, List}
 use Rattle.sym_model.specs.Expansion.{Fraction}
 use Rattle.plain_programs.specs.declared.blocks.PlainTerm.{PlainTerm}

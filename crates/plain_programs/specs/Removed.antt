@@ -1,4 +1,4 @@
--- The meaning of the results of removing rim hooks.
+-- The conditions that the results of removing rim hooks satisfy.
 use Rattle.std.specs.Prelude.{◌≡◌, ℕ, ◌+◌, ◌-◌, ◌==◌, nat_lt, cond, List, Option, Some, None}
 use Rattle.std.specs.Prelude.{slice_index}
 use Rattle.sym_model.specs.Partition.{IsPartition, size}
@@ -7,7 +7,7 @@ use Rattle.strip_laws.specs.HookRows.{IsHookRows}
 use Rattle.sym_model.specs.RimHookReduction.{IsRemoval, HasNoRemoval}
 use Rattle.plain_programs.specs.declared.removals.Removal.{Removal}
 
--- the result of removing a rim hook of n cells, with its height; nothing if none can be removed
+-- the removal is one of a rim hook of n cells from `shape`, with its height; if it is `None`, no such rim hook can be removed
 abbrev pub IsFound : ℕ → List ℕ → Option Removal → Type 0
 IsFound n shape None = HasNoRemoval n shape
 IsFound n shape (Some removal) =
@@ -19,18 +19,18 @@ HasNoneInRows n shape first last =
     (left : List ℕ) → IsPartition left → IsHookRows shape left first last
     → size shape ≡ size left + n → ⊥
 
--- the result of removing a rim hook with the rows first + 1, .., last + 1; nothing if there is none
+-- the removal is one of a rim hook of n cells with the rows first + 1, .., last + 1; if it is `None`, there is none with these rows
 abbrev pub IsFoundInRows : ℕ → List ℕ → ℕ → ℕ → Option Removal → Type 0
 IsFoundInRows n shape first last None = HasNoneInRows n shape (first + 1) (last + 1)
 IsFoundInRows n shape first last (Some removal) = IsFound n shape (Some removal)
 
--- the same with any last row, if the first row is first + 1
+-- the removal is one of a rim hook of n cells whose first row is first + 1; if it is `None`, there is none with this first row
 abbrev pub IsFoundFrom : ℕ → List ℕ → ℕ → Option Removal → Type 0
 IsFoundFrom n shape first None = (last : ℕ) → HasNoneInRows n shape (first + 1) last
 IsFoundFrom n shape first (Some removal) = IsFound n shape (Some removal)
 
--- part i, counted from 0, of what is left: rest in the row last, and in the rows above it from
--- first on the part of the next row less 1
+-- part i, counted from 0, of the partition that is left: `rest` in the row `last`, and in the rows above it from
+-- `first` on the part of the next row less 1
 abbrev pub left_part : List ℕ → ℕ → ℕ → ℕ → ℕ → ℕ
 left_part shape first last rest i =
     cond (nat_lt i first) (slice_index shape i)

@@ -1,11 +1,11 @@
--- The plain lists of the vectors of this crate.
+-- The lists of the vectors of this crate.
 use Rattle.std.specs.Prelude.{ℕ, List, map, Vec}
 use Rattle.std.specs.declared.alloc.Global.{Global}
 
--- the words of a list of vectors
+-- the lists of numbers that a list of vectors holds
 abbrev pub words_of : List (Vec ℕ Global) → List (List ℕ)
 words_of list = map (λ word. word.items) list
 
--- the fillings of a list of lists of vectors
+-- the fillings that a list of lists of vectors holds
 abbrev pub fillings_in : List (Vec (Vec ℕ Global) Global) → List (List (List ℕ))
 fillings_in list = map (λ filling. words_of filling.items) list

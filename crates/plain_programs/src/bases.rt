@@ -126,8 +126,8 @@ fn one(alloc: Global, n: usize) -> Result<Vec<Vec<u64>>, AllocError>
     Ok(all)
 }
 
-/// The products of each first and each second monomial. Their exponents fit 64 bits. Fails only if
-/// memory runs out.
+/// The products of each first and each second monomial, whose exponents must fit 64 bits. Fails
+/// only if memory runs out.
 fn times(
     alloc: Global,
     first: &[Vec<u64>],

@@ -15,7 +15,7 @@ pub struct PlainTerm {
     pub label: Vec<u64>,
     /// The numerator of the coefficient.
     pub numerator: i128,
-    /// Its denominator.
+    /// The denominator of the coefficient.
     pub denominator: u128,
 }
 

@@ -64,7 +64,7 @@ fn push_row_lengths(lengths: &mut Vec<u64>, outer: &[u64], inner: &[u64]) -> Res
     }
 }
 
-/// Each of the rows on top of each of the fillings.
+/// The fillings that consist of one of the rows on top of one of the fillings.
 fn stacked(
     alloc: Global,
     rows: &[Vec<u64>],

@@ -73,7 +73,7 @@ fn good_among(
     Ok(list)
 }
 
-/// Appends a copy of the tableau, if it is to be kept.
+/// Appends a copy of the tableau if `keeps` is true.
 fn push_if(
     alloc: Global,
     list: &mut Vec<Vec<Vec<u64>>>,
@@ -119,7 +119,7 @@ pub fn plain_is_good(
     Ok(true)
 }
 
-/// Whether start plus the content of the word is weakly decreasing.
+/// Whether start plus the content of the word, in letters from 1 to k, is weakly decreasing.
 fn falls_with(alloc: Global, k: u64, start: &[u64], word: &[u64]) -> Result<bool, AllocError>
     ensures { IfOk result (λ falls. falls ≡ is_falling (join start.now (content k word.now))) }
 {
@@ -152,7 +152,7 @@ fn count_of(letter: u64, word: &[u64]) -> u64
     if *first == letter { rest + 1 } else { rest }
 }
 
-/// The sums of two lists place by place, a missing number being 0.
+/// Appends the sums of two lists, place by place, a missing number being 0.
 fn push_sums(sums: &mut Vec<u128>, first: &[u64], second: &[u64]) -> Result<(), AllocError>
     ensures { OnOk result (sums.new.items ≡ sums.old.items ++ join first.now second.now) }
 {

@@ -29,7 +29,8 @@ pub fn plain_insertion_pair(alloc: Global, word: &[u64]) -> Result<TableauPair, 
     inserted_from(alloc, 1, word, empty)
 }
 
-/// The pair after the letters of a word are inserted one by one, from a step on.
+/// The pair of tableaux after the letters of a word are inserted into `pair` one by one, with
+/// `step` as the number of the first one.
 fn inserted_from(
     alloc: Global,
     step: u64,
@@ -107,7 +108,7 @@ fn push_row_with(list: &mut Vec<u64>, row: &[u64], letter: u64) -> Result<(), Al
     }
 }
 
-/// The first letter of the row that is greater.
+/// The first letter of the row that is greater than `letter`, if there is one.
 fn bumped_letter(row: &[u64], letter: u64) -> Option<u64>
     ensures { result ≡ bumped letter row.now }
 {
@@ -121,7 +122,7 @@ fn bumped_letter(row: &[u64], letter: u64) -> Option<u64>
     }
 }
 
-/// The recording tableau with the number of a step in the cell that the insertion tableau has more.
+/// The recording tableau with the number of a step in the cell that only the insertion tableau has.
 fn with_step(
     alloc: Global,
     step: u64,

@@ -8,7 +8,7 @@ use crate::numbers::number_at;
 use std::cmp::Ordering;
 
 /// The printed order of two lists of numbers: the greater sum first, then decreasing lexicographic
-/// order, a missing number being 0. Both sums are below 2^64. It takes no memory.
+/// order, a missing number being 0. Both sums must be below 2^64. No memory is allocated.
 pub fn plain_printed_order(first: &[u64], second: &[u64]) -> Ordering
     requires first_fits { size first.now < 2 ^ 64 }
     requires second_fits { size second.now < 2 ^ 64 }
@@ -30,7 +30,7 @@ pub fn plain_size(parts: &[u64]) -> u64
     total
 }
 
-/// Decreasing lexicographic order, a missing number being 0. It takes no memory.
+/// Decreasing lexicographic order, a missing number being 0. No memory is allocated.
 pub fn plain_falling_lexicographic(first: &[u64], second: &[u64]) -> Ordering
     ensures { result ≡ falling_lexicographic first.now second.now }
 {

@@ -1,4 +1,4 @@
-//! Column readings of fillings.
+//! Column readings of fillings of skew shapes.
 
 ghost use Rattle.std.specs.Prelude.{◌≡◌, ◌++◌, ◌+◌, ◌<◌, ◌≤◌, ◌^◌, IfOk, OnOk, length, reverse};
 ghost use Rattle.std.specs.Prelude.{flat_map};
@@ -40,7 +40,7 @@ pub fn plain_reading_right_of(
     Ok(reading)
 }
 
-/// The columns j + count, .., j + 1.
+/// Appends the columns j + count, .., j + 1 of the filling to the reading, each from top to bottom.
 fn push_columns(
     reading: &mut Vec<u64>,
     inner: &[u64],

@@ -16,9 +16,9 @@ use std::alloc::{AllocError, Global};
 /// A list of numbers with a sign.
 #[derive(Drop)]
 pub struct Signed {
-    /// The numbers.
+    /// The numbers of the list, without the sign.
     pub numbers: Vec<u64>,
-    /// Whether the sign is a minus.
+    /// Whether the sign is -1.
     pub is_negative: bool,
 }
 

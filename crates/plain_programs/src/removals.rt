@@ -74,7 +74,7 @@ pub fn plain_removal(alloc: Global, n: u64, shape: &[u64]) -> Result<Option<Remo
     Ok(None)
 }
 
-/// A removal whose first row is this one, counted from 0.
+/// A removal whose first row is `first`, counted from 0; None if there is none.
 fn removal_from(
     alloc: Global,
     n: u64,
@@ -93,7 +93,7 @@ fn removal_from(
     Ok(None)
 }
 
-/// The removal with this first and this last row, counted from 0.
+/// The removal with these first and last rows, counted from 0; None if there is none.
 fn removal_between(
     alloc: Global,
     n: u64,

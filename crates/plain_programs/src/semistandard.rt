@@ -7,7 +7,7 @@ ghost use Rattle.plain_programs.specs.Words.{words_of};
 use crate::numbers::{number_at, without_first};
 
 /// Whether rows are weakly and columns strictly increasing, in a filling of a skew shape with this
-/// inner partition, given by its rows. It takes no memory.
+/// inner partition, given by its rows. No memory is allocated.
 pub fn plain_semistandard(inner: &[u64], filling: &[Vec<u64>]) -> bool
     ensures { result ≡ semistandard inner.now (words_of filling.now) }
 {

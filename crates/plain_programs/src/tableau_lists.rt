@@ -64,7 +64,7 @@ fn those_with_content(
     Ok(list)
 }
 
-/// The lists after a word in a list of lists; none if it is not among them. It takes no memory.
+/// The lists after a word in a list of lists; none if it is not among them. No memory is allocated.
 pub fn plain_later_than<'a>(word: &[u64], list: &'a [Vec<u64>]) -> &'a [Vec<u64>]
     ensures { words_of result.now ≡ later_than word.now (words_of list.now) }
 {

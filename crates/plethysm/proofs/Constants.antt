@@ -1,4 +1,4 @@
--- Where the outer list has no label but the empty one, it is a number, whatever is put for the variables.
+-- If the empty partition is the only label of the outer list, the plethysm is a number for every inner list.
 use Rattle.std.proofs.Common.{◌≡◌, ℕ, ◌/◌, ◌≤◌, List, [], ◌∷◌, length, refl, sym, ◌∙◌, ap, ap₂, inl, inr, arith, ℤ, pos, ◌+ℤ◌, ◌*ℤ◌}
 use Rattle.sym_model.specs.Sum.{total, Among}
 use Rattle.sym_model.specs.Partition.{ArePositive, size}
@@ -16,8 +16,8 @@ use Rattle.monomial_laws.proofs.DividedTerms.{cleared-over}
 use Rattle.monomial_laws.proofs.ExpressionTerms.{list-no_factor}
 use Rattle.plethysm_laws.specs.SumsOfMonomials.{HavePlaces}
 use Rattle.plethysm_laws.proofs.Substitutions.{pair-substitute, replaced-zeros}
-use Rattle.whole_lists.specs.Tables.{IsFractionTable}
-use Rattle.whole_lists.specs.LabelSizes.{AreWithin}
+use Rattle.sparse_polys.specs.Tables.{IsFractionTable}
+use Rattle.sparse_polys.specs.LabelSizes.{AreWithin}
 use Rattle.plethysm.proofs.FactorLists.{label_of}
 use Rattle.sym_model.proofs.Integers.{product_cancel}
 use lib.IntN.{+ℤ_idr, *ℤ_comm, zero-*ℤ}
@@ -30,7 +30,7 @@ pair-empty k φ =
     ∙ pair_determined (in_monomials (([], pos 1) ∷ []) k) (one k) φ (list-no_factor power_sum_of k)
     ∙ pair_one k φ
 
--- a list of empty labels
+-- if each label of a list W in m is empty, its polynomial is the number that is the sum of its coefficients
 pair-number : (W : WholeTerms) (k : ℕ) (φ : List ℕ → ℤ) → ((t : List ℕ × ℤ) → Among t W → t.0 ≡ [])
     → pair (in_monomials W k) φ ≡ total (λ (t : List ℕ × ℤ). t.1) W *ℤ φ (no_exponents k)
 pair-number W k φ empty = pair_of_combined (λ label. monomial label k) W φ ∙ by W empty
@@ -48,7 +48,7 @@ no_cells : (parts : List ℕ) → ArePositive parts → size parts ≤ 0 → par
 no_cells [] p h = refl
 no_cells (a ∷ parts) p h = absurd (let s = p.0 in omega arith)
 
--- the outer list has no label but the empty one, and stands for f divided by q
+-- outer is a list whose only label is the empty one; it expands f, divided by q, in every number of variables
 module _ (outer : Terms (List ℕ)) (f : ℕ → Poly) (q : ℕ) (is : IsFractionTable outer) (none : AreWithin 0 outer)
     (x : (k : ℕ) → IsExpansionOf Basis.monomials outer k (f k) q) where
   abbrev Q : ℕ
@@ -87,7 +87,7 @@ module _ (outer : Terms (List ℕ)) (f : ℕ → Poly) (q : ℕ) (is : IsFractio
       product_cancel (pair A φ) (pair B φ) Q ((x 0).positive)
       (*ℤ_comm (pair A φ) (pos Q) ∙ sym (pair-substituted n γs φ h) ∙ pair-substituted n δs φ k ∙ *ℤ_comm (pos Q) (pair B φ)))
 
-  -- so a list that is the plethysm for some monomials is so for any others
+  -- if a list is the expansion of f with the monomials γs substituted, it is that of f with the monomials δs substituted
   pub constant-expansion : (target : Basis) (list : Terms (List ℕ)) (n : ℕ) (γs δs : List (List ℕ)) → HavePlaces n γs → HavePlaces n δs
       → IsExpansionOf target list n (substitute n γs (f (length γs))) q → IsExpansionOf target list n (substitute n δs (f (length δs))) q
   constant-expansion target list n γs δs h k y = record {

@@ -31,16 +31,16 @@ use Rattle.plethysm_laws.proofs.PathBounds.{path-product}
 use Rattle.sparse_polys.specs.MonomialProducts.{greatest_size, AreSums}
 use Rattle.sparse_polys.proofs.Rows.{greatest_size-among}
 use Rattle.sparse_polys.proofs.Tables.{term-tests}
-use Rattle.whole_lists.specs.Tables.{IsFractionTable, IsWholeTable}
-use Rattle.whole_lists.specs.LabelSizes.{AreWithin}
-use Rattle.whole_lists.specs.Large.{ProductIsLarge}
+use Rattle.sparse_polys.specs.Tables.{IsFractionTable, IsWholeTable}
+use Rattle.sparse_polys.specs.LabelSizes.{AreWithin}
+use Rattle.sparse_polys.specs.Large.{ProductIsLarge}
 use Rattle.linear_combinations.proofs.Gains.{next_among}
-use Rattle.whole_lists.proofs.WholeLists.{label-partition, labels-same}
+use Rattle.sparse_polys.proofs.WholeLists.{label-partition, labels-same}
 use Rattle.plethysm.specs.BoundedSums.{IsBoundedSum}
 use Rattle.plethysm.specs.PathSums.{power_sum_in}
 use native.Mathlib.Nat.{mul-le-mul_left, mul-pos}
 
--- ---- labels
+-- ---- labels with each part multiplied by k
 
 pub size-multiplied : (k : ℕ) (parts : List ℕ) → size (multiplied k parts) ≡ k * size parts
 size-multiplied k [] = omega arith
@@ -66,14 +66,14 @@ IsWithinLimits-multiplied k parts h p low =
       small = omega arith;
     }
 
--- ---- the list
+-- ---- the list of p_k[G]
 
 pub list-dilated : (k : ℕ) (W V : WholeTerms) → 0 < k → Same V (dilated k W) → IsList V (λ n. dilated k (in_monomials W n))
 list-dilated k W V h e =
     list_respects (dilated k W) V (λ n. dilated k (in_monomials W n)) (Same_sym V (dilated k W) e)
     (λ n. Same_sym (dilated k (in_monomials W n)) (in_monomials (dilated k W) n) (dilated-list k W n h))
 
--- ---- factors
+-- ---- p_λ[G] with one more factor
 
 module _ (W : WholeTerms) (K b : ℕ) (h : IsBoundedSum K b W) where
   pub monomial_sum_in : (n : ℕ) → IsMonomialSum b n (in_monomials W n)
@@ -110,7 +110,8 @@ module _ (W : WholeTerms) (K b : ℕ) (h : IsBoundedSum K b W) where
       three : (x y z : ℕ) → x ≤ y → y ≤ z → x ≤ z
       three x y z h k = omega arith
 
--- one factor more
+-- if A is the list of p_k[G], and B that of the factors of `rest`, a list with the coefficients of A·B is that of
+-- the factors of k ∷ rest
 pub list-more : (W : WholeTerms) (k : ℕ) (rest parts : List ℕ) (A B C : WholeTerms) → k ∷ rest ≡ parts → IsList A (λ n. dilated k (in_monomials W n)) → IsList B (power_sum_in W rest)
     → ((ν : List ℕ) → IsPartition ν → coefficient C ν ≡ product_coefficient A B ν) → IsList C (power_sum_in W parts)
 list-more W k rest parts A B C split h i e n =
@@ -121,7 +122,7 @@ list-none W V [] h e n =
     list_respects (([], pos 1) ∷ []) V (power_sum_in W []) (Same_sym V (([], pos 1) ∷ []) e) (list-no_factor (λ k m. dilated k (in_monomials W n))) n
 list-none W V (k ∷ parts) h e n = absurd (omega arith)
 
--- the labels of a product are within the sum of the sizes
+-- if the labels of two lists have at most a and b cells, those of a list whose labels are sums of theirs have at most a + b
 pub within-product : (left right product : WholeTerms) (a b d : ℕ) → AreWithin a left → AreWithin b right → a + b ≤ d → AreSums left right product → AreWithin d product
 within-product left right product a b d h k l added t m =
     let (x, y, p, q, e) = added t m in
@@ -129,7 +130,7 @@ within-product left right product a b d h k l added t m =
     let r = k y q in
     omega arith
 
--- and those of a list with every part times k
+-- in the list with every part multiplied by k, the labels have at most k times the greatest size
 pub within-dilated : (k : ℕ) (inner list : WholeTerms) → IsWholeTable list → Same list (dilated k inner) → AreWithin (k * greatest_size inner) list
 within-dilated k inner list is same =
     labels-same (λ (label : List ℕ). size label ≤ k * greatest_size inner) list (dilated k inner) is same
@@ -140,16 +141,16 @@ within-dilated k inner list is same =
     let h = size-multiplied k u.0.0 in
     omega arith)
 
--- ---- the loop over the terms
+-- ---- the loop over the terms of a list
 
--- the label of a term is a partition within the greatest size
+-- the label of each term of a list is a partition with at most as many cells as the greatest label
 pub label_of : (terms : Terms (List ℕ)) (label : List ℕ) (c : Fraction) → IsFractionTable terms → Among (label, c) terms → IsPartition label × (size label ≤ greatest_size terms)
 label_of terms label c is m = (
   (is_label-tells label (term-tests terms is (label, c) m).1).partition,
   greatest_size-among terms (label, c) m,
 )
 
--- and so is that of the next term of a table of whole numbers
+-- the label of the next term of a table of integers is a partition with at most as many cells as the greatest label
 pub next_label : (terms done rest : WholeTerms) (label : List ℕ) (c : ℤ) → IsWholeTable terms → done ++ (label, c) ∷ rest ≡ terms → IsPartition label × (size label ≤ greatest_size terms)
 next_label terms done rest label c is e =
     let m = subst (λ (ts : WholeTerms). Among (label, c) ts) e (next_among done (label, c) rest) in

@@ -9,11 +9,11 @@ use Rattle.sym_model.specs.ListWeight as listed
 use Rattle.monomial_laws.specs.Majorant as majorant
 use Rattle.monomial_laws.specs.ExpressionTerms.{in_monomials, over, IsList}
 use Rattle.monomial_laws.proofs.Splits.{In-monomial_terms}
-use Rattle.whole_lists.specs.Tables.{IsFractionTable}
-use Rattle.whole_lists.specs.LabelSizes.{AreWithin}
-use Rattle.whole_lists.proofs.DividedLists.{within-multiple, bounded-multiple}
-use Rattle.whole_lists.proofs.WholeLists.{Once-keys}
-use Rattle.whole_lists.proofs.Quotients.{Quotients, denominators-positive}
+use Rattle.sparse_polys.specs.Tables.{IsFractionTable}
+use Rattle.sparse_polys.specs.LabelSizes.{AreWithin}
+use Rattle.sparse_polys.proofs.DividedLists.{within-multiple, bounded-multiple}
+use Rattle.sparse_polys.proofs.WholeLists.{Once-keys}
+use Rattle.sparse_polys.proofs.Quotients.{Quotients, denominators-positive}
 use Rattle.plethysm_laws.proofs.SubstitutedBounds.{bounded-substitute}
 use Rattle.plethysm_laws.proofs.ListBounds.{bounded-list}
 use Rattle.plethysm_laws.proofs.Paths.{path-multiple}

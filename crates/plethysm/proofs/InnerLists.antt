@@ -1,4 +1,4 @@
--- Lists in m with whole coefficients, none of which is negative.
+-- Lists in m with integer coefficients, none of which is negative.
 use Rattle.std.proofs.Common.{◌≡◌, ℕ, ◌+◌, ◌*◌, ◌/◌, ◌%◌, ◌<◌, ◌≤◌, List, [], ◌∷◌, length, sym, ◌∙◌, ap, ap₂, subst, refl, inl, inr, arith, ℤ, pos, ◌*ℤ◌}
 use Rattle.std.specs.Prelude.{◌≤ℤ◌}
 use Rattle.std.specs.List.{IsDistinct}
@@ -26,19 +26,19 @@ use Rattle.plethysm_laws.specs.PositiveExpression.{HasNoSigns}
 use Rattle.plethysm_laws.proofs.ListBounds.{bounded-list}
 use Rattle.plethysm_laws.proofs.NonnegativeTerms.{coefficient-nonnegative, nonnegative-value, denominator-one}
 use Rattle.linear_combinations.proofs.Found.{coefficient_of_term}
-use Rattle.whole_lists.specs.Tables.{equal, IsFractionTable, IsWholeTable}
+use Rattle.sparse_polys.specs.Tables.{equal, IsFractionTable, IsWholeTable}
 use Rattle.sparse_polys.specs.MonomialProducts.{greatest_size}
 use Rattle.sparse_polys.proofs.Rows.{greatest_size-among}
 use Rattle.sparse_polys.proofs.Tables.{term-tests}
-use Rattle.whole_lists.specs.LabelSizes.{AreWithin}
-use Rattle.whole_lists.proofs.Bounds.{coefficient-list}
-use Rattle.whole_lists.proofs.WholeLists.{Once-keys, labels-same}
+use Rattle.sparse_polys.specs.LabelSizes.{AreWithin}
+use Rattle.sparse_polys.proofs.Bounds.{coefficient-list}
+use Rattle.sparse_polys.proofs.WholeLists.{Once-keys, labels-same}
 use Rattle.plethysm.specs.BoundedSums.{IsBoundedSum}
 use Rattle.plethysm.specs.PlethysmLists.{AreNaturalNumbers}
 use Rattle.plethysm.proofs.NumeratorLists.{keys-numerators}
 use native.Mathlib.Nat.{mul-pos}
 
--- each coefficient has the denominator 1
+-- each coefficient of the list has the denominator 1
 abbrev HaveOne : Terms (List ℕ) → Type 0
 HaveOne terms = (t : List ℕ × Fraction) → Among t terms → t.1.1 ≡ 1
 
@@ -54,12 +54,12 @@ denominators-one : (terms : Terms (List ℕ)) → HaveOne terms → denominators
 denominators-one [] h = refl
 denominators-one (t ∷ terms) h = ap₂ ◌*◌ (h t (inl refl)) (denominators-one terms (λ u m. h u (inr m)))
 
--- W is the list in whole numbers
+-- W has the numerators of the list as coefficients
 module _ (terms : Terms (List ℕ)) (W : WholeTerms) (same : Same W (numerators terms)) where
   same_in : (n : ℕ) → Same (in_monomials W n) (in_monomials (numerators terms) n)
   same_in n = combined_respects (λ label. monomial label n) W (numerators terms) same
 
-  -- it stands for the polynomial of which the list is the expansion
+  -- if the list expands g and has only denominators 1, g is the polynomial of W
   pub inner-value : HaveOne terms → (n : ℕ) (g : Poly) → IsExpansionOf Basis.monomials terms n g 1 → Same g (in_monomials W n)
   inner-value one n g x α =
       sym
@@ -75,7 +75,7 @@ module _ (terms : Terms (List ℕ)) (W : WholeTerms) (same : Same W (numerators 
       ∙ one-product (coefficient g α))
 
 module _ (terms : Terms (List ℕ)) (W : WholeTerms) (same : Same W (numerators terms)) (is : IsFractionTable terms) (also : IsWholeTable W) where
-  -- no label is larger
+  -- no label of W has more cells than the greatest one of the list
   pub within-inner : AreWithin (greatest_size terms) W
   within-inner =
       labels-same (λ (label : List ℕ). size label ≤ greatest_size terms) W (numerators terms) also same
@@ -85,7 +85,8 @@ module _ (terms : Terms (List ℕ)) (W : WholeTerms) (same : Same W (numerators 
       let g = greatest_size-among terms u.0 u.1 in
       omega arith)
 
-  -- its bounds as a polynomial
+  -- if the list is bounded by K with the denominator 1, has labels of at most b cells and no negative coefficients, W is bounded by K·(b + 1) at the
+  -- degree b
   pub bounded_sum : (K D b : ℕ) → 1 ≤ K → D ≡ 1 → AreNaturalNumbers terms → AreWithin b terms → listed.IsBounded K D terms → IsBoundedSum (K * (b + 1)) b W
   bounded_sum K D b k e natural w bounded = record {
     some = omega (arith, mul-pos k (let s : 0 < b + 1 = omega arith in s));
@@ -100,7 +101,7 @@ module _ (terms : Terms (List ℕ)) (W : WholeTerms) (same : Same W (numerators 
         (bounded-list K 1 b n terms (Once-keys terms is) w (subst (λ d. listed.IsBounded K d terms) e bounded)));
   }
 
--- the list in m of an expression without signs and fractions
+-- the list in m of an expression without minus signs and fractions has no negative coefficient and no fraction
 pub natural-expansion : (e : Tree) (terms : Terms (List ℕ)) → HasNoSigns e → IsFractionTable terms → listed.IsBounded (numerator e) (denominator e) terms
     → ((n : ℕ) → IsExpansionOf Basis.monomials terms n (cleared_value e n) (denominator e)) → AreNaturalNumbers terms
 natural-expansion e terms h is bounded x t m = (ones t m, subst (λ z. pos 0 ≤ℤ z) (sym at) (coefficient-nonnegative (cleared_value e (length t.0)) (nonnegative-value e (length t.0) h) t.0))

@@ -1,4 +1,4 @@
--- Where the path is refused the weight is past the limit.
+-- If a step on the path of a plethysm returns `Large`, the plethysm weight is 2^127 or more.
 use Rattle.std.proofs.Common.{ℕ, ◌+◌, ◌*◌, ◌/◌, ◌^◌, ◌≤◌, List, [], ◌∷◌, length, sym, ap, subst, refl, inl, inr, arith, ℤ, pos, ◌*ℤ◌}
 use Rattle.std.specs.Prelude.{nat_abs}
 use Rattle.std.proofs.lemmas.Int.{unsigned_abs-mul}
@@ -15,16 +15,16 @@ use Rattle.monomial_laws.specs.ExpressionTerms.{in_monomials, over}
 use Rattle.monomial_laws.proofs.Splits.{In-monomial_terms}
 use Rattle.plethysm_laws.proofs.PathBounds.{path-met}
 use Rattle.plethysm_laws.proofs.PathWeights.{weight-met, weight-product, weight-outer}
-use Rattle.whole_lists.specs.Tables.{IsFractionTable}
+use Rattle.sparse_polys.specs.Tables.{IsFractionTable}
 use Rattle.coeff_rings.specs.Fractions.{scaled}
-use Rattle.change_from_monomials.specs.ClearedAnswer.{IsClearedBy}
+use Rattle.basis_change.specs.ClearedAnswer.{IsClearedBy}
 use Rattle.family_lists.proofs.Totals.{absolute-over}
 use Rattle.plethysm.specs.BoundedSums.{IsBoundedSum}
 use Rattle.plethysm.specs.PathSums.{IsPastPath}
 use Rattle.plethysm.proofs.FactorLists.{label_of, places, sums}
 use native.Mathlib.Nat.{mul-le-mul_right}
 
--- a term is no more than the sum
+-- the absolute value of each coefficient, times m, is at most the sum of all
 term-within : (m : ℕ) (terms : Terms (List ℕ)) (t : List ℕ × Fraction) → Among t terms → nat_abs (scaled m t.1) ≤ absolute_sum m terms
 term-within m [] t n = absurd n
 term-within m (u ∷ terms) t (inl e) =

@@ -1,4 +1,4 @@
--- One term more on the path.
+-- One more term added when a list in p is multiplied out with a list in m in place of the variables (the path of a plethysm).
 use Rattle.std.proofs.Common.{◌≡◌, ℕ, ◌+◌, ◌*◌, ◌/◌, ◌^◌, ◌≤◌, List, [], ◌∷◌, ◌++◌, length, sym, ◌∙◌, ap, ap₂, subst, inl, inr, arith, ℤ, pos, ◌+ℤ◌, ◌*ℤ◌, append-nil, append_assoc}
 use Rattle.std.specs.Prelude.{nat_abs}
 use Rattle.std.proofs.lemmas.Int.{ints, unsigned_abs-mul}
@@ -13,8 +13,8 @@ use Rattle.sym_model.proofs.Ring.{one-product}
 use Rattle.sym_model.proofs.Polynomials.{pair_plus, pair_scale, pair_determined, coefficient_plus, coefficient_scale}
 use Rattle.sym_model.proofs.WholeTerms.{coefficient-combined}
 use Rattle.monomial_laws.specs.ExpressionTerms.{in_monomials, IsList, over}
-use Rattle.whole_lists.specs.Large.{SumIsLarge}
-use Rattle.whole_lists.proofs.Bounds.{coefficient-list}
+use Rattle.sparse_polys.specs.Large.{SumIsLarge}
+use Rattle.sparse_polys.proofs.Bounds.{coefficient-list}
 use Rattle.plethysm_laws.specs.PowerSumPlethysm.{met}
 use Rattle.plethysm_laws.proofs.PathBounds.{coefficient-met}
 use Rattle.plethysm.specs.PathSums.{power_sum_in, power_sum_at, IsPastStep, IsPastPath}
@@ -30,7 +30,7 @@ sum-value A B S z P e h n α =
     (pair_scale z B ψ ∙ ap (λ y. z *ℤ y) (sym (coefficient-combined (λ label. monomial label n) B α) ∙ h n α) ∙ sym (coefficient_scale z (P n) α))
     ∙ sym (coefficient_plus (in_monomials A n) (scale z (P n)) α)
 
--- where a sum is refused
+-- if a sum A + z·B returns `Large`, then |A| + |z|·|B| is 2^127 or more at some partition ν
 pub sum-large : (A B : WholeTerms) (z : ℤ) (P : ℕ → Poly) → IsList B P → SumIsLarge A B (pos 1) z
     → (ν : List ℕ) × IsPartition ν × (2 ^ 127 ≤ nat_abs (coefficient A ν) + nat_abs z * nat_abs (coefficient (P (length ν)) ν))
 sum-large A B z P h (inl l) = (
@@ -75,7 +75,7 @@ met-append : (f : List ℕ → ℤ) (V U : WholeTerms) → met (V ++ U) f ≡ me
 met-append f [] U = omega arith
 met-append f (t ∷ V) U = omega (arith, met-append f V U)
 
--- the sum so far with one term more
+-- if S is the sum over the terms done so far, and T is S with z times p_λ[W] added for the next term, then T is the sum with this term
 pub path-step : (den n : ℕ) (W S T : WholeTerms) (done : Terms (List ℕ)) (x : List ℕ × Fraction) (z : ℤ) → z ≡ x.1.0 *ℤ pos (den / x.1.1)
     → Same (in_monomials S n) (combined (λ label. power_sum_in W label n) (over den done))
     → Same (in_monomials T n) (plus (in_monomials S n) (scale z (power_sum_in W x.0 n)))
@@ -88,7 +88,7 @@ path-step den n W S T done x z e h k α =
     ∙ sym (coefficient_plus (combined P (over den done)) (scale (x.1.0 *ℤ pos (den / x.1.1)) (power_sum_in W x.0 n)) α)
     ∙ sym (ap (λ f. coefficient f α) (ap (combined P) (over-push den done x) ∙ combined-push P (over den done) (x.0, x.1.0 *ℤ pos (den / x.1.1))))
 
--- what is met at a partition where a step is refused
+-- if |S| + |z|·|p_λ[W]| is 2^127 or more at ν, so is the sum over all terms of their absolute values at ν
 pub path-past : (den m : ℕ) (W S : WholeTerms) (done rest : Terms (List ℕ)) (x : List ℕ × Fraction) (z : ℤ) (ν : List ℕ) → z ≡ x.1.0 *ℤ pos (den / x.1.1) → IsPartition ν
     → ((n : ℕ) → Same (in_monomials S n) (combined (λ label. power_sum_in W label n) (over den done)))
     → m ≤ nat_abs (coefficient S ν) + nat_abs z * nat_abs (power_sum_at W ν x.0)

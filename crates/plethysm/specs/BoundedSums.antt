@@ -1,5 +1,4 @@
--- Lists in m of which no coefficient is negative,
--- with their bounds as polynomials.
+-- Lists in m without negative coefficients, with their bounds as polynomials.
 use Rattle.std.specs.Prelude.{ℕ, ℤ, pos, ◌≤◌, ◌≤ℤ◌, List}
 use Rattle.sym_model.specs.Sum.{Among}
 use Rattle.sym_model.specs.WholeTerms.{WholeTerms}

@@ -1,16 +1,17 @@
--- When a list is the plethysm of the polynomials of two lists in m (Macdonald, I.8).
+-- The relation between three lists of terms: the third is the plethysm of the polynomials of two lists in m
+-- (Macdonald, I.8).
 use Rattle.std.specs.Prelude.{◌≡◌, ℕ, ◌≤ℤ◌, pos, List}
 use Rattle.sym_model.specs.Sum.{Among}
 use Rattle.sym_model.specs.Polynomial.{Poly}
 use Rattle.sym_model.specs.Expansion.{Basis, monomials, Fraction, Terms, IsExpansionOf}
 use Rattle.sym_model.specs.Plethysm.{plethysm}
 
--- each coefficient is whole and not negative
+-- each coefficient is an integer and not negative
 abbrev pub AreNaturalNumbers : Terms (List ℕ) → Type 0
 AreNaturalNumbers terms = (t : List ℕ × Fraction) → Among t terms → (t.1.1 ≡ 1) × (pos 0 ≤ℤ t.1.0)
 
--- the list, labels read in the target, is F[G] for all F and G of which the two lists are the
--- expansions in m, G of degree at most b
+-- the list, with its labels read in the target, is F[G] in every number of variables, for each F and G that the lists `outer` and `inner` expand in
+-- m; no coefficient of G is negative and its degree is at most b
 abbrev pub IsPlethysmOf : Basis → ℕ → Terms (List ℕ) → Terms (List ℕ) → Terms (List ℕ) → Type 0
 IsPlethysmOf target b outer inner list =
     (n : ℕ) (f : ℕ → Poly) (g : Poly) (q : ℕ)

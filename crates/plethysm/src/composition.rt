@@ -7,31 +7,30 @@ ghost use Rattle.sym_model.specs.Polynomial.{Poly};
 ghost use Rattle.monomial_laws.specs.ExpressionTerms.{in_monomials};
 ghost use Rattle.expression_reading.specs.Trees.{basis_of};
 ghost use Rattle.sparse_polys.specs.MonomialProducts.{greatest_size};
-ghost use Rattle.whole_lists.specs.LabelSizes.{AreWithin};
+ghost use Rattle.sparse_polys.specs.LabelSizes.{AreWithin};
 ghost use Rattle.plethysm.specs.BoundedSums.{IsBoundedSum};
 ghost use Rattle.plethysm.specs.PlethysmLists.{AreNaturalNumbers, IsPlethysmOf};
 
 use crate::inner::numerators;
 use crate::path::multiplied_out;
+use basis_change::{greatest_size, to_basis};
 use calc_base::{Basis, SumFault, Weight};
-use change_from_monomials::{greatest_size, to_basis};
-use coeff_rings::Frac;
+use coeff_rings::{Frac, denominator_product, factorial};
 use linear_combinations::Lin;
 use partitions::Partition;
+use sparse_polys::{Whole, divided};
 use std::alloc::Global;
-use whole_lists::{Whole, divided};
-use whole_numbers::{denominator_product, factorial};
 
-/// The plethysm F[G]: the variables of F replaced by the monomials of G, each repeated as often as
-/// its coefficient says (Macdonald, I.8). Both lists are in m; the result is an expansion in the
-/// target, in every number of variables.
+/// The plethysm F[G]: the variables of F are replaced by the monomials of G, each repeated
+/// according to its coefficient (Macdonald, I.8). Both lists are in m; the result is an expansion
+/// in the target, in every number of variables.
 ///
 /// Each list satisfies its bound, whose two numbers are at least 1. The coefficients of the inner
-/// list are whole and not negative, and its bound has the denominator 1. The greatest sizes a and b
-/// of the labels of the two lists are at most 10, and so is their product.
+/// list are integers and not negative, and its bound has the denominator 1. The greatest sizes a
+/// and b of the labels of the two lists are at most 10, and so is their product.
 ///
-/// Where a is 0 the answer is F, whatever G is. The plethysm is refused as `Large` only where the
-/// plethysm weight of the bounds, a and b is 2^127 or more.
+/// If a is 0, the result is F for every G. Returns `Large` only if the plethysm weight of the
+/// bounds, a and b is 2^127 or more.
 ///
 /// Examples: h_2[h_2] = s_4 + s_(2,2); p_2[p_3] = p_6; h_2[3] = 6.
 pub fn plethysm(
@@ -73,7 +72,7 @@ pub fn plethysm(
     to_basis(alloc, &finished, bound, target)
 }
 
-/// F[G] in m.
+/// The plethysm F[G] in m.
 fn in_m(
     alloc: Global,
     outer: &Lin<Partition, Frac>,
@@ -103,8 +102,8 @@ fn in_m(
     divided(alloc, &sum, den)
 }
 
-/// What bounds the numerators of F[G] in m, for F of degree a and G of degree b;
-/// none where it is too large.
+/// A bound for the numerators of F[G] in m, for F of degree a and G of degree b; `None` if it is
+/// 2^127 or more.
 fn finished_number(outer: u128, a: u16, inner: u128, b: u16) -> Option<u128>
     requires { (1 ≤ outer) × (1 ≤ inner) × (a ≤ 10) × (b ≤ 10) }
     ensures { let bound = outer * (a + 1) * (inner * (b + 1)) ^ a in

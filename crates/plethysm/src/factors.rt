@@ -1,4 +1,4 @@
-//! p_k[G] and p_λ[G] of a list G in m with whole coefficients.
+//! p_k[G] and p_λ[G] of a list G in m with integer coefficients.
 ghost use Rattle.std.specs.Prelude.{◌≡◌, ℕ, ◌*◌, ◌<◌, ◌≤◌, ◌^◌, IfOk, IsErrOf};
 ghost use Rattle.sym_model.specs.Expansion.{monomials};
 ghost use Rattle.sym_model.specs.Partition.{ArePositive, size};
@@ -8,19 +8,18 @@ ghost use Rattle.sym_model.specs.Weight.{growth};
 ghost use Rattle.monomial_laws.specs.ExpressionTerms.{IsList};
 ghost use Rattle.plethysm_laws.specs.PowerSumPlethysm.{dilated};
 ghost use Rattle.sparse_polys.specs.MonomialProducts.{greatest_size};
-ghost use Rattle.whole_lists.specs.LabelSizes.{AreWithin};
-ghost use Rattle.whole_lists.specs.Tables.{IsWholeTable};
+ghost use Rattle.sparse_polys.specs.LabelSizes.{AreWithin};
+ghost use Rattle.sparse_polys.specs.Tables.{IsWholeTable};
 ghost use Rattle.plethysm.specs.BoundedSums.{IsBoundedSum};
 ghost use Rattle.plethysm.specs.PathSums.{power_sum_in};
 
 use calc_base::SumFault;
 use linear_combinations::Lin;
 use partitions::Partition;
-use sparse_polys::times_whole_in_m;
+use sparse_polys::{Whole, single, times_whole_in_m};
 use std::alloc::{AllocError, Global};
-use whole_lists::{Whole, single};
 
-/// Each number times k.
+/// Each part times k.
 fn multiplied(alloc: Global, parts: &[u16], k: u16) -> Result<Vec<u16>, AllocError>
     requires { k * size parts.now ≤ 512 }
     ensures { IfOk result (λ numbers. numbers.items ≡ multiplied k parts.now) }
@@ -32,7 +31,7 @@ fn multiplied(alloc: Global, parts: &[u16], k: u16) -> Result<Vec<u16>, AllocErr
     Ok(numbers)
 }
 
-/// p_k[G]: the list with every part times k.
+/// p_k[G]: the list with every part multiplied by k.
 fn dilated(alloc: Global, inner: &Whole, k: u16) -> Result<Whole, SumFault>
     requires positive { 0 < k }
     requires low { k * greatest_size inner.now ≤ 512 }

@@ -1,18 +1,18 @@
-//! The list that is put for the variables.
+//! The inner list of a plethysm, whose monomials replace the variables.
 ghost use Rattle.std.specs.Prelude.{IfOk, IsErrOf};
 ghost use Rattle.sym_model.specs.Polynomial.{Same};
 ghost use Rattle.sym_model.specs.WholeTerms.{numerators};
-ghost use Rattle.whole_lists.specs.Tables.{IsWholeTable};
+ghost use Rattle.sparse_polys.specs.Tables.{IsWholeTable};
 
+use basis_change::numerator_of;
 use calc_base::SumFault;
-use change_from_monomials::numerator_of;
 use coeff_rings::Frac;
 use linear_combinations::Lin;
 use partitions::Partition;
+use sparse_polys::Whole;
 use std::alloc::Global;
-use whole_lists::Whole;
 
-/// The list with the numerators for coefficients: where these are whole, the list in whole numbers.
+/// The list with its numerators as coefficients: the same list, if all coefficients are integers.
 pub(crate) fn numerators(alloc: Global, list: &Lin<Partition, Frac>) -> Result<Whole, SumFault>
     ensures value { IfOk result (λ whole. Same whole (numerators list.now)) }
     ensures table { IfOk result IsWholeTable }

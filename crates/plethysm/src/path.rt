@@ -1,4 +1,4 @@
-//! A list in power sums multiplied out, with a list in m for the variables.
+//! A list in power sums multiplied out, with a list in m in place of the variables.
 ghost use Rattle.std.specs.Prelude.{◌≡◌, ℕ, ◌*◌, ◌<◌, ◌≤◌, ◌^◌, IfOk, IsErrOf};
 ghost use Rattle.sym_model.specs.Partition.{size};
 ghost use Rattle.sym_model.specs.Polynomial.{Same, plus, scale};
@@ -9,13 +9,13 @@ ghost use Rattle.plethysm.specs.BoundedSums.{IsBoundedSum};
 ghost use Rattle.plethysm.specs.PathSums.{power_sum_in, IsPastStep, IsPastPath};
 
 use crate::factors::over_parts;
+use basis_change::scaled_number;
 use calc_base::SumFault;
-use change_from_monomials::scaled_number;
 use coeff_rings::{Frac, Int};
 use linear_combinations::Lin;
 use partitions::Partition;
+use sparse_polys::{Whole, sum_of};
 use std::alloc::Global;
-use whole_lists::{Whole, sum_of};
 
 /// The sum with z times p_λ[G] added.
 fn with_product(

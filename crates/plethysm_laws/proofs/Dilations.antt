@@ -27,7 +27,7 @@ divided-multiplied k (a ∷ α) h = ap₂ ◌∷◌ (mul-div_cancel_left a h) (d
 multiplied_cancel : (k : ℕ) (α β : List ℕ) → 0 < k → multiplied k α ≡ multiplied k β → α ≡ β
 multiplied_cancel k α β h e = sym (divided-multiplied k α h) ∙ ap (divided k) e ∙ divided-multiplied k β h
 
--- ---- sorting
+-- ---- multiplying each part by k keeps a list sorted
 
 insert_front : (x b : ℕ) (parts : List ℕ) → 0 < x → b ≤ x → insert_part x (b ∷ parts) ≡ x ∷ b ∷ parts
 insert_front zero b parts h k = absurd (omega arith)
@@ -96,7 +96,7 @@ sorted_multiples k (a ∷ α) h m =
     let r = inserted_multiples k a (sorted_parts α) h m in
     (r.0, sorted_multiples k α h r.1)
 
--- ---- m_λ
+-- ---- m_λ and lists in m, with each variable replaced by its k-th power
 
 pub dilated-monomial : (k : ℕ) (parts : List ℕ) (n : ℕ) → 0 < k → Same (dilated k (monomial parts n)) (monomial (multiplied k parts) n)
 dilated-monomial k parts n h β =
@@ -142,7 +142,7 @@ dilated-monomial k parts n h β =
         (λ e. d (multiplied-divided k β (sorted_multiples k β h (subst (AreMultiples k) (sym e) (AreMultiples-multiplied k parts h))))))
         ∙ nothing_there (eqb (length β) n))
 
--- a list in m with every part times k
+-- multiplying each part of a list in m by k dilates its polynomial
 pub dilated-list : (k : ℕ) (terms : WholeTerms) (n : ℕ) → 0 < k → Same (dilated k (in_monomials terms n)) (in_monomials (dilated k terms) n)
 dilated-list k terms n h =
     same_from_pair (dilated k (in_monomials terms n)) (in_monomials (dilated k terms) n)
@@ -154,7 +154,7 @@ dilated-list k terms n h =
     ∙ sym (pair-dilated k terms (λ label. pair (monomial label n) φ))
     ∙ sym (pair-combined (λ label. monomial label n) (dilated k terms) φ))
 
--- the coefficient of a label with every part times k
+-- in a list in m dilated by k > 0, the coefficient of k·λ is that of λ in the list
 pub coefficient-dilated : (k : ℕ) (W : WholeTerms) (label : List ℕ) → 0 < k → coefficient (dilated k W) (multiplied k label) ≡ coefficient W label
 coefficient-dilated k W label h =
     coefficient_pair (dilated k W) (multiplied k label)

@@ -1,4 +1,4 @@
--- A bounded list in m, its fractions cleared, is bounded as a polynomial in every number of variables.
+-- A bounded list in m, with its fractions cleared, is bounded as a polynomial in every number of variables.
 use Rattle.std.proofs.Common.{◌≡◌, ◌⊎◌, ℕ, zero, suc, ◌+◌, ◌*◌, ◌/◌, ◌<◌, ◌≤◌, cond, List, [], ◌∷◌, length, sym, ◌∙◌, ap, subst, refl, inl, inr, arith, ℤ, pos, negsuc, ◌+ℤ◌, ◌*ℤ◌}
 use Rattle.std.specs.Prelude.{nat_abs, ◌≤ℤ◌}
 use Rattle.std.proofs.lemmas.Int.{ints, unsigned_abs-mul}
@@ -24,9 +24,9 @@ use Rattle.sym_model.specs.ListWeight.{factorials}
 use Rattle.sym_model.proofs.Sums.{among_down_from}
 use native.Mathlib.Nat.{mul-le-mul_left}
 
--- ---- factorials of sorted exponents
+-- ---- the factorials of sorted exponents
 
--- ---- one of the powers
+-- ---- a sum is at least each of its summands
 
 member_within : {A : Type 0} (f : A → ℤ) (x : A) (xs : List A) → ((y : A) → pos 0 ≤ℤ f y) → Among x xs → (f x ≤ℤ total f xs) × (pos 0 ≤ℤ total f xs)
 member_within {A = A} f x [] h m = absurd m
@@ -69,9 +69,9 @@ powers-nonnegative ds n α = subst (λ z. pos 0 ≤ℤ z) (sym (coefficient-powe
     by [] = omega (arith, ints)
     by (x ∷ xs) = both (coefficient (power x n) α) (total (λ (d : ℕ). coefficient (power d n) α) xs) (power-nonnegative x n α) (by xs)
 
--- ---- lists
+-- ---- lists in m as polynomials
 
--- |z|·F at most N·s!, where P·F is s! and P at most S
+-- if |z|·F ≤ N·s!, P·F = s! and P ≤ S, then |z| ≤ N·S
 within-power : (z P S : ℤ) (F N s : ℕ) → nat_abs z * F ≤ N * s → P *ℤ pos F ≡ pos s → 0 < F → pos 0 ≤ℤ P → P ≤ℤ S → pos (nat_abs z) ≤ℤ (pos N *ℤ S)
 within-power z (pos p) (pos t) F N s h e k o l =
     let f : p * F ≡ s = omega (arith, ints) in

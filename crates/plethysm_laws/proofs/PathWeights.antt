@@ -1,4 +1,4 @@
--- The weight of a plethysm is at least every number that is met.
+-- The numbers on the path of a plethysm are at most its weight.
 use Rattle.std.proofs.Common.{ℕ, zero, suc, ◌+◌, ◌*◌, ◌^◌, ◌≤◌, max, arith}
 use Rattle.std.proofs.lemmas.Nat.{mul-le}
 use Rattle.std.proofs.Math.Nat.{one-le-pow, pow-le-pow_left, pow-le-pow_right}
@@ -9,7 +9,7 @@ use Rattle.monomial_laws.proofs.Growths.{factorial-positive, factorial-mono, gro
 use Rattle.monomial_laws.proofs.WeightBounds.{factorial-within_growth, growth-mono}
 use native.Mathlib.Nat.{mul-le-mul_left}
 
--- the weight, from parts of it
+-- the product of the factors N, X and Y ≤ C is at most the weight
 wide : (N D s X C Y : ℕ) → 1 ≤ D → 1 ≤ s → Y ≤ C → N * X * Y ≤ N * D * s * X * C
 wide N D s X C Y h k l =
     let p = mul-le-mul_left (N * X) l in
@@ -27,13 +27,13 @@ module _ (N D a K b : ℕ) (n : 1 ≤ N) (d : 1 ≤ D) (k : 1 ≤ K) where
   power-one : 1 ≤ (K * (b + 1)) ^ a
   power-one = one-le-pow a (K * (b + 1)) some
 
-  -- what is met at one label on the path
+  -- the bound for the sum of the absolute values at one label is at most the weight
   pub weight-met : N * growth power_sums a * ((K * (b + 1)) ^ a * factorial (a * b)) ≤ plethysm_weight N D a K b
   weight-met =
       let w = wide N D (a + 1) ((K * (b + 1)) ^ a) (max (growth power_sums a * factorial (a * b)) (growth power_sums (a * b))) (growth power_sums a * factorial (a * b)) d (omega arith) (omega arith) in
       omega arith
 
-  -- the product over a label
+  -- the bound for the product over a label of s ≤ a cells is at most the weight
   pub weight-product : (s : ℕ) → s ≤ a → (K * (b + 1)) ^ s * growth Basis.monomials (s * b) ≤ plethysm_weight N D a K b
   weight-product s l =
       let x : (K * (b + 1)) ^ s ≤ (K * (b + 1)) ^ a = pow-le-pow_right some l in
@@ -44,14 +44,14 @@ module _ (N D a K b : ℕ) (n : 1 ≤ N) (d : 1 ≤ D) (k : 1 ≤ K) where
       let t = times_more N ((K * (b + 1)) ^ a * growth power_sums (a * b)) n in
       omega arith
 
-  -- the change of the finished list into the target
+  -- the bound for the change of the finished list into the target is at most the weight
   pub weight-finished : (target : Basis) → N * (a + 1) * (K * (b + 1)) ^ a * D * growth target (a * b) ≤ plethysm_weight N D a K b
   weight-finished target =
       let z = growth-most target (a * b) in
       let p = mul-le-mul_left (N * D * (a + 1) * (K * (b + 1)) ^ a) (let o : growth target (a * b) ≤ max (growth power_sums a * factorial (a * b)) (growth power_sums (a * b)) = omega arith in o) in
       omega arith
 
-  -- the bound of the finished list
+  -- N·(a + 1)·(K·(b + 1))^a, which bounds the finished list, is at most the weight
   pub weight-number : N * (a + 1) * (K * (b + 1)) ^ a ≤ plethysm_weight N D a K b
   weight-number =
       let o = growth-one (a * b) in
@@ -60,7 +60,7 @@ module _ (N D a K b : ℕ) (n : 1 ≤ N) (d : 1 ≤ D) (k : 1 ≤ K) where
       let w = weight-finished power_sums in
       omega arith
 
-  -- the change of the outer list into p
+  -- the bound for the change of the outer list into p is at most the weight
   pub weight-outer : N * D * growth power_sums a ≤ plethysm_weight N D a K b
   weight-outer =
       let f = mul-le (growth power_sums a) 1 (growth power_sums a) (factorial (a * b)) (omega arith) (factorial-positive (a * b)) in
@@ -70,7 +70,7 @@ module _ (N D a K b : ℕ) (n : 1 ≤ N) (d : 1 ≤ D) (k : 1 ≤ K) where
       (omega arith) in
       omega arith
 
-  -- the common denominator on the path
+  -- D·a!, the common denominator on the path, is at most the weight
   pub weight-denominator : D * factorial a ≤ plethysm_weight N D a K b
   weight-denominator =
       let f = factorial-within_growth a in
@@ -79,7 +79,7 @@ module _ (N D a K b : ℕ) (n : 1 ≤ N) (d : 1 ≤ D) (k : 1 ≤ K) where
       let w = weight-outer in
       omega arith
 
--- ---- greater degrees
+-- ---- the weight is increasing in the degrees
 
 growth-rises : (d e : ℕ) → d ≤ e → growth power_sums d ≤ growth power_sums e
 growth-rises zero e h = growth-one e
@@ -89,7 +89,7 @@ growth-rises (suc d) (suc e) h =
     let q : (2 * suc e) ^ suc d ≤ (2 * suc e) ^ suc e = pow-le-pow_right (let o : 1 ≤ 2 * suc e = omega arith in o) h in
     mul-le (factorial (suc d)) ((2 * suc d) ^ suc d) (factorial (suc e)) ((2 * suc e) ^ suc e) (factorial-mono (suc d) (suc e) h) (omega arith)
 
--- the weight rises with both degrees
+-- if a ≤ c and b ≤ d, the weight with the degrees a and b is at most that with c and d
 pub weight-rises : (N D a c K b d : ℕ) → 1 ≤ K → a ≤ c → b ≤ d → plethysm_weight N D a K b ≤ plethysm_weight N D c K d
 weight-rises N D a c K b d k h l =
     let base = mul-le-mul_left K (let o : b + 1 ≤ d + 1 = omega arith in o) in

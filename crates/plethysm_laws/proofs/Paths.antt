@@ -1,12 +1,12 @@
 -- The path through power sums gives the plethysm.
-use Rattle.std.proofs.Common.{◌≡◌, ℕ, ◌+◌, ◌*◌, ◌%◌, ◌<◌, List, [], ◌∷◌, length, sym, ◌∙◌, ap, ap₂, refl, arith, ℤ, pos, ◌+ℤ◌, ◌*ℤ◌}
+use Rattle.std.proofs.Common.{◌≡◌, ℕ, ◌+◌, ◌*◌, ◌%◌, ◌<◌, List, [], ◌∷◌, length, sym, ◌∙◌, ap, ap₂, refl, inl, inr, arith, ℤ, pos, ◌+ℤ◌, ◌*ℤ◌}
 use Rattle.std.proofs.lemmas.Int.{ints}
 use Rattle.sym_model.specs.Sum.{total, Among, Once}
 use Rattle.sym_model.specs.Partition.{ArePositive}
 use Rattle.sym_model.specs.Polynomial.{Poly, coefficient, Same, pair, scale}
 use Rattle.sym_model.specs.Bases.{monomial, power_sum, product_over}
 use Rattle.sym_model.specs.Expansion.{Basis, power_sums, Fraction, Terms, denominators, value_by, IsExpansionOf}
-use Rattle.sym_model.specs.WholeTerms.{WholeTerms, combined, EachLabel}
+use Rattle.sym_model.specs.WholeTerms.{WholeTerms, combined, HaveLabels}
 use Rattle.sym_model.proofs.Ring.{ring, product_assoc}
 use Rattle.sym_model.proofs.Polynomials.{pair_determined, same_from_pair, coefficient_scale}
 use Rattle.sym_model.proofs.WholeTerms.{pair_of_combined}
@@ -19,13 +19,13 @@ use Rattle.plethysm_laws.proofs.Substitutions.{pair-substitute, substitute_respe
 use Rattle.sym_model.proofs.Integers.{product_cancel}
 use lib.IntN.{*ℤ_comm}
 
--- ---- substitution into a combination
+-- ---- monomials substituted into a list in p
 
--- the list in p with the monomials substituted
+-- the sum over the terms c·p_λ of a list in p of c·p_λ[g]
 abbrev pub plethysm_of_power_sums : WholeTerms → Poly → ℕ → Poly
 plethysm_of_power_sums W g n = combined (λ label. product_over (λ k m. dilated k g) label n) W
 
-pub substitute-combined : (n : ℕ) (γs : List (List ℕ)) (g : Poly) (W : WholeTerms) → EachLabel ArePositive W → HavePlaces n γs → Same (monomial_sum γs) g
+pub substitute-combined : (n : ℕ) (γs : List (List ℕ)) (g : Poly) (W : WholeTerms) → HaveLabels ArePositive W → HavePlaces n γs → Same (monomial_sum γs) g
     → Same (substitute n γs (combined (λ label. power_sum label (length γs)) W)) (plethysm_of_power_sums W g n)
 substitute-combined n γs g W p h e =
     same_from_pair (substitute n γs (combined (λ label. power_sum label (length γs)) W)) (plethysm_of_power_sums W g n)
@@ -35,7 +35,7 @@ substitute-combined n γs g W p h e =
     ∙ by φ W p
     ∙ sym (pair_of_combined (λ label. product_over (λ k m. dilated k g) label n) W φ))
   where
-    by : (φ : List ℕ → ℤ) (V : WholeTerms) → EachLabel ArePositive V
+    by : (φ : List ℕ → ℤ) (V : WholeTerms) → HaveLabels ArePositive V
         → total (λ (t : List ℕ × ℤ). t.1 *ℤ pair (power_sum t.0 (length γs)) (λ α. φ (replaced n γs α))) V
         ≡ total (λ (t : List ℕ × ℤ). t.1 *ℤ pair (product_over (λ k m. dilated k g) t.0 n) φ) V
     by φ [] p = refl
@@ -43,12 +43,12 @@ substitute-combined n γs g W p h e =
         ap₂ ◌+ℤ◌
         (ap (λ z. t.1 *ℤ z)
         (sym (pair-substitute n γs (power_sum t.0 (length γs)) φ)
-        ∙ pair_determined (substitute n γs (power_sum t.0 (length γs))) (product_over (λ k m. dilated k g) t.0 n) φ (substitute-power_sum t.0 n γs g p.0 h e)))
-        (by φ V p.1)
+        ∙ pair_determined (substitute n γs (power_sum t.0 (length γs))) (product_over (λ k m. dilated k g) t.0 n) φ (substitute-power_sum t.0 n γs g (p t (inl refl)) h e)))
+        (by φ V (λ u m. p u (inr m)))
 
--- ---- the path
+-- ---- F[G] by way of power sums is F with the monomials of G substituted
 
--- M·v = Q·w and q·v = Q·f give q·w = M·f
+-- if M·v = Q·w and q·v = Q·f, then q·w = M·f
 turned : (M q v w f : ℤ) (Q : ℕ) → 0 < Q → M *ℤ v ≡ pos Q *ℤ w → q *ℤ v ≡ pos Q *ℤ f → q *ℤ w ≡ M *ℤ f
 turned M q v w f Q some a b =
     product_cancel (q *ℤ w) (M *ℤ f) Q some
@@ -63,7 +63,7 @@ turned M q v w f Q some a b =
     three : (M Q f : ℤ) → M *ℤ (Q *ℤ f) ≡ (M *ℤ f) *ℤ Q
     three M Q f = simp ring (omega (arith, ints))
 
--- M·u = R·s and q·s = M·f give q·u = R·f
+-- if M·u = R·s and q·s = M·f, then q·u = R·f
 joined : (q R u s f : ℤ) (M : ℕ) → 0 < M → pos M *ℤ u ≡ R *ℤ s → q *ℤ s ≡ pos M *ℤ f → q *ℤ u ≡ R *ℤ f
 joined q R u s f M some a b =
     product_cancel (q *ℤ u) (R *ℤ f) M some
@@ -78,10 +78,10 @@ joined q R u s f M some a b =
     three : (R M f : ℤ) → R *ℤ (M *ℤ f) ≡ (R *ℤ f) *ℤ M
     three R M f = simp ring (omega (arith, ints))
 
--- the list in p is f divided by q in as many variables as g has monomials; `sum` is m times the list in m that results from it by
+-- the list in p is f divided by q in one variable for each monomial of g; `sum` is m times the list in m obtained by
 -- multiplying out: q times `sum` is m times f with the monomials of g substituted
 pub path-whole : (m : ℕ) (terms : Terms (List ℕ)) (sum : WholeTerms) (n : ℕ) (γs : List (List ℕ)) (g f : Poly) (q : ℕ) → Once (labels_of terms)
-    → EachLabel ArePositive (over m terms) → ((t : List ℕ × Fraction) → Among t terms → m % t.1.1 ≡ 0)
+    → HaveLabels ArePositive (over m terms) → ((t : List ℕ × Fraction) → Among t terms → m % t.1.1 ≡ 0)
     → HavePlaces n γs → Same (monomial_sum γs) g
     → Same (in_monomials sum n) (plethysm_of_power_sums (over m terms) g n)
     → IsExpansionOf power_sums terms (length γs) f q
@@ -107,9 +107,9 @@ path-whole m terms sum n γs g f q is p w h e same_sum x =
     ∙ substitute_respects n γs (scale (pos q) (combined P W)) (scale (pos m) f) outer α
     ∙ substitute-scale n γs (pos m) f α
 
--- so the sum divided by m is f with the monomials of g substituted, divided by q
+-- the list of fractions that is `sum` divided by m is f with the monomials of g substituted, divided by q
 pub plethysm-path : (m : ℕ) (terms answer : Terms (List ℕ)) (sum : WholeTerms) (n : ℕ) (γs : List (List ℕ)) (g f : Poly) (q : ℕ) → 0 < m → Once (labels_of terms)
-    → EachLabel ArePositive (over m terms) → ((t : List ℕ × Fraction) → Among t terms → m % t.1.1 ≡ 0)
+    → HaveLabels ArePositive (over m terms) → ((t : List ℕ × Fraction) → Among t terms → m % t.1.1 ≡ 0)
     → HavePlaces n γs → Same (monomial_sum γs) g
     → Same (in_monomials sum n) (plethysm_of_power_sums (over m terms) g n)
     → IsDivided m sum answer
@@ -127,11 +127,11 @@ plethysm-path m terms answer sum n γs g f q some is p w h e same_sum second x =
           ∙ sym (coefficient_scale (pos (denominators answer)) (substitute n γs f) α);
     }
 
--- a list in m over D is an expansion of its whole multiple; so where the list in p stands for it, and m is D·k, the sum is k times
--- the whole multiple with the monomials of g substituted
+-- if the list `terms` in p expands every polynomial that the list `outer` in m does, and `sum` is D·k times `terms`
+-- multiplied out, then `sum` is k times D·outer with the monomials of g substituted
 pub path-multiple : (D k : ℕ) (outer terms : Terms (List ℕ)) (sum : WholeTerms) (n : ℕ) (γs : List (List ℕ)) (g : Poly) → 0 < D → 0 < denominators outer → Once (labels_of outer) → Once (labels_of terms)
     → ((t : List ℕ × Fraction) → Among t outer → D % t.1.1 ≡ 0)
-    → EachLabel ArePositive (over (D * k) terms) → ((t : List ℕ × Fraction) → Among t terms → (D * k) % t.1.1 ≡ 0)
+    → HaveLabels ArePositive (over (D * k) terms) → ((t : List ℕ × Fraction) → Among t terms → (D * k) % t.1.1 ≡ 0)
     → HavePlaces n γs → Same (monomial_sum γs) g
     → Same (in_monomials sum n) (plethysm_of_power_sums (over (D * k) terms) g n)
     → ((m : ℕ) (f : Poly) (q : ℕ) → IsExpansionOf Basis.monomials outer m f q → IsExpansionOf power_sums terms m f q)

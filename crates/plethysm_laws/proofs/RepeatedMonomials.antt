@@ -1,4 +1,4 @@
--- The sum of the exponent lists of a polynomial, each as often as its coefficient says, is the polynomial.
+-- The sum of the exponent lists of a polynomial, each repeated according to its coefficient, is the polynomial.
 use Rattle.std.proofs.Common.{◌≡◌, ◌⊎◌, ℕ, zero, suc, ◌+◌, ◌-◌, ◌<◌, ◌≤◌, Bool, true, false, ◌&&◌, cond, eqb, leb, List, [], ◌∷◌, map, length, replicate, sym, ◌∙◌, ap, refl, inl, inr, arith, ℤ, pos, ◌+ℤ◌, ◌*ℤ◌}
 use Rattle.std.specs.Prelude.{nat_abs, ◌≤ℤ◌}
 use Rattle.std.proofs.lemmas.Int.{ints}
@@ -73,7 +73,7 @@ total_within-only φ (c ∷ γ) (suc n) d =
         and_from (leb c d) (is_within n (d - c) γ) (le-leb c d (omega arith))
         (and_from (eqb (length γ) n) (leb (size γ) (d - c)) (eq-eqb (length γ) n (omega arith)) (le-leb (size γ) (d - c) (omega arith)))
 
--- ---- repeats
+-- ---- sums over monomials that are repeated
 
 total-replicate : {A : Type 0} (f : A → ℤ) (k : ℕ) (x : A) → total f (replicate k x) ≡ pos k *ℤ f x
 total-replicate f zero x = sym (zero-*ℤ (f x))
@@ -110,7 +110,7 @@ repeated-sum d n g h β = coefficient_repeated d n g β ∙ by (cases_eq (length
     by (inl e) (inl l) = rw (eq-eqb (length β) n e, lt-leb (size β) d l) (sym (h.low β e l))
     by (inl e) (inr l) = rw (eq-eqb (length β) n e, le-leb (size β) d l) (itself (coefficient g β) (h.natural β))
 
--- ---- places
+-- ---- the number of places of exponent lists
 
 length-within : (n d : ℕ) (α : List ℕ) → Among α (exponent_lists_within n d) → length α ≡ n
 length-within zero d α (inl e) = ap length e

@@ -1,4 +1,4 @@
--- Majorants go to majorants where monomials are substituted for the variables, and so bounds to bounds.
+-- Substituting monomials for the variables turns majorants into majorants, and so bounds into bounds.
 use Rattle.std.proofs.Common.{◌≡◌, ℕ, zero, suc, ◌+◌, ◌*◌, ◌^◌, ◌<◌, ◌≤◌, max, List, [], ◌∷◌, length, replicate, sym, ◌∙◌, subst, refl, inl, inr, arith, pos}
 use Rattle.std.specs.Prelude.{◌≤ℤ◌, nat_abs}
 use Rattle.std.proofs.lemmas.Int.{ints}
@@ -21,7 +21,7 @@ use Rattle.plethysm_laws.proofs.Substitutions.{pair-substitute, substitute-plus,
 use Rattle.sym_model.proofs.Parts.{ArePositive-ones}
 use native.Mathlib.Nat.{pow-suc, pow-zero}
 
--- ---- substitution
+-- ---- if F is a majorant of f, it still is after monomials are substituted for the variables of both
 
 pub majorant-substitute : (n : ℕ) (γs : List (List ℕ)) (F f : Poly) → IsMajorant F f → IsMajorant (substitute n γs F) (substitute n γs f)
 majorant-substitute n γs F f m α =
@@ -32,9 +32,9 @@ majorant-substitute n γs F f m α =
     at : (h : Poly) → coefficient (substitute n γs h) α ≡ pair h (λ β. at_only α (replaced n γs β))
     at h = coefficient_pair (substitute n γs h) α ∙ pair-substitute n γs h (at_only α)
 
--- ---- bounds
+-- ---- bounds after substitution
 
--- the product of s factors
+-- if g is bounded by K at the degree b, g^s is bounded by K^s at the degree s·b
 bounded-product : (K b s n : ℕ) (g : Poly) → In n g → IsBounded K b n g → IsBounded (K ^ s) (s * b) n (product_over (λ k m. dilated k g) (replicate s 1) n)
 bounded-product K b zero n g i h = bounded-weaken 1 (K ^ 0) 0 (0 * b) n (one n) (rw (pow-zero K) (omega arith)) (omega arith) (bounded-atom completes [] n)
 bounded-product K b (suc s) n g i h =
@@ -47,7 +47,7 @@ bounded-product K b (suc s) n g i h =
     (bounded_respects K b n g (dilated 1 g) (Same_sym (dilated 1 g) g (dilated-once g)) h)
     (bounded-product K b s n g i h))
 
--- a power of the sum of the variables goes to that power of g
+-- (x_1 + .. + x_m)^s with the monomials of g substituted is g^s, so it is bounded by K^s at the degree s·b
 bounded-power : (K b s n : ℕ) (γs : List (List ℕ)) (g : Poly) → HavePlaces n γs → Same (monomial_sum γs) g → In n g → IsBounded K b n g
     → IsBounded (K ^ s) (s * b) n (substitute n γs (power s (length γs)))
 bounded-power K b s n γs g h e i k =
@@ -73,7 +73,8 @@ bounded-powers K b a n γs g (d ∷ ds) o h e i k low =
     (bounded-plus (K ^ d) (length ds * K ^ a) (d * b) (a * b) n first rest (bounded-power K b d n γs g h e i k)
     (bounded-powers K b a n γs g ds o h e i k (λ j m. low j (inr m)))))
 
--- f of degree at most a, bounded by N, and g of degree at most b, bounded by K: the plethysm is bounded by N·K^a
+-- if f has a degree of at most a and is bounded by N, and g has a degree of at most b and is bounded by K, then f with the monomials of g substituted
+-- is bounded by N·K^a
 pub bounded-substitute : (N a K b n : ℕ) (γs : List (List ℕ)) (f g : Poly) → 1 ≤ K → HavePlaces n γs → Same (monomial_sum γs) g → In n g → IsBounded K b n g
     → IsBounded N a (length γs) f → IsBounded (N * K ^ a) (a * b) n (substitute n γs f)
 bounded-substitute N a K b n γs f g o h e i k r =
@@ -83,7 +84,7 @@ bounded-substitute N a K b n γs f g o h e i k r =
     (bounded-weaken (length r.exponents * K ^ a) (N * K ^ a) (a * b) (a * b) n (substitute n γs F) (omega arith) (omega arith)
     (bounded-powers K b a n γs g r.exponents o h e i k r.low))
 
--- g with each variable replaced by its k-th power is bounded as g^k is
+-- if g is bounded by K at the degree b, g with each variable replaced by its k-th power is bounded by K^k at the degree k·b
 pub bounded-dilated : (K b k n : ℕ) (γs : List (List ℕ)) (g : Poly) → 0 < k → HavePlaces n γs → Same (monomial_sum γs) g → In n g → IsBounded K b n g
     → IsBounded (K ^ k) (k * b) n (dilated k g)
 bounded-dilated K b k n γs g l h e i r =
@@ -92,7 +93,7 @@ bounded-dilated K b k n γs g l h e i r =
     (majorant-substitute n γs (power k (length γs)) (power_sum_of k (length γs)) (majorant-monomials (λ α. has k α) (length γs) k))
     (bounded-power K b k n γs g h e i r))
 
--- and p_λ[g] as g to the power of the size of λ
+-- if g is bounded by K at the degree b, p_λ[g] is bounded by K^|λ| at the degree |λ|·b
 pub bounded-power_sum : (K b n : ℕ) (γs : List (List ℕ)) (g : Poly) (parts : List ℕ) → HavePlaces n γs → Same (monomial_sum γs) g → In n g → IsBounded K b n g
     → IsBounded (K ^ size parts) (size parts * b) n (substitute n γs (power_sum parts (length γs)))
 bounded-power_sum K b n γs g parts h e i r =

@@ -1,9 +1,9 @@
--- The plethysms p_k[g] and p_λ[g], and what is met where they are added up (Macdonald, I.8).
-use Rattle.std.specs.Prelude.{ℕ, ◌+◌, ◌*◌, nat_abs, ℤ, List, [], ◌∷◌, map}
+-- The plethysms p_k[g] and p_λ[g], and the numbers that occur when they are added up (Macdonald, I.8).
+use Rattle.std.specs.Prelude.{ℕ, nat_abs, ℤ, List, map}
 use Rattle.sym_model.specs.Polynomial.{Term, Poly}
 use Rattle.sym_model.specs.Bases.{product_over}
 use Rattle.sym_model.specs.Plethysm.{multiplied}
-use Rattle.sym_model.specs.WholeTerms.{WholeTerms}
+use Rattle.sym_model.specs.WholeTerms.{WholeTerms, weighed}
 
 -- p_k[g]: the polynomial with each variable replaced by its k-th power
 abbrev pub dilated : ℕ → Poly → Poly
@@ -13,7 +13,6 @@ dilated k g = map (λ (t : Term). (multiplied k t.0, t.1)) g
 abbrev pub power_sum_plethysm : List ℕ → Poly → ℕ → Poly
 power_sum_plethysm parts g n = product_over (λ k m. dilated k g) parts n
 
--- the sum of the absolute values of the coefficients, each times the value of its label
+-- the sum, over the terms of a list, of |coefficient|·|value of the label|
 abbrev pub met : WholeTerms → (List ℕ → ℤ) → ℕ
-met [] value = 0
-met (t ∷ W) value = nat_abs t.1 * nat_abs (value t.0) + met W value
+met W value = weighed (λ label. nat_abs (value label)) W

@@ -15,11 +15,11 @@ ghost use Rattle.monomial_laws.proofs.DividedTerms.{labels_of};
 ghost use Rattle.plethysm_laws.specs.SumsOfMonomials.{IsMonomialSum};
 ghost use Rattle.plethysm_laws.specs.PowerSumPlethysm.{power_sum_plethysm, met};
 
-/// Where f is of degree at most a and bounded by N, and g of degree at most b and bounded by K,
-/// f[g] is bounded by N·K^a at the degree ab. A list in p with labels of at most a cells,
-/// multiplied out, meets at each place at most the sum of its absolute values times K^a·(ab)!. A
-/// list in m that is bounded by N and D, with labels of at most a cells, is, its fractions cleared,
-/// a polynomial that is bounded by N·(a+1).
+/// Let f be of degree at most a and bounded by N, and g of degree at most b and bounded by K. Then
+/// f[g] is bounded by N·K^a at the degree ab. If a list in p with labels of at most a cells is
+/// multiplied out, the sum of the absolute values at each exponent list is at most the sum of the
+/// absolute values of its coefficients times K^a·(ab)!. A list in m bounded by N and D, with labels
+/// of at most a cells and its fractions cleared, is a polynomial bounded by N·(a+1).
 pub fn plethysm_bounds_law()
     ensures plethysm { (N a K b n : ℕ) (f : ℕ → Poly) (g : Poly)
         → 1 ≤ K → IsMonomialSum b n g → IsBounded K b n g

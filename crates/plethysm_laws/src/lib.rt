@@ -1,12 +1,11 @@
-//! Laws of plethysm: power sums, lists in p and bounds if monomials are put for the variables.
-//!
-//! A law function has an empty body: its contract is the law.
+//! Laws of plethysm: power sums, lists in p and bounds if monomials replace the variables. A law
+//! function has an empty body: its contract is the law.
 //!
 //! What is proved:
 //!
-//! `power_sum_path_law`: f[g] is the combination of the p_λ[g] that the list in p of f says, in
-//! every number of variables. `plethysm_bounds_law`: bounds of f and g bound f[g], and what is met
-//! on the path through p.
+//! `power_sum_path_law`: f[g] is the combination of the p_λ[g] with the coefficients of the list of
+//! f in p, in every number of variables. `plethysm_bounds_law`: bounds of f and g give bounds of
+//! f[g], and of all numbers on the path through p.
 #![tactic(auto)]
 
 mod bounds;

@@ -5,22 +5,22 @@ ghost use Rattle.sym_model.specs.Partition.{ArePositive};
 ghost use Rattle.sym_model.specs.Polynomial.{Poly, Same, coefficient, one, scale};
 ghost use Rattle.sym_model.specs.Bases.{complete_of, elementary_of, power_sum};
 ghost use Rattle.sym_model.specs.Plethysm.{plethysm};
-ghost use Rattle.sym_model.specs.WholeTerms.{WholeTerms, EachLabel, combined};
+ghost use Rattle.sym_model.specs.WholeTerms.{WholeTerms, HaveLabels, combined};
 ghost use Rattle.plethysm_laws.specs.SumsOfMonomials.{IsMonomialSum};
 ghost use Rattle.plethysm_laws.specs.PowerSumPlethysm.{power_sum_plethysm};
 
-/// p_λ[g] is the product of the p_k[g] over the parts k of λ, and so f[g] is a sum of such products
-/// for each list in p that f is, in every number of variables,
-/// where no coefficient of g is negative.
+/// p_λ[g] is the product of the p_k[g] over the parts k of λ; so for each list of f in p, f[g] is
+/// the sum of such products with its coefficients, in every number of variables, if no coefficient
+/// of g is negative.
 ///
-/// Examples: h_2[h_2] = s_4 + s_(2,2) and e_2[h_2] = s_(3,1),
-/// by coefficients in two variables; h_2[3] = 6.
+/// Examples: h_2[h_2] = s_4 + s_(2,2) and e_2[h_2] = s_(3,1), by coefficients in two variables;
+/// h_2[3] = 6.
 pub fn power_sum_path_law()
     ensures power_sum { (parts : List ℕ) (d n : ℕ) (g : Poly)
         → ArePositive parts → IsMonomialSum d n g
         → Same (plethysm (power_sum parts) d n g) (power_sum_plethysm parts g n) }
     ensures list { (terms : WholeTerms) (d n : ℕ) (g : Poly)
-        → EachLabel ArePositive terms → IsMonomialSum d n g
+        → HaveLabels ArePositive terms → IsMonomialSum d n g
         → Same (plethysm (λ m. combined (λ label. power_sum label m) terms) d n g)
         (combined (λ label. power_sum_plethysm label g n) terms) }
     ensures square { coefficient (plethysm (complete_of 2) 2 2 (complete_of 2 2)) (2 ∷ 2 ∷ [])

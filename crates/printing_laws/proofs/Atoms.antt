@@ -9,14 +9,14 @@ use Rattle.printing_laws.proofs.NumberTexts.{AreShort, IsShortFraction, numbers_
 use Rattle.printing_laws.proofs.Pieces.{LacksSigns, cut_at-front, cut_at-whole}
 use Rattle.sym_model.specs.Bounded.{Lacks}
 
--- what a term has to be so that it can be read
+-- the numbers of the label and of the coefficient are below 10^64, so that the term can be read back
 pub record IsReadable (t : List ℕ × Fraction) : Type 0 where
   pub numbers : AreShort t.0
   pub fraction : IsShortFraction (without_sign t.1)
 
--- ---- atoms
+-- ---- the texts of atoms
 
--- an atom is its letter and the rest
+-- the text of an atom has no byte below the comma
 atom-lacks : (byte : ℕ) (basis : Basis) (numbers : List ℕ) → byte < 44 → AreShort numbers → Lacks byte (atom_text basis numbers)
 atom-lacks byte basis numbers low h = by basis
   where
@@ -30,7 +30,7 @@ atom-lacks byte basis numbers low h = by basis
     by power_sums = ((λ e. omega arith), rest)
     by schurs = ((λ e. omega arith), rest)
 
--- the same for `-`, which stands above the comma
+-- the text of an atom does not have the byte `-`, which is greater than the comma
 atom-lacks_minus : (basis : Basis) (numbers : List ℕ) → AreShort numbers → Lacks 45 (atom_text basis numbers)
 atom-lacks_minus basis numbers h = by basis
   where
@@ -44,7 +44,7 @@ atom-lacks_minus basis numbers h = by basis
     by power_sums = ((λ e. omega arith), rest)
     by schurs = ((λ e. omega arith), rest)
 
--- its numbers are read back
+-- the numbers of an atom are read back
 numbers_in-atom : (basis : Basis) (numbers : List ℕ) → AreShort numbers → numbers_in_atom (atom_text basis numbers) ≡ numbers
 numbers_in-atom basis numbers h = by basis
   where
@@ -72,9 +72,9 @@ atom-long basis numbers = by basis
     by power_sums = inner
     by schurs = inner
 
--- ---- coefficients
+-- ---- the texts of coefficients without their signs
 
--- a number without its sign has no sign
+-- the text of a coefficient without its sign has no byte below `/`, so no sign
 unsigned-lacks : (byte : ℕ) (c : Fraction) → byte < 47 → IsShortFraction (without_sign c) → Lacks byte (fraction_text (without_sign c))
 unsigned-lacks byte c low h = by (eqb c.1 1)
   where
@@ -82,13 +82,13 @@ unsigned-lacks byte c low h = by (eqb c.1 1)
     by true = decimal-lacks byte (nat_abs c.0) (omega arith) h.num
     by false = lacks-append byte (decimal (nat_abs c.0)) _ (decimal-lacks byte (nat_abs c.0) (omega arith) h.num) ((λ e. omega arith), decimal-lacks byte c.1 (omega arith) h.den)
 
--- where the absolute value is not printed, it is 1
+-- if the absolute value of a coefficient is not printed, it is 1
 unit-is : (c : Fraction) → is_unit c ≡ true → without_sign c ≡ (pos 1, 1)
 unit-is c h =
     let p = and_parts (eqb (nat_abs c.0) 1) (eqb c.1 1) h in
     ap (λ n. (pos n, c.1)) (eqb-true (nat_abs c.0) 1 p.0) ∙ ap (λ d. (pos 1, d)) (eqb-true c.1 1 p.1)
 
--- ---- terms without their signs
+-- ---- the texts of terms without their signs
 
 module _ (basis : Basis) (t : List ℕ × Fraction) (h : IsReadable t) where
   pub unsigned_text-lacks_signs : LacksSigns (unsigned_text basis t)

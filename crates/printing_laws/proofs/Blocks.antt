@@ -1,4 +1,4 @@
--- A block is read back as the list that it was printed of, where the labels can be read.
+-- A block is read back as the list whose block it is, if the labels can be read.
 use Rattle.std.proofs.Common.{◌≡◌, ℕ, ◌^◌, Bool, true, false, ◌&&◌, List, [], ◌∷◌, ◌++◌, cond, eqb, ltb, ℤ, pos, negsuc, nat_abs, Some, None, refl, ap, ◌∙◌, subst, append_assoc, arith}
 use Rattle.std.proofs.lemmas.Bool.{ltb-true, cond-true, and_parts, and_from}
 use Rattle.sym_model.specs.Polynomial.{same}
@@ -13,7 +13,7 @@ use Rattle.sym_model.proofs.Exponents.{same_refl, same_true}
 use Rattle.printing_laws.proofs.LegibleKinds.{legible}
 use Rattle.sym_model.specs.Bounded.{Lacks}
 
--- what a term has to be so that its line is read back
+-- the label is within its limits, and the coefficient is short and not 0, so that the line of the term can be read back
 pub record IsShortTerm {Label : Type 0} (rules : LabelRules Label) (t : Label × Fraction) : Type 0 where
   pub label : rules.is_within_limits t.0 ≡ true
   pub fraction : IsShortFraction t.1
@@ -23,7 +23,7 @@ abbrev pub AreShortTerms : {Label : Type 0} → LabelRules Label → Terms Label
 AreShortTerms rules [] = Unit {0}
 AreShortTerms rules (t ∷ terms) = IsShortTerm rules t × AreShortTerms rules terms
 
--- a line without its LF
+-- the line of a term without its LF
 abbrev line_front : {Label : Type 0} → LabelRules Label → Label × Fraction → List ℕ
 line_front rules t = fraction_text t.1 ++ rules.text t.0
 
@@ -42,7 +42,7 @@ line_front-lacks : {Label : Type 0} (rules : LabelRules Label) → IsLegible rul
 line_front-lacks rules legible t h =
     lacks-append 10 (fraction_text t.1) _ (fraction_text-lacks 10 t.1 (omega arith) h.fraction) (legible.one_line t.0 h.label)
 
--- the lines are read as their terms
+-- if each term is short, the lines of the terms are read as these terms
 pub terms_of-lines : {Label : Type 0} (rules : LabelRules Label) → IsLegible rules → (terms : Terms Label) → AreShortTerms rules terms → terms_of rules (lines_by rules terms) ≡ terms
 terms_of-lines rules legible [] h = refl
 terms_of-lines rules legible (t ∷ terms) h =
@@ -64,7 +64,7 @@ is_short-from_bits (negsuc n) h = let e = ltb-true n (2 ^ 127) h in omega arith
 is_coefficient-counts : (has_fractions : Bool) (c : Fraction) → is_coefficient has_fractions c ≡ true → ltb 0 (nat_abs c.0) ≡ true
 is_coefficient-counts has_fractions c h = (and_parts (ltb 0 c.1) _ (and_parts _ (eqb (gcd (nat_abs c.0) c.1) 1) (and_parts _ (is_reduced c) h).1).0).1
 
--- the terms of a canonical list with numbers of 128 bits
+-- a canonical list with numbers of 128 bits has short terms within the limits
 pub are_short-from_tests : {Label : Type 0} (rules : LabelRules Label) (terms : Terms Label) → each_term (λ (t : Label × Fraction). is_coefficient rules.has_fractions t.1 && rules.is_within_limits t.0) terms ≡ true → is_printable terms ≡ true → AreShortTerms rules terms
 are_short-from_tests rules [] h k = tt
 are_short-from_tests rules (t ∷ terms) h k =
@@ -73,11 +73,11 @@ are_short-from_tests rules (t ∷ terms) h k =
     let short : IsShortFraction t.1 = record { num = is_short-from_bits t.1.0 bits.0; den = is_short-from_bits (pos t.1.1) bits.1 } in
     (record { label = tests.1; fraction = short; counts = is_coefficient-counts rules.has_fractions t.1 tests.0 }, are_short-from_tests rules terms (and_parts _ _ h).1 (and_parts _ _ k).1)
 
--- the tests that a text's terms have to pass
+-- the terms are canonical and printable, and `text` is their block
 abbrev pub is_block_of : {Label : Type 0} → LabelRules Label → List ℕ → Terms Label → Bool
 is_block_of rules text terms = is_canonical_by rules terms && is_printable terms && same (block_by rules terms) text
 
--- a text is read as its terms where they pass the tests
+-- if the terms are canonical and printable, their block is read as these terms
 pub read_by-block : {Label : Type 0} (rules : LabelRules Label) → IsLegible rules → (terms : Terms Label) → is_canonical_by rules terms ≡ true → is_printable terms ≡ true → read_by rules (block_by rules terms) ≡ Some terms
 read_by-block rules legible terms h k =
     let short = are_short-from_tests rules terms (and_parts _ _ h).1 k in
@@ -91,7 +91,7 @@ pub record Reads {Label : Type 0} (rules : LabelRules Label) (text : List ℕ) (
   pub printable : is_printable terms ≡ true
   pub block : block_by rules terms ≡ text
 
--- a text that is read as a list passed the tests
+-- if `text` is read as the list `terms`, then `text` is their block and they are canonical and printable
 pub read_by-tells : {Label : Type 0} (rules : LabelRules Label) (text : List ℕ) (terms : Terms Label) → read_by rules text ≡ Some terms → Reads rules text terms
 read_by-tells {Label = Label} rules text terms h = by (is_block_of rules text (terms_of rules text)) refl h
   where

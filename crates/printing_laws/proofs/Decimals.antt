@@ -1,4 +1,4 @@
--- Decimal text: the digits that std writes of a number, and the value that they are read as.
+-- Decimal text: the digits that the standard library writes for a number, and the value that they are read as.
 use Rattle.std.proofs.Common.{◌≡◌, ℕ, suc, ◌+◌, ◌*◌, ◌-◌, ◌^◌, ◌<◌, ◌≤◌, ◌/◌, ◌%◌, List, [], ◌∷◌, ◌++◌, length, take, get_or, length-append, eqb, ℤ, pos, negsuc, neg_ℤ, refl, ap, ◌∙◌, subst, decimal, arith}
 use Rattle.std.specs.Fmt.{signed_decimal}
 use Rattle.std.proofs.lemmas.Fmt.{decimal_by_steps_wide}
@@ -8,12 +8,12 @@ use Rattle.sym_model.specs.NumberWord.{IsDigit, AreDigits}
 use Rattle.sym_model.specs.NumberText.{value_from, decimal_value, signed_value}
 use Rattle.sym_model.specs.Bounded.{Lacks}
 
--- the value of digits, read on over further digits
+-- the value of the digits xs followed by ys is that of ys read from the value of xs on
 pub value_from-append : (n : ℕ) (xs ys : List ℕ) → value_from n (xs ++ ys) ≡ value_from (value_from n xs) ys
 value_from-append n [] ys = refl
 value_from-append n (x ∷ xs) ys = value_from-append (10 * n + (x - 48)) xs ys
 
--- the value of digits followed by one more
+-- the value of the digits xs followed by d is 10 times that of xs plus d
 pub value_from-push : (n : ℕ) (xs : List ℕ) (d : ℕ) → value_from n (xs ++ (d ∷ [])) ≡ 10 * value_from n xs + (d - 48)
 value_from-push n xs d = value_from-append n xs (d ∷ [])
 
@@ -21,7 +21,7 @@ value_from-push n xs d = value_from-append n xs (d ∷ [])
 pub decimal_value_more : (xs : List ℕ) (i : ℕ) → i < length xs → decimal_value (take (i + 1) xs) ≡ 10 * decimal_value (take i xs) + (get_or xs i 0 - 48)
 decimal_value_more xs i h = ap decimal_value (take_more xs i 0 h) ∙ value_from-push 0 (take i xs) (get_or xs i 0)
 
--- reading on never makes the number smaller
+-- reading further digits xs from n on gives at least n
 pub value_from-ge : (n : ℕ) (xs : List ℕ) → n ≤ value_from n xs
 value_from-ge n [] = omega arith
 value_from-ge n (x ∷ xs) = let h = value_from-ge (10 * n + (x - 48)) xs in omega arith
@@ -30,7 +30,7 @@ pub are_digits-append : (xs ys : List ℕ) → AreDigits xs → AreDigits ys →
 are_digits-append [] ys h k = k
 are_digits-append (x ∷ xs) ys h k = (h.0, are_digits-append xs ys h.1 k)
 
--- what is written of a number below 10^64
+-- the text has at least one byte, consists of digits, and has the value n
 pub record IsWritten (n : ℕ) (text : List ℕ) : Type 0 where
   pub nonempty : 0 < length text
   pub digits : AreDigits text
@@ -63,27 +63,27 @@ pub lacks-append : (byte : ℕ) (xs ys : List ℕ) → Lacks byte xs → Lacks b
 lacks-append byte [] ys h k = k
 lacks-append byte (x ∷ xs) ys h k = (h.0, lacks-append byte xs ys h.1 k)
 
--- a byte that is no digit stands nowhere among digits
+-- a byte that is no digit does not occur among digits
 pub lacks-from_digits : (byte : ℕ) (xs : List ℕ) → (IsDigit byte → ⊥) → AreDigits xs → Lacks byte xs
 lacks-from_digits byte [] other h = tt
 lacks-from_digits byte (x ∷ xs) other h =
     ((λ e. other (subst IsDigit e h.0)), lacks-from_digits byte xs other h.1)
 
--- no byte below 48, as a blank, a comma, a parenthesis, `-`, `/` or LF, stands in the text of a number
+-- no byte below 48, such as a space, a comma, a parenthesis, `-`, `/` or LF, occurs in the text of a number
 pub decimal-lacks : (byte n : ℕ) → byte < 48 → n < 10 ^ 64 → Lacks byte (decimal n)
 decimal-lacks byte n low h = lacks-from_digits byte (decimal n) (λ d. omega arith) (decimal-digits n h)
 
--- the magnitude of a whole number is below 10^64
+-- the absolute value of the integer is below 10^64
 abbrev pub IsShort : ℤ → Type 0
 IsShort (pos n) = n < 10 ^ 64
 IsShort (negsuc n) = n + 1 < 10 ^ 64
 
--- `-` stands at most in front
+-- the text of an integer has no byte below 48 other than `-`
 pub signed_decimal-lacks : (byte : ℕ) (z : ℤ) → byte < 48 → (45 ≡ byte → ⊥) → IsShort z → Lacks byte (signed_decimal z)
 signed_decimal-lacks byte (pos n) low other h = decimal-lacks byte n low h
 signed_decimal-lacks byte (negsuc n) low other h = (other, decimal-lacks byte (suc n) low (omega arith))
 
--- digits are read as they are, with no sign
+-- digits are read as a number without a sign
 pub signed_value-digits : (xs : List ℕ) → AreDigits xs → signed_value xs ≡ pos (decimal_value xs)
 signed_value-digits [] h = refl
 signed_value-digits (x ∷ xs) h = cond-false (eqb x 45) _ _ (ne_eqb x 45 (λ e. omega (arith, h.0)))

@@ -1,4 +1,4 @@
--- The orders of the labels of each kind are total, and labels within the limits that tie are the same.
+-- The orders of the labels of each kind are total, and labels within the limits that compare as equal are equal.
 use Rattle.std.proofs.Common.{◌≡◌, ℕ, zero, suc, ◌+◌, ◌≤◌, true, List, [], ◌∷◌, length, eqb, ltb, refl, sym, ap, ap₂, ◌∙◌, arith}
 use Rattle.std.specs.Cmp.{IsTotalOrder}
 use Rattle.std.specs.Cmp.Lexicographic.{slice_cmp}
@@ -15,15 +15,15 @@ use Rattle.sym_model.specs.Kind.{Kind, number, expansion, product, pairs, powers
 use Rattle.sym_model.proofs.Orders.{printed_order-total, printed_order-equal, nat_cmp-equal, is_partition-tells, then-equal}
 use Rattle.sym_model.proofs.Exponents.{same_true}
 
--- ---- totality
+-- ---- any two different labels are in one of the two orders
 
--- n letters from place i + 1 on, those past the end being fixed
+-- the letters of w at the places i + 1, .., i + n, with fixed letters after the end of w
 padded : ℕ → ℕ → List ℕ → List ℕ
 padded zero i w = []
 padded (suc n) i [] = (i + 1) ∷ padded n (i + 1) []
 padded (suc n) i (a ∷ w) = a ∷ padded n (i + 1) w
 
--- the letters padded to one length, compared one by one
+-- if v and w have at most n letters, their order is that of the lists padded to n letters, compared letter by letter
 rising_letters-padded : (n i : ℕ) (v w : List ℕ) → length v ≤ n → length w ≤ n → rising_letters i v w ≡ slice_cmp nat_cmp (padded n i v) (padded n i w)
 unfolding padded
 rising_letters-padded zero i [] [] h k = refl
@@ -55,7 +55,7 @@ rising_letters-total i = record { antisymm = antisymm; trans = trans; congr = co
         let n : ℕ = length x + (length y + length z) in
         rising_letters-padded n i x z (omega arith) (omega arith) ∙ (total.congr (padded n i x) (padded n i y) (padded n i z) (sym (rising_letters-padded n i x y (omega arith) (omega arith)) ∙ h) ∙ sym (rising_letters-padded n i y z (omega arith) (omega arith)))
 
--- the order of one label alone
+-- the order on the only label of a number is total
 one_label-total : IsTotalOrder (label_rules number).order
 one_label-total = record { antisymm = λ x y. refl; trans = λ x y z h k. h; congr = λ x y z h. refl }
 
@@ -71,7 +71,7 @@ label_order-total shifts =
     then_total (on_total (λ (p : List ℕ × List ℕ). p.0) (then_total (on_total inversions nat_cmp_total) (rising_letters-total 0)))
     (on_total (λ (p : List ℕ × List ℕ). p.1) printed_order-total)
 
--- ---- labels that tie are the same
+-- ---- labels that compare as equal are equal
 
 partitions-tie : (x y : List ℕ) → is_label x ≡ true → is_label y ≡ true → printed_order x y ≡ Equal → x ≡ y
 partitions-tie x y h k e =
@@ -79,7 +79,7 @@ partitions-tie x y h k e =
     let q = is_partition-tells y (and_parts _ _ (and_parts _ _ k).0).0 in
     printed_order-equal x y p.positive q.positive e
 
--- lists that tie are the same up to zeros at their ends
+-- if two lists compare as equal in decreasing lexicographic order, they are equal up to zeros at their ends
 falling_lexicographic-ties : (x y : List ℕ) → falling_lexicographic x y ≡ Equal → without_last_zeros x ≡ without_last_zeros y
 falling_lexicographic-ties [] [] e = refl
 falling_lexicographic-ties [] (b ∷ y) e =
@@ -98,11 +98,11 @@ monomials-tie x y h k e =
     let q = same_true (without_last_zeros y) y (and_parts _ _ (and_parts _ _ k).0).0 in
     sym p ∙ (falling_lexicographic-ties x y (then-equal (nat_cmp (size y) (size x)) (falling_lexicographic x y) e).1 ∙ q)
 
--- a fixed letter in front of nothing
+-- a fixed letter in front of the empty list is dropped
 fixed-nothing : (i a : ℕ) → a ≡ i → in_front_unless_fixed i a [] ≡ []
 fixed-nothing i a e = cond-true (eqb a i) [] (a ∷ []) (eq-eqb a i e)
 
--- letters that tie are the same up to fixed ones at their ends
+-- if two lists of letters compare as equal, they are equal up to fixed letters at their ends
 rising_letters-ties : (i : ℕ) (x y : List ℕ) → rising_letters i x y ≡ Equal → without_fixed_from (i + 1) x ≡ without_fixed_from (i + 1) y
 rising_letters-ties i [] [] e = refl
 rising_letters-ties i [] (b ∷ y) e =

@@ -1,4 +1,4 @@
--- The labels of each kind of answer can be read.
+-- The text of each label can be read, for every kind of answer.
 use Rattle.std.proofs.Common.{◌≡◌, ℕ, ◌^◌, ◌<◌, ◌≤◌, Bool, true, false, ◌&&◌, List, [], ◌∷◌, length, leb, ltb, refl, ap, ◌∙◌, decimal, arith}
 use Rattle.std.specs.declared.cmp.Ordering.{Ordering}
 use Rattle.std.proofs.lemmas.Bool.{leb-true, ltb-true, and_parts}
@@ -10,7 +10,7 @@ use Rattle.printing_laws.proofs.Decimals.{lacks-append, decimal-lacks, decimal_v
 use Rattle.printing_laws.proofs.NumberTexts.{cut_at-space, AreShort, are_short-from_size, label_of-text, label_text-lacks}
 use Rattle.sym_model.specs.Bounded.{Lacks}
 
--- lists of numbers below 10^64 can be read
+-- if the numbers of labels within the limits are below 10^64, labels that are lists of numbers can be read
 list_rules-legible : (order : List ℕ → List ℕ → Ordering) (limits : List ℕ → Bool) (has_fractions : Bool)
     → ((numbers : List ℕ) → limits numbers ≡ true → AreShort numbers) → IsLegible (list_rules order limits has_fractions)
 list_rules-legible order limits has_fractions short = record {
@@ -47,9 +47,9 @@ is_permutation-short w h =
     let letters = (and_parts _ _ (and_parts _ _ (and_parts _ _ p.0).0).0).0 in
     are_letters-short (length w) w low letters
 
--- ---- pairs
+-- ---- labels that are pairs of lists
 
--- the rules of pairs of lists in an order and within limits
+-- the rules of pairs of lists that are compared by `in_order` and limited by `in_limits`
 abbrev pair_rules : (List ℕ × List ℕ → List ℕ × List ℕ → Ordering) → (List ℕ × List ℕ → Bool) → LabelRules (List ℕ × List ℕ)
 pair_rules in_order in_limits = record {
   text = pair_text;
@@ -59,7 +59,7 @@ pair_rules in_order in_limits = record {
   has_fractions = false;
 }
 
--- pairs of lists of numbers below 10^64 can be read
+-- if the numbers of labels within the limits are below 10^64, labels that are pairs of lists can be read
 pair_rules-legible : (order : List ℕ × List ℕ → List ℕ × List ℕ → Ordering) (limits : List ℕ × List ℕ → Bool)
     → ((pair : List ℕ × List ℕ) → limits pair ≡ true → AreShort pair.0 × AreShort pair.1) → IsLegible (pair_rules order limits)
 pair_rules-legible order limits short = record { one_line = one_line; apart = λ pair h. refl; reads = reads }
@@ -85,7 +85,7 @@ is_pair-short pair h = let p = and_parts _ _ h in (is_label-short pair.0 p.0, is
 is_shifted-short : (label : List ℕ × List ℕ) → is_shifted_label label ≡ true → AreShort label.0 × AreShort label.1
 is_shifted-short label h = let p = and_parts _ _ h in (is_permutation-short label.0 p.0, is_monomial-short label.1 p.1)
 
--- ---- powers
+-- ---- labels of quantum products: a power of q and a partition
 
 powers-legible : IsLegible (label_rules powers)
 powers-legible = record { one_line = one_line; apart = λ label h. refl; reads = reads }

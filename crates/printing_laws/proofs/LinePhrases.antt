@@ -1,4 +1,4 @@
--- The phrase of a one-line form: that the grammar allows it, and its spelling.
+-- The phrase of a one-line form: it is in the grammar, and its spelling is the line.
 use Rattle.std.proofs.Common.{◌≡◌, ℕ, ◌^◌, ◌<◌, Bool, true, false, List, [], ◌∷◌, ◌++◌, map, cond, eqb, pos, negsuc, nat_abs, refl, sym, ap, ◌∙◌, append_assoc, append-nil, decimal, arith}
 use Rattle.std.specs.Prelude.{codes}
 use Rattle.sym_model.specs.Expansion.{Basis, Fraction, Terms}
@@ -23,7 +23,7 @@ coefficient_phrase c = cond (eqb c.1 1) (numeral (decimal (nat_abs c.0))) (ratio
 abbrev pub term_phrase : Basis → List ℕ × Fraction → Phrase
 term_phrase basis t = cond (is_unit t.1) (atom_phrase basis t.0) (operation times (coefficient_phrase t.1) (atom_phrase basis t.0))
 
--- one more term
+-- the phrase `left` of the earlier terms, followed by `+` or `-` and the phrase of the term t
 abbrev pub joined : Basis → Phrase → List ℕ × Fraction → Phrase
 joined basis left t = operation (cond (is_negative t.1.0) minus plus) left (term_phrase basis t)
 
@@ -39,7 +39,7 @@ abbrev pub line_phrase : Basis → Terms (List ℕ) → Phrase
 line_phrase basis [] = numeral (codes "0")
 line_phrase basis (t ∷ terms) = later_phrase basis (first_phrase basis t) terms
 
--- ---- the grammar allows it
+-- ---- the phrase of a line is in the grammar
 
 number_word : (n : ℕ) → n < 10 ^ 64 → IsNumberWord (decimal n)
 number_word n h = record { nonempty = decimal-nonempty n h; digits = decimal-digits n h }
@@ -78,7 +78,7 @@ pub line_is : (basis : Basis) (terms : Terms (List ℕ)) → AreReadable terms �
 line_is basis [] r = record { nonempty = omega arith; digits = ((omega arith, omega arith), tt) }
 line_is basis (t ∷ terms) r = later_is basis (first_phrase basis t) terms (first_is basis t r.0) r.1
 
--- ---- its spelling
+-- ---- the spelling of the phrase of a line
 
 commas : (numbers : List ℕ) → comma_separated (map decimal numbers) ≡ numbers_text numbers
 commas [] = refl

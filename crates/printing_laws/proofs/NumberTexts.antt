@@ -9,19 +9,19 @@ use Rattle.sym_model.specs.Kind.{BeginsWithSpace}
 use Rattle.printing_laws.proofs.Decimals.{lacks-append, decimal-lacks, decimal-nonempty, decimal_value-decimal, IsShort, signed_decimal-lacks, signed_value-signed_decimal}
 use Rattle.sym_model.specs.Bounded.{Lacks}
 
--- a text without the separator is one piece
+-- if the separator does not occur in a text, splitting the text gives one piece
 pub split_at-whole : (s : ℕ) (text : List ℕ) → Lacks s text → split_at s text ≡ text ∷ []
 split_at-whole s [] h = refl
 split_at-whole s (b ∷ text) h =
     cond-false (eqb b s) _ _ (ne_eqb b s h.0) ∙ ap (before_first b) (split_at-whole s text h.1)
 
--- a piece, the separator and the rest
+-- a text of a piece, the separator and a rest is split into the piece and the pieces of the rest
 pub split_at-piece : (s : ℕ) (piece rest : List ℕ) → Lacks s piece → split_at s (piece ++ (s ∷ rest)) ≡ piece ∷ split_at s rest
 split_at-piece s [] rest h = cond-true (eqb s s) _ _ (eq-eqb s s refl)
 split_at-piece s (b ∷ piece) rest h =
     cond-false (eqb b s) _ _ (ne_eqb b s h.0) ∙ ap (before_first b) (split_at-piece s piece rest h.1)
 
--- a text without a space, and after it one that begins with a space, are cut between them
+-- if `front` has no space and `rest` begins with one, `front ++ rest` is cut between them
 pub cut_at-space : (front rest : List ℕ) → Lacks 32 front → BeginsWithSpace rest → cut_at 32 (front ++ rest) ≡ (front, rest)
 cut_at-space [] [] h k = refl
 cut_at-space [] (b ∷ rest) h k = cond-true (eqb b 32) _ _ (eq-eqb b 32 k)
@@ -37,14 +37,14 @@ pub are_short-from_size : (numbers : List ℕ) → size numbers < 10 ^ 64 → Ar
 are_short-from_size [] h = tt
 are_short-from_size (a ∷ numbers) h = (omega arith, are_short-from_size numbers (omega arith))
 
--- numbers between commas, split at the commas
+-- if the numbers are below 10^64, splitting their text at its commas gives these numbers
 pub split_at-numbers : (a : ℕ) (numbers : List ℕ) → AreShort (a ∷ numbers) → map decimal_value (split_at 44 (numbers_text (a ∷ numbers))) ≡ a ∷ numbers
 split_at-numbers a [] h =
     ap (map decimal_value) (split_at-whole 44 (decimal a) (decimal-lacks 44 a (omega arith) h.0)) ∙ ap (λ n. n ∷ []) (decimal_value-decimal a h.0)
 split_at-numbers a (b ∷ numbers) h =
     ap (map decimal_value) (split_at-piece 44 (decimal a) (numbers_text (b ∷ numbers)) (decimal-lacks 44 a (omega arith) h.0)) ∙ (ap (λ n. n ∷ map decimal_value (split_at 44 (numbers_text (b ∷ numbers)))) (decimal_value-decimal a h.0) ∙ ap (λ ns. a ∷ ns) (split_at-numbers b numbers h.1))
 
--- the numbers' text lacks each byte below 48 other than the comma
+-- a byte below 48 other than the comma does not occur in the text of numbers
 pub numbers_text-lacks : (byte : ℕ) (numbers : List ℕ) → byte < 48 → (44 ≡ byte → ⊥) → AreShort numbers → Lacks byte (numbers_text numbers)
 numbers_text-lacks byte [] low other h = tt
 numbers_text-lacks byte (a ∷ []) low other h = decimal-lacks byte a low h.0
@@ -78,12 +78,12 @@ pub label_text-lacks : (byte : ℕ) (numbers : List ℕ) → byte < 40 → AreSh
 label_text-lacks byte numbers low h =
     ((λ e. omega arith), lacks-append byte (numbers_text numbers) _ (numbers_text-lacks byte numbers (omega arith) (λ e. omega arith) h) ((λ e. omega arith), tt))
 
--- numerator and denominator are below 10^64 and the denominator is positive
+-- the numerator and the denominator are below 10^64
 pub record IsShortFraction (c : Fraction) : Type 0 where
   pub num : IsShort c.0
   pub den : c.1 < 10 ^ 64
 
--- a fraction is read as itself
+-- a fraction is read back from its text
 pub fraction_of-text : (c : Fraction) → IsShortFraction c → fraction_of (fraction_text c) ≡ c
 fraction_of-text c h = by (eqb c.1 1) refl
   where

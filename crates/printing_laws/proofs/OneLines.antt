@@ -1,4 +1,4 @@
--- A one-line form is read back as the list that it was printed of.
+-- A one-line form is read back as the list whose form it is.
 use Rattle.std.proofs.Common.{◌≡◌, ℕ, ◌^◌, ◌<◌, Bool, true, false, ◌&&◌, List, [], ◌∷◌, ◌++◌, length, map, cond, eqb, ℤ, pos, negsuc, nat_abs, Some, None, refl, sym, ap, ap₂, ◌∙◌, subst, append_assoc, append-nil, length-append, arith}
 use Rattle.std.specs.Prelude.{codes}
 use Rattle.std.proofs.lemmas.Bool.{ltb-true, and_parts, and_from, cond-true, cond-false, ne_eqb}
@@ -17,7 +17,7 @@ abbrev pub AreReadable : Terms (List ℕ) → Type 0
 AreReadable [] = Unit {0}
 AreReadable (t ∷ terms) = IsReadable t × AreReadable terms
 
--- the byte of a sign: `-` of a negative number, `+` of another
+-- the byte of a sign: `-` for a negative number, otherwise `+`
 abbrev sign_byte : ℤ → ℕ
 sign_byte z = cond (is_negative z) 45 43
 
@@ -29,17 +29,17 @@ is_sign-byte (negsuc n) = refl
 abbrev later_piece : Basis → List ℕ × Fraction → List ℕ
 later_piece basis t = sign_byte t.1.0 ∷ unsigned_text basis t
 
--- the terms after the first begin each with a sign
+-- each term after the first begins with a sign
 later_text-more : (basis : Basis) (t : List ℕ × Fraction) (terms : Terms (List ℕ)) → later_text basis (t ∷ terms) ≡ sign_byte t.1.0 ∷ (unsigned_text basis t ++ later_text basis terms)
 later_text-more basis (label, (pos n, den)) terms = refl
 later_text-more basis (label, (negsuc n, den)) terms = refl
 
--- ---- the pieces
+-- ---- cutting a line at its signs gives its pieces
 
 abbrev later_pieces : Basis → Terms (List ℕ) → List (List ℕ)
 later_pieces basis terms = map (later_piece basis) terms
 
--- a text without signs, and the terms after the first
+-- a text without signs and the terms after it are cut into the text and the pieces of the terms
 pieces-later : (basis : Basis) (front : List ℕ) (terms : Terms (List ℕ)) → LacksSigns front → AreReadable terms
     → cut_at_signs (front ++ later_text basis terms) ≡ front ∷ later_pieces basis terms
 pieces-later basis front terms lacks h =
@@ -53,7 +53,7 @@ pieces-later basis front terms lacks h =
         (cut_at_signs-front (unsigned_text basis t) (later_text basis terms) [] (later_pieces basis terms) (unsigned_text-lacks_signs basis t h.0) (behind terms h.1)
         ∙ ap (λ p. p ∷ later_pieces basis terms) (append-nil (unsigned_text basis t)))
 
--- the first term, with `-` in front where it is negative
+-- the text of the first term, with `-` in front if it is negative
 abbrev first_piece : Basis → List ℕ × Fraction → List ℕ
 first_piece basis t = cond (is_negative t.1.0) (codes "-") [] ++ unsigned_text basis t
 
@@ -76,13 +76,13 @@ pieces-line basis t terms r h = by (is_negative t.1.0)
         pieces-without_sign (unsigned_text basis t) (later_text basis terms) (later_pieces basis terms) (let e = unsigned_text-long basis t r in omega arith) lacks
         (λ rest l. pieces-later basis rest terms l h)
 
--- ---- the terms of the pieces
+-- ---- each piece is read as its term
 
 later-term : (basis : Basis) (t : List ℕ × Fraction) → IsReadable t → term_of_piece (later_piece basis t) ≡ t
 later-term basis (label, (pos n, den)) r = unsigned_term-text basis (label, (pos n, den)) r
 later-term basis (label, (negsuc n, den)) r = ap negated (unsigned_term-text basis (label, (negsuc n, den)) r)
 
--- a piece without a sign is read as it stands
+-- a piece without a sign is read as a term without a sign
 unsigned-piece : (piece : List ℕ) → 0 < length piece → LacksSigns piece → term_of_piece piece ≡ unsigned_term piece
 unsigned-piece [] some lacks = refl
 unsigned-piece (b ∷ piece) some lacks =
@@ -98,9 +98,9 @@ later-terms : (basis : Basis) (terms : Terms (List ℕ)) → AreReadable terms �
 later-terms basis [] h = refl
 later-terms basis (t ∷ terms) h = ap₂ ◌∷◌ (later-term basis t h.0) (later-terms basis terms h.1)
 
--- ---- the line
+-- ---- the line is read back
 
--- the line with its LF after it
+-- the one-line form is the first term, the later terms and a line feed
 one_line-front : (basis : Basis) (t : List ℕ × Fraction) (terms : Terms (List ℕ)) → one_line basis (t ∷ terms) ≡ (first_piece basis t ++ later_text basis terms) ++ (10 ∷ [])
 one_line-front basis t terms = simp append_assoc refl
 
@@ -113,7 +113,7 @@ not_nothing basis t terms r e =
     let k = length-append (cond (is_negative t.1.0) (codes "-") []) (unsigned_text basis t) in
     omega arith
 
--- the line is read as its terms
+-- if the terms can be read, their one-line form is read as these terms
 pub terms_on-line : (basis : Basis) (terms : Terms (List ℕ)) → AreReadable terms → terms_on_line (one_line basis terms) ≡ terms
 terms_on-line basis [] h = refl
 terms_on-line basis (t ∷ terms) h =
@@ -123,7 +123,7 @@ terms_on-line basis (t ∷ terms) h =
     ∙ (ap (λ pieces. map {B = List ℕ × Fraction} term_of_piece pieces) (pieces-line basis t terms h.0 h.1)
     ∙ ap₂ ◌∷◌ (first-term basis t h.0) (later-terms basis terms h.1))))
 
--- ---- canonical lists
+-- ---- the terms of canonical lists can be read back
 
 short-abs : (z : ℤ) → fits_128_bits z ≡ true → nat_abs z < 10 ^ 64
 short-abs (pos n) h = let e = ltb-true n (2 ^ 127) h in omega arith
@@ -132,7 +132,7 @@ short-abs (negsuc n) h = let e = ltb-true n (2 ^ 127) h in omega arith
 short-den : (d : ℕ) → fits_128_bits (pos d) ≡ true → d < 10 ^ 64
 short-den d h = let e = ltb-true d (2 ^ 127) h in omega arith
 
--- the terms of a canonical list with numbers of 128 bits, whose labels have short numbers
+-- if a list is canonical with numbers of 128 bits and the numbers of its labels are below 10^64, its terms can be read back
 pub are_readable : (rules : LabelRules (List ℕ)) → ((label : List ℕ) → rules.is_within_limits label ≡ true → AreShort label) → (terms : Terms (List ℕ))
     → each_term (λ (t : List ℕ × Fraction). is_coefficient rules.has_fractions t.1 && rules.is_within_limits t.0) terms ≡ true → is_printable terms ≡ true → AreReadable terms
 are_readable rules short [] h k = tt
@@ -142,11 +142,11 @@ are_readable rules short (t ∷ terms) h k =
     let fraction : IsShortFraction (without_sign t.1) = record { num = short-abs t.1.0 bits.0; den = short-den t.1.1 bits.1 } in
     (record { numbers = short t.0 tests.1; fraction = fraction }, are_readable rules short terms (and_parts _ _ h).1 (and_parts _ _ k).1)
 
--- the tests that a text's terms have to pass
+-- the terms are canonical and printable, and `text` is their one-line form
 abbrev pub is_line_of : Basis → LabelRules (List ℕ) → List ℕ → Terms (List ℕ) → Bool
 is_line_of basis rules text terms = is_canonical_by rules terms && is_printable terms && same (one_line basis terms) text
 
--- a line is read as its list
+-- if the terms are canonical and printable, their one-line form is read as these terms
 pub read_one_line-line : (basis : Basis) (rules : LabelRules (List ℕ)) → ((label : List ℕ) → rules.is_within_limits label ≡ true → AreShort label) → (terms : Terms (List ℕ))
     → is_canonical_by rules terms ≡ true → is_printable terms ≡ true → read_one_line basis rules (one_line basis terms) ≡ Some terms
 read_one_line-line basis rules short terms h k =
@@ -160,7 +160,7 @@ pub record ReadsLine (basis : Basis) (rules : LabelRules (List ℕ)) (text : Lis
   pub printable : is_printable terms ≡ true
   pub line : one_line basis terms ≡ text
 
--- a text that is read as a list passed the tests
+-- if `text` is read as the list `terms`, then `text` is their one-line form and they are canonical and printable
 pub read_one_line-tells : (basis : Basis) (rules : LabelRules (List ℕ)) (text : List ℕ) (terms : Terms (List ℕ)) → read_one_line basis rules text ≡ Some terms → ReadsLine basis rules text terms
 read_one_line-tells basis rules text terms h = by (is_line_of basis rules text (terms_on_line text)) refl h
   where

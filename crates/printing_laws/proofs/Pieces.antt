@@ -1,4 +1,4 @@
--- Texts that are cut in front of signs, and at a byte.
+-- Texts that are cut before signs, and at a byte.
 use Rattle.std.proofs.Common.{◌≡◌, ℕ, true, false, ◌||◌, List, [], ◌∷◌, ◌++◌, eqb, refl, ap, ◌∙◌}
 use Rattle.std.proofs.lemmas.Bool.{eq-eqb, ne_eqb, cond-true, cond-false}
 use Rattle.sym_model.specs.NumberText.{before_first, before_cut, cut_at}
@@ -10,7 +10,7 @@ pub record LacksSigns (text : List ℕ) : Type 0 where
   pub plus : Lacks 43 text
   pub minus : Lacks 45 text
 
--- a text without the separator, and after it one that begins with it, are cut between them
+-- if `front` has no separator, `front` followed by the separator and `rest` is cut before the separator
 pub cut_at-front : (separator : ℕ) (front rest : List ℕ) → Lacks separator front → cut_at separator (front ++ (separator ∷ rest)) ≡ (front, separator ∷ rest)
 cut_at-front separator [] rest h = cond-true (eqb separator separator) _ _ (eq-eqb separator separator refl)
 cut_at-front separator (b ∷ front) rest h =
@@ -26,7 +26,7 @@ no_sign : (byte : ℕ) → (byte ≡ 43 → ⊥) → (byte ≡ 45 → ⊥) → i
 no_sign byte plus minus =
     ap (λ b. b || eqb byte 45) (ne_eqb byte 43 plus) ∙ ne_eqb byte 45 minus
 
--- a text without signs stands in front of the first piece
+-- if `front` has no sign, it belongs to the first piece of `front ++ rest`
 pub cut_at_signs-front : (front rest piece : List ℕ) (pieces : List (List ℕ)) → LacksSigns front → cut_at_signs rest ≡ piece ∷ pieces
     → cut_at_signs (front ++ rest) ≡ (front ++ piece) ∷ pieces
 cut_at_signs-front [] rest piece pieces h e = e
@@ -34,13 +34,13 @@ cut_at_signs-front (b ∷ front) rest piece pieces h e =
     cond-false (is_sign b) _ _ (no_sign b h.plus.0 h.minus.0)
     ∙ ap (before_first b) (cut_at_signs-front front rest piece pieces (record { plus = h.plus.1; minus = h.minus.1 }) e)
 
--- a text that begins with a sign is cut in front of it
+-- if a text begins with a sign, it is cut before it
 pub cut_at_signs-sign : (byte : ℕ) (rest piece : List ℕ) (pieces : List (List ℕ)) → is_sign byte ≡ true → cut_at_signs rest ≡ piece ∷ pieces
     → cut_at_signs (byte ∷ rest) ≡ [] ∷ (byte ∷ piece) ∷ pieces
 cut_at_signs-sign byte rest piece pieces h e =
     cond-true (is_sign byte) _ _ h ∙ ap (λ ps. [] ∷ before_first byte ps) e
 
--- the first byte is cut from nothing
+-- the first byte of a text always belongs to its first piece, even if it is a sign
 pub pieces_of-first : (byte : ℕ) (rest piece : List ℕ) (pieces : List (List ℕ)) → cut_at_signs rest ≡ piece ∷ pieces
     → pieces_of (byte ∷ rest) ≡ (byte ∷ piece) ∷ pieces
 pieces_of-first byte rest piece pieces e = ap (before_first byte) e

@@ -1,4 +1,4 @@
--- What is printed in a form is read back in that form.
+-- A text that is printed in a form is read back in that form.
 use Rattle.std.proofs.Common.{◌≡◌, ℕ, List, Some, true}
 use Rattle.sym_model.specs.Expansion.{Terms}
 use Rattle.sym_model.specs.Kind.{Kind, Label, number, expansion, product, pairs, powers, permutations, polynomial, shifts, label_rules}
@@ -32,7 +32,7 @@ block_tells kind text terms h =
     let r = read_by-tells (label_rules kind) text terms h in
     record { canonical = r.canonical; printable = r.printable; text_is = r.block }
 
--- a text that is read as a list passed the tests
+-- if `text` is read in a form as the list `terms`, then `text` is their text in this form and they are canonical and printable
 pub read_in-tells : (form : PrintedForm) (kind : Kind) (text : List ℕ) (terms : Terms (Label kind)) → read_in form kind text ≡ Some terms → ReadsIn form kind text terms
 read_in-tells as_block kind text terms h = block_tells kind text terms h
 read_in-tells (as_line basis) expansion text terms h =

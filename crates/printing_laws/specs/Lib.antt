@@ -1,2 +1,1 @@
--- The definitions that the contracts cite.
 pub mod LineExpression

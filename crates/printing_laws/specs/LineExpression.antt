@@ -12,9 +12,8 @@ use Rattle.sym_model.specs.OneLine.{one_line}
 abbrev pub LacksLowest : Terms (List ℕ) → Type 0
 LacksLowest terms = (t : List ℕ × Fraction) → Among t terms → t.1.0 ≡ neg_ℤ (pos (2 ^ 127)) → ⊥
 
--- the one-line form without its LF spells an expression, and the list is what that denotes,
--- whatever the number of variables; where no numerator is -2^127, no number in the expression is
--- past 2^127 - 1, so that none is an offence
+-- the one-line form without its LF spells an expression that denotes the list, in every number of variables; if no
+-- numerator is -2^127, no number in the expression exceeds 2^127 - 1, so that none is an error
 pub record IsExpression (basis : Basis) (terms : Terms (List ℕ)) : Type 0 where
   pub word : List ℕ
   pub phrase : Phrase

@@ -7,9 +7,8 @@ ghost use Rattle.sym_model.specs.Canonical.{IsCanonicalBy, is_printable};
 ghost use Rattle.printing_laws.specs.LineExpression.{IsExpression};
 
 /// For each basis: the one-line form of a canonical list of partitions with numbers of 128 bits,
-/// without its LF, is a word of the grammar of expressions, and what the expression denotes is the
-/// list, in every number of variables. Where no numerator is -2^127,
-/// no number in it is past 2^127 - 1.
+/// without its LF, is a word of the grammar of expressions, and the expression denotes the list, in
+/// every number of variables. If no numerator is -2^127, no number in it exceeds 2^127 - 1.
 pub fn line_expression_law()
     ensures expansions { (basis : Basis) (terms : Terms (List ℕ))
         → IsCanonicalBy (label_rules expansion) terms

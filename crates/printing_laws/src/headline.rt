@@ -1,13 +1,13 @@
-//! What the text of a command says when it is read back.
+//! The meaning of the text of a command that is read back.
 
 ghost use Rattle.std.specs.Prelude.{◌≡◌, ◌↔◌, ℕ, List};
 ghost use Rattle.sym_model.specs.Command.{Command};
 ghost use Rattle.sym_model.specs.Outcome.{PrintsAnswer};
 ghost use Rattle.sym_model.specs.Headline.{ReadsBack};
 
-/// A text is a printable answer that is what the command names, in the form that the command asks
-/// for, exactly where the text, read back in that form,
-/// is a canonical list of terms that is what the command names.
+/// A text is the text of a printable answer to a command, in the form that the command asks for, if
+/// and only if it can be read back in that form as a canonical list of terms, and that list is the
+/// answer to the command.
 pub fn headline_law()
     ensures { (command : Command) (text : List ℕ) → PrintsAnswer command text
         ↔ ReadsBack command text }

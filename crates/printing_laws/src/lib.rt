@@ -7,10 +7,10 @@
 //!
 //! `printed_form_law`: in both forms and for every kind of answer each canonical list has one text,
 //! and each text is that of one list. `headline_law`: a text is that of a printable answer to a
-//! command, in the form that the command asks for, exactly if it reads back as what the command
-//! names. `line_expression_law`: in each basis the one-line form of a canonical list of partitions,
-//! without its line feed, spells an expression of the grammar that denotes the list, in every
-//! number of variables; if no numerator is -2^127, no number in it exceeds 2^127 - 1.
+//! command, in the form that the command asks for, if and only if it reads back as the answer to
+//! the command. `line_expression_law`: in each basis the one-line form of a canonical list of
+//! partitions, without its line feed, spells an expression of the grammar that denotes the list, in
+//! every number of variables; if no numerator is -2^127, no number in it exceeds 2^127 - 1.
 #![tactic(auto)]
 
 mod expressions;

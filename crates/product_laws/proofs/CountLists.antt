@@ -1,4 +1,4 @@
--- Lists of terms with coefficients that are not negative, and what a coefficient that is not 0 tells.
+-- Lists of terms with coefficients that are not negative, and consequences of a coefficient other than 0.
 use Rattle.std.proofs.Common.{◌≡◌, ◌⊎◌, inl, inr, cond, ℕ, List, [], ◌∷◌, map, refl, sym, ◌∙◌, ap, ap₂, subst, arith, ℤ, pos, ◌+ℤ◌, ◌*ℤ◌, flat_map}
 use Rattle.std.specs.Prelude.{◌≤ℤ◌}
 use Rattle.std.proofs.lemmas.Int.{ints}
@@ -12,7 +12,7 @@ use Rattle.sym_model.proofs.Integers.{product-nonnegative, cond-nonnegative}
 use Rattle.sym_model.specs.WholeTerms.{AreCounts}
 use lib.IntN.{+ℤ_idl, +ℤ_idr}
 
--- ---- coefficients of lists of counts
+-- ---- the coefficients of a list of counts
 
 pub counts-coefficient : (terms : WholeTerms) (α : List ℕ) → AreCounts terms → pos 0 ≤ℤ coefficient terms α
 counts-coefficient [] α h = omega (arith, ints)
@@ -29,7 +29,7 @@ counts-scale c terms h k t m =
 pub counts-each : {A : Type 0} (h : A → WholeTerms) (xs : List A) → ((x : A) → Among x xs → AreCounts (h x)) → AreCounts (flat_map h xs)
 counts-each h xs c t m = let s = Among_from_each h t xs m in c s.0 s.1 t s.2
 
--- nor is one part of a sum above the sum
+-- the coefficient of α in the list of one x is at most that in the lists of all x together, if none is negative
 pub coefficient-each : {A : Type 0} (h : A → WholeTerms) (xs : List A) (x : A) (α : List ℕ) → ((y : A) → Among y xs → AreCounts (h y)) → Among x xs
     → coefficient (h x) α ≤ℤ coefficient (flat_map h xs) α
 coefficient-each h [] x α c m = absurd m
@@ -44,13 +44,13 @@ coefficient-each h (y ∷ xs) x α c (inr m) =
     let d = counts-coefficient (h y) α (c y (inl refl)) in
     omega (arith, ints)
 
--- ---- labels
+-- ---- labels that have a term
 
 pub no_label : (terms : WholeTerms) (α : List ℕ) → ((t : Term) → Among t terms → t.0 ≡ α → ⊥) → coefficient terms α ≡ pos 0
 no_label terms α h =
     total_none (λ (t : Term). cond (same t.0 α) t.1 (pos 0)) terms (λ t m. ap (λ b. cond b t.1 (pos 0)) (same_apart t.0 α (h t m)))
 
--- a label whose coefficient is not 0 is there
+-- a label whose coefficient is not 0 has a term
 pub some_term : (terms : WholeTerms) (α : List ℕ) → (coefficient terms α ≡ pos 0 → ⊥) → (t : Term) × Among t terms × (t.0 ≡ α)
 some_term [] α h = absurd (h refl)
 some_term (t ∷ terms) α h = by (same_or_not t.0 α) (some_term terms α)
@@ -62,7 +62,7 @@ some_term (t ∷ terms) α h = by (same_or_not t.0 α) (some_term terms α)
         let found = later (λ z. h (ap₂ ◌+ℤ◌ (ap (λ b. cond b t.1 (pos 0)) (same_apart t.0 α n)) z ∙ +ℤ_idl (pos 0))) in
         (found.0, inr found.1, found.2)
 
--- where each label stands once, its term has its coefficient
+-- if no label occurs twice, the coefficient of a label is that of its term
 pub coefficient_of_once : (terms : WholeTerms) → Once (map (λ (t : Term). t.0) terms) → (t : Term) → Among t terms → coefficient terms t.0 ≡ t.1
 coefficient_of_once [] once t m = absurd m
 coefficient_of_once (u ∷ terms) once t (inl e) =

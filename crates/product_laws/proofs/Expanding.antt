@@ -1,4 +1,4 @@
--- Expansions of products of Schur polynomials with one factor more, by the classical products of the labels.
+-- Expansions of products of Schur polynomials with one more factor, by the classical products of the labels.
 use Rattle.std.proofs.Common.{◌≡◌, ℕ, ◌+◌, ◌≤◌, ◌<◌, inl, inr, List, [], ◌∷◌, ◌++◌, map, flat_map}
 use Rattle.std.proofs.Common.{Option, Some, None, pos, refl, sym, ◌∙◌, ap, ap₂, subst, arith}
 use Rattle.sym_model.specs.Sum.{Among}
@@ -22,7 +22,7 @@ use Rattle.product_laws.proofs.Expansions.{every_step, limited_step}
 use Rattle.product_laws.specs.CountedProducts.{IsShownIn}
 use Rattle.product_laws.proofs.Growing.{two_rows}
 
--- ---- two factors
+-- ---- expansions of products of two factors
 
 pub two_listed : (k m : ℕ) (left right : List ℕ) → IsPartition left → IsPartition right → m ≤ k
     → ((t : Term) → Among t (classical_product k (left ∷ right ∷ [])) → rows t.0 ≤ m)
@@ -44,7 +44,7 @@ two_expand (Some given) k left right p q h shown =
     mult_meets (Some given) left right (as_fractions (classical_product k (left ∷ right ∷ []))) p q
     (two_listed k given left right p q (omega (arith, shown)) (λ t m. let c = classical_product-term k (left ∷ right ∷ []) t m in let f = c.few in omega (arith, shown)))
 
--- ---- one factor more
+-- ---- expansions of products with one more factor
 
 each_same : {A : Type 0} (f g : A → WholeTerms) (xs : List A) → ((x : A) → f x ≡ g x)
     → flat_map f xs ≡ flat_map g xs
@@ -56,7 +56,7 @@ by_products k next terms =
     each_same (λ (t : Term). scale t.1 (numerators (as_fractions (classical_product k (t.0 ∷ next ∷ []))))) (λ (t : Term). scale t.1 (classical_product k (t.0 ∷ next ∷ []))) terms
     (λ t. ap (λ (l : WholeTerms). scale t.1 l) (numerators-as_fractions (classical_product k (t.0 ∷ next ∷ []))))
 
--- no label has more rows than there are variables, where they are given
+-- no label has more rows than there are variables, if their number is given
 abbrev HasFewRows : Option ℕ → Terms (List ℕ) → Type 0
 HasFewRows None terms = Unit {0}
 HasFewRows (Some given) terms = (t : List ℕ × Fraction) → Among t terms → rows t.0 ≤ given
@@ -78,7 +78,7 @@ expands_next (Some given) k front next terms after w v q labels few e is =
     e (subst (λ (l : WholeTerms). Same (numerators after) l) (sym (by_products k next (numerators terms))) is)
     few
 
--- the same for lists of whole numbers, where no label of the product has more than k rows
+-- if no label has more than k rows, the list of the products of its labels with `next` expands the product with `next`
 pub expands_whole : (given : Option ℕ) (k : ℕ) (front : List (List ℕ)) (next : List ℕ)
     (product after : WholeTerms) → IsPartition next
     → ((t : Term) → Among t product

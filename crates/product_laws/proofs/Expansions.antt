@@ -1,5 +1,5 @@
 -- Expansions of products in Schur polynomials, one factor after another.
---     whole_value       what the polynomial of a list of whole coefficients is
+--     whole_value       the polynomial of a list of whole coefficients
 --     expansion_step    the products of the labels with one more factor expand the product with that factor
 use Rattle.std.proofs.Common.{◌≤◌, ℕ, List, [], ◌∷◌, ◌++◌, sym, ◌∙◌, ap, pos, ◌*ℤ◌, Some, None}
 use Rattle.sym_model.specs.Sum.{Among}

@@ -1,8 +1,8 @@
 -- Reflecting into the alcove after each factor.
 --     window_value          the part of a reduction at a label, by the sum and the remainders of any list of exponents
---     window_unique         it is an alternating sum, so it can be multiplied by a Schur polynomial
---     reflected_early       a label may be reflected before it is multiplied
---     fusion_step           so reflecting after each factor gives what reflecting once gives
+--     window_unique         that part is an alternating sum, so it can be multiplied by a Schur polynomial
+--     reflected_early       a label can be reflected before it is multiplied
+--     fusion_step           reflecting after each factor gives the result of reflecting once
 use Rattle.std.proofs.Common.{◌≡◌, ◌⊎◌, ℕ, zero, suc, ◌+◌, ◌%◌, ◌<◌, ◌≤◌, ◌==◌, Bool, true, false, cond, List, [], ◌∷◌, ◌++◌, map, length, drop, refl, sym, ◌∙◌, ap, ap₂, subst, inl, inr, arith, ℤ, pos, neg_ℤ, ◌*ℤ◌, Option, Some, None}
 use Rattle.std.proofs.lemmas.Bool.{cases_eq, eq-eqb, eqb-true, le-leb, or_cases}
 use Rattle.std.proofs.lemmas.List.{length-map}
@@ -40,9 +40,9 @@ use Rattle.product_laws.proofs.ManyFactors.{sums-schur, added, join-beta, pair_s
 use Rattle.alternant_laws.proofs.FailingColumns.{at_sum}
 use Rattle.strip_laws.proofs.Reflections.{last_of}
 
--- ---- windows
+-- ---- entries moved into a window of n numbers
 
--- each entry in the window of n numbers from t on
+-- each entry replaced by the number with its remainder in the window of n numbers from t on
 abbrev pub ups : ℕ → ℕ → List ℕ → List ℕ
 ups n t b = map (up n t) b
 
@@ -63,7 +63,7 @@ end_sorted n t b c h end lies =
     ∙ ap sorted_falling (window_back n t c h lies)
     ∙ sorted-falling c (strict_falls c end.strict)
 
--- the least entry of a strictly falling list
+-- the least entry of a strictly decreasing list
 abbrev bottom : List ℕ → ℕ
 bottom [] = 0
 bottom (a ∷ b) = last_of a b
@@ -72,7 +72,7 @@ lies_from_bottom : (n : ℕ) (c : List ℕ) → FallsStrictly c → spread c < n
 lies_from_bottom n [] f l = tt
 lies_from_bottom n (a ∷ b) f l = narrow_lie n a b f l
 
--- ---- the value at a label
+-- ---- the value of a list of exponents at a label
 
 abbrev pub value : Bool → Bool → Bool → ℤ → ℤ
 value equal sum there sign = cond equal (pos 0) (cond sum (cond there sign (pos 0)) (pos 0))
@@ -83,7 +83,7 @@ value-negated false true true sign = refl
 value-negated false true false sign = refl
 value-negated false false there sign = refl
 
--- the sign of sorting u, where it sorts to the beta list of the label and has the given sum; else 0
+-- the sign of sorting u, if u sorts to the beta list of the label and has the given sum; otherwise 0
 abbrev sorted_value : List ℕ → List ℕ → ℕ → ℤ
 sorted_value label u sum = value (has_equal_entries u) (size u == sum) (same (from_beta (sorted_falling u)) label) (sorting_sign u)
 
@@ -114,7 +114,7 @@ window_value-exchange n t label left x y right =
     ∙ ap (λ s. neg_ℤ (sorted_value label (ups n t left ++ (up n t y ∷ up n t x ∷ ups n t right)) s)) (size-exchange left x y right)
     ∙ ap (λ u. neg_ℤ (sorted_value label u (size (left ++ (y ∷ x ∷ right))))) (sym (map_append (up n t) left (y ∷ x ∷ right)))
 
--- it looks at the sum and the remainders alone
+-- the value at a label depends only on the sum and the remainders
 window_value-periodic : (n t : ℕ) (label b c : List ℕ) → remainders n b ≡ remainders n c → size b ≡ size c → window_value n t label b ≡ window_value n t label c
 window_value-periodic n t label b c e s =
     ap₂ (sorted_value label) (sym (ups_of_remainders n t b) ∙ ap (ups n t) e ∙ ups_of_remainders n t c) s
@@ -122,9 +122,9 @@ window_value-periodic n t label b c e s =
 window_value-equal : (n t : ℕ) (label b : List ℕ) → has_equal_entries (ups n t b) ≡ true → window_value n t label b ≡ pos 0
 window_value-equal n t label b e = ap (λ v. value v (size (ups n t b) == size b) (same (from_beta (sorted_falling (ups n t b))) label) (sorting_sign (ups n t b))) e
 
--- ---- strictly falling lists
+-- ---- strictly decreasing lists of exponents
 
--- t is where the window of the beta list of the label begins
+-- the start of the window of the beta list of the label
 abbrev pub start_of : ℕ → List ℕ → ℕ
 start_of k label = bottom (beta k label)
 
@@ -178,7 +178,7 @@ window_value-strict k n label b h l f = by (reflected_into_alcove n b) (alcove_r
                 absurd (other (ap from_beta (alcove_only n b a.0 (sorted_falling (ups n (start_of k label) b)) h end (end_found n (start_of k label) b h distinct (eqb-true _ _ e))) ∙ there))
             none false true e (inr n') = ap (λ v. cond v (sorting_sign (ups n (start_of k label) b)) (pos 0)) (same_apart (from_beta (sorted_falling (ups n (start_of k label) b))) label n')
 
--- ---- any list
+-- ---- the reflections of an alternant of any list of exponents
 
 window_unique : (k n : ℕ) (label b : List ℕ) → 1 ≤ n → length b ≡ k → pair (alternant b) (on_strict (alcove_share k n label)) ≡ window_value n (start_of k label) label b
 window_unique k n label b h = sort_back P b kept sorted
@@ -210,9 +210,9 @@ window_unique k n label b h = sort_back P b kept sorted
             ∙ sym (window_value-equal n (start_of k label) label (sorted_falling b) (equal_map (up n (start_of k label)) (sorted_falling b) e))
         by false e = at_strict_list (sorted_falling b) l (sorted_strict b (sym (equal-sorted b) ∙ e))
 
--- ---- multiplied by a Schur polynomial
+-- ---- the reductions at a label of a_b times a Schur polynomial
 
--- the part at a label of the reductions of a_b times s_next
+-- the coefficient at `label` of the reflections of the terms of a_b·s_next
 abbrev multiplied_value : ℕ → ℕ → List ℕ → List ℕ → List ℕ → ℤ
 multiplied_value k n next label b = pair (alternant b) (added k next (on_strict (alcove_share k n label)))
 
@@ -244,9 +244,9 @@ multiplied-periodic k n next label b c h q l m e s =
     (λ α. window_value-periodic n (start_of k label) label (join b α) (join c α) (remainders-join n b c α e) (let x = size-join b α in let y = size-join c α in omega arith))
     ∙ sym (multiplied_windows k n next label c h q m)
 
--- ---- two entries with one remainder
+-- ---- lists with two entries of one remainder
 
--- where an entry with the remainder r stands
+-- if r is the remainder of some entry of b, that entry is at some place of b
 place_of : (n r : ℕ) (b : List ℕ) → has r (remainders n b) ≡ true → (middle : List ℕ) × (y : ℕ) × (right : List ℕ) × (b ≡ middle ++ (y ∷ right)) × (y % n ≡ r)
 place_of n r [] e = absurd (cc)
 place_of n r (c ∷ b) e = by (or_cases (c % n == r) (has r (remainders n b)) e) (λ t. place_of n r b t)
@@ -318,12 +318,12 @@ multiplied-repeated k n next label b h q l e =
 
 -- ---- a label may be reflected before it is multiplied
 
--- the value of a function of labels at a reduction
+-- the value of χ at a reflected partition, times its sign; 0 if the reflection is 0
 abbrev pub at_reduced : (List ℕ → ℤ) → Option (List ℕ × ℤ) → ℤ
 at_reduced χ None = pos 0
 at_reduced χ (Some a) = a.1 *ℤ χ a.0
 
--- a reduction is to nothing or to a partition with at most k rows
+-- a reflection is 0 or a partition with at most k rows
 abbrev IsAnswer : ℕ → Option (List ℕ × ℤ) → Type 0
 IsAnswer k None = Unit {0}
 IsAnswer k (Some a) = IsShape k a.0
@@ -362,7 +362,7 @@ reflected_early k n next label parts h q p =
     (subst (λ z. IsReducedEarly k n next label z (as_partition (reflected_into_alcove n (beta k parts))))
     (sym (ap (λ b. pair (alternant b) (added k next (on_strict (alcove_share k n label)))) (join-beta k parts p))) r)
 
--- ---- one factor more
+-- ---- reflecting with one more factor
 
 pair-reflected : (k n : ℕ) (terms : WholeTerms) (χ : List ℕ → ℤ) → pair (reflected_terms k n terms) χ ≡ pair terms (λ parts. at_reduced χ (alcove_reduction k n parts))
 pair-reflected k n terms χ =

@@ -1,4 +1,4 @@
--- Equal labels of a list put together: the list that is left, and its coefficients.
+-- Equal labels of a list collected: the resulting list, and its coefficients.
 use Rattle.std.proofs.Common.{◌≡◌, ◌⊎◌, zero, suc, Bool, true, false, cond, [], ◌∷◌, sym, ◌∙◌, ap, refl, inl, inr, arith, ℤ, pos, negsuc, ◌+ℤ◌}
 use Rattle.std.proofs.lemmas.Int.{ints}
 use Rattle.std.proofs.Math.IntN.{+ℤ_idl}
@@ -7,13 +7,13 @@ use Rattle.sym_model.specs.WholeTerms.{WholeTermsOf, coefficient_by}
 use Rattle.sym_model.specs.ReductionSteps.{AreCollected}
 
 module _ {L : Type 0} (test : L → L → Bool) (test_true : (a b : L) → test a b ≡ true → a ≡ b) (test_self : (a : L) → test a a ≡ true) where
-  -- the term in front, where it is not 0
+  -- the list with the term in front; the list unchanged if the coefficient of the term is 0
   abbrev kept : L → ℤ → WholeTermsOf L → WholeTermsOf L
   kept label (pos zero) xs = xs
   kept label (pos (suc n)) xs = (label, pos (suc n)) ∷ xs
   kept label (negsuc n) xs = (label, negsuc n) ∷ xs
 
-  -- the term added to the one with its label
+  -- the list with c added to the coefficient of `label`, which is appended if it does not occur
   abbrev put : L → ℤ → WholeTermsOf L → WholeTermsOf L
   put label c [] = kept label c []
   put label c (x ∷ xs) = cond (test x.0 label) (kept x.0 (x.1 +ℤ c) xs) (x ∷ put label c xs)
@@ -22,7 +22,7 @@ module _ {L : Type 0} (test : L → L → Bool) (test_true : (a b : L) → test 
   gathered [] = []
   gathered (x ∷ xs) = put x.0 x.1 (gathered xs)
 
-  -- its coefficients
+  -- ---- the coefficients of gathered lists are those of the list
 
   coefficient-kept : (label : L) (c : ℤ) (xs : WholeTermsOf L) (other : L) → coefficient_by test (kept label c xs) other ≡ cond (test label other) c (pos 0) +ℤ coefficient_by test xs other
   coefficient-kept label (pos zero) xs other = by (test label other)
@@ -59,7 +59,7 @@ module _ {L : Type 0} (test : L → L → Bool) (test_true : (a b : L) → test 
   coefficient-gathered [] other = refl
   coefficient-gathered (x ∷ xs) other = coefficient-put x.0 x.1 (gathered xs) other ∙ ap (λ z. cond (test x.0 other) x.1 (pos 0) +ℤ z) (coefficient-gathered xs other)
 
-  -- it is collected
+  -- ---- gathered lists have each label once and no coefficient 0
 
   collected-kept : (label : L) (c : ℤ) (xs : WholeTermsOf L) → ((u : L × ℤ) → Among u xs → test label u.0 ≡ false) → AreCollected test xs → AreCollected test (kept label c xs)
   collected-kept label (pos zero) xs apart h = h
@@ -73,7 +73,7 @@ module _ {L : Type 0} (test : L → L → Bool) (test_true : (a b : L) → test 
   among-kept label (negsuc n) xs u (inl e) = inl (ap (λ (v : L × ℤ). v.0) e)
   among-kept label (negsuc n) xs u (inr m) = inr m
 
-  -- the labels of the list with a term put into it are that of the term and its own
+  -- each label of the list with a term added is that of the term or one of the list
   among-put : (label : L) (c : ℤ) (xs : WholeTermsOf L) (u : L × ℤ) → Among u (put label c xs) → (u.0 ≡ label) ⊎ ((v : L × ℤ) × Among v xs × (u.0 ≡ v.0))
   among-put label c [] u m = elim (among-kept label c [] u m) [ inl e ↦ inl e | inr n ↦ absurd n ]
   among-put label c (x ∷ xs) u m = by (test x.0 label) (among-put label c xs u) m

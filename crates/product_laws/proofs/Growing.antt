@@ -1,5 +1,5 @@
--- Products of Schur polynomials with one factor more: counts again, at labels with no more rows than all factors have, and some
--- coefficient is at least as great as each one before.
+-- Products of Schur polynomials with one more factor: their coefficients are counts, at labels with no more rows than
+-- all factors together, and some coefficient is at least as great as each one before.
 use Rattle.std.proofs.Common.{◌≡◌, ℕ, zero, suc, ◌+◌, ◌≤◌, ◌<◌, ◌⊎◌, inl, inr, Bool, true, false, cond, List, [], ◌∷◌, ◌++◌, append_assoc, append-nil, map, refl, sym, ◌∙◌, ap, subst, arith, ℤ, pos, ◌*ℤ◌, filter}
 use Rattle.std.specs.Prelude.{◌≤ℤ◌, nat_abs, nat_le, nat_lt}
 use Rattle.std.proofs.lemmas.Bool.{cases_lt}
@@ -33,7 +33,7 @@ term_is k factors t m =
     let c = classical_product-term k factors t m in
     sym (coefficient_of_once (classical_product k factors) (classical_product-once k factors) t m) ∙ classical_product-coefficient k factors t.0 c.partition c.few
 
--- its label has as many cells as all factors
+-- the label of a term has the size of all factors together
 pub label_size : (k : ℕ) (factors : List (List ℕ)) (t : Term) → Among t (classical_product k factors) → size t.0 ≡ size (map size factors)
 label_size k factors t m =
     let few : List (List ℕ) = filter (λ (parts : List ℕ). nat_le (rows parts) k) (partitions_of (size (map size factors))) in
@@ -42,7 +42,7 @@ label_size k factors t m =
     let c = Among_from_select (λ (parts : List ℕ). nat_le (rows parts) k) b.0 (partitions_of (size (map size factors))) b.1 in
     ap (λ (u : Term). size u.0) b.2 ∙ (partitions_of-tells (size (map size factors)) b.0 c.0).1
 
--- ---- two factors
+-- ---- products of two factors are counts
 
 pub two_counts : (k : ℕ) (left right : List ℕ) → IsPartition left → IsPartition right → AreCounts (classical_product k (left ∷ right ∷ []))
 two_counts k left right p q t m =
@@ -64,7 +64,7 @@ two_rows k left right p q h t m = by (cases_lt (rows left + rows right) (rows t.
         ∙ coefficient_counts k k left right [] t.0 (omega arith) p q IsPartition-none c.partition c.few
         ∙ no_long_labels k left right [] t.0 p q IsPartition-none (contains_nothing right) h l))
 
--- ---- products that are counts
+-- ---- products whose coefficients are counts
 
 -- the product is a list of counts, at labels with no more rows than all factors have
 pub record IsCounted (k : ℕ) (factors : List (List ℕ)) : Type 0 where
@@ -103,7 +103,7 @@ multiplied_counts k next terms is q c =
 labels_are : (k : ℕ) (front : List (List ℕ)) (t : Term) → Among t (classical_product k front) → IsPartition t.0
 labels_are k front t m = let c = classical_product-term k front t m in c.partition
 
--- a label of the products with one factor more comes from a label and a label of its product
+-- the label is one of the product of some label of `terms` with the factor `next`
 record ComesFrom (k : ℕ) (next : List ℕ) (terms : WholeTerms) (label : List ℕ) : Type 0 where
   from : Term
   among : Among from terms
@@ -122,7 +122,7 @@ rows-push : (front : List (List ℕ)) (next : List ℕ) → size (map rows (fron
 rows-push [] next = omega arith
 rows-push (parts ∷ front) next = let h = rows-push front next in omega arith
 
--- with one factor more
+-- the coefficient of a term of the product with `next` is that of the product before, multiplied by `next`
 step_coefficient : (k : ℕ) (front : List (List ℕ)) (next : List ℕ) → ArePartitions front → IsPartition next → (t : Term)
     → Among t (classical_product k (front ++ (next ∷ []))) → t.1 ≡ coefficient (multiplied k next (classical_product k front)) t.0
 step_coefficient k front next p q t m =
@@ -145,7 +145,7 @@ counted-push k front next p q h = record {
       omega arith;
 }
 
--- ---- some coefficient is at least as great as one before
+-- ---- if the product of front has a coefficient of at least c, so has its product with one more factor, `next`
 
 step_reaches : (k c : ℕ) (front : List (List ℕ)) (next : List ℕ) → ArePartitions front → IsPartition next → rows next ≤ k → 1 ≤ c → IsCounted k front
     → Reaches k c (classical_product k front) → Reaches k c (classical_product k (front ++ (next ∷ [])))
@@ -184,7 +184,7 @@ step_reaches k c front next p q few one h r =
     chain : (a b c d e f g : ℤ) → a ≤ℤ b → b ≡ c → c ≤ℤ d → e ≡ d → e ≤ℤ f → g ≡ f → a ≤ℤ g
     chain a b c d e f g h i j k l m = omega (arith, ints)
 
--- ---- with any number of factors more
+-- ---- products with any number of further factors
 
 pub counted-append : (k : ℕ) (front rest : List (List ℕ)) → ArePartitions front → ArePartitions rest → IsCounted k front → IsCounted k (front ++ rest)
 counted-append k front [] p q h = subst (λ factors. IsCounted k factors) (sym (append-nil front)) h

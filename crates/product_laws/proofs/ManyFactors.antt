@@ -1,6 +1,6 @@
 -- The classical product of several factors, one factor after another.
 --     classical_pairing    the classical product, paired with alternants
---     classical_step       the product with one factor more
+--     classical_step       the product with one more factor
 use Rattle.std.proofs.Common.{◌≡◌, ℕ, List, [], ◌∷◌, ◌++◌, length, refl, sym, ◌∙◌, ap, subst, inl, inr, arith, ℤ, ◌*ℤ◌}
 use Rattle.sym_model.specs.Polynomial.{Poly, Term, In, Same, join, one, times, pair, no_exponents, scale}
 use Rattle.sym_model.specs.Partition.{IsPartition, ArePartitions}
@@ -26,9 +26,9 @@ use Rattle.product_laws.specs.FactorSteps.{multiplied}
 use Rattle.product_laws.proofs.Straightened.{IsShape, on_strict, pair-value, straightened_sum, pair-straightened, straightened-shape, coefficient-straightened, same_shapes}
 use Rattle.alternant_laws.proofs.FailingColumns.{at_sum}
 
--- ---- an alternant times a product
+-- ---- products of an alternant and a polynomial
 
--- f in k variables, times which each alternant is the sum of the alternants of the summed exponents
+-- f is a polynomial in k variables, and a_β·f is the sum of c·a_(β + α) over the terms c·x^α of f, for every β
 pub record SumsAlternants (k : ℕ) (f : Poly) : Type 0 where
   pub within : In k f
   pub sums : (β : List ℕ) (φ : List ℕ → ℤ) → length β ≡ k → pair (times (alternant β) f) φ ≡ pair f (λ α. pair (alternant (join β α)) φ)
@@ -71,7 +71,7 @@ sums-product k (parts ∷ []) p = sums-schur k parts (p parts (inl refl))
 sums-product k (parts ∷ next ∷ factors) p =
     sums-times k (schur parts k) (schur_product (next ∷ factors) k) (sums-schur k parts (p parts (inl refl))) (sums-product k (next ∷ factors) (λ x m. p x (inr m)))
 
--- ---- the classical product
+-- ---- the classical product is a straightened sum
 
 classical_straightened : (k : ℕ) (factors : List (List ℕ)) → ArePartitions factors → Same (classical_product k factors) (straightened_sum (staircase k) (schur_product factors k))
 classical_straightened k factors p =
@@ -98,7 +98,7 @@ classical_pairing k factors φ p =
     ∙ pair-straightened k (staircase k) (schur_product factors k) φ (length-staircase k) s.within
     ∙ sym (s.sums (staircase k) φ (length-staircase k))
 
--- ---- one factor more
+-- ---- the classical product with one more factor
 
 pub product-last : (k : ℕ) (front : List (List ℕ)) (next : List ℕ) → Same (schur_product (front ++ (next ∷ [])) k) (times (schur_product front k) (schur next k))
 product-last k [] next = Same_sym _ _ (one-times k (schur next k) (In-skew_schur k next []))
@@ -108,7 +108,7 @@ product-last k (parts ∷ second ∷ front) next =
     (times_respects (schur parts k) (schur parts k) _ _ (Same_refl (schur parts k)) (product-last k (second ∷ front) next))
     (Same_sym _ _ (times_assoc (schur parts k) (schur_product (second ∷ front) k) (schur next k)))
 
--- a test function at the exponents of s_next added
+-- the sum of φ(γ + δ) over the exponents δ of s_next
 abbrev pub added : ℕ → List ℕ → (List ℕ → ℤ) → List ℕ → ℤ
 added k next φ γ = pair (schur next k) (λ δ. φ (join γ δ))
 
@@ -146,7 +146,7 @@ two_pairing k parts next φ p q =
     are_two x (inr (inl e)) = subst IsPartition (sym e) q
     are_two x (inr (inr m)) = absurd m
 
--- ---- for each function of partitions
+-- ---- the pairing with a function of partitions
 
 pub join-beta : (k : ℕ) (parts : List ℕ) → IsShape k parts → join parts (staircase k) ≡ beta k parts
 join-beta k parts p =

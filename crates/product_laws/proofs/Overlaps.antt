@@ -17,7 +17,7 @@ use Rattle.alternant_laws.proofs.Alternants.{alternant_exchange}
 use Rattle.product_laws.proofs.ExponentLists.{among_exponent_lists, once_exponent_lists}
 use Rattle.product_laws.proofs.StripShapes.{keeps_below}
 
--- an exchange of neighbours turns the sign
+-- U changes its sign if two neighbouring entries of its list are exchanged
 abbrev pub Turns : (List ℕ → ℤ) → Type 0
 Turns U = (left : List ℕ) (p q : ℕ) (right : List ℕ) → U (left ++ (p ∷ q ∷ right)) ≡ neg_ℤ (U (left ++ (q ∷ p ∷ right)))
 
@@ -26,14 +26,14 @@ alternants_turn φ left p q right =
     pair_determined (alternant (left ++ (p ∷ q ∷ right))) (negate (alternant (left ++ (q ∷ p ∷ right)))) φ (alternant_exchange left [] right p q)
     ∙ pair_negate (alternant (left ++ (q ∷ p ∷ right))) φ
 
--- ---- the first two exponents changed so that their sums with a + n + 1 and b + n change places
+-- ---- the first two exponents changed so that their sums with a + n + 1 and b + n are exchanged
 
 abbrev changed : ℕ → ℕ → List ℕ → List ℕ
 changed a b [] = []
 changed a b (x ∷ []) = x ∷ []
 changed a b (x ∷ y ∷ α) = (b + y - (a + 1)) ∷ (a + 1 + x - b) ∷ α
 
--- what is kept below looks at no first exponent
+-- `keeps_below` does not depend on the first exponent of α
 first_free : (b : ℕ) (m : List ℕ) (y z : ℕ) (α : List ℕ) → keeps_below (b ∷ m) (y ∷ α) ≡ keeps_below (b ∷ m) (z ∷ α)
 first_free b [] y z α = refl
 first_free b (c ∷ m) y z [] = refl
@@ -54,7 +54,7 @@ above a b y t e h = by (cases_lt a (b + y))
 not_above : (a b y : ℕ) (t : Bool) → a < b + y → not (nat_le (b + y) a && t) ≡ true
 not_above a b y t h = ap (λ (s : Bool). not (s && t)) (lt-leb (b + y) a h)
 
--- ---- sums over all exponents and over those that keep below
+-- ---- sums over the exponents that pass a narrower and a wider test
 
 narrowed : {A : Type 0} (f : A → ℤ) (wide narrow : A → Bool) (xs : List A) → ((x : A) → Among x xs → narrow x ≡ true → wide x ≡ true) → total f (filter narrow (filter wide xs)) ≡ total f (filter narrow xs)
 narrowed {A} f wide narrow xs h =
@@ -198,7 +198,7 @@ strips_remain (suc (suc n)) (a ∷ b ∷ m) U l f t d =
         ∙ sym (total_each kept rows_of (down_from d))
         ∙ sym (total_select F wide lists)
 
--- ---- at most one cell in each row
+-- ---- exponents of at most 1, which add at most one cell to each row
 
 pub equal_found : (n : ℕ) (m α : List ℕ) → length m ≡ n → length α ≡ n → Falls m → at_most_one α ≡ true → is_falling (join m α) ≡ false
     → has_equal_entries (join (join m (staircase n)) α) ≡ true

@@ -1,4 +1,4 @@
--- Pieri's rules, by alternants: h_k and e_k are sums of monomials, and what is no strip cancels.
+-- Pieri's rules, by alternants: h_k and e_k are sums of monomials, and the terms that are not strips cancel.
 use Rattle.std.proofs.Common.{◌≡◌, ℕ, ◌+◌, ◌≤◌, Bool, true, false, ◌&&◌, cond, eqb, nat_le, List, [], ◌∷◌, ◌++◌, length, refl, sym, ◌∙◌, ap, ap₂, arith, ℤ, pos, ◌*ℤ◌, filter, flat_map}
 use Rattle.std.proofs.lemmas.Int.{ints}
 use Rattle.std.proofs.lemmas.Bool.{leb-true}
@@ -45,7 +45,7 @@ ones-exchange [] a b right = turned (nat_le a 1) (nat_le b 1) (at_most_one right
     turned false false z = refl
 ones-exchange (c ∷ left) a b right = ap (λ (t : Bool). nat_le c 1 && t) (ones-exchange left a b right)
 
--- ---- the sums in n places
+-- ---- sums over exponent lists of n places
 
 turned_sum : (n : ℕ) (m α : List ℕ) → join (join m (staircase n)) α ≡ join (join m α) (staircase n)
 turned_sum n m α = join_assoc m (staircase n) α ∙ ap (join m) (join_comm (staircase n) α) ∙ sym (join_assoc m α (staircase n))
@@ -53,7 +53,7 @@ turned_sum n m α = join_assoc m (staircase n) α ∙ ap (join m) (join_comm (st
 once_times : (x : ℤ) → x ≡ pos 1 *ℤ x
 once_times x = omega (arith, ints)
 
--- what is summed over shapes is what is summed over the exponents that pass the test
+-- if the exponents α that pass a test are those for which μ + α is a shape of S, each once, a sum over the shapes is the sum over these exponents
 pub strips_total : (n k : ℕ) (parts : List ℕ) → IsPartition parts → rows parts ≤ n → (test : List ℕ → Bool) (S : List ℕ → Type 0)
     → ((α : List ℕ) → length α ≡ n → test α ≡ true → Falls (join (resize n parts) α) × S (without_last_zeros (join (resize n parts) α)))
     → ((α : List ℕ) → length α ≡ n → Falls (join (resize n parts) α) → S (without_last_zeros (join (resize n parts) α)) → test α ≡ true)

@@ -1,8 +1,8 @@
 -- Reducing by rim hooks after each factor.
 --     ends_value        the part of a reduction at a label, by the sum and the remainders of any list of exponents
---     ends_unique       it is an alternating sum, so it can be multiplied by a Schur polynomial
---     lowered_early     a label may be reduced before it is multiplied
---     quantum_step      reducing after each factor gives what reducing once gives
+--     ends_unique       that part is an alternating sum, so it can be multiplied by a Schur polynomial
+--     lowered_early     a label can be reduced before it is multiplied
+--     quantum_step      reducing after each factor gives the result of reducing once
 use Rattle.std.proofs.Common.{◌≡◌, ◌⊎◌, ℕ, zero, suc, ◌+◌, ◌-◌, ◌*◌, ◌%◌, ◌<◌, ◌≤◌, ◌==◌, ◌&&◌, nat_le, Bool, true, false, cond, List, [], ◌∷◌, ◌++◌, map, length, refl, sym, ◌∙◌, ap, ap₂, subst, inl, inr, arith, ℤ, pos, neg_ℤ, ◌+ℤ◌, ◌*ℤ◌, Some, None}
 use Rattle.std.proofs.lemmas.Bool.{cases_eq, cases_lt, eq-eqb, or_cases, or_parts}
 use Rattle.std.proofs.lemmas.Bool.Decides.{nat_tests}
@@ -48,7 +48,7 @@ use Rattle.sym_model.specs.Bounded.{AreBelow}
 use Rattle.alternant_laws.proofs.FailingColumns.{at_sum}
 use Rattle.sym_model.specs.ReductionSteps.{with_power}
 
--- ---- lists with no two entries of one remainder
+-- ---- lists in which no two entries leave one remainder
 
 lowest-distinct : (n : ℕ) (b : List ℕ) → has_equal_entries (remainders n b) ≡ false → lowest n b ≡ remainders n b
 lowest-distinct n [] d = refl
@@ -76,7 +76,8 @@ narrow_columns k n (a ∷ l) h e f u =
     let c : columns (from_beta (a ∷ l)) ≡ a - length l = part-from_beta (a ∷ l) 1 in
     omega arith
 
--- what a partition reduces to, where no two entries of its beta list leave one remainder
+-- the sum of the beta list of `parts` is that of its remainders plus power·n, and `parts` reduces to the partition that the remainders sort to, with
+-- this power
 record IsDistinctEnd (k n : ℕ) (parts : List ℕ) : Type 0 where
   power : ℕ
   sum : size (beta k parts) ≡ size (remainders n (beta k parts)) + power * n
@@ -156,9 +157,9 @@ repeated_end k n parts h p e =
     wide k n parts (wide_end k n (sorted_falling (lowest n b)) (length-sorted (lowest n b) ∙ (length-lowest n b ∙ length-beta k parts))
     (sorted_falls (lowest n b)) (sort_reach (HasAtLeast n) (lowest n b) (high_kept n) (high_lowest n b h e)))
 
--- ---- the value at a label
+-- ---- the value of a list of exponents at a label and a power
 
--- the sign of sorting u, where it sorts to the beta list of the label and a list of the sum s is higher by that multiple of n; else 0
+-- the sign of sorting u, if u sorts to the beta list of the label and s is its sum plus `power`·n; otherwise 0
 abbrev sorted_value : ℕ → ℕ → ℕ → List ℕ → List ℕ → ℕ → ℤ
 sorted_value k n power label u s =
     value (has_equal_entries u) (s == size u + power * n) (same (from_beta (sorted_falling u)) label) (minus_one_to (power * (k + 1)) *ℤ sorting_sign u)
@@ -201,7 +202,7 @@ ends_value-equal : (k n power : ℕ) (label b : List ℕ) → has_equal_entries 
 ends_value-equal k n power label b e =
     ap (λ v. value v (size b == size (remainders n b) + power * n) (same (from_beta (sorted_falling (remainders n b))) label) (minus_one_to (power * (k + 1)) *ℤ sorting_sign (remainders n b))) e
 
--- the number of removals is determined by the sum
+-- the number of removals p is determined by p·n
 powers_differ : (n p q : ℕ) → 1 ≤ n → p * n ≡ q * n → p ≡ q
 powers_differ n p q h e = elim (cases_lt p q) [
   | inl l ↦ (let m = mul-le-mul_left n l in absurd (omega arith))
@@ -236,7 +237,7 @@ ends_value-shape k n power label parts h p = by (has_equal_entries (remainders n
             (test_unlike (size b) (size r + power * n) (λ e'. m (powers_differ n q power h (omega arith))))
             ∙ sym (ap (λ v. cond (v && same (from_beta (sorted_falling r)) label) (minus_one_to (q * (k + 1)) *ℤ sorting_sign r) (pos 0)) (test_unlike q power m))
 
--- ---- any list
+-- ---- the reductions of an alternant of any list of exponents
 
 ends_unique : (k n power : ℕ) (label b : List ℕ) → 1 ≤ n → length b ≡ k → pair (alternant b) (on_strict (reduced_share k n (power, label))) ≡ ends_value k n power label b
 ends_unique k n power label b h = sort_back P b kept sorted
@@ -266,9 +267,9 @@ ends_unique k n power label b h = sort_back P b kept sorted
             ∙ sym (ends_value-equal k n power label (sorted_falling b) (equal_map (λ z. z % n) (sorted_falling b) e))
         by false e = at_strict_list (sorted_falling b) l (sorted_strict b (sym (equal-sorted b) ∙ e))
 
--- ---- multiplied by a Schur polynomial
+-- ---- the reductions at a label of a_b times a Schur polynomial
 
--- the part at a label of the reductions of a_b times s_next
+-- the coefficient at `power` and `label` of the reductions of the terms of a_b·s_next
 abbrev multiplied_value : ℕ → ℕ → List ℕ → ℕ → List ℕ → List ℕ → ℤ
 multiplied_value k n next power label b = pair (alternant b) (added k next (on_strict (reduced_share k n (power, label))))
 
@@ -304,7 +305,7 @@ multiplied-repeated k n next power label b h q l e =
     ap (multiplied_value k n next power label) r.is
     ∙ opposite_is_zero (multiplied_value k n next power label first) (turned ∙ ap neg_ℤ (sym same_value))
 
--- ---- lowering the list
+-- ---- lowering the entries to their remainders
 
 scaled_value : (c : ℤ) (equal sum there : Bool) (x : ℤ) → value equal sum there (c *ℤ x) ≡ c *ℤ value equal sum there x
 scaled_value c true sum there x = sym (*ℤ-zero c)
@@ -376,16 +377,16 @@ multiplied-past k n next q power label b h p l less s =
 
 -- ---- a label may be reduced before it is multiplied
 
--- the value of f at the power that is left, where q is not past it
+-- f(power - q) if q is at most `power`, and otherwise 0
 abbrev within : ℕ → ℕ → (ℕ → ℤ) → ℤ
 within power q f = cond (nat_le q power) (f (power - q)) (pos 0)
 
--- the value of a function of powers and labels at a reduction
+-- the value of f at the partition and the remaining power of a reduction, times its sign; 0 if the reduction is 0
 abbrev at_power : ℕ → (ℕ → List ℕ → ℤ) → Reduction → ℤ
 at_power power f None = pos 0
 at_power power f (Some a) = a.1 *ℤ within power a.2 (λ p. f p a.0)
 
--- the part at a label of the reductions of the product of a partition with one more factor
+-- the coefficient at `power` and `label` of the reduced product of the partition `parts` and the factor `next`
 abbrev two_reduced : ℕ → ℕ → List ℕ → List ℕ → ℕ → List ℕ → ℤ
 two_reduced k n next label power parts = pair (classical_product k (parts ∷ next ∷ [])) (reduced_share k n (power, label))
 
@@ -424,9 +425,9 @@ lowered_early k n next power label parts h q p = by (has_equal_entries (remainde
             *ℤ-zero (minus_one_to (m * (k + 1)) *ℤ sorting_sign r)
             ∙ sym (multiplied-past k n next m power label b h q (length-beta k parts) past s)
 
--- ---- lists of terms with powers
+-- ---- labels with powers of q, written as lists
 
--- a power and a label as one list
+-- the terms with each power and label written as one list, the power in front
 abbrev coded : WholeTermsOf (ℕ × List ℕ) → WholeTerms
 coded terms = map (λ (t : (ℕ × List ℕ) × ℤ). (t.0.0 ∷ t.0.1, t.1)) terms
 
@@ -491,7 +492,7 @@ reduced_pairing k n power f (t ∷ terms) = by (reduction_by_remainders k n t.0)
     by None e = e ∙ sym (ap (λ z. z +ℤ rest) (*ℤ-zero t.1) ∙ +ℤ_idl rest)
     by (Some a) e = ap₂ ◌+ℤ◌ (product_assoc t.1 a.1 (within power a.2 (λ p. f p a.0))) e
 
--- ---- one factor more
+-- ---- reducing with one more factor
 
 pub quantum_step : (k n : ℕ) (front : List (List ℕ)) (next : List ℕ) (terms : WholeTermsOf (ℕ × List ℕ)) → 1 ≤ n → ArePartitions front → IsPartition next
     → ((label : ℕ × List ℕ) → coefficient_by same_power terms label ≡ coefficient_by same_power (reduced_product k n front) label)

@@ -1,9 +1,9 @@
 -- Reducing by rim hooks after each factor, and once.
---     quantum_step_made       what makes a step
---     quantum_step_is         and what a step makes
---     quantum_steps_meet      steps through all factors make the whole reduction
---     quantum_steps_answer    which answers the command
---     quantum_in_steps        and a collected list that is it is reached by steps
+--     quantum_step_made       conditions that make a step
+--     quantum_step_is         the conditions that a step meets
+--     quantum_steps_meet      the result of steps through all factors is the whole reduction
+--     quantum_steps_answer    such a list meets the definition of the command
+--     quantum_in_steps        a collected list that is the whole reduction is the result of steps
 use Rattle.std.proofs.Common.{◌≡◌, ℕ, ◌+◌, ◌≤◌, true, List, [], ◌∷◌, ◌++◌, map, length, refl, sym, ◌∙◌, ap, ap₂, subst, inl, arith, append-nil, append_assoc, ℤ, pos}
 use Rattle.std.proofs.lemmas.Bool.{and_parts, and_from, eq-eqb, eqb-true}
 use Rattle.sym_model.specs.Expansion.{Terms}
@@ -26,7 +26,7 @@ use Rattle.product_laws.proofs.GatheredLists.{gathered, coefficient-gathered, co
 use Rattle.product_laws.proofs.LeadingSteps.{last_changed, last_is, some_lead}
 use Rattle.sym_model.specs.Partition.{ArePartitions}
 
--- ---- labels
+-- ---- labels with powers of q
 
 pub power_true : (a b : ℕ × List ℕ) → same_power a b ≡ true → a ≡ b
 power_true a b e =
@@ -37,7 +37,7 @@ power_true a b e =
 pub power_self : (a : ℕ × List ℕ) → same_power a a ≡ true
 power_self a = and_from _ _ (eq-eqb a.0 a.0 refl) (same_refl a.1)
 
--- ---- reductions at each term
+-- ---- the reductions of the product of each term with one more factor
 
 abbrev reductions_each : ℕ → ℕ → List ℕ → PowerTerms → List (List Reduction)
 reductions_each k n factor terms = map (λ (t : (ℕ × List ℕ) × ℤ). reductions_of k n (classical_product k (t.0.1 ∷ factor ∷ []))) terms
@@ -60,7 +60,7 @@ each_only k n factor (t ∷ terms) [] h a = absurd a
 each_only k n factor (t ∷ terms) (r ∷ reductions) h a =
     ap₂ ◌∷◌ (classical_only k n (t.0.1 ∷ factor ∷ []) r h a.0) (each_only k n factor terms reductions h a.1)
 
--- ---- one step
+-- ---- one step from factor to factor
 
 pub quantum_step_made : (k n : ℕ) (factor : List ℕ) (terms next : PowerTerms) → 1 ≤ n → AreCollected same_power next
     → ((label : ℕ × List ℕ) → coefficient_by same_power next label ≡ coefficient_by same_power (quantized k n factor terms) label)
@@ -79,7 +79,7 @@ quantum_step_is k n factor terms next h s label =
     ∙ ap (λ (r : List (List Reduction)). coefficient_by same_power (reduced_each k factor terms r) label) (each_only k n factor terms s.reductions h s.reduce)
     ∙ ap (λ (l : PowerTerms). coefficient_by same_power l label) (reduced_each-quantized k n factor terms)
 
--- ---- from steps to the whole
+-- ---- from steps to the whole product
 
 later_steps : (k n : ℕ) (front factors : List (List ℕ)) (terms last : PowerTerms) → 1 ≤ n → ArePartitions (front ++ factors)
     → ((label : ℕ × List ℕ) → coefficient_by same_power terms label ≡ coefficient_by same_power (reduced_product k n front) label)
@@ -99,7 +99,7 @@ later_steps k n front (factor ∷ factors) terms last h p e lead label =
     lead.2 label
     ∙ ap (λ (l : List (List ℕ)). coefficient_by same_power (reduced_product k n l) label) whole
 
--- a list that is not raised
+-- adding the power 0 does not change a list
 raised_itself : (xs : PowerTerms) → with_power 0 (pos 1) xs ≡ xs
 raised_itself [] = refl
 raised_itself (x ∷ xs) =
@@ -130,7 +130,7 @@ quantum_steps_meet k n factors terms h l p s = record {
   sums = steps_whole k n factors (numerators terms) h l p s;
 }
 
--- a list of whole numbers to which steps lead answers the command
+-- if a list of integers results from steps through the factors, it meets the definition of the command `quantum`
 pub quantum_steps_answer : (k width : ℕ) (factors : List (List ℕ)) (terms : PowerTerms)
     → 1 ≤ k + width → 2 ≤ length factors → ArePartitions factors
     → IsReducedInSteps k (k + width) factors terms
@@ -139,7 +139,7 @@ quantum_steps_answer k width factors terms h l p s =
     quantum_steps_meet k (k + width) factors (as_fractions terms) h l p
     (subst (IsReducedInSteps k (k + width) factors) (sym (numerators-as_fractions terms)) s)
 
--- ---- from the whole to steps
+-- ---- from the whole product to steps
 
 pub quantum_step_some : (k n : ℕ) → 1 ≤ n → (factor : List ℕ) (terms : PowerTerms) → (next : PowerTerms) × IsQuantumStep k n factor terms next
 quantum_step_some k n h factor terms =

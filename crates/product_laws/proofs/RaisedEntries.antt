@@ -1,5 +1,5 @@
--- One entry of a strictly falling list raised: where the raised list has no equal entries, the entry passes some others and
--- the list is the beta list of a greater partition.
+-- One entry of a strictly decreasing list raised: if the raised list has no equal entries, the entry moves in front of
+-- some others, and the list is the beta list of a greater partition.
 use Rattle.std.proofs.Common.{◌≡◌, ◌⊎◌, ℕ, zero, suc, ◌+◌, ◌<◌, ◌≤◌, true, false, ◌==◌, List, [], ◌∷◌, ◌++◌, map, length, replicate, drop, get_or, refl, sym, ◌∙◌, ap, ap₂, subst, inl, inr, arith, ℤ, pos, neg_ℤ, ◌*ℤ◌, append_assoc}
 use Rattle.std.proofs.lemmas.Int.{ints}
 use Rattle.std.proofs.lemmas.Bool.{cases_lt, cases_eq, both_ways, eq-eqb, or_parts, or_right}
@@ -19,7 +19,7 @@ use Rattle.beta_list_laws.proofs.NeighbourExchanges.{parity_of}
 use Rattle.beta_list_laws.proofs.BetaLowerings.{not_below}
 use Rattle.product_laws.proofs.Overlaps.{Turns}
 
--- ---- an entry moved past others
+-- ---- an entry moved in front of other entries
 
 pushed : (left : List ℕ) (c : ℕ) (rest : List ℕ) → (left ++ (c ∷ [])) ++ rest ≡ left ++ (c ∷ rest)
 pushed left c rest = append_assoc left (c ∷ []) rest
@@ -58,7 +58,7 @@ sign_twice k x = elim (parity_of k) [ inl e ↦ ap (λ s. s *ℤ (s *ℤ x)) e.1
     twice : (x : ℤ) → neg_ℤ (pos 1) *ℤ (neg_ℤ (pos 1) *ℤ x) ≡ x
     twice x = omega (arith, ints)
 
--- ---- entries of strict lists
+-- ---- entries of strictly decreasing lists
 
 strict_without : (front : List ℕ) (x : ℕ) (rest : List ℕ) → FallsStrictly (front ++ (x ∷ rest)) → FallsStrictly (front ++ rest)
 strict_without [] x rest f = strict_tail x rest f
@@ -80,7 +80,7 @@ first_apart z (a ∷ front) rest h =
     by g (inl e) r = absurd (both_ways (has a (front ++ (z ∷ rest))) g (stands front z rest a (sym e)))
     by g (inr n) r = has_past z a front n ∙ r
 
--- ---- the raised entry
+-- ---- adding k at one place of a list turns front ++ (x ∷ rest) into front ++ ((x + k) ∷ rest)
 
 raised_at : (k n : ℕ) (b α : List ℕ) → length b ≡ n → Among α (one_place k n)
     → (front : List ℕ) × (x : ℕ) × (rest : List ℕ) × (b ≡ front ++ (x ∷ rest)) × (join b α ≡ front ++ ((x + k) ∷ rest))
@@ -123,7 +123,7 @@ split (a ∷ front) z x rest l f h =
     by g (inl o) (inr n) r = ([], a ∷ front, refl, (o, strict_without (a ∷ front) x rest f))
     by g (inr o) (inr n) r = (a ∷ r.0, r.1, ap (λ t. a ∷ t) r.2, over r.0 r.1 (omega (arith, o, n)) r.2 r.3)
 
--- an entry of b raised by k, in its place and where it stands in falling order
+-- α raises one entry of b by k: b is left ++ middle ++ entry ∷ rest, and in decreasing order the raised entry is before `middle`
 pub record Raises (k : ℕ) (b α : List ℕ) : Type 0 where
   pub left : List ℕ
   pub middle : List ℕ
@@ -157,7 +157,7 @@ length-raised k n b α l m = let q = raised_at k n b α l m in ap length q.4 ∙
     changed [] z x rest = refl
     changed (a ∷ front) z x rest = ap suc (changed front z x rest)
 
--- ---- each place once
+-- ---- each place of the raised entry occurs once
 
 pub once_one_place : (k n : ℕ) → 1 ≤ k → Once (one_place k n)
 once_one_place k zero h = tt
@@ -173,7 +173,7 @@ head_lost : (k c : ℕ) (b β : List ℕ) → 1 ≤ k → FallsStrictly (c ∷ b
 head_lost k c b β h f same =
     both_ways (has c ((c + k) ∷ b)) (has_past c (c + k) b (λ e. omega (arith, e, h)) ∙ not_below c c b f (omega arith)) (same c ∙ has_here c (c + 0) β (omega arith))
 
--- the raised list tells the place
+-- if the lists b raised at α and at β have no equal entries and give the same partition, then α is β
 pub same_place : (k n : ℕ) (b α β : List ℕ) → 1 ≤ k → length b ≡ n → FallsStrictly b → Among α (one_place k n) → Among β (one_place k n)
     → has_equal_entries (join b α) ≡ false → has_equal_entries (join b β) ≡ false → ((x : ℕ) → has x (join b α) ≡ has x (join b β)) → α ≡ β
 same_place k zero b α β h l f m i d e same = absurd m

@@ -2,14 +2,14 @@
 use Rattle.std.proofs.Common.{◌≡◌, ◌≤◌, ℕ, List, [], ◌∷◌, refl, ap₂, inl, inr, ℤ}
 use Rattle.sym_model.specs.Sum.{Among}
 use Rattle.sym_model.specs.Partition.{IsPartition, rows}
-use Rattle.sym_model.specs.WholeTerms.{WholeTerms, EachLabel}
+use Rattle.sym_model.specs.WholeTerms.{WholeTerms, HaveLabels}
 use Rattle.sym_model.specs.Reductions.{Reduction, AreReductions}
 use Rattle.sym_model.specs.Products.{classical_product}
 use Rattle.alternant_laws.proofs.ClassicalProducts.{classical_product-term}
 use Rattle.beta_list_laws.specs.ReductionLists.{reductions_of}
 use Rattle.beta_list_laws.proofs.Ends.{reduces_only}
 
--- reductions of labels are the reductions by remainders
+-- if a list of reductions belongs to the labels of the terms, it is the list of their reductions by remainders
 are_only : (k n : ℕ) (terms : WholeTerms) (reductions : List Reduction) → 1 ≤ n → ((t : List ℕ × ℤ) → Among t terms → IsPartition t.0)
     → AreReductions k n terms reductions → reductions ≡ reductions_of k n terms
 are_only k n [] [] h p a = refl
@@ -17,16 +17,11 @@ are_only k n [] (r ∷ reductions) h p a = absurd a
 are_only k n (t ∷ terms) [] h p a = absurd a
 are_only k n (t ∷ terms) (r ∷ reductions) h p a = ap₂ ◌∷◌ (reduces_only k n t.0 r h (p t (inl refl)) a.0) (are_only k n terms reductions h (λ u m. p u (inr m)) a.1)
 
-each_shape : (k : ℕ) (terms : WholeTerms) → ((t : List ℕ × ℤ) → Among t terms → IsPartition t.0 × (rows t.0 ≤ k)) → EachLabel (λ shape. IsPartition shape × (rows shape ≤ k)) terms
-each_shape k [] p = tt
-each_shape k (t ∷ terms) p = (p t (inl refl), each_shape k terms (λ u m. p u (inr m)))
+-- the labels of a classical product in k variables are partitions with at most k rows
+pub classical_labels : (k : ℕ) (factors : List (List ℕ)) → HaveLabels (λ shape. IsPartition shape × (rows shape ≤ k)) (classical_product k factors)
+classical_labels k factors t m = let c = classical_product-term k factors t m in (c.partition, c.few)
 
--- the labels of the classical product are partitions with few rows
-pub classical_labels : (k : ℕ) (factors : List (List ℕ)) → EachLabel (λ shape. IsPartition shape × (rows shape ≤ k)) (classical_product k factors)
-classical_labels k factors =
-    each_shape k (classical_product k factors) (λ t m. let c = classical_product-term k factors t m in (c.partition, c.few))
-
--- and their reductions are those by remainders
+-- the reductions of the labels of a classical product are those by remainders
 pub classical_only : (k n : ℕ) (factors : List (List ℕ)) (reductions : List Reduction) → 1 ≤ n → AreReductions k n (classical_product k factors) reductions
     → reductions ≡ reductions_of k n (classical_product k factors)
 classical_only k n factors reductions h =

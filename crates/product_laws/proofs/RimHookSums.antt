@@ -1,5 +1,5 @@
--- The rule of Murnaghan and Nakayama: p_k times an alternant raises one exponent by k; where none are then equal, a rim hook
--- of k cells is added.
+-- The rule of Murnaghan and Nakayama: p_k times an alternant raises one exponent by k; if no two exponents are then
+-- equal, a rim hook of k cells is added.
 use Rattle.std.proofs.Common.{◌≡◌, ℕ, ◌+◌, ◌-◌, ◌≤◌, Bool, true, false, not, cond, nat_le, List, ◌∷◌, ◌++◌, map, length, refl, sym, ◌∙◌, ap, ap₂, subst, arith, ℤ, pos, ◌*ℤ◌, append_assoc, filter, flat_map}
 use Rattle.std.proofs.lemmas.Bool.{leb-true, le-leb, not-true}
 use Rattle.sym_model.specs.Sum.{total, Among, Within}
@@ -30,21 +30,21 @@ use Rattle.product_laws.proofs.Overlaps.{alternants_turn}
 use Rattle.product_laws.proofs.Pieri.{symmetric-monomials}
 use Rattle.product_laws.proofs.RaisedEntries.{moved, turned_past, sign_twice, place_found, Raises, raises, length-raised, once_one_place, same_place}
 
--- the exponents of a_(μ+ρ) are the beta list of μ
+-- μ + ρ in n places is the beta list of length n of μ
 beta_joined : (n : ℕ) (parts : List ℕ) → IsPartition parts → rows parts ≤ n → join parts (staircase n) ≡ beta n parts
 beta_joined n parts p h =
     ap₂ (λ l k. join l (staircase k)) (sym (from_beta-beta n parts p h)) (sym (length-beta n parts))
     ∙ from_beta-join (beta n parts) (beta_strict n parts p.falls)
 
--- whether no two entries of the raised list are equal
+-- whether no two entries of b + α are equal
 abbrev apart : List ℕ → List ℕ → Bool
 apart b α = not (has_equal_entries (join b α))
 
--- the partition of the raised list
+-- the partition whose beta list is b + α in decreasing order
 abbrev pub raised_shape : List ℕ → List ℕ → List ℕ
 raised_shape b α = from_beta (sorted_falling (join b α))
 
--- what a raised entry with no equal entries shows
+-- if b + α has no equal entries for the beta list b of μ, then `raised_shape` is a partition from which μ is left by removing a rim hook of k cells
 record Shows (n k : ℕ) (parts α : List ℕ) (φ : List ℕ → ℤ) : Type 0 where
   removal : IsRemoval k (raised_shape (beta n parts) α) parts
   partition : IsPartition (raised_shape (beta n parts) α)
@@ -103,7 +103,7 @@ shows n k parts α φ h p few m e = by (raises k n (beta n parts) α (length-bet
               ∙ ap (λ l. pair (alternant l) φ) (sym r.is));
         }
 
--- each rim hook raises an entry
+-- each rim hook is made by raising an entry
 pub found : (n k : ℕ) (parts ν : List ℕ) → IsPartition parts → IsPartition ν → rows ν ≤ n → IsRemoval k ν parts
     → (α : List ℕ) × Among α (one_place k n) × (has_equal_entries (join (beta n parts) α) ≡ false) × (raised_shape (beta n parts) α ≡ ν)
 found n k parts ν p q few r =
@@ -124,7 +124,7 @@ found n k parts ν p q few r =
         ap sorted_falling is ∙ sym (moved sorted_falling sorted-exchange front middle rest (y + k)) ∙ ap sorted_falling (sym u) ∙ sorted-falling (beta n ν) (strict_falls (beta n ν) strict) in
         (f.0, subst (λ j. Among f.0 (one_place k j)) size_is f.1, distinct, ap from_beta sorted ∙ from_beta-beta n ν q few)
 
--- ---- the sum
+-- ---- the sum over the rim hooks that can be added
 
 hooks_total : (n k : ℕ) (parts : List ℕ) (list : List (List ℕ)) (φ : List ℕ → ℤ) → 1 ≤ k → IsPartition parts → rows parts ≤ n → ListsEach (AddsRimHook k parts) list
     → total (λ (α : List ℕ). pair (alternant (join (beta n parts) α)) φ) (one_place k n)

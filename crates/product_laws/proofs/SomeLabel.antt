@@ -1,5 +1,5 @@
--- The product of two Schur polynomials of partitions with at most k rows is not 0 in k variables, so some label is there: at
--- ones each of the two is the number of its tableaux.
+-- The product of two Schur polynomials of partitions with at most k rows is not 0 in k variables, so it has a label: at
+-- all variables 1 each factor is the number of its tableaux.
 use Rattle.std.proofs.Common.{◌≡◌, ℕ, suc, ◌≤◌, inl, inr, cond, List, [], ◌∷◌, length, map, refl, sym, ◌∙◌, ap, subst, arith, ℤ, pos, ◌*ℤ◌}
 use Rattle.std.proofs.lemmas.Int.{ints}
 use Rattle.std.proofs.Math.Nat.{mul-suc}
@@ -19,7 +19,7 @@ use Rattle.alternant_laws.proofs.CountedTerms.{schur_coefficient_of_schur}
 use Rattle.product_laws.proofs.ManyFactors.{classical_pairing}
 use Rattle.alternant_laws.proofs.FailingColumns.{at_sum}
 
--- ---- values at ones
+-- ---- the values of Schur polynomials if all variables are 1
 
 abbrev term_of : ℕ → List (List ℕ) → Term
 term_of k filling = (content k (letters_of filling), pos 1)
@@ -50,7 +50,7 @@ value_at_ones k parts p h = by (tableaux k parts []) refl
 not_zero : (a b : ℕ) → pos (suc a) *ℤ pos (suc b) ≡ pos 0 → ⊥
 not_zero a b h = let e = mul-suc (suc a) b in omega (arith, ints)
 
--- ---- the product is not 0
+-- ---- the product of two Schur polynomials is not 0
 
 product_at_ones : (k : ℕ) (left right : List ℕ) → IsPartition left → IsPartition right → rows left ≤ k → rows right ≤ k
     → pair (times (schur left k) (schur right k)) (λ α. pos 1) ≡ pos 0 → ⊥

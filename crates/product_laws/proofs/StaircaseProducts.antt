@@ -1,4 +1,4 @@
--- A product with a Schur polynomial, told by its products with alternants.
+-- A product with a Schur polynomial, determined by its products with alternants.
 use Rattle.std.proofs.Common.{◌≡◌, ◌⊎◌, ℕ, ◌<◌, ◌≤◌, cond, nat_le, List, length, sym, ◌∙◌, ap, inl, inr, arith, ℤ, pos, ◌*ℤ◌, filter, flat_map}
 use Rattle.std.proofs.lemmas.Bool.{cases_lt, lt-leb, le-leb}
 use Rattle.sym_model.specs.Sum.{total, Among}
@@ -45,7 +45,7 @@ staircase_first n parts f φ p h i s =
         (Same_sym (times (times A S) f) (times A (times S f)) (times_assoc A S f))
         (times_respects (times A S) (alternant (join parts (staircase n))) f f (bialternant n parts p h) (Same_refl f)))
 
--- a sum of multiples of Schur polynomials is the product where a_ρ times it is
+-- a sum of multiples of Schur polynomials is the product, if a_ρ times the sum is a_ρ times the product
 pub strip_product : (n : ℕ) (parts : List ℕ) (f : Poly) (h : List ℕ → Poly) (c : List ℕ → ℤ) (list : List (List ℕ)) → IsPartition parts → In n f → Symmetric f
     → ((ν : List ℕ) → In n (h ν)) → ((ν : List ℕ) (φ : List ℕ → ℤ) → pair (h ν) φ ≡ c ν *ℤ pair (schur ν n) φ)
     → ((ν : List ℕ) → Among ν list → IsPartition ν × Holds ν parts)

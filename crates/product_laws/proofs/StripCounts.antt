@@ -1,4 +1,4 @@
--- How many strips and rim hooks of k cells there are around a partition.
+-- The number of strips and rim hooks of k cells around a partition.
 use Rattle.std.proofs.Common.{◌≡◌, ℕ, zero, suc, ◌+◌, ◌-◌, ◌*◌, ◌^◌, ◌≤◌, Bool, cond, List, [], ◌∷◌, map, length, refl, ◌∙◌, ap, subst, arith, length-append, pow-suc, flat_map}
 use Rattle.std.proofs.lemmas.Bool.{ne_eqb}
 use Rattle.std.proofs.lemmas.List.{length-map}
@@ -70,7 +70,7 @@ length_one_place : (k n : ℕ) → length (one_place k n) ≡ n
 length_one_place k zero = refl
 length_one_place k (suc n) = ap suc (length-map (one_place k n) (λ (α : List ℕ). 0 ∷ α) ∙ length_one_place k n)
 
--- ---- strips and rim hooks
+-- ---- bounds for the numbers of strips and of rim hooks
 
 pub shapes_within : (k : ℕ) (parts : List ℕ) (S : List ℕ → Type 0) (list : List (List ℕ)) → IsPartition parts → ((ν : List ℕ) → S ν → Holds ν parts)
     → ListsEach (λ ν. IsPartition ν × (size ν ≡ size parts + k) × S ν) list → length list ≤ (size parts + k) ^ k

@@ -10,18 +10,18 @@ use Rattle.sym_model.specs.Reductions.{reduced_terms, reflected_terms}
 use Rattle.beta_list_laws.specs.ReductionLists.{reductions_of}
 use Rattle.sym_model.specs.ReductionSteps.{with_power}
 
--- in place of each label its classical product with one more factor
+-- each label replaced by its classical product with one more factor
 abbrev pub multiplied : ℕ → List ℕ → WholeTerms → WholeTerms
 multiplied k next terms =
     flat_map (λ (t : List ℕ × ℤ). scale t.1 (classical_product k (t.0 ∷ next ∷ []))) terms
 
--- in place of each label its classical product with one more factor, reflected into the alcove
+-- each label replaced by its classical product with one more factor, reflected into the alcove
 abbrev pub fused : ℕ → ℕ → List ℕ → WholeTerms → WholeTerms
 fused k n next terms =
     flat_map (λ (t : List ℕ × ℤ). scale t.1
     (reflected_terms k n (classical_product k (t.0 ∷ next ∷ [])))) terms
 
--- in place of each label the list of terms that a function gives of it
+-- each label replaced by the list of terms that a function gives for it
 abbrev pub products_of : (List ℕ → Terms (List ℕ)) → WholeTerms → WholeTerms
 products_of products terms =
     flat_map (λ (t : List ℕ × ℤ). scale t.1 (numerators (products t.0))) terms
@@ -31,14 +31,13 @@ abbrev pub reduced_product : ℕ → ℕ → List (List ℕ) → WholeTermsOf (�
 reduced_product k n factors =
     reduced_terms (classical_product k factors) (reductions_of k n (classical_product k factors))
 
--- in place of each label its product with one more factor, reduced by rim hooks of n cells,
--- the powers added
+-- each label replaced by its product with one more factor, reduced by rim hooks of n cells, with the powers added
 abbrev pub quantized : ℕ → ℕ → List ℕ → WholeTermsOf (ℕ × List ℕ) → WholeTermsOf (ℕ × List ℕ)
 quantized k n next terms =
     flat_map (λ (t : (ℕ × List ℕ) × ℤ). with_power t.0.0 t.1
     (reduced_product k n (t.0.1 ∷ next ∷ []))) terms
 
--- terms with powers of q
+-- lists of terms with integer coefficients whose labels are a power of q and a partition
 abbrev pub PowerTerms : Type 0
 PowerTerms = WholeTermsOf (ℕ × List ℕ)
 

@@ -1,4 +1,4 @@
--- Lists of the partitions that a strip or a rim hook makes of a partition.
+-- Lists of the partitions made by adding a strip or a rim hook to a partition.
 use Rattle.std.specs.Prelude.{◌≡◌, ◌↔◌, ℕ, ◌+◌, List}
 use Rattle.sym_model.specs.Sum.{Among, Once}
 use Rattle.sym_model.specs.Partition.{IsPartition, size}

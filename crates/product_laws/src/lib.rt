@@ -5,11 +5,11 @@
 //!
 //! What is proved:
 //!
-//! `reductions_in_steps_law`: a list is the product of two factors or more reduced after each
-//! factor exactly if its terms are collected and it is what reducing the whole classical product
-//! once gives, for rim hooks and for reflections into the alcove. `pieri_law`: in every number of
-//! variables h_k·s_μ is the sum of s_ν over the horizontal strips ν/μ of k cells, and e_k·s_μ that
-//! over the vertical strips. `murnaghan_nakayama_law`: p_k·s_μ is the sum of
+//! `reductions_in_steps_law`: a list is the product of two factors or more, reduced after each
+//! factor, if and only if its terms are collected and it is the result of reducing the whole
+//! classical product once, for rim hooks and for reflections into the alcove. `pieri_law`: in every
+//! number of variables h_k·s_μ is the sum of s_ν over the horizontal strips ν/μ of k cells, and
+//! e_k·s_μ that over the vertical strips. `murnaghan_nakayama_law`: p_k·s_μ is the sum of
 //! (-1)^(height - 1)·s_ν over the rim hooks ν/μ of k cells.
 #![tactic(auto)]
 

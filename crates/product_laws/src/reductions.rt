@@ -10,12 +10,11 @@ ghost use Rattle.sym_model.specs.Reductions.{IsRimHookReduction, reflected_terms
 ghost use Rattle.sym_model.specs.Products.{classical_product};
 ghost use Rattle.sym_model.specs.Partition.{ArePartitions};
 
-/// A list is the product of two factors or more, reduced after each factor, exactly where its terms
-/// are collected and it is what reducing the whole classical product once gives.
-///
-/// Example: in two variables, with rim hooks of four cells, (1) and (1) and (1) come to (2) and
-/// (1,1), then to (2,1) twice and (3), which reduces to nothing; the whole product, (3) and twice
-/// (2,1), reduces to the same.
+/// A list is the product of two factors or more, reduced after each factor, if and only if its
+/// terms are collected and it is the result of reducing the whole classical product once.
+/// Example: in two variables, with rim hooks of four cells, the product of (1) and (1) is (2) +
+/// (1,1), and its product with (1) is 2·(2,1) + (3); here (3) reduces to 0. The whole product, (3)
+/// + 2·(2,1), reduces to the same.
 pub fn reductions_in_steps_law()
     ensures rim_hooks { (k n : ℕ) (factors : List (List ℕ)) (terms : Terms (ℕ × List ℕ))
         → 1 ≤ n → 2 ≤ length factors → ArePartitions factors

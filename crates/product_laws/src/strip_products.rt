@@ -12,7 +12,7 @@ ghost use Rattle.product_laws.specs.StripLists.{ListsEach, AddsHorizontalStrip, 
 ghost use Rattle.product_laws.specs.StripLists.{AddsRimHook};
 
 /// Pieri's rules, in every number n of variables: h_k·s_μ is the sum of the s_ν for which ν/μ is a
-/// horizontal strip of k cells, and e_k·s_μ that over the vertical strips, over any list that has
+/// horizontal strip of k cells, and e_k·s_μ that over the vertical strips, for any list that has
 /// exactly these ν, each once (Macdonald, I.5). A Schur polynomial with more rows than there are
 /// variables is 0.
 ///
@@ -27,9 +27,9 @@ pub fn pieri_law()
 {}
 
 /// The rule of Murnaghan and Nakayama, in every number n of variables: for k at least 1, p_k·s_μ is
-/// the sum of (-1)^(height - 1)·s_ν over the ν for which ν/μ is a rim hook of k cells, over any
-/// list that has exactly these ν, each once (Macdonald, I.3;
-/// the height is the number of rows of the rim hook).
+/// the sum of (-1)^(height - 1)·s_ν over the ν for which ν/μ is a rim hook of k cells, for any list
+/// that has exactly these ν, each once (Macdonald, I.3; the height is the number of rows of the rim
+/// hook).
 ///
 /// Example: p_2·s_(1) = s_(3) - s_(1,1,1).
 pub fn murnaghan_nakayama_law()

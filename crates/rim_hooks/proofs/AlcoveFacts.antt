@@ -1,4 +1,4 @@
--- The end of the reflections, made by raising the entries into a window.
+-- The end of the reflections, computed by moving the entries into a window.
 use Rattle.std.proofs.Common.{◌≡◌, ℕ, zero, suc, ◌+◌, ◌-◌, ◌*◌, ◌/◌, ◌%◌, ◌<◌, ◌≤◌, ◌||◌, inl, inr, Bool, true, false, cond, nat_le, List, [], ◌∷◌, map, length, get_or, set, drop, replicate, refl, sym, ◌∙◌, ap, ap₂, subst, arith, ℤ, Option, Some, None, Fits, w16}
 use Rattle.std.proofs.lemmas.Bool.{cases_lt}
 use Rattle.std.proofs.lemmas.Bool.Decides.{nat_tests}
@@ -26,7 +26,7 @@ use Rattle.rim_hooks.specs.Signs.{sign_of}
 use Rattle.rim_hooks.specs.declared.sorted.Sorted.{Sorted}
 use Rattle.rim_hooks.proofs.LowestEntries.{drop_step, drop_end, drop_none, no_counts, count_more, count_found}
 
--- ---- the remainders
+-- ---- the remainders of the entries modulo n, counted
 
 pub turned_start : (n : ℕ) (entries counts : List ℕ) (at : ℕ) → n ≤ 512 → at ≡ length entries → counts ≡ replicate 512 0 → AreTurned n counts (drop at entries) 0
 turned_start n entries counts at h l e =
@@ -92,7 +92,7 @@ turned_bound n entries counts at turns x l f w =
     dropped (x ∷ xs) zero = omega arith
     dropped (x ∷ xs) (suc i) = let r = dropped xs i in omega arith
 
--- ---- the window
+-- ---- the window of n numbers into which the entries are moved by multiples of n
 
 pub record Window (n : ℕ) (entries : List ℕ) (start left : ℕ) : Type 0 where
   pub sum : size (map (up n start) entries) + n * left ≡ size entries
@@ -150,7 +150,7 @@ pub size_fits : (b : List ℕ) → ((i : ℕ) → Fits w16 (get_or b i 0)) → s
 size_fits [] f = omega arith
 size_fits (x ∷ b) f = let h = f 0 in let r = size_fits b (λ i. f (suc i)) in omega arith
 
--- ---- an entry in the window
+-- ---- an entry moved into the window by multiples of n
 
 pub raised_low : (n start entry : ℕ) → 1 ≤ n → start - start % n + entry % n < start → up n start entry ≡ start - start % n + entry % n + n
 raised_low n start entry h l =
@@ -168,7 +168,7 @@ raised_high n start entry h l =
     let e : start - start % n + entry % n ≡ entry % n + start / n * n = omega arith in
     up_is n start entry (start - start % n + entry % n) h l (omega arith) (ap (λ v. v % n) e ∙ add-mul-mod_self_right (entry % n) (start / n) n ∙ mod-mod entry n)
 
--- ---- the sorted values
+-- ---- the moved entries in decreasing order
 
 pub raised_start : (n start : ℕ) (entries : List ℕ) (sorted : Sorted) (at : ℕ) → at ≡ length entries → Sorts sorted [] → Sorts sorted (map (up n start) (drop at entries))
 raised_start n start entries sorted at l s =
@@ -185,7 +185,7 @@ raised_step n start entries old new at value p l e put s =
 pub raised_end : (n start : ℕ) (entries : List ℕ) (sorted : Sorted) (at : ℕ) → at ≡ 0 → Sorts sorted (map (up n start) (drop at entries)) → Sorts sorted (map (up n start) entries)
 raised_end n start entries sorted at e s = subst (λ b. Sorts sorted (map (up n start) b)) (drop_none entries at e) s
 
--- ---- the reduction
+-- ---- the reduction of a partition into the alcove
 
 pub entries_few : (k : ℕ) (shape b : List ℕ) → 1 ≤ k → k ≤ 512 → b ≡ beta k shape → (1 ≤ length b) × (length b ≤ 512)
 entries_few k shape b h l e = let d = ap length e in let m = length-beta k shape in (omega arith, omega arith)
@@ -199,7 +199,8 @@ pub alcove_equal : (k n : ℕ) (shape b : List ℕ) → 1 ≤ n → rows shape �
 alcove_equal k n shape b h r l e d =
     sym (alcove_is k n shape r ∙ ap as_partition (alcove_none n (beta k shape) h (beta_strict k shape l.partition.falls) (ap (λ c. has_equal_entries (remainders n c)) (sym e) ∙ d)))
 
--- what the code holds: a window, and the entries in it sorted
+-- the numbers are the entries of the beta list b of `shape`, moved into the window from `start` on, in decreasing order, and `odd` is the parity of
+-- sorting them
 pub record HoldsWindow (k n start : ℕ) (shape b numbers : List ℕ) (odd : Bool) : Type 0 where
   pub entries : b ≡ beta k shape
   pub differ : has_equal_entries (remainders n b) ≡ false
@@ -281,7 +282,7 @@ alcove_some k n start shape b numbers end odd sign h r l w e s =
     ∙ ap (λ x. f x (sorting_sign (map (up n start) b))) (sym e)
     ∙ ap (f end) (sym (s ∙ w.turns)))
 
--- and as it is told by remainders
+-- the partition of the moved entries is the reduction of `shape` into the alcove, with the sign of sorting them and of the alcove
 pub alcove_told : (k n start : ℕ) (shape b numbers end : List ℕ) (odd : Bool) (sign : ℤ) → 1 ≤ n → IsWithinLimits shape → HoldsWindow k n start shape b numbers odd
     → end ≡ from_beta numbers → sign ≡ sign_of odd → IsAlcoveOf k n shape end sign
 alcove_told k n start shape b numbers end odd sign h l w e s =

@@ -1,5 +1,5 @@
 -- The classical product as a list of terms, and its weight.
---     classical_long_left, classical_long_right    it is empty where a factor has more rows than there are variables
+--     classical_long_left, classical_long_right    it is empty if a factor has more rows than there are variables
 --     weight_within       its weight is at least that of a canonical list with its coefficients
 use Rattle.std.proofs.Common.{◌≡◌, ℕ, ◌<◌, ◌≤◌, cond, true, arith, nat_le, nat_lt, List, [], ◌∷◌, map, refl, ◌∙◌, ap, subst, ℤ, pos, filter}
 use Rattle.std.specs.Prelude.{nat_abs}
@@ -27,7 +27,7 @@ use Rattle.sparse_polys.specs.Combination.{is_canonical_list as is_canonical_fra
 use Rattle.sparse_polys.proofs.ValueLists.{canonical_values}
 use Rattle.beta_list_laws.proofs.ReducedSums.{absolute_within}
 
--- ---- lists with each label once
+-- ---- lists of integers read as fractions
 
 labels-fractions : (terms : WholeTerms) → map (λ (t : List ℕ × Fraction). t.0) (as_fractions terms) ≡ labels terms
 labels-fractions [] = refl
@@ -39,9 +39,9 @@ once_canonical terms c =
     subst (λ (l : List (List ℕ)). Once l) (labels-fractions terms)
     (labels-once printed_order printed_order-total (as_fractions terms) (is_ordered-tells printed_order printed_order-total.trans (as_fractions terms) (and_parts _ _ canonical).0))
 
--- ---- the classical product
+-- ---- the coefficients of the classical product
 
--- no term is left where each coefficient is 0
+-- if each coefficient f is 0, no term is left
 all_zero : (f : List ℕ → ℤ) → ((parts : List ℕ) → f parts ≡ pos 0) → (shapes : List (List ℕ)) → (let pairs : WholeTerms = map (λ (parts : List ℕ). (parts, f parts)) shapes in nonzero pairs) ≡ []
 all_zero f z [] = refl
 all_zero f z (parts ∷ shapes) =
@@ -49,7 +49,7 @@ all_zero f z (parts ∷ shapes) =
     let chosen : ℤ → WholeTerms = λ c. cond {A = WholeTerms} (nat_lt 0 (nat_abs c)) ((parts, f parts) ∷ nonzero rest) (nonzero rest) in
     ap chosen (z parts) ∙ all_zero f z shapes
 
--- a polynomial that is 0 has no Schur coefficients
+-- if the polynomial f is 0, each of its Schur coefficients is 0
 none_of_nothing : (k : ℕ) (f : Poly) (parts : List ℕ) → Same f nothing → schur_coefficient k parts f ≡ pos 0
 none_of_nothing k f parts s =
     times_respects (alternant (staircase k)) (alternant (staircase k)) f nothing (Same_refl (alternant (staircase k))) s (join parts (staircase k))
@@ -74,7 +74,7 @@ classical_long_left k left right p h =
     classical_nothing k (left ∷ right ∷ [])
     (times_respects (schur left k) nothing (schur right k) (schur right k) (schur_few_variables k left p h) (Same_refl (schur right k)))
 
--- the absolute values of a list
+-- the mass of a list is the sum of the absolute values of its coefficients
 pub mass_total : (terms : WholeTerms) → mass terms ≡ absolute_total terms
 mass_total [] = refl
 mass_total (t ∷ terms) = let e = mass_total terms in omega arith

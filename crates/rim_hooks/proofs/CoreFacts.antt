@@ -1,4 +1,4 @@
--- The end of the removals, made from the sorted lowest list.
+-- The end of the removals, computed from the sorted lowest list.
 use Rattle.std.proofs.Common.{◌≡◌, ℕ, ◌+◌, ◌-◌, ◌*◌, ◌/◌, ◌<◌, ◌≤◌, Bool, true, false, List, length, refl, sym, ◌∙◌, ap, ap₂, subst, arith, ℤ, ◌*ℤ◌, Option, Some, None, to_z, of_z, w8}
 use Rattle.sym_model.specs.Partition.{size, rows, columns}
 use Rattle.sym_model.specs.PlaceOrders.{minus_one_to}
@@ -21,7 +21,7 @@ pub kept_sign : (b : Bool) → to_z w8 (of_z w8 (sign_of b)) ≡ sign_of b
 kept_sign true = refl
 kept_sign false = refl
 
--- what the code holds: the numbers are the sorted lowest list of the partition, and the truth value its sign
+-- the numbers are the lowest list of the beta list of `shape` in decreasing order, and `odd` is the parity of sorting it
 pub record Holds (k n : ℕ) (shape numbers : List ℕ) (odd : Bool) : Type 0 where
   pub numbers_are : numbers ≡ sorted_falling (lowest n (beta k shape))
   pub turns : sign_of odd ≡ sorting_sign (lowest n (beta k shape))

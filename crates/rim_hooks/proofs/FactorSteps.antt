@@ -1,7 +1,7 @@
--- Steps from factor to factor, whatever a step is.
---     vanishes            where a factor has more than k rows, the steps can lead to 0
---     factor_at           the factors from a place on
---     lead_on, heavy_here, heavy_later    one step more in front
+-- Steps from factor to factor, for any kind of step.
+--     vanishes            if a factor has more than k rows, the steps can lead to 0
+--     factor_at           the factors from the place i on are the one at i, and those after it
+--     lead_on, heavy_here, heavy_later    steps through all factors from one step and the steps after it
 use Rattle.std.proofs.Common.{◌≡◌, ◌⊎◌, ℕ, ◌+◌, ◌^◌, ◌<◌, ◌≤◌, List, [], ◌∷◌, suc, drop, drop-cons, add-one, refl, sym, ◌∙◌, ap, subst, inl, inr, arith, Some}
 use Rattle.std.specs.Prelude.{slice_get}
 use Rattle.std.proofs.lemmas.Option.{slice_get_within, get_or_from_slice_get}
@@ -32,7 +32,7 @@ module _ {L : Type 0} (step : List ℕ → WholeTermsOf L → WholeTermsOf L →
         by (inr few) (inl e) r = let l = subst (λ parts. k < rows parts) e h.2 in absurd (omega arith)
         by (inr few) (inr m) r = ((some factor terms).0, (some factor terms).1, r m)
 
--- ---- the factors from a place on
+-- ---- the factors from the place i on
 
 pub factor_at : (xs : List (List ℕ)) (i : ℕ) (x : List ℕ) → slice_get xs i ≡ Some x → drop i xs ≡ x ∷ drop (i + 1) xs
 factor_at xs i x e =
@@ -46,7 +46,7 @@ first_two xs x y e d = sym (drop_none xs) ∙ factor_at xs 0 x e ∙ ap (λ (l :
 pub long_here : (k : ℕ) (x : List ℕ) (xs rest : List (List ℕ)) → xs ≡ x ∷ rest → k < rows x → HasLong k xs
 long_here k x xs rest e h = subst (HasLong k) (sym e) (x, inl refl, h)
 
--- ---- one step more in front
+-- ---- steps through x and then the factors `rest`: one step through x, followed by the steps through `rest`
 
 module _ {L : Type 0} (shape : L → List ℕ) (step : List ℕ → WholeTermsOf L → WholeTermsOf L → Type 0) where
   pub lead_on : (xs rest : List (List ℕ)) (x : List ℕ) (terms next last : WholeTermsOf L) → xs ≡ x ∷ rest → step x terms next → StepsLead step next rest last

@@ -1,5 +1,5 @@
 -- Fusion products in steps.
---     fusion_none          where a factor has more than k rows, steps can lead to 0
+--     fusion_none          if a factor has more than k rows, steps can lead to 0
 use Rattle.std.proofs.Common.{◌≡◌, ◌⊎◌, ℕ, ◌<◌, ◌≤◌, List, [], ◌∷◌, ◌++◌, length, refl, sym, ◌∙◌, ap, subst, inl, inr, arith, pos}
 use Rattle.sym_model.specs.Sum.{Among}
 use Rattle.sym_model.specs.Polynomial.{coefficient, scale}
@@ -9,12 +9,10 @@ use Rattle.sym_model.specs.Reductions.{reflected_terms}
 use Rattle.sym_model.specs.ReductionSteps.{IsFusionStep, StepsLead, IsReflectedInSteps}
 use Rattle.product_laws.specs.FactorSteps.{fused, HasLong}
 use Rattle.product_laws.proofs.FusionSteps.{fusion_step_some}
-use Rattle.rim_hooks.specs.HeavySteps.{IsHeavyFusion}
-use Rattle.rim_hooks.specs.Reductions.{LeadsTo, IsHeavyFrom}
 use Rattle.rim_hooks.proofs.ClassicalLists.{classical_long_left, classical_long_right}
 use Rattle.rim_hooks.proofs.FactorSteps.{none_stays, vanishes}
 
--- ---- the product 0
+-- ---- if one of at least two factors has more than k rows, steps lead to the empty list
 
 step_none : (k n : ℕ) (factor : List ℕ) → IsFusionStep k n factor [] []
 step_none k n factor = record { collected = tt; sums = λ label. refl }
@@ -48,13 +46,3 @@ fusion_none k n (first ∷ second ∷ factors) l p g = by g.1
     by (inr m) =
         vanishes (IsFusionStep k n) k (step_none k n) (step_long k n) (fusion_step_some k n) (second ∷ factors) ((first, pos 1) ∷ [])
         (λ parts q. p parts (inr q)) (g.0, m, g.2)
-
--- ---- the product in steps
-
-pub fusion_led : (k n : ℕ) (factors : List (List ℕ)) (last : WholeTerms) → LeadsTo (IsFusionStep k n) (λ first. first) factors last → IsReflectedInSteps k n factors last
-fusion_led k n [] last s = s
-fusion_led k n (first ∷ factors) last s = s
-
-pub fusion_heavy : (k n : ℕ) (factors : List (List ℕ)) → IsHeavyFrom (λ (shape : List ℕ). shape) (IsFusionStep k n) (λ first. first) k factors → IsHeavyFusion k n factors
-fusion_heavy k n [] h = absurd h
-fusion_heavy k n (first ∷ factors) h = h

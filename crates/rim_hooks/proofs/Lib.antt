@@ -1,3 +1,6 @@
+pub mod AnyReductions
+pub mod CanonicalTerms
+pub mod TextsInSteps
 pub mod Placing
 pub mod LowestEntries
 pub mod CoreFacts

@@ -1,4 +1,4 @@
--- The lowest list made from the last entry to the first, with counts of remainders.
+-- The lowest list, computed from the last entry to the first, with counts of remainders.
 use Rattle.std.proofs.Common.{◌≡◌, ℕ, zero, suc, ◌+◌, ◌-◌, ◌*◌, ◌%◌, ◌<◌, ◌≤◌, ◌⊎◌, inl, inr, List, [], ◌∷◌, length, get_or, set, drop, replicate, refl, sym, ◌∙◌, ap, subst, arith}
 use Rattle.std.proofs.lemmas.Bool.{cases_eq}
 use Rattle.std.proofs.lemmas.List.{get_or-set_same, get_or-set_other, get_or-replicate, length-set, length-replicate}
@@ -12,7 +12,7 @@ use Rattle.rim_hooks.specs.Counts.{Counts}
 use Rattle.rim_hooks.specs.Sorting.{Sorts}
 use Rattle.rim_hooks.specs.declared.sorted.Sorted.{Sorted}
 
--- ---- the entries from a place on
+-- ---- the entries of a list from a place on
 
 pub drop_step : (xs : List ℕ) (i j : ℕ) → j ≡ i + 1 → i < length xs → drop i xs ≡ get_or xs i 0 ∷ drop j xs
 drop_step [] i j e h = absurd (omega arith)
@@ -37,7 +37,7 @@ drop_strict [] (suc i) f = tt
 drop_strict (x ∷ xs) zero f = f
 drop_strict (x ∷ xs) (suc i) f = drop_strict xs i (strict_tail x xs f)
 
--- ---- counts
+-- ---- the counts of entries by remainder
 
 pub no_counts : (n : ℕ) (table : List ℕ) → n ≤ 512 → table ≡ replicate 512 0 → Counts n table []
 no_counts n table h e = record {
@@ -67,13 +67,13 @@ count_more n table b x at h m e c = record {
         ∙ c.counts r l
         ∙ sym (alike-past n r x b (λ g. d (sym (mod-eq_of_lt l) ∙ sym g ∙ sym e)))
 
--- the count that an entry finds
+-- the table gives an entry the number of later entries with its remainder
 pub count_found : (n : ℕ) (table b : List ℕ) (x at : ℕ) → 1 ≤ n → at ≡ x % n → Counts n table b → get_or table at 0 ≡ alike n x b
 count_found n table b x at h e c =
     let k = mod-lt x h in
     c.counts at (omega arith) ∙ alike-remainder n at x b (ap (λ v. v % n) e ∙ mod-mod x n)
 
--- ---- the loop
+-- ---- the loop that lowers each entry
 
 pub record Lowered (n : ℕ) (entries counts : List ℕ) (sorted : Sorted) (at : ℕ) : Type 0 where
   pub sorts : Sorts sorted (lowest n (drop at entries))

@@ -1,20 +1,18 @@
 -- Quantum products in steps.
---     quantum_none         where a factor has more than k rows, steps can lead to 0
+--     quantum_none         if a factor has more than k rows, steps can lead to 0
 use Rattle.std.proofs.Common.{◌≡◌, ◌⊎◌, ℕ, ◌<◌, ◌≤◌, List, [], ◌∷◌, ◌++◌, length, refl, sym, ◌∙◌, ap, subst, inl, inr, arith, pos}
 use Rattle.sym_model.specs.Sum.{Among}
 use Rattle.sym_model.specs.Partition.{IsPartition, rows, ArePartitions}
 use Rattle.sym_model.specs.WholeTerms.{WholeTerms, coefficient_by, same_power}
 use Rattle.sym_model.specs.Reductions.{reduced_terms}
-use Rattle.sym_model.specs.ReductionSteps.{shape_of, IsQuantumStep, StepsLead, IsReducedInSteps, with_power}
+use Rattle.sym_model.specs.ReductionSteps.{IsQuantumStep, StepsLead, IsReducedInSteps, with_power}
 use Rattle.beta_list_laws.specs.ReductionLists.{reductions_of}
 use Rattle.product_laws.specs.FactorSteps.{quantized, PowerTerms, HasLong}
 use Rattle.product_laws.proofs.QuantumSteps.{quantum_step_made, quantum_step_some}
-use Rattle.rim_hooks.specs.HeavySteps.{IsHeavyQuantum}
-use Rattle.rim_hooks.specs.Reductions.{LeadsTo, IsHeavyFrom}
 use Rattle.rim_hooks.proofs.ClassicalLists.{classical_long_left, classical_long_right}
 use Rattle.rim_hooks.proofs.FactorSteps.{none_stays, vanishes}
 
--- ---- the product 0
+-- ---- steps from the empty list
 
 step_none : (k n : ℕ) → 1 ≤ n → (factor : List ℕ) → IsQuantumStep k n factor [] []
 step_none k n h factor = quantum_step_made k n factor [] [] h tt (λ label. refl)
@@ -46,13 +44,3 @@ quantum_none k n (first ∷ second ∷ factors) h l p g = by g.1
     by (inr m) =
         vanishes (IsQuantumStep k n) k (step_none k n h) (step_long k n h) (quantum_step_some k n h) (second ∷ factors) (((0, first), pos 1) ∷ [])
         (λ parts q. p parts (inr q)) (g.0, m, g.2)
-
--- ---- the product in steps
-
-pub quantum_led : (k n : ℕ) (factors : List (List ℕ)) (last : PowerTerms) → LeadsTo (IsQuantumStep k n) (λ first. (0, first)) factors last → IsReducedInSteps k n factors last
-quantum_led k n [] last s = s
-quantum_led k n (first ∷ factors) last s = s
-
-pub quantum_heavy : (k n : ℕ) (factors : List (List ℕ)) → IsHeavyFrom shape_of (IsQuantumStep k n) (λ first. (0, first)) k factors → IsHeavyQuantum k n factors
-quantum_heavy k n [] h = absurd h
-quantum_heavy k n (first ∷ factors) h = h

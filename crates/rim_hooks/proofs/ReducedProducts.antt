@@ -1,8 +1,8 @@
--- Products that are reduced after each factor, whatever a reduction is.
---     mass_multiplied     a step comes to no more than its weight
---     gains_classical     the classical product in place of a list with its coefficients
---     overflow_taken, overflow_list    what overflows in the product of a label and a factor
---     heavy_step          and then the step is heavy
+-- Products that are reduced after each factor, for any reduction.
+--     mass_multiplied     the mass of the next list is at most the weight of the step
+--     gains_classical     a list with the coefficients of the classical product may be replaced by it
+--     overflow_taken, overflow_list    overflows in the product of a label and a factor
+--     heavy_step          a step with an overflow is heavy
 --     room_next           the labels of the next list have room
 use Rattle.std.proofs.Common.{◌≡◌, ℕ, zero, suc, ◌+◌, ◌*◌, ◌^◌, ◌≤◌, Bool, true, cond, List, [], ◌∷◌, ◌++◌, append-nil, length, map, refl, sym, ◌∙◌, ap, subst, inl, inr, arith, ℤ, pos, ◌*ℤ◌, Some}
 use Rattle.std.specs.Prelude.{nat_abs, slice_get}
@@ -19,7 +19,7 @@ use Rattle.sym_model.specs.Expansion.{Fraction}
 use Rattle.sym_model.specs.WholeTerms.{WholeTerms, as_fractions}
 use Rattle.sym_model.proofs.Sums.{Among-map}
 use Rattle.sym_model.specs.Products.{classical_product}
-use Rattle.sym_model.specs.ReductionSteps.{classical_weight, step_weight}
+use Rattle.sym_model.specs.ReductionSteps.{LeadsTo, classical_weight, step_weight}
 use Rattle.alternant_laws.proofs.ClassicalProducts.{classical_product-term}
 use Rattle.product_laws.proofs.Growing.{label_size}
 use Rattle.product_laws.proofs.LeadingSteps.{last_changed}
@@ -30,18 +30,18 @@ use Rattle.linear_combinations.proofs.Gains.{gains_as, overflows_alone, overflow
 use Rattle.linear_combinations.proofs.Masses.{labels_gained, labels_replaced, mass_append, mass_replaced, mass_scaled, overflow_mass}
 use Rattle.linear_combinations.proofs.Totals.{term-among}
 use Rattle.rim_hooks.specs.FactorRows.{AreFew}
-use Rattle.rim_hooks.specs.Reductions.{products, multiplied, HaveRoom, LeadsTo, OverflowsWithin}
+use Rattle.rim_hooks.specs.Reductions.{products, multiplied, HaveRoom, OverflowsWithin}
 use Rattle.rim_hooks.proofs.ClassicalLists.{mass_total}
 use native.Mathlib.Nat.{mul-le-mul_left}
 
--- the coefficients of a table are not 0
+-- no coefficient of a table is 0
 pub counted : {L : Type 0} (eq : L → L → Bool) (is_label : L → Bool) (terms : WholeTermsOf L) → IsCombination eq is_label whole terms → (t : L × ℤ) → Among t terms → 1 ≤ nat_abs t.1
 counted eq is_label terms c t m =
     let r = is_reduced-tells (whole t.1) (and_parts (is_reduced (whole t.1)) _ (term-among is_label whole terms c.proper t m)).0 in
     let n = r.nonzero in
     omega arith
 
--- the weights of lists put together
+-- the weight of a list of two pieces is the sum of the weights of the pieces
 pub weight-append : {L : Type 0} (shape : L → List ℕ) (k : ℕ) (factor : List ℕ) (xs ys : WholeTermsOf L)
     → step_weight shape k factor (xs ++ ys) ≡ step_weight shape k factor xs + step_weight shape k factor ys
 weight-append shape k factor [] ys = omega arith
@@ -66,7 +66,8 @@ module _ {L : Type 0} (k : ℕ) (shape : L → List ℕ) (reduced : L → List �
       let d = mass_multiplied factor terms in
       omega arith
 
-  -- what overflows where the list has at most so much
+  -- if c times the reductions of a list overflows, and the list has a mass of at most w, a list of mass at most
+  -- |c|·w overflows
   pub overflow_list : (eq : L → L → Bool) (old : WholeTermsOf L) (l : L) (c : ℤ) (list : WholeTerms) (w : ℕ) → mass list ≤ w
       → Overflows eq old (scaled c (replaced (reduced l) list)) → OverflowsWithin eq old (nat_abs c * w)
   overflow_list eq old l c list w h o =
@@ -75,7 +76,8 @@ module _ {L : Type 0} (k : ℕ) (shape : L → List ℕ) (reduced : L → List �
       let d = mul-le-mul_left (nat_abs c) b in
       (scaled c (replaced (reduced l) list), omega arith, o)
 
-  -- the classical product in place of the list that was added
+  -- if a list has the coefficients of the classical product of the label and the factor, gains of its reductions are gains of those of the classical
+  -- product
   pub gains_classical : (old new : WholeTermsOf L) (l : L) (c : ℤ) (factor : List ℕ) (list : WholeTerms) → Same list (classical_product k (shape l ∷ factor ∷ []))
       → Gains old (scaled c (replaced (reduced l) list)) new → Gains old (scaled c (products k shape reduced factor l)) new
   gains_classical old new l c factor list s =
@@ -86,7 +88,7 @@ module _ {L : Type 0} (k : ℕ) (shape : L → List ℕ) (reduced : L → List �
       ∙ ap (λ z. c *ℤ z) (replaced_over (reduced l) φ list ∙ sums_same list product s (λ μ. over φ (reduced l μ)) ∙ sym (replaced_over (reduced l) φ product))
       ∙ sym (scaled_over c φ (products k shape reduced factor l)))
 
-  -- a step in which something overflows is heavy
+  -- if adding the reduced product of one label overflows, the step has a weight of 2^127 or more
   pub heavy_step : (eq : L → L → Bool) (factor : List ℕ) (done : WholeTermsOf L) (p : L × ℤ) (rest terms cur : WholeTermsOf L) → done ++ p ∷ rest ≡ terms
       → Gains [] (multiplied k shape reduced factor done) cur → OverflowsWithin eq cur (nat_abs p.1 * classical_weight k (shape p.0 ∷ factor ∷ []))
       → 2 ^ 127 ≤ step_weight shape k factor terms
@@ -99,7 +101,7 @@ module _ {L : Type 0} (k : ℕ) (shape : L → List ℕ) (reduced : L → List �
       let m = o.1 in
       omega arith
 
-  -- the labels of the next list have room for the cells of further factors
+  -- if a label has room for |μ| more cells, the labels of its reduced product with μ have room for the further factors
   module _ (cells : L → ℕ)
       (room : (l : L) (μ : List ℕ) → IsPartition μ → rows μ ≤ k → HaveLabels (λ m. (rows (shape m) ≤ k) × (cells m + size (shape l) ≤ cells l + size μ)) (reduced l μ)) where
     fits : (factor : List ℕ) (more : ℕ) (l : L) → cells l + (size factor + more) ≤ 4096 → HaveLabels (λ m. (rows (shape m) ≤ k) × (cells m + more ≤ 4096)) (products k shape reduced factor l)
@@ -125,27 +127,27 @@ module _ {L : Type 0} (k : ℕ) (shape : L → List ℕ) (reduced : L → List �
           (labels_replaced (products k shape reduced factor) (λ m. (rows (shape m) ≤ k) × (cells m + more ≤ 4096)) terms (λ t n. let r = h t n in fits factor more t.0 r.1))
           gains is
 
--- a classical product that is too large
+-- some list with a mass of at most a·w overflows if w, the weight of a classical product, is at least 2^127
 pub overflow_taken : {L : Type 0} {eq : L → L → Bool} (laws : IsEquivalence eq) (same : (x y : L) → eq x y ≡ true → x ≡ y) (old : WholeTermsOf L) (l : L) (a w : ℕ)
     → 1 ≤ a → 2 ^ 127 ≤ w → OverflowsWithin eq old (a * w)
 overflow_taken laws same old l a w some large =
     let p : w * 1 ≤ w * a = mul-le-mul_left w some in
     ((l, pos (2 ^ 127)) ∷ [], omega arith, overflows_alone laws same old l (pos (2 ^ 127)) (omega arith))
 
--- a number that is too large by itself
+-- if |c| is at least 2^127, adding c at a label overflows
 pub overflow_one : {L : Type 0} (eq : L → L → Bool) (old : WholeTermsOf L) (l : L) (c : ℤ) → eq l l ≡ true → 2 ^ 127 ≤ nat_abs c → Overflows eq old ((l, c) ∷ [])
 overflow_one eq old l c e large = let h = ap (λ b. cond b (nat_abs c) 0) e in (l, omega arith)
 
--- ---- loops
+-- ---- images of lists of terms, one term after another
 
 pub reductions_append : {K L : Type 0} (c : ℤ) (image : K → WholeTermsOf L) (xs ys : WholeTermsOf K) → scaled c (replaced image (xs ++ ys)) ≡ scaled c (replaced image xs) ++ scaled c (replaced image ys)
 reductions_append c image xs ys = ap (scaled c) (replaced_append image xs ys) ∙ scaled_append c (replaced image xs) (replaced image ys)
 
--- the labels of a list with few rows
+-- the labels of a list, read as fractions with few rows, have few rows
 pub rows_listed : (k : ℕ) (list : WholeTerms) → ((t : List ℕ × Fraction) → Among t (as_fractions list) → rows t.0 ≤ k) → HaveLabels (λ μ. rows μ ≤ k) list
 rows_listed k list h t m = h (t.0, (t.1, 1)) (Among-map (λ (u : List ℕ × ℤ). let term : List ℕ × Fraction = (u.0, (u.1, 1)) in term) t list m)
 
--- what holds for two values holds for those that are equal to them
+-- if P holds of k and x, and k = m and x = y, it holds of m and y
 pub seen : (P : ℕ → List ℕ → Type 0) (k m : ℕ) (x y : List ℕ) → k ≡ m → x ≡ y → P k x → P m y
 seen P k m x y e d h = subst (λ z. P m z) d (subst (λ n. P n x) e h)
 
@@ -154,9 +156,9 @@ few_at k [] at x e f = cc
 few_at k (y ∷ factors) zero x e f = let same : y ≡ x = cc in subst (λ z. rows z ≤ k) same (f y (inl refl))
 few_at k (y ∷ factors) (suc at) x e f = few_at k factors at x e (λ parts m. f parts (inr m))
 
--- ---- the first two factors
+-- ---- the step from the first factor to the product of two
 
--- the label of the first factor, once
+-- the list whose only label is that of the first factor, with the coefficient 1
 module _ {L : Type 0} (k : ℕ) (shape : L → List ℕ) (reduced : L → List ℕ → WholeTermsOf L) (l : L) (second : List ℕ) (one : ℤ) (is : one ≡ pos 1) where
   pub gains_first : (new : WholeTermsOf L) → Gains [] (scaled one (products k shape reduced second l)) new → Gains [] (multiplied k shape reduced second ((l, pos 1) ∷ [])) new
   gains_first new a = subst (λ z. Gains [] z new) (ap (λ z. scaled z (products k shape reduced second l)) is ∙ sym (append-nil (scaled (pos 1) (products k shape reduced second l)))) a
@@ -168,7 +170,7 @@ module _ {L : Type 0} (k : ℕ) (shape : L → List ℕ) (reduced : L → List �
       let b : nat_abs one * classical_weight k (shape l ∷ second ∷ []) ≡ 1 * classical_weight k (shape l ∷ second ∷ []) = ap (λ z. nat_abs z * classical_weight k (shape l ∷ second ∷ [])) is in
       omega arith
 
--- the last list may be changed, as where it is sorted
+-- if steps lead to `last`, they lead to each list with the same sums, such as the sorted one
 pub leads_sorted : {L : Type 0} (step : List ℕ → WholeTermsOf L → WholeTermsOf L → Type 0) (start : List ℕ → L) (factors : List (List ℕ)) (last other : WholeTermsOf L) → 2 ≤ length factors
     → ((factor : List ℕ) (terms : WholeTermsOf L) → step factor terms last → step factor terms other) → LeadsTo step start factors last → LeadsTo step start factors other
 leads_sorted step start [] last other l e s = absurd (omega arith)

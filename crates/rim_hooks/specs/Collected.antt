@@ -1,4 +1,4 @@
--- Signs as whole numbers.
+-- Signs as integers.
 use Rattle.std.specs.Prelude.{◌≡◌, ◌⊎◌, ℤ, pos, negsuc}
 
 -- the number is 1 or -1

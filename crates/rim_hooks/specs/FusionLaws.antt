@@ -1,4 +1,4 @@
--- What the impl of `Reduction` for reflections into the alcove cites.
+-- Lemmas that the implementation of `Reduction` by reflections into the alcove cites.
 use Rattle.std.proofs.Common.{◌≡◌, ℕ, ◌+◌, ◌<◌, ◌≤◌, Bool, true, cond, nat_le, nat_eq, List, []}
 use Rattle.std.proofs.Common.{◌∷◌, ◌++◌, length, refl, sym, ◌∙◌, ap, ap₂, subst, inl, inr, arith, ℤ}
 use Rattle.std.proofs.Common.{pos, ◌*ℤ◌, Option, Some, None}
@@ -45,7 +45,7 @@ shape_light k n label μ = by (alcove_reduction k n μ) (alcove_is k n μ)
     by None s = omega arith
     by (Some r) s = let l = sign_light r.1 s in omega arith
 
--- ---- room
+-- ---- shapes with at most k rows and a bounded size
 
 abbrev pub ShapeFits : ℕ → ℕ → List ℕ → Type 0
 ShapeFits k most shape = (rows shape ≤ k) × (size shape ≤ most)
@@ -94,8 +94,6 @@ shape_room k n label μ rule p few =
         (sym e) (f.0, (let s = f.1 in omega arith))
     by (Some r) f t (inr m) = absurd m
 
--- ---- one step
-
 products_fused : (k n : ℕ) (c : ℤ) (label : List ℕ) (xs : WholeTerms)
     → scaled c (replaced (reduced_shape k n label) xs) ≡ scale c (reflected_terms k n xs)
 products_fused k n c label [] = refl
@@ -130,7 +128,7 @@ shape_made k n factor terms next rule is gains = record {
       φ ∙ ap (λ l. over φ l) (multiplied_fused k n factor terms));
 }
 
--- another table with the same sums
+-- if `next` is a step from `terms`, so is every other table with the same sums
 pub shape_other : (k n : ℕ) (factor : List ℕ) (terms next other : WholeTerms)
     → IsCombination (pointwise nat_eq) is_label whole other
     → ((φ : List ℕ → ℤ) → over φ other ≡ over φ next) → IsFusionStep k n factor terms next

@@ -1,3 +1,5 @@
+pub mod AnyOrder
+pub mod PrintedSteps
 pub mod Signs
 pub mod Sorting
 pub mod Counts

@@ -1,4 +1,4 @@
--- Tables of whole numbers as the lists of a step: collected, and known by their sums.
+-- Tables of integers as the lists of a step: they are collected, and determined by their sums.
 use Rattle.std.proofs.Common.{◌≡◌, Bool, true, false, cond, ◌&&◌, [], ◌∷◌, sym, ◌∙◌, ap, ℤ, pos}
 use Rattle.std.proofs.Common.{◌*ℤ◌, subst, inl, inr, arith}
 use Rattle.std.specs.List.{IsDistinct, AllByRecursion}
@@ -51,7 +51,7 @@ module _ {L : Type 0} (eq test : L → L → Bool) (eq_true : (a b : L) → eq a
       → IsCombination eq is_label whole terms → AreCollected test terms
   collected_table is_label terms c = collected is_label terms c.distinct c.proper
 
--- what all terms of a label come to, as a sum against a test function
+-- the coefficient of a label is the sum, over the terms, of coefficient times 1 for this label and 0 for any other
 by_over : {L : Type 0} (test : L → L → Bool) (terms : WholeTermsOf L) (label : L)
     → coefficient_by test terms label ≡ over (λ l. cond (test l label) (pos 1) (pos 0)) terms
 by_over {L} test terms label =
@@ -63,7 +63,7 @@ by_over {L} test terms label =
     by true c = sym (product-one c)
     by false c = sym (*ℤ-zero c)
 
--- lists with the same sums have the same coefficients
+-- if two lists have the same sums against every test function, they have the same coefficient at each label
 pub same_by : {L : Type 0} (test : L → L → Bool) (first second : WholeTermsOf L)
     → ((φ : L → ℤ) → over φ first ≡ over φ second) → (label : L)
     → coefficient_by test first label ≡ coefficient_by test second label
@@ -71,7 +71,7 @@ same_by {L} test first second e label =
     by_over test first label ∙ e (λ l. cond (test l label) (pos 1) (pos 0))
     ∙ sym (by_over test second label)
 
--- a table that has gained all that it has
+-- a table that was empty and gained the terms `gained` has their sums
 pub sums_gained : {L : Type 0} (gained new : WholeTermsOf L) → Gains [] gained new → (φ : L → ℤ)
     → over φ new ≡ over φ gained
 sums_gained gained new a φ = let s = a.sums φ in omega (arith, ints)

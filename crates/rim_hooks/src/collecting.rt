@@ -1,4 +1,4 @@
-//! Terms with signs that are added to a table.
+//! Terms with signs, added to a table.
 ghost use Rattle.std.specs.Prelude.{[], ◌∷◌, OnOk, IsErrOf};
 ghost use Rattle.coeff_rings.specs.Fractions.{whole};
 ghost use Rattle.linear_combinations.specs.Entries.{IsCombination};
@@ -9,7 +9,7 @@ use calc_base::SumFault;
 use coeff_rings::{Int, Ring};
 use linear_combinations::{Label, Lin};
 
-/// Adds a coefficient with a sign at a label.
+/// Adds sign·c to the coefficient of `label`.
 pub(crate) fn add_signed<L: Label>(
     sums: &mut Lin<L, Int>,
     label: L,

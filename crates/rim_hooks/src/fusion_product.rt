@@ -18,7 +18,7 @@ use linear_combinations::{Lin, Terms};
 use partitions::{Factors, Partition};
 use std::alloc::Global;
 
-/// The reflection of partitions with at most `k` rows into the alcove of level `n - k`.
+/// The rule that reflects partitions with at most `k` rows into the alcove of level `n - k`.
 #[derive(Drop)]
 struct Reflections {
     k: u16,
@@ -94,13 +94,12 @@ impl Reduction<Partition> for Reflections {
 }
 
 /// The fusion product of the factors for partitions with at most `rows` rows at a level: the
-/// product of their Schur polynomials in `rows` variables, where each term is reflected into the
-/// alcove of that level. It is reflected after each factor. A factor with more than `rows` rows
-/// makes it 0.
+/// product of their Schur polynomials in `rows` variables, with each term reflected into the alcove
+/// of that level. It is reflected after each factor. It is 0 if a factor has more than `rows` rows.
 ///
-/// It is refused as `Large` only where a weight of a step is 2^127 or more: the sum, over the terms
-/// of the product so far, of the absolute value of the coefficient times the sum of the
-/// coefficients of the product of the shape and the next factor.
+/// Returns `Large` only if a weight of a step is 2^127 or more: the sum, over the terms of the
+/// product so far, of the absolute value of the coefficient times the sum of the coefficients of
+/// the product of the shape and the next factor.
 pub fn fusion(
     alloc: Global,
     factors: &Factors,
@@ -112,7 +111,7 @@ pub fn fusion(
     ensures meets { IfOk result (λ terms.
         IsAlcoveReductionOf rows (rows + level) (classical_product rows factors.now) (as_fractions terms)) }
 
-    // Each step collects the reflections of the product of the terms so far with the next factor.
+    // Each step collects the reflections of the product of the terms so far and the next factor.
     ensures steps { IfOk result (IsReflectedInSteps rows (rows + level) factors.now) }
     ensures large { IsErrOf result SumFault.Large
         → HasHeavy (IsFusionWeight rows (rows + level) factors.now) }

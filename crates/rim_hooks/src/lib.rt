@@ -1,28 +1,42 @@
 //! Reductions of partitions by rim hooks and into the alcove, and quantum and fusion products of
 //! two to eight Schur classes, which are reduced after each factor.
 //!
+//! Laws of quantum and fusion products: the order in which rim hooks are removed does not matter,
+//! and the text of such a product as a result of reducing after each factor.
+//!
+//! A law function has an empty body: its contract is the law.
+//!
 //! What is proved:
 //!
-//! `core_of`: the end of the removals of rim hooks, with sign and power, whatever the order.
-//! `alcove_of`: the reduction into the alcove, 0 exactly where two entries of the beta list leave
-//! one remainder. `quantum`, `fusion`: the reductions of the classical product of 2 to 8 factors,
-//! as reducing after each factor gives them, which is one function with the `Reduction` as a
-//! parameter; those of `quantum` are the same whichever rim hooks are removed first. `Large` only
-//! where a step weight is 2^127 or more.
+//! `core_of`: the end of the removals of rim hooks, with sign and power, for any order of the
+//! removals. `alcove_of`: the reduction into the alcove, which is 0 if and only if two entries of
+//! the beta list have the same remainder. `quantum`, `fusion`: the reductions of the classical
+//! product of 2 to 8 factors, computed by reducing after each factor, by one function with the
+//! `Reduction` as a parameter; those of `quantum` are the same whichever rim hooks are removed
+//! first. `Large` is returned only if a step weight is 2^127 or more.
+//!
+//! `removal_order_law`: a quantum product is the sum of the reductions of its classical product,
+//! whichever rim hooks are removed first, for the whole product and for one more factor.
+//! `printed_steps_law`: a text reads back as the answer to `quantum` or `fusion` if and only if it
+//! reads back as a list that results from reducing after each factor.
 #![tactic(auto)]
 
 mod collecting;
 mod fusion_product;
 mod long_factors;
+mod printed_steps;
 mod quantum_product;
 mod reduction;
 mod reflections;
+mod removal_orders;
 mod removals;
 mod sorted;
 mod steps;
 mod table;
 
 pub use fusion_product::fusion;
+pub use printed_steps::printed_steps_law;
 pub use quantum_product::quantum;
 pub use reflections::{Alcove, alcove_of};
+pub use removal_orders::removal_order_law;
 pub use removals::{Core, core_of};

@@ -15,7 +15,7 @@ pub(crate) fn has_long(factors: &Factors, k: u16) -> bool
     has_long_from(factors, 0, k)
 }
 
-/// The same of the factors from a place on.
+/// Whether some factor from the place `at` on has more than `k` rows.
 fn has_long_from(factors: &Factors, at: usize, k: u16) -> bool
     requires { at ≤ length factors.now }
     ensures long { IsTrue result → HasLong k (drop at factors.now) }

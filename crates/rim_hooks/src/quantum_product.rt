@@ -7,7 +7,7 @@ ghost use Rattle.sym_model.specs.WholeTerms.{as_fractions};
 ghost use Rattle.sym_model.specs.PastLimit.{HasHeavy};
 ghost use Rattle.sym_model.specs.ReductionSteps.{IsQuantumWeight};
 ghost use Rattle.sym_model.specs.Reductions.{IsRimHookReduction};
-ghost use Rattle.reduction_laws.specs.AnyOrder.{HaveSameSums};
+ghost use Rattle.rim_hooks.specs.AnyOrder.{HaveSameSums};
 
 use crate::collecting::add_signed;
 use crate::core_of;
@@ -21,7 +21,7 @@ use partitions::{Factors, Partition};
 use sparse_polys::Power;
 use std::alloc::Global;
 
-/// The removal of rim hooks of `n` cells from partitions with at most `k` rows.
+/// The rule that removes rim hooks of `n` cells from partitions with at most `k` rows.
 #[derive(Drop)]
 struct RimHooks {
     k: u16,
@@ -103,13 +103,13 @@ impl Reduction<Power> for RimHooks {
 }
 
 /// The quantum product of the factors for partitions with at most `rows` rows and `cols` columns:
-/// the product of their Schur polynomials in `rows` variables, where each term is reduced by rim
-/// hooks of `rows + cols` cells. It is reduced after each factor. A factor with more than `rows`
-/// rows makes it 0.
+/// the product of their Schur polynomials in `rows` variables, with each term reduced by rim hooks
+/// of `rows + cols` cells. It is reduced after each factor. It is 0 if a factor has more than
+/// `rows` rows.
 ///
-/// It is refused as `Large` only where a weight of a step is 2^127 or more: the sum, over the terms
-/// of the product so far, of the absolute value of the coefficient times the sum of the
-/// coefficients of the product of the shape and the next factor.
+/// Returns `Large` only if a weight of a step is 2^127 or more: the sum, over the terms of the
+/// product so far, of the absolute value of the coefficient times the sum of the coefficients of
+/// the product of the shape and the next factor.
 pub fn quantum(
     alloc: Global,
     factors: &Factors,
@@ -121,13 +121,13 @@ pub fn quantum(
     ensures meets { IfOk result (λ terms.
         IsRimHookReduction rows (rows + cols) (classical_product rows factors.now) (as_fractions terms)) }
 
-    // Whichever rim hooks are removed first: these are the sums of every list of reductions of the
-    // classical product.
+    // Any list of reductions of the classical product has the same sums, whichever rim hooks are
+    // removed first.
     ensures only { IfOk result (λ terms. (reductions : List TermReduction)
         → AreReductions rows (rows + cols) (classical_product rows factors.now) reductions
         → HaveSameSums terms (reduced_terms (classical_product rows factors.now) reductions)) }
 
-    // Each step collects the reductions of the product of the terms so far with the next factor.
+    // Each step collects the reductions of the product of the terms so far and the next factor.
     ensures steps { IfOk result (IsReducedInSteps rows (rows + cols) factors.now) }
     ensures large { IsErrOf result SumFault.Large
         → HasHeavy (IsQuantumWeight rows (rows + cols) factors.now) }

@@ -1,4 +1,4 @@
-//! What a product is reduced by after each factor.
+//! The trait of the reductions that are applied to a product after each factor.
 ghost use Rattle.std.specs.Prelude.{◌≡◌, ℕ, ◌+◌, ◌≤◌, ℤ, ◌*ℤ◌, List, [], IfOk, OnOk, IsErrOf};
 ghost use Rattle.coeff_rings.specs.Fractions.{whole};
 ghost use Rattle.sym_model.specs.Partition.{IsPartition, rows, size};
@@ -12,8 +12,8 @@ use linear_combinations::{Label, Lin};
 use partitions::Partition;
 use std::alloc::Global;
 
-/// A reduction of shapes, and the labels that it leaves: each shape of the product of a label and a
-/// factor becomes one label with a sign, or nothing.
+/// A reduction of shapes, and the labels of the reduced terms: each shape of the product of a label
+/// and a factor becomes one label with a sign, or nothing.
 pub(crate) trait Reduction<L: Label> {
     // The numbers of variables and of cells are within their limits.
     ghost is_rule: { Self → Type 0 };
@@ -24,16 +24,16 @@ pub(crate) trait Reduction<L: Label> {
     // The shape of a label.
     ghost shape: { L → List ℕ };
 
-    // The cells of a label: those of its shape, and its power of q where it has one.
+    // The number of cells of a label: that of its shape, plus its power of q if it has one.
     ghost cells: { L → ℕ };
 
     // The label of the first factor.
     ghost start: { List ℕ → L };
 
-    // What a label becomes where its product with a factor has a shape.
+    // The reduced term, or none, for a label and a shape of its product with a factor.
     ghost reduced: { Self → L → List ℕ → List (L × ℤ) };
 
-    // A list follows from another by one factor more.
+    // The second list follows from the first by multiplying with one more factor.
     ghost step: { Self → List ℕ → List (L × ℤ) → List (L × ℤ) → Type 0 };
 
     /// The number of variables.
@@ -48,8 +48,8 @@ pub(crate) trait Reduction<L: Label> {
     fn start(first: &Partition) -> Result<L, NoMemory>
         ensures { IfOk result (λ label. label ≡ start first.now) };
 
-    /// Adds what a label becomes where its product with a factor has the shape `grown` with the
-    /// coefficient `d`, times `c`. It is refused as `Large` only where that overflows.
+    /// Adds c·d times the reduced term for a label and the shape `grown` of its product with a
+    /// factor, in which `grown` has the coefficient `d`. Returns `Large` only if this overflows.
     fn add_reduced(
         &self,
         alloc: Global,

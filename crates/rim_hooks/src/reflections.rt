@@ -19,14 +19,14 @@ use std::alloc::Global;
 /// The end of the reflections of a partition.
 #[derive(Debug, Drop)]
 pub struct Alcove {
-    /// The partition that is left.
+    /// The resulting partition.
     pub shape: Partition,
     /// The sign, 1 or -1.
     pub sign: i8,
 }
 
 /// The partition with at most `k` rows to which `shape` reduces in the alcove of level `n - k`,
-/// with its sign; `None` exactly where that is 0.
+/// with its sign; `None` if and only if the reduction is 0.
 pub fn alcove_of(
     alloc: Global,
     shape: &Partition,
@@ -38,8 +38,8 @@ pub fn alcove_of(
     ensures value { IfOk result (λ alcove. signed_partition alcove
         ≡ alcove_reduction k n shape.now) }
 
-    // It is 0 exactly where two entries of the beta list leave one remainder, and else told by
-    // these and their sum alone.
+    // The reduction is 0 if and only if two entries of the beta list have the same remainder;
+    // otherwise the remainders and the sum of the entries determine it.
     ensures remainders { IfOk result (λ alcove. MatchOption alcove
         (has_equal_entries (remainders n (beta k shape.now)) ≡ true)
         (λ a. IsAlcoveOf k n shape.now a.shape a.sign)) }
@@ -56,13 +56,14 @@ pub fn alcove_of(
     }))
 }
 
-/// Counts of remainders that are all different, and how often the modulus goes into the entries.
+/// Counts of remainders that are all different, and the sum of the quotients of the entries by the
+/// modulus.
 struct Turns {
     counts: [u16; MAX_CELLS],
     turns: u32,
 }
 
-/// The counts of the remainders of the entries modulo `n`; `None` exactly where two are equal.
+/// The counts of the remainders of the entries modulo `n`; `None` if and only if two are equal.
 fn turns_of(entries: &[u16], n: u16) -> Option<Turns>
     requires few { length entries.now ≤ 512 }
     requires cells { (2 ≤ n) × (n ≤ 512) }
@@ -83,8 +84,8 @@ fn turns_of(entries: &[u16], n: u16) -> Option<Turns>
     Some(Turns { counts, turns })
 }
 
-/// The first number of the window of `n` numbers into which the entries go with their sum kept;
-/// `None` exactly where two entries leave the same remainder.
+/// The first number of the window of `n` numbers into which the entries can be moved with the same
+/// sum; `None` if and only if two entries have the same remainder.
 fn window_start(entries: &[u16], n: u16) -> Option<u32>
     requires few { (1 ≤ length entries.now) × (length entries.now ≤ 512) }
     requires cells { (2 ≤ n) × (n ≤ 512) }
@@ -104,7 +105,7 @@ fn window_start(entries: &[u16], n: u16) -> Option<u32>
     Some(start)
 }
 
-/// The entries raised or lowered by multiples of `n` into the window, in falling order.
+/// The entries, moved by multiples of `n` into the window, in decreasing order.
 fn raised_entries(alloc: Global, entries: &[u16], n: u16, start: u32) -> Result<Sorted, NoMemory>
     requires { (1 ≤ n) × (start + n ≤ 65536) }
     ensures { IfOk result (λ sorted. Sorts sorted (map (up n start) entries.now)) }
@@ -116,7 +117,7 @@ fn raised_entries(alloc: Global, entries: &[u16], n: u16, start: u32) -> Result<
     Ok(sorted)
 }
 
-/// The least number of at least `start` that leaves the same remainder modulo `n` as the entry.
+/// The least number of at least `start` that has the same remainder modulo `n` as the entry.
 fn raised(entry: u16, n: u16, start: u32) -> u16
     requires { (1 ≤ n) × (start + n ≤ 65536) }
     ensures { result ≡ up n start entry }

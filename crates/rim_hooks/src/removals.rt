@@ -19,7 +19,7 @@ use std::alloc::Global;
 /// The end of the removals of rim hooks from a partition.
 #[derive(Debug, Drop)]
 pub struct Core {
-    /// The partition that is left.
+    /// The resulting partition.
     pub shape: Partition,
     /// The product of the signs, 1 or -1.
     pub sign: i8,
@@ -27,15 +27,15 @@ pub struct Core {
     pub power: u32,
 }
 
-/// The partition with at most `k` rows where removing rim hooks of `n` cells from `shape` ends,
-/// with its sign and the number of removals; `None` exactly where it has more than `n - k` columns.
-/// The order of the removals plays no part.
+/// The partition with at most `k` rows that is left after removing rim hooks of `n` cells from
+/// `shape` as long as possible, with its sign and the number of removals; `None` if and only if it
+/// has more than `n - k` columns. The order of the removals does not matter.
 pub fn core_of(alloc: Global, shape: &Partition, k: u16, n: u16) -> Result<Option<Core>, NoMemory>
     requires rows { (rows shape.now ≤ k) × (1 ≤ k) }
     requires cells { (k < n) × (n ≤ 512) }
     ensures reduces { IfOk result (λ core. ReducesTo k n shape.now (reduction core)) }
 
-    // No other order of the removals gives another answer.
+    // Every order of the removals gives the same result.
     ensures only { IfOk result (λ core. (other : Reduction) → ReducesTo k n shape.now other
         → other ≡ reduction core) }
     ensures remainders { IfOk result
@@ -64,7 +64,7 @@ fn turns_the_sign(power: u16, k: u16) -> bool
     is_odd(usize::from(power) * (usize::from(k) + 1))
 }
 
-/// The entries, each lowered by multiples of `n` as far as there is room, in falling order.
+/// The entries, each lowered by multiples of `n` as far as there is room, in decreasing order.
 fn lowest_entries(alloc: Global, entries: &[u16], n: u16) -> Result<Sorted, NoMemory>
     requires strict { FallsStrictly entries.now }
     requires cells { (2 ≤ n) × (n ≤ 512) }

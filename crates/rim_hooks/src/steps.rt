@@ -6,11 +6,11 @@ ghost use Rattle.partitions.specs.FactorList.{AreFactors};
 ghost use Rattle.sym_model.specs.Canonical.{is_label};
 ghost use Rattle.sym_model.specs.Partition.{rows, size};
 ghost use Rattle.sym_model.specs.PrintedOrder.{printed_order};
-ghost use Rattle.sym_model.specs.ReductionSteps.{classical_weight, step_weight};
+ghost use Rattle.sym_model.specs.ReductionSteps.{LeadsTo, classical_weight, step_weight};
 ghost use Rattle.linear_combinations.specs.Entries.{IsCanonicalList, IsCombination};
 ghost use Rattle.linear_combinations.specs.Gains.{HaveLabels, Gains, Overflows, replaced, scaled};
 ghost use Rattle.rim_hooks.specs.FactorRows.{AreFew};
-ghost use Rattle.rim_hooks.specs.Reductions.{products, multiplied, HaveRoom, LeadsTo, IsHeavyFrom};
+ghost use Rattle.rim_hooks.specs.Reductions.{products, multiplied, HaveRoom, IsHeavyFrom};
 ghost use Rattle.rim_hooks.specs.Reductions.{OverflowsWithin};
 
 use crate::reduction::Reduction;
@@ -21,7 +21,7 @@ use lr_product::mult;
 use partitions::{Factors, Partition};
 use std::alloc::Global;
 
-/// Adds what a label becomes with the shapes of a list, times `c`.
+/// Adds the reduced terms for a label and each shape of a list, times `c`.
 fn add_reductions<L: Label, R: Reduction<L>>(
     alloc: Global,
     rule: &R,
@@ -47,10 +47,9 @@ fn add_reductions<L: Label, R: Reduction<L>>(
     Ok(())
 }
 
-/// Adds the product of a label and a factor, each shape reduced, times `c`.
+/// Adds the product of a label and a factor, with each shape reduced, times `c`.
 ///
-/// It is refused as `Large` only where `c` times the coefficients of the classical product
-/// overflow.
+/// Returns `Large` only if `c` times the coefficients of the classical product overflow.
 fn add_reduced_product<L: Label, R: Reduction<L>>(
     alloc: Global,
     rule: &R,
@@ -77,7 +76,7 @@ fn add_reduced_product<L: Label, R: Reduction<L>>(
     add_reductions(alloc, rule, label, &classical, c, sums)
 }
 
-/// The terms times a factor, reduced.
+/// The product of the terms and a factor, reduced.
 fn times_factor<L: Label, R: Reduction<L>>(
     alloc: Global,
     rule: &R,
@@ -108,7 +107,8 @@ fn factor_at(factors: &Factors, at: usize) -> &Partition
     factors.get(at).unwrap()
 }
 
-/// The product of factors with few rows, reduced after each factor, in the printed order.
+/// The product of factors that have at most as many rows as there are variables, reduced after each
+/// factor, in the printed order.
 pub(crate) fn product_in_steps<L: Label, R: Reduction<L>>(
     alloc: Global,
     rule: &R,

@@ -1,7 +1,7 @@
 //! Tables of counts by remainders.
 ghost use Rattle.std.specs.Prelude.{◌≡◌, replicate};
 
-/// The most cells of a rim hook.
+/// The greatest number of cells of a rim hook.
 pub(crate) const MAX_CELLS: usize = 512;
 
 /// The table in which each count is 0.

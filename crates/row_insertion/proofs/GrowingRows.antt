@@ -10,7 +10,7 @@ use Rattle.insertion_laws.proofs.InsertedRows.{with-less, with-more, bumped-less
 use Rattle.insertion_laws.proofs.Removals.{grown-here, grown-below}
 use Rattle.row_insertion.specs.RowLists.{rows_in}
 
--- ---- one row
+-- ---- one row into which a letter is inserted
 
 pub put_here :
     (a at x : ℕ) (row : List ℕ) → at < length row → ((k : ℕ) → k < at → get_or row k 0 ≤ a) → x ≡ get_or row at x → a < x
@@ -38,7 +38,7 @@ put_last a (x ∷ row) h =
     let r = put_last a row (λ k n. h (suc k) (omega arith)) in
     (with-more a x row first ∙ ap (λ w. x ∷ w) r.0, bumped-more a x row first ∙ r.1)
 
--- ---- lists of vectors
+-- ---- lists of vectors as lists of rows
 
 pub rows_in-set : (rows : List (Vec ℕ Global)) (i : ℕ) (row : Vec ℕ Global) → rows_in (set rows i row) ≡ set (rows_in rows) i row.items
 rows_in-set [] i row = refl
@@ -67,9 +67,9 @@ end-new i k [] h = refl
 end-new zero k (row ∷ rows) h = absurd (omega arith)
 end-new (suc i) k (row ∷ rows) h = ap (λ (l : List (List ℕ)). row ∷ l) (end-new i k rows (omega arith))
 
--- ---- insertion row by row
+-- ---- insertion, row by row
 
--- what is left to insert from row i on, and how far the row is that grows
+-- inserting `first` into `start` gives the rows before i of `rows`, followed by those from i on with `letter` inserted
 pub record IsInserting (start : List (List ℕ)) (first i : ℕ) (rows : List (List ℕ)) (letter : ℕ) : Type 0 where
   pub rest : inserted start (Some first) ≡ take i rows ++ inserted (drop i rows) (Some letter)
   pub row : grown (shape_of (inserted start (Some first))) (shape_of start)
@@ -174,7 +174,7 @@ inserting_new start first i rows letter h s =
       s.row ∙ ap (λ (y : List (List ℕ)). i + grown (shape_of (inserted y (Some letter))) (shape_of y)) none ∙ omega arith,
     )
 
--- ---- the same in vectors
+-- ---- insertion in a list of vectors
 
 pub row_now :
     (rows : List (Vec ℕ Global)) (i : ℕ) (row : Vec ℕ Global) → i < length rows → row ≡ get_or rows i row

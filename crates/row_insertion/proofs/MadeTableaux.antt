@@ -19,7 +19,7 @@ use Rattle.row_insertion.specs.RowLists.{rows_in, straight}
 use Rattle.row_insertion.proofs.GrowingRows.{rows_in-at, length-rows_in}
 use Rattle.row_insertion.proofs.Overwriting.{IsWritingRows, length-at}
 
--- ---- the shape
+-- ---- the shape of the rows
 
 pub row_within : (rows : List (Vec ℕ Global)) (i : ℕ) (row : Vec ℕ Global) → i < length rows → row ≡ get_or rows i row → length row.items ≤ size (shape_of (rows_in rows))
 row_within [] i row h e = absurd (omega arith)
@@ -49,7 +49,7 @@ shape_within rows h l =
       small = omega arith;
     }
 
--- ---- the filling
+-- ---- the filling to which the rows are written
 
 pub rows_start :
     (p : List (List ℕ)) (shape : List ℕ × List ℕ) (w : List ℕ) (filled : SkewFilling) → shape ≡ (shape_of p, [])
@@ -80,7 +80,7 @@ is_tableau_then rows t h e =
     let made = tableau_from rows h in
     ap is_tableau e ∙ and_from (are_letters (letters_of rows)) (semistandard [] rows) made.letters made.order
 
--- ---- rows copied
+-- ---- copies of the rows
 
 pub row_copied :
     (list after : List (Vec ℕ Global)) (row : Vec ℕ Global) (rows : List (List ℕ)) (at : ℕ) → at < length rows
@@ -90,7 +90,7 @@ row_copied list after row rows at h e a f =
     ap rows_in a ∙ map-append (λ (v : Vec ℕ Global). v.items) list (row ∷ [])
     ∙ ap₂ (λ (l : List (List ℕ)) w. l ++ w ∷ []) e (f ∙ ap (λ n. get_or rows n []) place) ∙ sym (take_more rows at [] h)
 
--- ---- the rows from the bottom up
+-- ---- the reading of the rows from the bottom up
 
 pub read_more :
     (w after row : List ℕ) (rows : List (List ℕ)) (i : ℕ) → 0 < i → i ≤ length rows → w ≡ letters_of (reverse (drop i rows))

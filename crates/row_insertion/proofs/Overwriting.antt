@@ -1,4 +1,4 @@
--- A list written over another one of its length, place by place, and fillings so.
+-- A list written over another one of its length, place by place, and a filling written over another one, row by row.
 use Rattle.std.proofs.Common.{◌≡◌, ℕ, zero, suc, ◌+◌, ◌-◌, ◌<◌, ◌≤◌, List, [], ◌∷◌, ◌++◌, length, take, drop, get_or, ◌∙◌, ap, ap₂, sym, refl, arith}
 use Rattle.std.proofs.Math.ListN.{set}
 use Rattle.std.proofs.lemmas.List.{get_or-set_same, length-map}
@@ -47,9 +47,9 @@ length-at [] (suc i) = refl
 length-at (row ∷ rows) zero = refl
 length-at (row ∷ rows) (suc i) = length-at rows i
 
--- ---- a row
+-- ---- a row written over another one
 
--- the filling with the first numbers of a row written
+-- `now` is the filling `old` with the first `at` numbers of the row overwritten by those of `numbers`
 pub record IsWriting (old now : SkewFilling) (row : ℕ) (numbers : List ℕ) (at : ℕ) : Type 0 where
   pub filling : now ≡ with_row old row (take at numbers ++ drop at (row_of old.rows row))
 
@@ -77,9 +77,9 @@ pub row_length :
     → length numbers ≡ length (row_of old.rows row)
 row_length old row numbers s l = l ∙ ap (λ p. part p row) (sym s) ∙ sym (length-at old.rows (row - 1))
 
--- ---- all rows
+-- ---- all rows of a filling overwritten
 
--- the straight filling with the first rows written
+-- `now` is the straight filling whose rows before `at` are those of p and whose other rows are those of `zeros`
 pub record IsWritingRows (p zeros : List (List ℕ)) (now : SkewFilling) (at : ℕ) : Type 0 where
   pub shape : shape_of zeros ≡ shape_of p
   pub filling : now ≡ (let t : SkewFilling = record { outer = shape_of p; inner = []; rows = take at p ++ drop at zeros } in t)

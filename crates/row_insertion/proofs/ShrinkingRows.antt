@@ -11,7 +11,7 @@ use Rattle.insertion_laws.proofs.RowsBack.{back-more, back-here, letter-more, le
 use Rattle.insertion_laws.proofs.Removals.{ending-here, ending-below, without-here, without-below}
 use Rattle.row_insertion.specs.RowLists.{rows_in, row_at, without_end}
 
--- ---- the last letter
+-- ---- the last letter of a row removed
 
 pub take_front : (row : List ℕ) → take (length row - 1) row ≡ without_last row
 take_front [] = refl
@@ -51,7 +51,7 @@ without_ending k (row ∷ rows) = elim (cases_eq (last_of row) k) [
       ∙ sym (without-below k row rows n)
 ]
 
--- ---- a row loses its last number
+-- ---- rows of which one loses its last number
 
 pub shorter_row :
     (rows : List (Vec ℕ Global)) (i : ℕ) (new : Vec ℕ Global) → i < length rows → new.items ≡ without_last (row_at (rows_in rows) i)
@@ -68,7 +68,7 @@ no_row [] i new h e f = absurd (omega arith)
 no_row (r ∷ rows) zero new h e f = ap (λ w. row_over w (rows_in rows)) (sym f ∙ e)
 no_row (r ∷ rows) (suc i) new h e f = ap (λ (l : List (List ℕ)). r.items ∷ l) (no_row rows i new (omega arith) e f)
 
--- ---- the last smaller letter
+-- ---- the last letter of a row that is smaller than the one moving up
 
 pub back_at :
     (b i : ℕ) (row : List ℕ) → i < length row → ((k : ℕ) → 1 ≤ k → k ≤ i → get_or row k 0 < b)
@@ -99,9 +99,9 @@ back_at b (suc i) (a ∷ c ∷ row) l h e =
         let s : suc i + 1 ≡ suc (i + 1) = omega arith in
         inr (subst (λ j. b ≤ get_or (a ∷ c ∷ row) j 0) s n)
 
--- ---- up through the rows
+-- ---- the letter moving up through the rows
 
--- the letter is on its way up: it has left the rows below
+-- the letter has moved up from row `at` to `above`: the rows before `above` are still those of `start`, and the others have changed
 pub record IsRising (start : List (List ℕ)) (at above : ℕ) (now : List (List ℕ)) (letter : ℕ) : Type 0 where
   pub under : above ≤ at
   pub rows : now ≡ take above start ++ (removed (at - above) (drop above start)).0
@@ -143,7 +143,7 @@ set_last i [] rest row h = absurd (omega arith)
 set_last zero (r ∷ start) rest row h = refl
 set_last (suc i) (r ∷ start) rest row h = ap (λ (l : List (List ℕ)). r ∷ l) (set_last i start rest row (omega arith))
 
--- the row above is still the one that it was
+-- the row above row `above` has not been changed yet
 pub row_above :
     (start now : List (List ℕ)) (at above letter i : ℕ) → at < length start → above ≡ suc i → IsRising start at above now letter
     → (row_at now i ≡ row_at start i) × (i < length now)

@@ -22,9 +22,9 @@ use Rattle.row_insertion.specs.Pairs.{HaveOneShape, IsTheWordOf}
 use Rattle.row_insertion.specs.RowLists.{without_end}
 use Rattle.row_insertion.proofs.ShrinkingRows.{without_ending}
 
--- ---- letter by letter
+-- ---- a word inserted letter by letter
 
--- the first letters of the word are inserted
+-- p and q are the pair of tableaux of the first `at` letters of w, and inserting the other letters gives the pair of w
 pub record IsRun (w : List ℕ) (at : ℕ) (p q : List (List ℕ)) : Type 0 where
   pub pair : IsPairAt 1 at p q
   pub rest : insertion_pair w ≡ inserted_from (at + 1) (drop at w) p q
@@ -78,9 +78,9 @@ run_more w at a i p q next after h l e s f g r =
 pub run_standard : (w : List ℕ) (at : ℕ) (p q : List (List ℕ)) → IsRun w at p q → IsStandard q
 run_standard w at p q s = standard_from 1 at p q s.pair
 
--- ---- step by step
+-- ---- letters taken out step by step
 
--- the last letters of the word have come out of p and q, the last one first
+-- the letters of the steps after `step` have been taken out of p and q, the last one first, and `now` and `after` are left
 pub record IsUnwinding (p q : List (List ℕ)) (n step : ℕ) (now after : List (List ℕ)) (letters : List ℕ) : Type 0 where
   pub start : IsPairAt 1 n p q
   pub pair : IsPairAt 1 step now after
@@ -95,7 +95,7 @@ corner_within (suc i) [] h = absurd h
 corner_within zero (a ∷ shape) h = omega arith
 corner_within (suc i) (a ∷ shape) h = omega (arith, corner_within i shape h)
 
--- the row of the last step is a row of both tableaux
+-- the row of the recording tableau that ends with the number of the last step is a row of both tableaux
 pub unwinding_row :
     (p q : List (List ℕ)) (n step : ℕ) (now after : List (List ℕ)) (letters : List ℕ) → IsUnwinding p q n step now after letters
     → 0 < step → (row_ending step after < length after) × (row_ending step after < length now)
@@ -140,13 +140,13 @@ unwinding_ends p q n step now after letters word e f s =
           sym (word_again other) ∙ ap (λ (r : List (List ℕ) × List (List ℕ)). word_back r.0 r.1) g ∙ ap (λ k. steps_back k p q) count ∙ same;
     }
 
--- ---- the pair to begin with
+-- ---- the pair of tableaux at the start
 
 straight_shape :
     (t : SkewFilling) (rows : List (List ℕ)) → shape_of rows ≡ row_lengths t.outer t.inner → t.inner ≡ [] → shape_of rows ≡ t.outer
 straight_shape t rows h e = h ∙ ap (row_lengths t.outer) e ∙ row_lengths-none t.outer
 
--- p and q as they are copied
+-- the rows that the code copies from p and q are those of a pair of tableaux of one straight shape
 pub given_pair :
     (p q : SkewFilling) (n : ℕ) (ps qs : List (List ℕ)) → IsTableauWithin p → IsStandard q.rows → HaveOneShape p q
     → n + size p.inner ≡ size p.outer → ps ≡ p.rows → shape_of ps ≡ row_lengths p.outer p.inner → qs ≡ q.rows

@@ -3,7 +3,7 @@ use Rattle.std.specs.Prelude.{◌≡◌, ℕ, List, []}
 use Rattle.sym_model.specs.Tableau.{SkewFilling}
 use Rattle.sym_model.specs.Insertion.{insertion_pair}
 
--- both have one shape, which is straight
+-- p and q have one shape, which is straight
 pub record HaveOneShape (p q : SkewFilling) : Type 0 where
   pub p_straight : p.inner ≡ []
   pub q_straight : q.inner ≡ []

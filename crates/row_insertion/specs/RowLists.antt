@@ -1,14 +1,14 @@
--- Rows of letters in vectors, and the cells that come to rows and leave them.
+-- Rows of letters in vectors, and cells that are added to rows and removed from them.
 use Rattle.std.specs.Prelude.{◌-◌, slice_index_or, slice_set, ℕ, zero, suc, List, [], ◌∷◌, map, Vec}
 use Rattle.std.specs.declared.alloc.Global.{Global}
 use Rattle.sym_model.specs.Tableau.{SkewFilling, shape_of}
 use Rattle.insertion_laws.specs.Removal.{without_last, row_over}
 
--- the rows that a list of vectors stands for
+-- the rows of numbers that a list of vectors holds
 abbrev pub rows_in : List (Vec ℕ Global) → List (List ℕ)
 rows_in rows = map (λ row. row.items) rows
 
--- row i, counted from 0
+-- row i of the list, counted from 0
 abbrev pub row_at : List (List ℕ) → ℕ → List ℕ
 row_at rows i = slice_index_or rows i []
 
@@ -16,12 +16,12 @@ row_at rows i = slice_index_or rows i []
 abbrev pub straight : List (List ℕ) → SkewFilling
 straight rows = record { outer = shape_of rows; inner = []; rows = rows }
 
--- the filling with other numbers in one row, counted from 1
+-- the filling with the numbers of one row, counted from 1, replaced
 abbrev pub with_row : SkewFilling → ℕ → List ℕ → SkewFilling
 with_row t row numbers =
     record { outer = t.outer; inner = t.inner; rows = slice_set t.rows (row - 1) numbers }
 
--- the rows without the last number of row i, counted from 0; a row without numbers is none
+-- the rows without the last number of row i, counted from 0; a row that becomes empty is dropped
 abbrev pub without_end : ℕ → List (List ℕ) → List (List ℕ)
 without_end i [] = []
 without_end zero (row ∷ rows) = row_over (without_last row) rows

@@ -8,7 +8,8 @@ ghost use Rattle.row_insertion.specs.RowLists.{rows_in};
 use std::alloc::AllocError;
 use std::mem;
 
-/// Inserts a letter into the rows of a tableau, and answers which row, counted from 0, has grown.
+/// Inserts a letter into the rows of a tableau, and returns the number of the row, counted from 0,
+/// that has grown.
 pub(crate) fn insert(rows: &mut Vec<Vec<u16>>, letter: u16) -> Result<usize, AllocError>
     ensures rows { IfOk result (λ at. rows_in rows.new.items
         ≡ inserted (rows_in rows.old.items) (Some letter)) }
@@ -27,7 +28,7 @@ pub(crate) fn insert(rows: &mut Vec<Vec<u16>>, letter: u16) -> Result<usize, All
     Ok(count)
 }
 
-/// Puts a letter into a row, in place of the first greater one, which is the answer, or at its end.
+/// Writes a letter into a row: over the first greater letter, which is returned, or at the end.
 fn put_in(row: &mut Vec<u16>, letter: u16) -> Result<Option<u16>, AllocError>
     ensures row { IfOk result (λ other. row.new.items ≡ row_with letter row.old.items) }
     ensures other { IfOk result (λ other. other ≡ bumped letter row.old.items) }
@@ -41,8 +42,8 @@ fn put_in(row: &mut Vec<u16>, letter: u16) -> Result<Option<u16>, AllocError>
     Ok(None)
 }
 
-/// Puts a number at the end of a row, counted from 0; after the last row it begins a new one. Out
-/// of memory is its only error.
+/// Appends a number to a row, counted from 0; after the last row it begins a new one. Fails only if
+/// memory runs out.
 pub fn push_at(rows: &mut Vec<Vec<u16>>, at: usize, number: u16) -> Result<(), AllocError>
     requires { at ≤ length rows.old.items }
     ensures { IfOk result (λ done. rows_in rows.new.items

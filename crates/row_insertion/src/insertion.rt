@@ -13,9 +13,9 @@ use std::alloc::Global;
 
 /// The insertion tableau and the recording tableau of a word with at most 512 letters, each at
 /// least 1 (Robinson, Schensted and Knuth): the letters are inserted one by one, and the second
-/// tableau says at which step each cell came.
-/// The first one is the only straight tableau with its reading word in the Knuth class of the word.
-/// Out of memory is its only error.
+/// tableau has in each cell the step at which that cell was added. The first one is the only
+/// straight tableau whose reading word is in the Knuth class of the word. Fails only if memory runs
+/// out.
 pub fn insert_word(alloc: Global, letters: &[u16]) -> Result<(Tableau, Standard), NoMemory>
     requires few { length letters.now ≤ 512 }
     requires letters { are_letters letters.now ≡ true }

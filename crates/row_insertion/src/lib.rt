@@ -4,10 +4,10 @@
 //! What is proved:
 //!
 //! `insert_word`: the two tableaux of a word by row insertion, both of one straight shape, the
-//! first one the only straight tableau of the word's Knuth class. `word_of_pair`: the word that
-//! insertion takes to a pair of a straight and a standard tableau of one shape, and no other word
-//! goes to this pair. `reading_word`: the rows from the bottom up. `push_at`, `standard_of`: rows
-//! that grow, and the standard tableau that they are. Out of memory is the only error of each.
+//! first one the only straight tableau of the word's Knuth class. `word_of_pair`: the only word
+//! that insertion takes to a given pair of a straight and a standard tableau of one shape.
+//! `reading_word`: the rows from the bottom up. `push_at`, `standard_of`: rows that grow, and the
+//! standard tableau with given rows. Each of these fails only if memory runs out.
 #![tactic(auto)]
 
 mod growing;

@@ -46,7 +46,7 @@ fn straight_shape(alloc: Global, rows: &[Vec<u16>]) -> Result<Skew, NoMemory>
     }
 }
 
-/// Puts the numbers of one row, counted from 1, into a straight filling.
+/// Writes the numbers of one row, counted from 1, into a straight filling.
 fn put_row(filled: &mut Filled, row: u16, numbers: &[u16])
     requires straight { filled.old.inner ≡ [] }
     requires shape { shape_of filled.old.rows ≡ filled.old.outer }
@@ -59,7 +59,7 @@ fn put_row(filled: &mut Filled, row: u16, numbers: &[u16])
     }
 }
 
-/// The standard tableau with these rows. Out of memory is its only error.
+/// The standard tableau with these rows. Fails only if memory runs out.
 pub fn standard_of(alloc: Global, rows: &[Vec<u16>]) -> Result<Standard, NoMemory>
     requires standard { IsStandard (rows_in rows.now) }
     requires tableau { AreRows 1 (rows_in rows.now) }

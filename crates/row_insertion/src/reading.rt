@@ -7,8 +7,8 @@ use calc_base::NoMemory;
 use skew_shapes::Tableau;
 use std::alloc::Global;
 
-/// The reading word of a tableau: its rows from the bottom up, each from left to right. Out of
-/// memory is its only error.
+/// The reading word of a tableau: its rows from the bottom up, each from left to right. Fails only
+/// if memory runs out.
 pub fn reading_word(alloc: Global, t: &Tableau) -> Result<Word, NoMemory>
     ensures { IfOk result (λ word. word ≡ reading_word t.now.rows) }
 {

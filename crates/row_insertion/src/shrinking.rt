@@ -7,8 +7,7 @@ ghost use Rattle.row_insertion.specs.RowLists.{row_at, rows_in, without_end};
 
 use std::mem;
 
-/// The first row, counted from 0, that ends with the number;
-/// the number of rows where there is none.
+/// The first row, counted from 0, that ends with the number; if there is none, the number of rows.
 pub(crate) fn row_ending(rows: &[Vec<u16>], number: u16) -> usize
     ensures { result ≡ row_ending number (rows_in rows.now) }
 {
@@ -20,7 +19,7 @@ pub(crate) fn row_ending(rows: &[Vec<u16>], number: u16) -> usize
     rows.len()
 }
 
-/// The last number of a row; 0 where there is none.
+/// The last number of a row; 0 if the row is empty.
 fn last_of(row: &[u16]) -> u16
     ensures { result ≡ last_of row.now }
 {
@@ -30,9 +29,9 @@ fn last_of(row: &[u16]) -> u16
     *last
 }
 
-/// Takes the last letter of a row, counted from 0, out of the rows of a tableau: it goes up, in
-/// each row in place of the last smaller letter. The answer is the letter that leaves the first
-/// row.
+/// Removes the last letter of a row, counted from 0, from the rows of a tableau: it moves up, and
+/// in each row takes the place of the last smaller letter, which moves on. Returns the letter that
+/// leaves the first row.
 pub(crate) fn take_out(rows: &mut Vec<Vec<u16>>, at: usize) -> u16
     requires tableau { AreRows 1 (rows_in rows.old.items) }
     requires row { at < length rows.old.items }
@@ -47,7 +46,8 @@ pub(crate) fn take_out(rows: &mut Vec<Vec<u16>>, at: usize) -> u16
     letter
 }
 
-/// Takes the last number of a row, counted from 0, away; a row that is then empty goes too.
+/// Removes the last number of a row, counted from 0, and returns it; a row that becomes empty is
+/// dropped.
 pub(crate) fn take_last(rows: &mut Vec<Vec<u16>>, at: usize) -> u16
     requires { at < length rows.old.items }
     ensures rows { rows_in rows.new.items ≡ without_end at (rows_in rows.old.items) }
@@ -60,7 +60,7 @@ pub(crate) fn take_last(rows: &mut Vec<Vec<u16>>, at: usize) -> u16
     last
 }
 
-/// Takes the last number of a row away; 0 where there is none.
+/// Removes the last number of a row and returns it; 0 if the row is empty.
 fn pop_last(row: &mut Vec<u16>) -> u16
     ensures row { row.new.items ≡ without_last row.old.items }
     ensures number { result ≡ last_of row.old.items }
@@ -68,7 +68,7 @@ fn pop_last(row: &mut Vec<u16>) -> u16
     row.pop().unwrap_or(0)
 }
 
-/// Puts a letter into a row in place of the last smaller one, which is the answer.
+/// Writes a letter over the last smaller one of a row, and returns that one.
 fn put_back(row: &mut Vec<u16>, letter: u16) -> u16
     requires { 0 < length row.old.items }
     ensures row { row.new.items ≡ row_back letter row.old.items }

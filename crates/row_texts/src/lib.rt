@@ -1,19 +1,19 @@
 //! Lines of the programs that print rows of library calls.
 //!
 //! A function that prints computed values is expensive to prove, and so is one that drops several
-//! values between several `?`.
-//! So the printing is done here, and a list of answers goes to one call.
+//! values between several `?`. So the printing is done here, and a list of results is printed by
+//! one call.
 #![tactic(auto)]
 
 use anyhow::Result;
 use std::fmt::Display;
 
-/// Prints a line with an answer.
+/// Prints a line with a name and a result.
 pub fn said<T: Display>(rt: &impl Print, what: &str, answer: &T) -> Result<()> {
     Ok(println!(rt; "{what}: {answer}")?)
 }
 
-/// Prints a line for each answer.
+/// Prints a line for each name and result.
 pub fn each_said<T: Display>(rt: &impl Print, rows: &[(&str, T)]) -> Result<()> {
     for (what, answer) in rows {
         said(rt, what, answer)?;

@@ -7,7 +7,7 @@ use std::alloc::{AllocError, Global};
 /// Two lines of a batch.
 const LINES: &str = "schubert 1\nschubert 1\n";
 
-/// Two lines of a batch: the block of the first one is put in one piece, and the second one has
+/// Two lines of a batch: the block of the first one is written in one piece, and the second one has
 /// more tableaux than could be listed.
 const LONG_LINES: &str =
     "mult 1 - 1\ntab 30 29 28 27 26 25 24 23 22 21 20 19 18 17 16 15 14 13 12 11 10 9 8 7 6 5 4 3 2 1 / 29 28 27 26 25 24 23 22 21 20 19 18 17 16 15 14 13 12 11 10 9 8 7 6 5 4 3 2 1\n";
@@ -59,8 +59,8 @@ fn calls_of_the_source(rt: &(impl Print + Alloc<A = Global>), words: &[String]) 
     Ok(())
 }
 
-/// Runs a batch over a sink that fails where the first block is handed on, and over one that fails
-/// at the line `--` in front of the second block: of that block nothing is listed.
+/// Runs a batch over a sink that fails when it is finished after the first block, and over one that
+/// fails at the line `--` before the second block: then no tableau of that block is listed.
 fn between_two_blocks(rt: &(impl Print + Alloc<A = Global>), words: &[String]) -> Result<()> {
     print!(rt; "a sink that fails behind the first block: ")?;
     has_fault(rt, words, LONG_LINES, (&[], &[1]))?;
@@ -69,8 +69,8 @@ fn between_two_blocks(rt: &(impl Print + Alloc<A = Global>), words: &[String]) -
     Ok(())
 }
 
-/// Runs a command over an input that comes two bytes at a time, where these calls of the source and
-/// of the sink fail, prints how it ends, and answers whether the sink counted a fault.
+/// Runs a command over an input that is given two bytes at a time, with failures at these calls of
+/// the source and of the sink. It prints the outcome, and returns whether the sink counted a fault.
 fn has_fault(
     rt: &(impl Print + Alloc<A = Global>),
     words: &[String],
@@ -83,8 +83,8 @@ fn has_fault(
     Ok(sink.faults() > 0)
 }
 
-/// Runs a command, and prints its status, how many calls of the source and of the sink failed,
-/// and what was put.
+/// Runs a command, and prints its status, the numbers of failed calls of the source and of the
+/// sink, and the bytes that were written.
 pub(crate) fn ended(
     rt: &(impl Print + Alloc<A = Global>),
     words: &[String],

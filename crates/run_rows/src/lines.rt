@@ -1,4 +1,4 @@
-//! Rows of words and of lines of a batch, as they are read.
+//! Rows of the reading of words and of lines of a batch.
 use crate::faults::words;
 use anyhow::Result;
 use calc_base::WordsFault;
@@ -6,7 +6,7 @@ use calc_language::{Command, read_line, read_words};
 use row_texts::said;
 use std::alloc::Global;
 
-/// Prints what words and lines are read as.
+/// Prints the results of reading words and lines.
 pub fn print(rt: &(impl Print + Alloc<A = Global>)) -> Result<()> {
     let batch = words(rt.alloc(), &["batch"])?;
     said(rt, "the word batch", &word(read_words(rt.alloc(), &batch)))?;

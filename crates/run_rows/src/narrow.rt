@@ -1,8 +1,8 @@
-//! A reader and a writer that go a byte at a time and fail at chosen calls.
+//! A reader and a writer that handle one byte at a time and fail at chosen calls.
 use std::io;
 use std::io::{ErrorKind, Read, Write};
 
-/// Gives a byte, fails, gives a byte, and is at its end.
+/// Gives a byte, fails, gives a byte, and has ended.
 #[derive(Drop)]
 pub struct NarrowReader {
     reads: u8,
@@ -29,8 +29,8 @@ impl Read for NarrowReader {
     }
 }
 
-/// Takes a byte at a time but at the fifth write, which fails, and at the seventh, which takes
-/// nothing. The second flush fails.
+/// Takes one byte at each write, except that the fifth write fails and the seventh takes nothing.
+/// The second flush fails.
 #[derive(Drop)]
 pub struct NarrowWriter {
     taken: [u8; 8],
@@ -50,7 +50,7 @@ impl NarrowWriter {
         }
     }
 
-    /// What was written.
+    /// The bytes that were written.
     pub fn taken(&self) -> &[u8] {
         &self.taken[..self.count.min(8)]
     }

@@ -1,4 +1,4 @@
-//! Rows of sinks: how each call ends, and what stands there.
+//! Rows of sinks: the outcome of each call, and the bytes that were written.
 use crate::narrow::NarrowWriter;
 use anyhow::Result;
 use calc_base::{CountSink, FixedSink, MemSink, Sink, StdOut};
@@ -40,7 +40,7 @@ fn counted(rt: &impl Print) -> Result<()> {
 
 fn written(rt: &(impl Print + Alloc<A = Global>)) -> Result<()> {
     let mut writer = NarrowWriter::new();
-    // A buffer without room hands each piece on at once.
+    // A buffer without room writes each piece at once.
     let straight = BufWriter::with_capacity(rt.alloc(), 0, &mut writer)?;
     put_and_finish_twice(rt, StdOut::new(straight))?;
     text(rt, "written", writer.taken())
@@ -52,7 +52,7 @@ fn put_and_finish_twice<K: Sink + Drop>(rt: &impl Print, sink: K) -> Result<()> 
     finish(rt, &mut sink)
 }
 
-/// Puts the pieces and finishes, and prints how each call ends.
+/// Writes the pieces and finishes, and prints the outcome of each call.
 fn put_each<K: Sink>(rt: &impl Print, sink: &mut K, pieces: &[&str]) -> Result<()> {
     for piece in pieces {
         put(rt, sink, piece)?;
@@ -75,7 +75,7 @@ fn ended(well: bool) -> &'static str {
     if well { "done" } else { "a fault" }
 }
 
-/// Prints what was written and how many calls failed.
+/// Prints the bytes that were written and the number of failed calls.
 fn stands(rt: &impl Print, bytes: &[u8], faults: u64) -> Result<()> {
     text(rt, "written", bytes)?;
     said(rt, "faults", &faults)

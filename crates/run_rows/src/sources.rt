@@ -1,4 +1,4 @@
-//! Rows of sources: what each call gives.
+//! Rows of sources: the result of each call.
 use crate::narrow::NarrowReader;
 use anyhow::Result;
 use calc_base::{MemSource, Source, StdIn};
@@ -25,7 +25,7 @@ fn take_four<S: Source>(rt: &impl Print, what: &str, source: &mut S) -> Result<(
     Ok(())
 }
 
-/// Prints what a call with room for four bytes gives.
+/// Prints the result of a call with room for four bytes.
 fn take<S: Source>(rt: &impl Print, what: &str, source: &mut S) -> Result<()> {
     let mut buf = [0; 4];
     match source.take(&mut buf) {

@@ -1,5 +1,5 @@
-//! Rows of runs over inputs that come in pieces, over sinks with little room, and over sinks that
-//! fail at each call in turn.
+//! Rows of runs over inputs that are given in pieces, over sinks with little room, and over sinks
+//! that fail at each call in turn.
 ghost use Rattle.std.specs.Prelude.{◌≤◌};
 
 use crate::faults::{ended, words};
@@ -47,8 +47,8 @@ fn counted(rt: &(impl Print + Alloc<A = Global>), words: &[String]) -> Result<()
     run_over(rt, words, 1, (&[], &[]), 256)
 }
 
-/// Runs a command over the five lines in pieces of this length, where these calls of the source and
-/// of the sink fail, and prints how it ends.
+/// Runs a command over the five lines in pieces of this length, with failures at these calls of the
+/// source and of the sink, and prints the outcome.
 fn run_over(
     rt: &(impl Print + Alloc<A = Global>),
     words: &[String],
@@ -65,7 +65,7 @@ fn run_over(
 }
 
 /// Runs a command over sinks whose call 0, 1, .. fails, up to the first run without a fault, and
-/// prints whether each run before it told of the fault and put a front of the text.
+/// prints whether each run before that reported the fault and wrote a prefix of the text.
 fn fails_in_turn(
     rt: &(impl Print + Alloc<A = Global>),
     what: &str,
@@ -91,18 +91,18 @@ fn run_into(alloc: Global, words: &[String], sink: &mut MemSink) -> Result<Statu
     Ok(run(alloc, words, &mut source, sink))
 }
 
-/// Whether the status tells of the sink, and the bytes are a front of the text.
+/// Whether the status reports a fault of the sink, and the bytes are a prefix of the text.
 fn is_front(status: Status, bytes: &[u8], whole: &[u8]) -> bool {
     matches!(status, Status::SinkFault) && whole.starts_with(bytes)
 }
 
-/// Runs a command into a buffer that is as long as its text.
+/// Runs a command with a buffer of exactly the length of its text.
 fn exact(rt: &(impl Print + Alloc<A = Global>), words: &[String]) -> Result<()> {
     let mut buffer = [0; 23];
     into_buffer(rt, words, FixedSink::new(&mut buffer))
 }
 
-/// Runs a command into a buffer that is as long as the first five lines of its text.
+/// Runs a command with a buffer of the length of the first five lines of its text.
 fn cut(rt: &(impl Print + Alloc<A = Global>), words: &[String]) -> Result<()> {
     let mut buffer = room();
     into_buffer(rt, words, FixedSink::new(&mut buffer))

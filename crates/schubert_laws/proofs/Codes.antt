@@ -19,7 +19,7 @@ use Rattle.sym_model.proofs.AfterLists.{length_after, after_among, among_after}
 use Rattle.sym_model.proofs.Numbers.{counts-not_less, counts-less}
 use Rattle.sym_model.proofs.Lists.{smaller-within}
 
--- ---- the code of a list
+-- ---- the inversions and the code of a list
 
 pub inversions-code : (w : List ℕ) → inversions w ≡ size (code w)
 inversions-code [] = refl
@@ -33,7 +33,7 @@ pub code_is_code : (w : List ℕ) → IsCode (code w)
 code_is_code [] = tt
 code_is_code (a ∷ w) = (let e = smaller-within a w in let l = length-code w in omega arith, code_is_code w)
 
--- ---- rising lists
+-- ---- strictly increasing lists
 
 abbrev Ascends : List ℕ → Type 0
 Ascends [] = Unit {0}
@@ -69,7 +69,7 @@ smaller-remove x (suc c) (y ∷ l) h = let e = smaller-remove x c l (omega arith
 weak : (x : ℕ) (l : List ℕ) → ((y : ℕ) → Among y l → x < y) → (y : ℕ) → Among y l → x ≤ y
 weak x l h y m = let k = h y m in omega arith
 
--- the entry with c smaller ones is that after the first c
+-- the entry at place c, counted from 0, of a strictly increasing list has c smaller ones
 smaller_index : (c : ℕ) (l : List ℕ) → Ascends l → c < length l → smaller (get_or l c 0) l ≡ c
 smaller_index c [] a h = absurd (omega arith)
 smaller_index zero (x ∷ l) a h = let n = counts-not_less x x (omega arith) in let e = smaller_of_none x l (weak x l a.0) in omega arith
@@ -78,9 +78,9 @@ smaller_index (suc c) (x ∷ l) a h =
     let n = counts-less x (get_or l c 0) (a.0 (get_or l c 0) (among_get c 0 l (omega arith))) in
     omega arith
 
--- ---- from a code to its letters
+-- ---- the letters that a code chooses
 
--- the letters are those that were left
+-- if a code chooses all letters of the list l, as many of the chosen letters as of those of l are below x
 smaller-letters : (x : ℕ) (cs l : List ℕ) → IsCode cs → length l ≡ length cs → smaller x (letters_by_code cs l) ≡ smaller x l
 smaller-letters x [] l i e = refl
 smaller-letters x (c ∷ cs) l i e =
@@ -152,7 +152,7 @@ one_line_letters cs i =
 pub one_line_from_code : (cs : List ℕ) → IsCode cs → IsOneLine (from_code cs)
 one_line_from_code cs i = one_line_kept (letters_by_code cs (places (length cs))) (one_line_letters cs i)
 
--- ---- with zeros at the end
+-- ---- the code of w followed by fixed letters is that of w followed by zeros; cs is the code of from_code cs followed by zeros
 
 code_zeros : (k : ℕ) (w : List ℕ) → IsOneLine w → code (w ++ after (length w) k) ≡ code w ++ replicate k 0
 code_zeros zero w o = ap code (append-nil w) ∙ sym (append-nil (code w))
@@ -172,14 +172,14 @@ code_from_code cs i =
           ∙ code-letters cs (places (length cs)) i (length_after 0 (length cs)) (ascends_after 0 (length cs)),
     )
 
--- ---- and back
+-- ---- a permutation, its code, and the permutation of this code
 
--- as many entries below each number
+-- the lists w and l have the same length, and the same number of entries below each number x
 record IsRearranged (w l : List ℕ) : Type 0 where
   pub lengths : length l ≡ length w
   pub counts : (x : ℕ) → smaller x w ≡ smaller x l
 
--- an entry of a rising list stands after the smaller ones
+-- an entry a of a strictly increasing list l is at the place given by the number of smaller entries
 found : (a : ℕ) (l : List ℕ) → Ascends l → smaller a l < smaller (suc a) l → get_or l (smaller a l) 0 ≡ a
 found a [] s h = absurd (omega arith)
 found a (y ∷ l) s h = elim (cases_lt y a) [
@@ -235,7 +235,7 @@ letters-code (a ∷ w) l s r =
     smaller_below_length : (b : ℕ) (v : List ℕ) → smaller b v < smaller (suc b) v → smaller b v < length v
     smaller_below_length b v h = let m = smaller-within (suc b) v in omega arith
 
--- a permutation rearranges the places
+-- the number of smaller entries is a sum over the entries, and so does not depend on their order
 pub smaller_total : (x : ℕ) (w : List ℕ) → pos (smaller x w) ≡ total (λ b. pos (cond (nat_lt b x) 1 0)) w
 smaller_total x [] = refl
 smaller_total x (b ∷ w) = let e = smaller_total x w in omega (arith, ints)
@@ -258,9 +258,9 @@ from_code-code w o =
 pub code_of_letters : (cs : List ℕ) → IsCode cs → code (letters_by_code cs (places (length cs))) ≡ cs
 code_of_letters cs i = code-letters cs (places (length cs)) i (length_after 0 (length cs)) (ascends_after 0 (length cs))
 
--- ---- the identity
+-- ---- the code of the identity
 
--- where each entry of a code is 0 the letters are chosen as they stand
+-- if each entry of a code is 0, the letters are chosen in order
 letters_by_zeros : (n : ℕ) (left : List ℕ) → length left ≡ n → letters_by_code (replicate n 0) left ≡ left
 letters_by_zeros zero left e = refl
 letters_by_zeros (suc n) [] e = absurd (omega arith)

@@ -1,5 +1,5 @@
 -- Divided differences of polynomials through their pairings with test functions.
---     along k φ              what φ gives on ∂ of a monomial, in the two variables after the first k
+--     along k φ              the pairing of φ with ∂ of a monomial, in the two variables after the first k
 --     pair_differences       the pairing of ∂ f is that of f with `along`
 --     along_square, along_braid, along_commute                     the laws of divided differences, on test functions
 use Rattle.std.proofs.Common.{◌≡◌, ℕ, zero, suc, ◌+◌, ◌-◌, ◌≤◌, List, [], ◌∷◌, ◌++◌, refl, sym, ◌∙◌, ap, arith, ℤ, pos, ◌+ℤ◌, ◌*ℤ◌, neg_ℤ, inl, inr}
@@ -14,7 +14,7 @@ use Rattle.sym_model.proofs.Polynomials.{pair_plus, pair_each, pair_scale}
 use Rattle.schubert_laws.proofs.Climbs.{climb, across, across_ext, across_add, across_neg, across_across}
 use Rattle.schubert_laws.proofs.TripleClimbs.{front_back}
 
--- ---- the sums of powers are climbs
+-- ---- the sums of powers in a divided difference are climbs
 
 range_more : (f : ℕ → ℤ) (p m n : ℕ) → total f (range_with_len p (m + n)) ≡ total f (range_with_len p m) +ℤ total f (range_with_len (p + m) n)
 range_more f p zero n =
@@ -40,7 +40,7 @@ climb_range φ (suc a) b s e =
     let k = ap (φ a) d in
     omega (arith, ints)
 
--- the powers between, from b to a - 1: a difference of climbs, or nothing
+-- the sum of the powers from b to a - 1 is a difference of climbs
 between : (φ : ℕ → ℕ → ℤ) (a b s : ℕ) → a + b ≡ s → b ≤ a → total (λ c. φ c (s - 1 - c)) (range_with_len b (a - b)) ≡ across φ a b
 between φ a b s e h =
     let f : b + (a - b) ≡ a = omega arith in
@@ -102,7 +102,7 @@ pair_differences k f φ =
     ∙ total_ext (λ (t : Term). pair (scale t.1 (difference_after k t.0)) φ) (λ (t : Term). t.1 *ℤ along k φ t.0)
     (λ t. pair_scale t.1 (difference_after k t.0) φ ∙ ap (λ n. t.1 *ℤ n) (pair_difference k t.0 φ)) f
 
--- ---- what `along` does to test functions
+-- ---- equal test functions, sums and multiples under `along`
 
 pub along_ext : (k : ℕ) (φ ψ : List ℕ → ℤ) → ((α : List ℕ) → φ α ≡ ψ α) → (α : List ℕ) → along k φ α ≡ along k ψ α
 along_ext zero φ ψ e [] = refl
@@ -132,7 +132,7 @@ along_neg zero φ (a ∷ b ∷ rest) = across_neg (λ c d. φ (c ∷ d ∷ rest)
 along_neg (suc k) φ [] = refl
 along_neg (suc k) φ (a ∷ rest) = along_neg k (λ β. φ (a ∷ β)) rest
 
--- ---- the laws of divided differences
+-- ---- the laws of divided differences, on test functions
 
 pub along_square : (k : ℕ) (φ : List ℕ → ℤ) (α : List ℕ) → along k (along k φ) α ≡ pos 0
 along_square zero φ [] = refl
@@ -164,7 +164,7 @@ along_across k φ a b α =
     let f = along_climb k φ b a α in
     omega (arith, ints)
 
--- divided differences in four different variables commute
+-- if j + 2 ≤ k, the divided differences at j and at k commute
 pub along_commute : (j k : ℕ) (φ : List ℕ → ℤ) (α : List ℕ) → j + 2 ≤ k → along j (along k φ) α ≡ along k (along j φ) α
 along_commute j zero φ α h = absurd (omega arith)
 along_commute zero (suc zero) φ α h = absurd (omega arith)

@@ -45,7 +45,7 @@ pub In_divided : (i n : ℕ) (f : Poly) → In n f → In n (divided_difference 
 In_divided zero n f h = λ t m. absurd m
 In_divided (suc k) n f h = In_differences k n f h
 
--- ---- exchanged variables
+-- ---- exchanged variables, by places counted from 1
 
 pub with_exchanged_is : (k n : ℕ) (f : Poly) → In n f → suc k < n → Same (with_exchanged (suc k) f) (exchange_variables k f)
 with_exchanged_is k n f i h =

@@ -1,5 +1,5 @@
--- The Schubert polynomial of a dominant list: where the code falls, it is the monomial of the code. And the code of a
--- list with a fixed letter added.
+-- The Schubert polynomial of a dominant list: if the code is decreasing, it is the monomial of the code. And the code
+-- of a list with a fixed letter added.
 use Rattle.std.proofs.Common.{◌≡◌, ℕ, zero, suc, ◌+◌, ◌<◌, ◌≤◌, List, [], ◌∷◌, length, refl, sym, ◌∙◌, ap, ap₂, subst, arith, inl, inr, ◌⊎◌, cond, nat_lt, Bool, true, false, None, ℤ}
 use Rattle.std.proofs.lemmas.Int.{ints}
 use Rattle.std.proofs.lemmas.Bool.{cases_eq, cases_lt, lt-ltb, ltb-true, ltb-false}
@@ -26,7 +26,7 @@ use Rattle.schubert_laws.proofs.Paths.{over_top, over_first}
 pub pair_x_to : (α : List ℕ) (φ : List ℕ → ℤ) → pair (x_to α) φ ≡ φ α
 pair_x_to α φ = +ℤ_idr _ ∙ one-product (φ α)
 
--- ---- lists of different letters
+-- ---- counts of smaller letters after an exchange
 
 pub smaller_exchange : (x k : ℕ) (w : List ℕ) → smaller x (exchange_at k w) ≡ smaller x w
 smaller_exchange x zero [] = refl
@@ -66,9 +66,9 @@ smaller_step a b (c ∷ w) h = by (nat_lt c a) refl (nat_lt c b) refl (smaller_s
     by false e true d l = omega arith
     by false e false d l = omega arith
 
--- ---- no ascent: the code is the staircase
+-- ---- if a list has no ascent, its code is the staircase
 
--- each letter is greater than the next, since the letters differ and none rises
+-- a letter that is greater than all others has the number of them as its entry of the code
 pub smaller_of_all : (a : ℕ) (w : List ℕ) → ((x : ℕ) → Among x w → x < a) → smaller a w ≡ length w
 smaller_of_all a [] h = refl
 smaller_of_all a (b ∷ w) h =
@@ -101,9 +101,9 @@ first_or d (a ∷ w) = a
 strict : (a b : ℕ) → (a ≡ b → ⊥) → (a < b → ⊥) → b < a
 strict a b d n = elim (cases_lt b a) [ inl l ↦ l | inr l ↦ absurd (n (omega arith)) ]
 
--- ---- the step: with the first ascent exchanged the code has one more where the two entries were equal
+-- ---- the step: exchanging the first ascent raises one of two equal entries of the code by one
 
--- two entries after the first k are equal, and the first of them is one greater in the other list
+-- in the list c the entries at places k and k + 1, counted from 0, are equal, and d is c with the first of them increased by 1
 abbrev pub IsOneUp : ℕ → List ℕ → List ℕ → Type 0
 IsOneUp k [] d = ⊥
 IsOneUp zero (a ∷ []) d = ⊥
@@ -166,7 +166,7 @@ falls_exchange (suc (suc k)) (a ∷ b ∷ w) o f r n =
     let h = f.0 in
     (omega arith, rest)
 
--- ---- dominant lists
+-- ---- the Schubert polynomials of dominant lists
 
 pub over_exchange : (w : List ℕ) (k : ℕ) → schubert_over (x_to (staircase (length w))) (exchange_at k w) ≡ schubert (exchange_at k w)
 over_exchange w k = ap (λ n. schubert_over (x_to (staircase n)) (exchange_at k w)) (sym (length-exchange_at k w))
@@ -193,6 +193,6 @@ dominant_within (suc n) w b o f = by (first_ascent_cases w) (λ v c p q. dominan
     by (inr none) rec α =
         ap (λ u. coefficient u α) (over_top (x_to (staircase (length w))) (rising_pairs w) w none.0 ∙ ap x_to (sym (code_no_ascent w o none.1)))
 
--- where the code of different letters falls, the Schubert polynomial is the monomial of the code
+-- if the code of a list of different letters is decreasing, its Schubert polynomial is the monomial of the code
 pub dominant : (w : List ℕ) → Once w → Falls (code w) → Same (schubert w) (x_to (code w))
 dominant w o f = dominant_within (suc (rising_pairs w)) w (omega arith) o f

@@ -1,4 +1,4 @@
--- A fixed letter added at the end leaves the Schubert polynomial as it is.
+-- A fixed letter added at the end does not change the Schubert polynomial.
 use Rattle.std.proofs.Common.{◌≡◌, ℕ, zero, suc, ◌+◌, ◌<◌, List, [], ◌∷◌, ◌++◌, length, refl, sym, ◌∙◌, ap, ap₂, subst, arith, inl, inr, ◌⊎◌, cond, nat_lt, ◌==◌, ◌&&◌, Some, None, Option, ℤ, pos}
 use Rattle.sym_model.specs.Sum.{Among, Once}
 use Rattle.sym_model.specs.Polynomial.{Term, Poly, Same, In, pair, coefficient, resize, all_zero, fits_in, restrict}
@@ -40,7 +40,7 @@ In_descended g n (suc fuel) w i = by (first_ascent w) (λ k. In_descended g n fu
 pub In_schubert : (w : List ℕ) → In (length w) (schubert w)
 In_schubert w = In_descended (x_to (staircase (length w))) (length w) (rising_pairs w) w (In_x_to (length w) (staircase (length w)) (length-staircase (length w)))
 
--- ---- a zero added to the exponents
+-- ---- a zero added to the exponents of a polynomial
 
 one_more : (n : ℕ) (α : List ℕ) → length α ≡ n → resize (suc n) α ≡ α ++ (0 ∷ [])
 one_more zero [] e = refl
@@ -48,7 +48,7 @@ one_more zero (a ∷ α) e = absurd (omega arith)
 one_more (suc n) [] e = absurd (omega arith)
 one_more (suc n) (a ∷ α) e = ap (λ β. a ∷ β) (one_more n α (omega arith))
 
--- a polynomial in n variables read in n + 1
+-- a polynomial in n variables, read in n + 1 variables, is paired by adding a zero to its exponents
 pub pair_one_more : (n : ℕ) (f : Poly) (φ : List ℕ → ℤ) → In n f → pair (restrict (suc n) f) φ ≡ pair f (λ α. φ (α ++ (0 ∷ [])))
 pair_one_more n f φ i =
     pair_restrict (suc n) f φ
@@ -61,7 +61,7 @@ along_one_more zero φ (a ∷ []) h = absurd (omega arith)
 along_one_more zero φ (a ∷ b ∷ α) h = refl
 along_one_more (suc k) φ (a ∷ α) h = along_one_more k (λ γ. φ (a ∷ γ)) α (omega arith)
 
--- a divided difference of the first n variables does not see the added one
+-- a divided difference in the first n variables commutes with reading a polynomial in n variables as one in n + 1 variables
 pub differences_one_more : (k n : ℕ) (f : Poly) → In n f → suc k < n → Same (differences_after k (restrict (suc n) f)) (restrict (suc n) (differences_after k f))
 differences_one_more k n f i h =
     same_from_pair (differences_after k (restrict (suc n) f)) (restrict (suc n) (differences_after k f)) (λ φ.
@@ -70,7 +70,7 @@ differences_one_more k n f i h =
     ∙ pair_in n f (λ α. along k φ (α ++ (0 ∷ []))) (along k (λ γ. φ (γ ++ (0 ∷ [])))) i (λ α l. along_one_more k φ α (omega arith))
     ∙ sym (pair_one_more n (differences_after k f) φ (In_differences k n f i) ∙ pair_differences k f (λ γ. φ (γ ++ (0 ∷ [])))))
 
--- ---- a fixed letter added
+-- ---- a fixed letter added to a list
 
 pub smaller_added : (a m : ℕ) (w : List ℕ) → a < m → smaller a (w ++ (m ∷ [])) ≡ smaller a w
 smaller_added a m [] h = let e = counts-not_less m a (omega arith) in omega arith
@@ -143,13 +143,13 @@ fixed_within (suc n) m w b o h = by (first_ascent_cases w) (λ v c p q. fixed_wi
         ∙ ap (λ i. coefficient (restrict (suc i) (x_to (staircase (length w)))) α) (length-staircase (length w))
         ∙ ap (λ u. coefficient (restrict (suc (length w)) u) α) (sym (over_top (x_to (staircase (length w))) (rising_pairs w) w none.0))
 
--- a last letter that is greater than all others, as a fixed one
+-- a last letter that is greater than all others can be treated as a fixed one
 pub last_letter : (m : ℕ) (w : List ℕ) → Once w → ((a : ℕ) → Among a w → a < m) → Same (schubert (w ++ (m ∷ []))) (restrict (suc (length w)) (schubert w))
 last_letter m w o h = fixed_within (suc (rising_pairs w)) m w (omega arith) o h
 
--- ---- in any number of variables
+-- ---- Schubert polynomials in any number of variables
 
--- a polynomial in n variables read in one more, and then restricted
+-- if a polynomial in n variables is read in n + 1 variables, its restriction to N variables does not change
 restrict_one_more : (N n : ℕ) (f : Poly) → In n f → Same (restrict N (restrict (suc n) f)) (restrict N f)
 restrict_one_more N n f i =
     same_from_pair (restrict N (restrict (suc n) f)) (restrict N f) (λ φ.

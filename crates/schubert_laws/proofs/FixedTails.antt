@@ -1,7 +1,7 @@
 -- Fixed letters: added to a permutation up to a place, and dropped at its end.
---     one_line_added     with fixed letters added it is a permutation still
---     schubert_added     and has the same Schubert polynomial in n variables, as has the kept list
---     inversions_added   and as many inversions
+--     one_line_added     a permutation with fixed letters added is a permutation
+--     schubert_added     it has the same Schubert polynomial in n variables, and so has the list without its last fixed letters
+--     inversions_added   it has the same number of inversions
 use Rattle.std.proofs.Common.{◌≡◌, ℕ, zero, suc, ◌+◌, ◌<◌, ◌≤◌, List, [], ◌∷◌, ◌++◌, length, refl, sym, ◌∙◌, ap, ap₂, subst, arith, inl, inr, cond, ◌==◌, Bool, true, false, length-append, append_assoc, eqb-true, eq-eqb}
 use Rattle.std.proofs.lemmas.List.{append-nil}
 use Rattle.std.proofs.lemmas.Bool.{cases_lt}
@@ -18,7 +18,7 @@ use Rattle.schubert_laws.proofs.PathsFromOne.{below_next, fixed_letter_in}
 use Rattle.sym_model.proofs.AfterLists.{length_after, among_after}
 use Rattle.sym_model.proofs.Numbers.{counts-not_less, counts-less}
 
--- ---- fixed letters added one at a time
+-- ---- a permutation with fixed letters added one at a time
 
 pub one_line_next : (w : List ℕ) → IsOneLine w → IsOneLine (w ++ ((length w + 1) ∷ []))
 one_line_next w o = record { letters = letters; once = once_added (length w + 1) w o.once (below_next w o) }
@@ -60,9 +60,9 @@ inversions_added (suc k) w o =
     ∙ inversions_added k (w ++ ((length w + 1) ∷ [])) (one_line_next w o)
     ∙ inversions_next (length w + 1) w (below_next w o)
 
--- ---- fixed letters dropped
+-- ---- a permutation with its last fixed letters dropped
 
--- what is dropped are the numbers that follow
+-- w is v followed by the letters p + length v + 1, .., so that these are fixed and are dropped
 abbrev pub IsTail : ℕ → List ℕ → List ℕ → Type 0
 IsTail p v w = (k : ℕ) × (w ≡ v ++ after (p + length v) k)
 
@@ -126,9 +126,9 @@ inversions_kept w o =
     let t = kept_tail w in
     sym (inversions_added t.0 (kept w) (one_line_kept w o)) ∙ ap inversions (sym (t.1 ∙ tail_from_zero (kept w) t.0))
 
--- ---- of different letters each pair rises or is an inversion
+-- ---- each pair of different letters is increasing or an inversion
 
--- how many pairs n places have
+-- the number of pairs of places, out of n
 unfoldable pub pairs : ℕ → ℕ
 pairs zero = 0
 pairs (suc n) = n + pairs n
@@ -150,14 +150,14 @@ unfolding pairs
 rising_or_inversion [] o = refl
 rising_or_inversion (a ∷ w) o = let e = rising_or_inversion w o.1 in let g = greater_or_smaller a w o.0 in omega arith
 
--- so w has one rising pair more than v exactly where it has one inversion less
+-- w has one increasing pair more than v if and only if it has one inversion less
 pub one_more_inversion : (w v : List ℕ) → Once w → Once v → length v ≡ length w → rising_pairs w ≡ suc (rising_pairs v) → inversions v ≡ inversions w + 1
 one_more_inversion w v o p l e = let a = rising_or_inversion w o in let b = rising_or_inversion v p in let c = ap pairs l in omega arith
 
 pub one_less_rising : (w v : List ℕ) → Once w → Once v → length v ≡ length w → inversions v ≡ inversions w + 1 → rising_pairs w ≡ suc (rising_pairs v)
 one_less_rising w v o p l e = let a = rising_or_inversion w o in let b = rising_or_inversion v p in let c = ap pairs l in omega arith
 
--- ---- fixed letters change neither the kept letters nor the swaps
+-- ---- fixed letters at the end change neither the kept letters nor the swaps
 
 dropped_added : (p i k : ℕ) (w : List ℕ) → i ≡ p + 1 → without_fixed_from i (w ++ after (p + length w) k) ≡ without_fixed_from i w
 dropped_added p i zero [] e = refl

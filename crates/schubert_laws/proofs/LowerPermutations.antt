@@ -1,4 +1,5 @@
--- The transition rule ends: each permutation on its right side is lower, and each but the identity has its places.
+-- The transition rule ends: each permutation on its right side is lower, and each permutation except the identity has
+-- places for the rule.
 use Rattle.std.proofs.Common.{◌≡◌, ℕ, zero, suc, ◌+◌, ◌-◌, ◌<◌, ◌≤◌, List, [], ◌∷◌, ◌++◌, ◌==◌, map, length, get_or, refl, sym, ◌∙◌, ap, ap₂, subst, arith, inl, inr, ◌⊎◌, cond, nat_lt, length-append, eqb-true, Some, None, Option, option_map, unwrap_or, replicate}
 use Rattle.std.specs.Option.{option_or}
 use Rattle.std.proofs.Math.ListN.{get_or-append}
@@ -28,7 +29,7 @@ use Rattle.sym_model.proofs.Numbers.{counts-not_less, nat_lt-false}
 use Rattle.sym_model.proofs.Lists.{get_or-any}
 use Rattle.sym_model.proofs.Parts.{Falls-zeros}
 
--- ---- fixed letters change neither letters nor descents
+-- ---- fixed letters at the end change neither letters nor descents
 
 letter_next : (w : List ℕ) (i : ℕ) → 1 ≤ i → letter (w ++ ((length w + 1) ∷ [])) i ≡ letter w i
 letter_next w i h = elim (cases_lt (i - 1) (length w)) [
@@ -48,7 +49,7 @@ pub letter_added : (k : ℕ) (w : List ℕ) (i : ℕ) → 1 ≤ i → letter (w 
 letter_added zero w i h = ap (λ v. letter v i) (append-nil w)
 letter_added (suc k) w i h = ap (λ v. letter v i) (next_after w k) ∙ letter_added k (w ++ ((length w + 1) ∷ [])) i h ∙ letter_next w i h
 
--- a last letter that is greater than all others
+-- a last letter that is greater than all others does not change the last descent
 last_descent_next : (m : ℕ) (w : List ℕ) → ((a : ℕ) → Among a w → a < m) → last_descent (w ++ (m ∷ [])) ≡ last_descent w
 last_descent_next m [] h = refl
 last_descent_next m (a ∷ []) h = ap (λ t. cond t (Some 1) None) (nat_lt-false m a (let g = h a (inl refl) in omega arith))
@@ -73,7 +74,7 @@ letter_kept w i h = let t = kept_whole w in sym (letter_added t.0 (kept w) i h) 
 pub last_descent_kept : (w : List ℕ) → IsOneLine w → last_descent (kept w) ≡ last_descent w
 last_descent_kept w o = let t = kept_whole w in sym (last_descent_added t.0 (kept w) (one_line_kept w o)) ∙ ap last_descent (sym t.1)
 
--- ---- the swapped list
+-- ---- the list with the letters at places q and b swapped
 
 fewer : (w : List ℕ) (q b : ℕ) → IsOneLine w → IsStep w q b → inversions (kept (swap_at q b w)) < inversions w
 fewer w q b o s =
@@ -83,7 +84,7 @@ fewer w q b o s =
     let k = inversions_kept (swap_at q b w) (one_line_swap q b w (omega arith) inside o) in
     omega arith
 
--- after place q it rises still
+-- if w increases after place q, so does w with the letters at q and b swapped
 still_rises : (w : List ℕ) (q b : ℕ) → IsStep w q b → RisesFrom q (swap_at q b w)
 still_rises w q b s c h l =
     let order = s.order in
@@ -111,7 +112,7 @@ still_rises w q b s c h l =
           ]
     ]
 
--- ---- its covers below place q
+-- ---- the covers of the swapped list that swap q with a place before it
 
 pub cover_falls : (u : List ℕ) (p q : ℕ) → Once u → p < q → q < length u → rising_pairs u ≡ suc (rising_pairs (swap_at p q u)) → get_or u p 0 < get_or u q 0
 cover_falls u p q o h l e = elim (cases_lt (get_or u p 0) (get_or u q 0)) [
@@ -122,7 +123,7 @@ cover_falls u p q o h l e = elim (cases_lt (get_or u p 0) (get_or u q 0)) [
   ]
 ]
 
--- where the last descent of a list that rises from q on is, and which letter stands there
+-- the last descent of y is before the place q + 1, or at it with a letter below `top`
 abbrev IsEarlier : List ℕ → ℕ → ℕ → Type 0
 IsEarlier y q top = (last_descent_place y < suc q) ⊎ ((last_descent_place y ≡ suc q) × (letter y (last_descent_place y) < top))
 
@@ -200,7 +201,7 @@ transition_lowers w r s o t =
     subst (λ i. IsLower (times_swap i s w) w) (sym p.2) (subst (λ j. IsLower (times_swap (suc p.0) j w) w) (sym p.3)
     (subst (λ v. IsLower v w) (sym (kept_swap w p.0 p.1 g.order g.inside)) (inl (fewer w p.0 p.1 o g))))
 
--- the first permutation of the rule has one inversion less
+-- for the places r and s of the transition rule, w has one inversion more than w·t_rs
 pub transition_inversions : (w : List ℕ) (r s : ℕ) → IsOneLine w → IsTransition w r s → inversions w ≡ inversions (times_swap r s w) + 1
 transition_inversions w r s o t =
     let p = step_of w r s o t in
@@ -240,9 +241,9 @@ transition_covers_lower w r s o t x m =
     let c : covers_down r (times_swap r s w) ≡ covers_down (suc p.0) (swap_at p.0 p.1 w) = ap₂ covers_down p.2 e ∙ covers_down_kept (suc p.0) (swap_at p.0 p.1 w) ou in
     covers_lower w p.0 p.1 x o g (t.descent ∙ ap Some p.2) (subst (Among x) c m)
 
--- ---- each permutation but the identity has its places
+-- ---- the places r and s of the transition rule exist for each permutation except the identity
 
--- the last place up to m with a smaller entry than top, where place l has one
+-- c is the last place from l to m with an entry smaller than top
 abbrev IsLastSmaller : List ℕ → ℕ → ℕ → ℕ → ℕ → Type 0
 IsLastSmaller w top l m c = (l ≤ c) × (c ≤ m) × (get_or w c 0 < top) × ((d : ℕ) → c < d → d ≤ m → top ≤ get_or w d 0)
 
@@ -302,7 +303,7 @@ transition_exists w r o e =
       },
     )
 
--- ---- the identity
+-- ---- a permutation without a descent is the identity
 
 pub smaller_of_none : (a : ℕ) (w : List ℕ) → ((b : ℕ) → Among b w → a ≤ b) → smaller a w ≡ 0
 smaller_of_none a [] h = refl

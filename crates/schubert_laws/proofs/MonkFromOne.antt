@@ -28,7 +28,7 @@ use Rattle.schubert_laws.proofs.MonkRule.{no_factors, monk_last, over_swap}
 use Rattle.sym_model.proofs.AfterLists.{length_after, after_among, after-append}
 use Rattle.sym_model.proofs.Lists.{get_or-any}
 
--- ---- std's swap is the swap of proofs
+-- ---- two ways to write a swap are equal
 
 sets_are_swap : (w : List ℕ) (i j d : ℕ) → i < length w → j < length w → set (set w i (get_or w j d)) j (get_or w i d) ≡ swap_at i j w
 sets_are_swap [] i j d h l = absurd (omega arith)
@@ -83,16 +83,16 @@ sum_split n q f h =
     let g = ap f d in
     omega (arith, ints)
 
--- ---- one term
+-- ---- one term of Monk's rule
 
--- w with fixed letters up to k + 1 places more
+-- w with the next k + 1 fixed letters added
 abbrev pub longer : List ℕ → ℕ → List ℕ
 longer w k = w ++ after (length w) (k + 1)
 
 abbrev pub top_of : List ℕ → Poly
 top_of w = x_to (staircase (length w))
 
--- what φ gives on the Schubert polynomial in n variables, if v is a cover of w
+-- the pairing of φ with the Schubert polynomial in n variables, if v is a cover of w; otherwise 0
 abbrev pub cover_value : ℕ → (List ℕ → ℤ) → List ℕ → List ℕ → ℤ
 cover_value n φ w v = cond (inversions v == inversions w + 1) (pair (schubert_in v n) φ) (pos 0)
 
@@ -117,14 +117,14 @@ longer_split w k m h =
     ∙ sym (append_assoc w (after (length w) m) (after (length w + m) (k + 1 - m)))
     ∙ ap (λ t. (w ++ after (length w) m) ++ after t (k + 1 - m)) d
 
--- a list u with fixed letters added up to a longer one, and its swap
+-- adding t fixed letters to u and then exchanging the letters at a and b gives the same list as exchanging first
 pub swap_added : (u : List ℕ) (t a b : ℕ) → a < length u → b < length u → swap_at a b (u ++ after (length u) t) ≡ swap_at a b u ++ after (length (swap_at a b u)) t
 swap_added u t a b h l = swap_at_append a b u (after (length u) t) h l ∙ ap (λ n. swap_at a b u ++ after n t) (sym (length-swap_at a b u))
 
 pair_within : (n : ℕ) (φ : List ℕ → ℤ) (a b : ℕ) (long : List ℕ) → pair (schubert_over (top_of long) (swap_at a b long)) (restricted_test n φ) ≡ pair (schubert_in (swap_at a b long) n) φ
 pair_within n φ a b long = ap (λ f. pair f (restricted_test n φ)) (over_swap a b long) ∙ sym (pair_restrict n (schubert (swap_at a b long)) φ)
 
--- the term of places a and b of u with t fixed letters added is that of the kept swap of u
+-- the term of the places a and b for u with t fixed letters added is `cover_value` of u with the letters at a and b swapped
 term_added : (n : ℕ) (φ : List ℕ → ℤ) (w u : List ℕ) (t a b : ℕ) → IsOneLine u → a < length u → b < length u → inversions u ≡ inversions w
     → covered (top_of (u ++ after (length u) t)) (restricted_test n φ) (u ++ after (length u) t) a b ≡ cover_value n φ w (kept (swap u a b))
 term_added n φ w u t a b o h l e =
@@ -156,7 +156,7 @@ cover_term n φ w k i j o c h l =
     (term_added n φ w (w ++ after (length w) (j - length w)) (k + 1 - (j - length w)) (i - 1) (j - 1)
     (one_line_added (j - length w) w o) (omega arith) (omega arith) (inversions_added (j - length w) w o))
 
--- ---- Monk's rule
+-- ---- Monk's rule in n variables
 
 pub whole_longer : (w : List ℕ) (k : ℕ) → longer w k ≡ (w ++ after (length w) k) ++ ((length (w ++ after (length w) k) + 1) ∷ [])
 whole_longer w k =
@@ -176,7 +176,7 @@ monk_longer w k q o h =
     subst (λ u. IsMonk (top_of u) no_factors u q) (sym (whole_longer w k))
     (monk_last (length (w ++ after (length w) k) + 1) q (w ++ after (length w) k) ov.once (below_next (w ++ after (length w) k) ov) (omega arith))
 
--- the sum over the covers of a list of places
+-- the sum over those lists f(j) that are covers of w, paired with φ, is the sum of their `cover_value`
 pub pair_covers : (n : ℕ) (φ : List ℕ → ℤ) (w : List ℕ) (f : ℕ → List ℕ) (js : List ℕ)
     → pair (schuberts_in (covers_among w (map f js)) n) φ ≡ total (λ j. cover_value n φ w (f j)) js
 pair_covers n φ w f js =
@@ -184,7 +184,7 @@ pair_covers n φ w f js =
     ∙ total_select (λ (v : List ℕ). pair (schubert_in v n) φ) (λ (v : List ℕ). inversions v == inversions w + 1) (map f js)
     ∙ total_map (cover_value n φ w) f js
 
--- the left side
+-- the left side of Monk's rule in n variables is the restriction of the left side for w with fixed letters added
 pair_left : (n : ℕ) (φ : List ℕ → ℤ) (w : List ℕ) (k q : ℕ) → IsOneLine w
     → pair (times (variable_in (suc q) n) (schubert_in w n)) φ ≡ pair (times (plus (variable_after q) nothing) (schubert (longer w k))) (restricted_test n φ)
 pair_left n φ w k q o =

@@ -1,6 +1,6 @@
 -- Monk's rule for the lists that end in a letter greater than all others.
---     monk_over      over any polynomial at the top: from the lists without an ascent before the last letter to all
---     monk_last      for Schubert polynomials
+--     monk_over      if the rule holds for the lists without an ascent before the last letter, it holds for all, for any polynomial at the top
+--     monk_last      the rule for Schubert polynomials
 use Rattle.std.proofs.Common.{◌≡◌, ℕ, zero, suc, ◌+◌, ◌<◌, ◌≤◌, List, [], ◌∷◌, ◌++◌, length, get_or, set, refl, sym, ◌∙◌, ap, ap₂, subst, arith, inl, inr, ◌⊎◌, None, ℤ, pos, neg_ℤ, length-append}
 use Rattle.std.proofs.Math.ListN.{get_or-append}
 use Rattle.std.proofs.lemmas.Bool.{cases_lt}
@@ -28,7 +28,7 @@ use Rattle.schubert_laws.proofs.MonkStep.{covered, value, signed_up, signed_down
 abbrev pub HasNoAscent : List ℕ → Type 0
 HasNoAscent v = (k : ℕ) → Rises k v → ⊥
 
--- ---- from the lists without an ascent to all
+-- ---- from the lists without an ascent before the last letter to all lists
 
 monk_within : (steps : ℕ) (g : Poly) (c : ℕ → Poly) (N m n : ℕ) (P : List ℕ → Type 0) → In N g → suc n ≤ N
     → ((v : List ℕ) → P v → length v ≡ n) → ((v : List ℕ) (k : ℕ) → P v → P (exchange_at k v)) → ((v : List ℕ) → P v → Once (v ++ (m ∷ [])))
@@ -100,7 +100,7 @@ below_or a m v b h y i = elim (Among_from_append y v (a ∷ []) i) [
   | inr (inr e) ↦ absurd e
 ]
 
--- it is a cover
+-- if v has no ascent and m is greater than its letters, swapping the letter at r with m in v followed by m gives a cover
 pub last_cover : (m r : ℕ) (v : List ℕ) → Once v → IsBelow m v → HasNoAscent v → r < length v
     → rising_pairs (v ++ (m ∷ [])) ≡ suc (rising_pairs (swap_at r (length v) (v ++ (m ∷ []))))
 last_cover m r [] o b n h = absurd (omega arith)
@@ -124,7 +124,7 @@ last_cover m (suc r) (a ∷ v) o b n h =
     let g = greater_swap a r (length v) (v ++ (m ∷ [])) in
     omega arith
 
--- and its code has one more at place r
+-- the code of that cover is the code of v followed by m, with 1 added at place r
 pub last_code : (m r : ℕ) (v : List ℕ) → Once v → IsBelow m v → HasNoAscent v → r < length v
     → code (swap_at r (length v) (v ++ (m ∷ []))) ≡ raise r (code (v ++ (m ∷ [])))
 last_code m r [] o b n h = absurd (omega arith)
@@ -150,7 +150,7 @@ falls_raised (suc (suc n)) zero h = (omega arith, falls_staircase (suc n))
 falls_raised (suc (suc n)) (suc zero) h = (omega arith, falls_raised (suc n) zero (omega arith))
 falls_raised (suc (suc n)) (suc (suc r)) h = (omega arith, falls_raised (suc n) (suc r) (omega arith))
 
--- two of the letters before the last, falling, give no cover
+-- in a list without an ascent, each letter is greater than those after it
 falling_pair : (v : List ℕ) (i j d : ℕ) → Once v → HasNoAscent v → i < j → j < length v → get_or v j d < get_or v i d
 falling_pair [] i j d o n h l = absurd (omega arith)
 falling_pair (a ∷ v) i zero d o n h l = absurd (omega arith)
@@ -178,7 +178,7 @@ pair_dominant w φ o f = pair_determined (schubert w) (x_to (code w)) φ (domina
 pub over_swap : (a b : ℕ) (w : List ℕ) → schubert_over (x_to (staircase (length w))) (swap_at a b w) ≡ schubert (swap_at a b w)
 over_swap a b w = ap (λ n. schubert_over (x_to (staircase n)) (swap_at a b w)) (sym (length-swap_at a b w))
 
--- the other places give nothing
+-- if v has no ascent, swapping the letter at r with that at another place b < length v gives no cover, so its term is 0
 pub falling_elsewhere : (g : Poly) (φ : List ℕ → ℤ) (m r b : ℕ) (v : List ℕ) → Once v → HasNoAscent v → r < length v → b < length v → value g φ (v ++ (m ∷ [])) r b ≡ pos 0
 falling_elsewhere g φ m r b v o n h l = elim (cases_lt r b) [
   | inl f ↦ signed_up r b (covered g φ (v ++ (m ∷ [])) r b) f ∙ covered_none g φ (v ++ (m ∷ [])) r b (no_cover m r b v o n f l)
@@ -208,7 +208,7 @@ falling_here m r v o b n h φ =
     ∙ sym (sum_below_only (length (v ++ (m ∷ []))) (length v) (value (x_to (staircase (length (v ++ (m ∷ []))))) φ (v ++ (m ∷ [])) r) (omega arith)
     (λ j k d. falling_elsewhere (x_to (staircase (length (v ++ (m ∷ []))))) φ m r j v o n h (omega arith)))
 
--- ---- Monk's rule for Schubert polynomials, where the last letter is greater than all others
+-- ---- Monk's rule for Schubert polynomials, if the last letter is greater than all others
 
 record IsStart (m n : ℕ) (v : List ℕ) : Type 0 where
   pub size : length v ≡ n

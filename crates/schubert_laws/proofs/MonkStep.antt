@@ -1,8 +1,8 @@
--- Monk's rule passes from a list to the list with two neighbours exchanged, over any polynomial g at the top. The
--- factor is a variable and a polynomial that divided differences pass by (0 for Schubert polynomials, and minus the
--- variable y of a letter for double ones).
---     value g φ w r b     what φ gives on the term of place b: the polynomial of w with places r and b swapped, if w is
---                         a cover, with sign + where b stands after r and - where it stands before
+-- From Monk's rule for a list to the rule for the list with two neighbours exchanged, for any polynomial g at the top.
+-- The factor is a variable plus a polynomial that commutes with divided differences (0 for Schubert polynomials, and
+-- minus the variable y of a letter for double ones).
+--     value g φ w r b     the pairing of φ with the term of place b: the polynomial of w with places r and b swapped, if
+--                         that is a cover of w, with the sign + if b is after r and - if b is before r
 --     IsMonk g c w r      Monk's rule for x_r, as an equation of pairings
 --     monk_step           from the exchanged list to the list
 use Rattle.std.proofs.Common.{◌≡◌, ℕ, zero, suc, ◌<◌, ◌≤◌, List, [], ◌∷◌, length, get_or, refl, sym, ◌∙◌, ap, ap₂, subst, arith, inl, inr, ◌⊎◌, cond, nat_lt, ◌==◌, Bool, true, false, ℤ, pos, ◌+ℤ◌, neg_ℤ, eq-eqb, eqb-true}
@@ -26,9 +26,9 @@ use Rattle.schubert_laws.proofs.FixedLetters.{In_descended}
 use Rattle.schubert_laws.proofs.Swaps.{swap_at, moved, swap_at_sym, length-swap_at, moved_within, moved_order, get_moved, exchange_swap, swap_neighbour, raises, lowers, once_swap}
 use Rattle.schubert_laws.proofs.PlaceSums.{sum_below, sum_below_ext, sum_below_add, sum_below_only, sum_below_moved}
 
--- ---- a divided difference of a product with a variable
+-- ---- a divided difference of the product of a polynomial and a variable
 
--- z, -z or 0, where r is the place of the first, the second, or none of the two variables
+-- z if r is the place k of the first of two neighbouring variables, -z if r is the place of the second, and otherwise 0
 abbrev pub jump : ℕ → ℕ → ℤ → ℤ
 jump zero zero z = z
 jump zero (suc zero) z = neg_ℤ z
@@ -87,13 +87,13 @@ moved_after : (k : ℕ) → moved k (suc k) ≡ k
 moved_after zero = refl
 moved_after (suc k) = ap suc (moved_after k)
 
--- ---- the terms
+-- ---- the terms of Monk's rule
 
--- w covers its swapped list: one pair fewer rises there
+-- whether the list w with places a and b swapped has one increasing pair fewer than w, so that it is a cover of w
 abbrev pub is_cover : List ℕ → ℕ → ℕ → Bool
 is_cover w a b = rising_pairs w == suc (rising_pairs (swap_at a b w))
 
--- what φ gives on the polynomial of the swapped list, if w is a cover
+-- the polynomial of w with the places a and b swapped, paired with φ, if this list is a cover of w; otherwise 0
 abbrev pub covered : Poly → (List ℕ → ℤ) → List ℕ → ℕ → ℕ → ℤ
 covered g φ w a b = cond (is_cover w a b) (pair (schubert_over g (swap_at a b w)) φ) (pos 0)
 
@@ -121,7 +121,7 @@ covered_none g φ w a b n = ap (λ t. cond t (pair (schubert_over g (swap_at a b
 pub covered_is : (g : Poly) (φ : List ℕ → ℤ) (w : List ℕ) (a b : ℕ) → rising_pairs w ≡ suc (rising_pairs (swap_at a b w)) → covered g φ w a b ≡ pair (schubert_over g (swap_at a b w)) φ
 covered_is g φ w a b e = ap (λ t. cond t (pair (schubert_over g (swap_at a b w)) φ) (pos 0)) (eq-eqb (rising_pairs w) (suc (rising_pairs (swap_at a b w))) e)
 
--- of different entries two neighbours rise, or they rise once they are exchanged
+-- two different neighbours increase either in w or in w with these two exchanged
 rises_or : (k : ℕ) (w : List ℕ) → suc k < length w → Once w → Rises k w ⊎ Rises k (exchange_at k w)
 rises_or k [] h o = absurd (omega arith)
 rises_or zero (a ∷ []) h o = absurd (omega arith)
@@ -131,20 +131,20 @@ rises_or zero (a ∷ b ∷ w) h o = elim (cases_lt a b) [ inl l ↦ inl l | inr 
     strict l d = omega arith
 rises_or (suc k) (a ∷ w) h o = rises_or k w (omega arith) o.1
 
--- S of a list that rises after the first k entries pairs as the exchanged one along ∂
+-- if w increases at places k and k + 1, S_w paired with φ is S of w with these exchanged, paired with `along k φ`
 pub pair_ascent : (g : Poly) (w : List ℕ) (k : ℕ) (φ : List ℕ → ℤ) → Rises k w → pair (schubert_over g w) φ ≡ pair (schubert_over g (exchange_at k w)) (along k φ)
 pair_ascent g w k φ r =
     pair_determined (schubert_over g w) (differences_after k (schubert_over g (exchange_at k w))) φ (any_ascent g w k r)
     ∙ pair_differences k (schubert_over g (exchange_at k w)) φ
 
--- and along ∂ it gives 0
+-- if w increases at places k and k + 1, S_w paired with `along k φ` is 0
 pair_ascent_along : (g : Poly) (w : List ℕ) (k : ℕ) (φ : List ℕ → ℤ) → Rises k w → pair (schubert_over g w) (along k φ) ≡ pos 0
 pair_ascent_along g w k φ r =
     pair_ascent g w k (along k φ) r
     ∙ pair_ext (schubert_over g (exchange_at k w)) (along k (along k φ)) (λ α. pos 0) (along_square k φ)
     ∙ pair_zero (schubert_over g (exchange_at k w))
 
--- the term of a list y, seen from a list with p rising pairs
+-- S_y paired with φ, if p is one more than the number of increasing pairs of y; otherwise 0
 abbrev term : Poly → (List ℕ → ℤ) → ℕ → List ℕ → ℤ
 term g φ p y = cond (p == suc (rising_pairs y)) (pair (schubert_over g y) φ) (pos 0)
 
@@ -164,7 +164,7 @@ term_along g φ k p v r = by (p == suc (rising_pairs v)) (pair_ascent_along g v 
     by true e = e
     by false e = refl
 
--- the terms of u and of u with its ascent after the first k entries exchanged, but for those two places
+-- if a and b are not k and k + 1, the term of u for a and b, paired with φ, is a term of u with k and k + 1 exchanged, paired with `along k φ`
 covered_step : (g : Poly) (φ : List ℕ → ℤ) (k a b : ℕ) (u : List ℕ) → Once u → Rises k u → a < b → b < length u → (a ≡ k → b ≡ suc k → ⊥)
     → covered g φ u a b ≡ covered g (along k φ) (exchange_at k u) (moved k a) (moved k b)
 covered_step g φ k a b u o r l h d =
@@ -206,7 +206,7 @@ covered_step g φ k a b u o r l h d =
               omega arith
         ]
 
--- the value of a place, where it is not one of the two exchanged as the other of r
+-- if r and b are not k and k + 1, the value of u at b is that of u with k and k + 1 exchanged, at the moved places
 value_step : (g : Poly) (φ : List ℕ → ℤ) (k r b : ℕ) (u : List ℕ) → Once u → Rises k u → r < length u → b < length u
     → (r ≡ k → b ≡ suc k → ⊥) → (b ≡ k → r ≡ suc k → ⊥) → value g φ u r b ≡ value g (along k φ) (exchange_at k u) (moved k r) (moved k b)
 value_step g φ k r b u o s h l d e = elim (cases_lt r b) [
@@ -226,7 +226,7 @@ value_step g φ k r b u o s h l d e = elim (cases_lt r b) [
   ]
 ]
 
--- the two exchanged places: the list is a cover of the exchanged one, and not the other way round
+-- if u increases at places k and k + 1, u with these exchanged is a cover of u, but u is not one of it
 covered_pair : (g : Poly) (φ : List ℕ → ℤ) (k : ℕ) (u : List ℕ) → Rises k u → covered g φ u k (suc k) ≡ pair (schubert_over g (exchange_at k u)) φ
 covered_pair g φ k u r =
     let e = swap_neighbour k u (rises_within k u r) in
@@ -243,7 +243,7 @@ covered_back g φ k u r =
     let p = rising_pairs_exchange k u r in
     covered_none g φ (exchange_at k u) k (suc k) (λ q. omega arith)
 
--- what the place b adds beyond the exchanged list: something at the place to which r is moved alone
+-- the difference between the term of place b for u and the term for u with k and k + 1 exchanged: it is 0 except for b = `moved k r`
 abbrev correction : ℕ → ℕ → ℤ → ℕ → ℤ
 correction k r z b = cond (b == moved k r) (jump k r z) (pos 0)
 
@@ -302,9 +302,9 @@ sum_correction n k r z h l =
     sum_below_only n (moved k r) (correction k r z) (moved_within k r n h l) (λ b m d. correction_elsewhere k r z b d)
     ∙ correction_there k r z (moved k r) refl
 
--- ---- Monk's rule
+-- ---- Monk's rule from one list to the next
 
--- divided differences at the first n places of polynomials in N variables pass by p
+-- multiplication by p commutes with divided differences at the first n places of polynomials in N variables
 abbrev pub Passes : ℕ → ℕ → Poly → Type 0
 Passes n N p = (k : ℕ) (f : Poly) → suc k < n → In N f → Same (times p (differences_after k f)) (differences_after k (times p f))
 

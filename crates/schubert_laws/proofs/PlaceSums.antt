@@ -22,7 +22,7 @@ sum_below_none (suc n) f e =
     let r = sum_below_none n (λ b. f (suc b)) (λ b l. e (suc b) (omega arith)) in
     omega (arith, ints)
 
--- a sum in which only the place c counts
+-- if all terms but that of place c are 0, the sum is the term of c
 pub sum_below_only : (n c : ℕ) (f : ℕ → ℤ) → c < n → ((b : ℕ) → b < n → (b ≡ c → ⊥) → f b ≡ pos 0) → sum_below n f ≡ f c
 sum_below_only zero c f h e = absurd (omega arith)
 sum_below_only (suc n) zero f h e =
@@ -33,7 +33,7 @@ sum_below_only (suc n) (suc c) f h e =
     let r = sum_below_only n c (λ b. f (suc b)) (omega arith) (λ b l d. e (suc b) (omega arith) (λ q. d (omega arith))) in
     omega (arith, ints)
 
--- two neighbouring places exchanged
+-- exchanging two neighbouring places k and k + 1 does not change the sum
 pub sum_below_moved : (k n : ℕ) (f : ℕ → ℤ) → suc k < n → sum_below n (λ b. f (moved k b)) ≡ sum_below n f
 sum_below_moved k zero f h = absurd (omega arith)
 sum_below_moved zero (suc zero) f h = absurd (omega arith)

@@ -1,4 +1,4 @@
--- A permutation that the transition rule makes has a smaller number than the one that it is made from.
+-- A permutation on the right side of the transition rule has a smaller number than the one on the left.
 use Rattle.std.proofs.Common.{◌≡◌, ℕ, zero, suc, ◌+◌, ◌-◌, ◌*◌, ◌<◌, ◌≤◌, List, [], ◌∷◌, length, get_or, refl, ap, inl, inr, arith, Some, None, Option, unwrap_or}
 use Rattle.std.proofs.lemmas.Bool.{cases_lt}
 use Rattle.sym_model.specs.Sum.{Among}
@@ -11,7 +11,7 @@ use Rattle.schubert_laws.proofs.Transition.{last_descent_is}
 use Rattle.schubert_laws.proofs.TransitionFromOne.{get_past}
 use native.Mathlib.Nat.{mul-le-mul_left}
 
--- a letter at a place from 1 on is at least 1; past the last letter it is the place
+-- the letter at a place from 1 on is at least 1; after the last letter it is the place
 pub letter_counts : (w : List ℕ) (i : ℕ) → IsOneLine w → 1 ≤ i → 1 ≤ letter w i
 letter_counts w i o h = at w (i - 1) (λ a m. (o.letters a m).0)
   where
@@ -37,7 +37,7 @@ descent_within v = by (last_descent v) refl
     by None e = omega arith
     by (Some r) e = let f = last_descent_is v (Some r) e in let f1 = f.1 in let f2 = f.2 in omega arith
 
--- numbers of two digits to the base n
+-- a number of two digits to the base n is smaller if its first digit is smaller
 below_two : (n a b x y : ℕ) → a < b → x < n → a * n + x < b * n + y
 below_two n a b x y h k = omega (arith, mul-le-mul_left n h)
 

@@ -1,9 +1,8 @@
--- Two entries of a list in each other's place, by recursion on their places, counted from 0, and what that does to
--- counts of pairs.
---     swap_at a b w        the entries at places a and b in each other's place
---     moved k a            the place to which the exchange after the first k entries takes place a
---     exchange_swap        such an exchange of a swapped list swaps the moved places of the exchanged list
---     raises, lowers       swapping a falling pair makes more pairs rise; swapping a rising one no more
+-- Two entries of a list swapped, by recursion on their places, counted from 0, and the effect on counts of pairs.
+--     swap_at a b w        w with the entries at places a and b swapped
+--     moved k a            the place to which the exchange after the first k entries moves place a
+--     exchange_swap        exchanging in a swapped list is swapping the moved places of the exchanged list
+--     raises, lowers       swapping a decreasing pair gives more increasing pairs; swapping an increasing one gives no more
 use Rattle.std.proofs.Common.{◌≡◌, ℕ, zero, suc, ◌+◌, ◌<◌, ◌≤◌, List, [], ◌∷◌, length, get_or, set, refl, sym, ◌∙◌, ap, ap₂, subst, arith, inl, inr, ◌⊎◌, cond, nat_lt, length-set}
 use Rattle.std.proofs.lemmas.Bool.{cases_eq, cases_lt}
 use Rattle.sym_model.specs.Sum.{Among, Once}
@@ -41,7 +40,7 @@ length-swap_at zero (suc b) (x ∷ w) = ap suc (length-set w b x)
 length-swap_at (suc a) zero (x ∷ w) = ap suc (length-set w a x)
 length-swap_at (suc a) (suc b) (x ∷ w) = ap suc (length-swap_at a b w)
 
--- ---- moved places
+-- ---- places after the exchange of k and k + 1
 
 pub moved_within : (k a n : ℕ) → suc k < n → a < n → moved k a < n
 moved_within zero zero n h l = h
@@ -51,7 +50,7 @@ moved_within (suc k) zero n h l = l
 moved_within (suc k) (suc a) zero h l = absurd (omega arith)
 moved_within (suc k) (suc a) (suc n) h l = let m = moved_within k a n (omega arith) (omega arith) in omega arith
 
--- the order of two places stays, but for the two that are exchanged
+-- if a < b, exchanging k and k + 1 keeps a before b, unless a is k and b is k + 1
 pub moved_order : (k a b : ℕ) → a < b → (a ≡ k → b ≡ suc k → ⊥) → moved k a < moved k b
 moved_order k a zero h d = absurd (omega arith)
 moved_order zero zero (suc zero) h d = absurd (d refl refl)
@@ -98,14 +97,14 @@ exchange_swap (suc k) zero (suc b) (x ∷ w) h = ap₂ ◌∷◌ (sym (get_moved
 exchange_swap (suc k) (suc a) zero (x ∷ w) h = ap₂ ◌∷◌ (sym (get_moved k a x w (omega arith))) (sym (set_moved k a x w (omega arith)))
 exchange_swap (suc k) (suc a) (suc b) (x ∷ w) h = ap (λ v. x ∷ v) (exchange_swap k a b w (omega arith))
 
--- the two exchanged places
+-- swapping the neighbours at k and k + 1 is exchanging them
 pub swap_neighbour : (k : ℕ) (w : List ℕ) → suc k < length w → swap_at k (suc k) w ≡ exchange_at k w
 swap_neighbour k [] h = absurd (omega arith)
 swap_neighbour zero (x ∷ []) h = absurd (omega arith)
 swap_neighbour zero (x ∷ y ∷ w) h = refl
 swap_neighbour (suc k) (x ∷ w) h = ap (λ v. x ∷ v) (swap_neighbour k w (omega arith))
 
--- ---- counts
+-- ---- counts of greater entries after one entry is replaced
 
 greater_set : (a b x : ℕ) (w : List ℕ) → cond (nat_lt a (get_or w b x)) 1 0 + greater a (set w b x) ≡ cond (nat_lt a x) 1 0 + greater a w
 greater_set a b x [] = refl
@@ -137,7 +136,7 @@ counts_more x y z h = elim (cases_lt x z) [
   | inr l ↦ let p = counts-not_less x z l in omega arith
 ]
 
--- a greater entry in the place of a smaller one
+-- if an entry is replaced by a greater one x, the number of entries greater than z does not decrease
 greater_more : (z b x d : ℕ) (w : List ℕ) → b < length w → get_or w b d < x → greater z w ≤ greater z (set w b x)
 greater_more z b x d [] l h = absurd (omega arith)
 greater_more z zero x d (y ∷ w) l h = elim (cases_lt z y) [
@@ -159,7 +158,7 @@ raises_first x (suc b) d (z ∷ w) l h =
     let c = counts_more x (get_or w b d) z (omega arith) in
     omega arith
 
--- swapping a falling pair makes more pairs rise
+-- swapping a decreasing pair gives more increasing pairs
 pub raises : (a b d : ℕ) (w : List ℕ) → a < b → b < length w → get_or w b d < get_or w a d → rising_pairs w < rising_pairs (swap_at a b w)
 raises a b d [] o l h = absurd (omega arith)
 raises zero zero d (x ∷ w) o l h = absurd (omega arith)
@@ -173,7 +172,7 @@ raises (suc a) (suc b) d (x ∷ w) o l h =
     let e = greater_swap x a b w in
     omega arith
 
--- ---- swapping twice, and the swapped entries
+-- ---- a swap undone, and the entries at swapped places
 
 set_back : (w : List ℕ) (b x d : ℕ) → b < length w → set (set w b x) b (get_or w b d) ≡ w
 set_back [] b x d h = absurd (omega arith)
@@ -202,7 +201,7 @@ get_swap_left (suc a) (suc b) d (x ∷ w) l m = get_swap_left a b d w (omega ari
 pub get_swap_right : (a b d : ℕ) (w : List ℕ) → a < length w → b < length w → get_or (swap_at a b w) b d ≡ get_or w a d
 get_swap_right a b d w l m = ap (λ v. get_or v b d) (swap_at_sym a b w) ∙ get_swap_left b a d w m l
 
--- swapping a pair that does not fall makes no more pairs rise
+-- swapping a pair that is not decreasing gives no more increasing pairs
 pub lowers : (a b d : ℕ) (w : List ℕ) → a < b → b < length w → get_or w a d ≤ get_or w b d → rising_pairs (swap_at a b w) ≤ rising_pairs w
 lowers a b d w o l h = elim (cases_eq (get_or w a d) (get_or w b d)) [
   | inl e ↦ let f = ap rising_pairs (swap_equal a b d w (omega arith) l e) in omega arith
@@ -231,7 +230,7 @@ lowers a b d w o l h = elim (cases_eq (get_or w a d) (get_or w b d)) [
         ap₂ ◌∷◌ g (set_same v i x x (omega arith) g)
     swap_equal (suc i) (suc j) p (x ∷ v) m n e = ap (λ u. x ∷ u) (swap_equal i j p v (omega arith) (omega arith) e)
 
--- ---- different entries stay different
+-- ---- a list of different entries with one entry replaced
 
 among_set : (z b x : ℕ) (w : List ℕ) → Among z (set w b x) → (z ≡ x) ⊎ Among z w
 among_set z b x [] m = absurd m
@@ -245,7 +244,7 @@ among_get b d [] h = absurd (omega arith)
 among_get zero d (y ∷ w) h = inl refl
 among_get (suc b) d (y ∷ w) h = inr (among_get b d w (omega arith))
 
--- the entry that was replaced stands nowhere else
+-- if the entries of w are different, and the entry at b is still in w after x is written over it, it is x
 replaced : (b d x : ℕ) (w : List ℕ) → b < length w → Once w → Among (get_or w b d) (set w b x) → get_or w b d ≡ x
 replaced b d x [] h o m = absurd m
 replaced zero d x (y ∷ w) h o (inl e) = e

@@ -1,6 +1,6 @@
 -- The transition rule, as Monk's rule at the last descent.
---     raises_by_one     swapping a falling pair with only smaller entries between makes one more pair rise
---     between           swapping a rising pair with an entry between in size makes three fewer rise, or less
+--     raises_by_one     swapping a decreasing pair with only smaller entries between gives one more increasing pair
+--     between           swapping an increasing pair with an entry between in size removes three or more increasing pairs
 use Rattle.std.proofs.Common.{◌≡◌, ℕ, zero, suc, ◌+◌, ◌-◌, ◌<◌, ◌≤◌, max, List, [], ◌∷◌, ◌++◌, length, get_or, set, refl, sym, ◌∙◌, ap, ap₂, subst, arith, inl, inr, cond, nat_lt, Bool, true, false, ℤ, pos, length-append, eq-eqb, Option, Some, None, option_map}
 use Rattle.std.specs.Option.{option_or}
 use Rattle.std.specs.List.{swap}
@@ -28,7 +28,7 @@ use Rattle.sym_model.proofs.Numbers.{counts-not_less, counts-less}
 use Rattle.sym_model.proofs.Lists.{get_or-any}
 use Rattle.sym_model.proofs.PolynomialLaws.{restricted_test}
 
--- ---- a falling pair with only smaller entries between
+-- ---- swaps of a decreasing pair with only smaller entries between
 
 greater_set_both : (z b x d : ℕ) (w : List ℕ) → b < length w → z < get_or w b d → z < x → greater z (set w b x) ≡ greater z w
 greater_set_both z b x d [] h l m = absurd (omega arith)
@@ -63,9 +63,9 @@ raises_by_one (suc a) (suc b) d (x ∷ w) h l m s =
     let g = greater_swap x a b w in
     omega arith
 
--- ---- a rising pair with an entry between in place and size
+-- ---- swaps of an increasing pair with an entry between both in place and in value
 
--- a swap of two places as three swaps by way of a place between
+-- if y is the entry at c, writing x at c, swapping c and b, and writing y at c again gives u with x at b
 set_by_way : (x c b : ℕ) (u : List ℕ) (y : ℕ) → c < b → b < length u → y ≡ get_or u c x → set (swap_at c b (set u c x)) c y ≡ set u b x
 set_by_way x c b [] y h l e = absurd (omega arith)
 set_by_way x c zero (p ∷ u) y h l e = absurd (omega arith)
@@ -86,7 +86,7 @@ swap_by_way zero (suc c) (suc b) (x ∷ u) h k l =
     ap₂ ◌∷◌ (get_by_way x c b (get_or u c x) u (omega arith) (omega arith) ∙ get_or-any u b (get_or u c x) x (omega arith)) (set_by_way x c b u (get_or u c x) (omega arith) (omega arith) refl)
 swap_by_way (suc a) (suc c) (suc b) (x ∷ u) h k l = ap (λ v. x ∷ v) (swap_by_way a c b u (omega arith) (omega arith) (omega arith))
 
--- swapping a rising pair makes fewer pairs rise
+-- swapping an increasing pair gives fewer increasing pairs
 pub lowers_strictly : (a b d : ℕ) (w : List ℕ) → a < b → b < length w → get_or w a d < get_or w b d → rising_pairs (swap_at a b w) < rising_pairs w
 lowers_strictly a b d w o l h =
     let p = get_swap_left a b d w (omega arith) l in
@@ -113,7 +113,7 @@ get_swap_other (suc a) zero (suc c) d (x ∷ w) n m = get_set_other w a c x d (�
 get_swap_other (suc a) (suc b) zero d (x ∷ w) n m = refl
 get_swap_other (suc a) (suc b) (suc c) d (x ∷ w) n m = get_swap_other a b c d w (λ e. n (ap suc e)) (λ e. m (ap suc e))
 
--- an entry between two others in place and in size: no cover
+-- if w has an entry at a place between a and b that is between theirs in value, w with a and b swapped does not have one increasing pair fewer
 pub between : (a c b d : ℕ) (w : List ℕ) → a < c → c < b → b < length w → get_or w a d < get_or w c d → get_or w c d < get_or w b d
     → rising_pairs w ≡ suc (rising_pairs (swap_at a b w)) → ⊥
 between a c b d w h k l f g e =
@@ -131,9 +131,9 @@ between a c b d w h k l f g e =
     let way = ap rising_pairs (swap_by_way a c b w h k l) in
     omega arith
 
--- ---- the last descent
+-- ---- lists that increase after the last descent
 
--- from place q on no entry is greater than the next
+-- after place q, counted from 0, no entry is greater than the next
 abbrev pub RisesFrom : ℕ → List ℕ → Type 0
 RisesFrom q w = (b : ℕ) → q < b → suc b < length w → get_or w b 0 ≤ get_or w (suc b) 0
 
@@ -166,7 +166,7 @@ last_descent_is w o e = subst (IsLastDescent w) e (facts w)
     facts (a ∷ []) = λ b h. absurd (omega arith)
     facts (a ∷ b ∷ v) = step a b v (last_descent (b ∷ v)) (facts (b ∷ v)) (nat_lt b a) refl
 
--- ---- the rule, with places counted from 0
+-- ---- the transition rule, with places counted from 0
 
 pub once_get : (w : List ℕ) (i j : ℕ) → Once w → i < length w → j < length w → get_or w i 0 ≡ get_or w j 0 → i ≡ j
 once_get [] i j o h l e = absurd (omega arith)
@@ -188,7 +188,8 @@ rises_chain q c (suc b) w r h l m = elim (cases_lt c (suc b)) [
   | inr f ↦ let e : c ≡ suc b = omega arith in let d = ap (λ i. get_or w i 0) e in omega arith
 ]
 
--- the places q of the last descent and b of the last smaller letter
+-- q and b, counted from 0, are the places that the transition rule swaps: the last descent is at q, and b is the last place with a letter smaller
+-- than that at q
 pub record IsStep (w : List ℕ) (q b : ℕ) : Type 0 where
   pub order : q < b
   pub inside : b < length w
@@ -196,7 +197,7 @@ pub record IsStep (w : List ℕ) (q b : ℕ) : Type 0 where
   pub rises : RisesFrom q w
   pub later : (c : ℕ) → b < c → c < length w → get_or w q 0 ≤ get_or w c 0
 
--- the swapped list has one inversion less
+-- w with the letters at q and b swapped has one inversion less than w
 pub one_fewer : (w : List ℕ) (q b : ℕ) → IsOneLine w → IsStep w q b → inversions w ≡ inversions (swap_at q b w) + 1
 one_fewer w q b o s =
     let order = s.order in
@@ -204,7 +205,7 @@ one_fewer w q b o s =
     one_more_inversion (swap_at q b w) w (once_swap q b w (omega arith) inside o.once) o.once (sym (length-swap_at q b w))
     (raises_by_one q b 0 w order inside s.falls (λ c h l. strict_get w c b o.once (omega arith) inside (λ z. omega arith) (rises_chain q c b w s.rises h (omega arith) inside)))
 
--- no place but b gives a cover of the swapped list with a fixed letter added
+-- if c is after q and is not b, swapping q and c in w·t_qb with a fixed letter added gives no cover
 pub no_other : (w : List ℕ) (q b c : ℕ) → IsOneLine w → IsStep w q b → q < c → c ≤ length w → (c ≡ b → ⊥)
     → rising_pairs (longer (swap_at q b w) 0) ≡ suc (rising_pairs (swap_at q c (longer (swap_at q b w) 0))) → ⊥
 no_other w q b c o s h l n e =
@@ -252,7 +253,7 @@ swap_there w q b h l =
     ∙ ap₂ (λ x y. kept (swap (swap_at q b w) x y)) i j
     ∙ ap kept (swap_is (swap_at q b w) q b (omega arith) (omega arith) ∙ swap_twice q b w (omega arith) l)
 
--- the covers above the swapped list are the list alone
+-- w is the only cover of w·t_qb among those that swap q with a later place, so that the sum over these covers is S_w
 pair_up : (n : ℕ) (φ : List ℕ → ℤ) (w : List ℕ) (q b : ℕ) → IsOneLine w → IsStep w q b → pair (schuberts_in (covers_up (suc q) (swap_at q b w)) n) φ ≡ pair (schubert_in w n) φ
 pair_up n φ w q b o s =
     let order = s.order in

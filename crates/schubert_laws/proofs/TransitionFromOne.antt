@@ -1,4 +1,4 @@
--- The transition rule as its law function states it: with places counted from 1, and permutations as they are kept.
+-- The transition rule as its law function states it: with places counted from 1, and permutations without their last fixed letters.
 use Rattle.std.proofs.Common.{◌≡◌, ℕ, zero, suc, ◌+◌, ◌-◌, ◌<◌, ◌≤◌, List, [], ◌∷◌, ◌++◌, ◌==◌, map, length, get_or, refl, sym, ◌∙◌, ap, ap₂, subst, arith, inl, inr, length-append, append_assoc, Some, filter}
 use Rattle.std.specs.List.{swap}
 use Rattle.std.proofs.lemmas.List.{append-nil}
@@ -17,7 +17,7 @@ use Rattle.schubert_laws.proofs.Transition.{IsStep, last_descent_is, transition_
 use Rattle.sym_model.proofs.AfterLists.{length_after, after_among, after-append}
 use Rattle.sym_model.proofs.Lists.{get_or-any, map-among}
 
--- ---- fixed letters at the end do not matter to a swap
+-- ---- fixed letters at the end do not change a swap
 
 pub get_past : (w : List ℕ) (i d : ℕ) → length w ≤ i → get_or w i d ≡ d
 get_past [] i d h = refl
@@ -34,7 +34,7 @@ swap_longer x t a b h l p =
     ∙ kept_added (swap_at a b x) t (omega arith)
     ∙ ap kept (sym (swap_is x a b h l))
 
--- x with fixed letters added up to place j, seen from x with t fixed letters added
+-- if t fixed letters are added to x, and then fixed letters up to place j, the result is x with fixed letters up to j and perhaps some more
 with_fixed_longer : (x : List ℕ) (t j : ℕ) → (b : ℕ) × (with_fixed j (x ++ after (length x) t) ≡ with_fixed j x ++ after (length (with_fixed j x)) b)
 with_fixed_longer x t j =
     let u : List ℕ = x ++ after (length x) t in
@@ -74,7 +74,7 @@ covers_down_kept r w o =
     let a = after_among 0 (r - 1) i m in let p = a.0 in let q = a.1 in times_swap_kept w i r (omega arith) (omega arith)))
     ∙ ap (λ n. filter (λ (v : List ℕ). inversions v == n + 1) (map (λ i. times_swap i r w) (after 0 (r - 1)))) (inversions_kept w o)
 
--- ---- the places of the rule, counted from 0
+-- ---- the places of the transition rule, counted from 0
 
 abbrev pub Places : List ℕ → ℕ → ℕ → Type 0
 Places w r s = (q : ℕ) × (b : ℕ) × (r ≡ suc q) × (s ≡ suc b) × IsStep w q b
@@ -121,7 +121,7 @@ step_of w r s o t =
       },
     )
 
--- the swapped permutation as it is kept
+-- the permutation w·t_ij, without its last fixed letters, by places q and b counted from 0
 pub kept_swap : (w : List ℕ) (q b : ℕ) → q < b → b < length w → times_swap (suc q) (suc b) w ≡ kept (swap_at q b w)
 kept_swap w q b h l =
     let z : suc b - length w ≡ 0 = omega arith in

@@ -7,14 +7,14 @@ use Rattle.schubert_laws.proofs.Climbs.{climb, across, stepped, across_ext, acro
 abbrev pub Triple : Type 0
 Triple = ℕ → ℕ → ℕ → ℤ
 
--- ∂ in the first two of three variables, and in the last two
+-- ∂ in the first two of three variables, as an operator on test functions
 abbrev pub front : Triple → Triple
 front φ a b c = across (λ x y. φ x y c) a b
 
 abbrev pub back : Triple → Triple
 back φ a b c = across (λ x y. φ a x y) b c
 
--- what φ gives on a product with x - y, with y - z and with x - z
+-- the pairing of φ with the product of a monomial and x - y, the difference of the first two variables
 abbrev step_front : Triple → Triple
 step_front φ a b c = φ (suc a) b c -ℤ φ a (suc b) c
 
@@ -30,7 +30,8 @@ front_ext φ ψ e a b c = across_ext (λ x y. φ x y c) (λ x y. ψ x y c) (λ x
 pub back_ext : (φ ψ : Triple) → ((a b c : ℕ) → φ a b c ≡ ψ a b c) → (a b c : ℕ) → back φ a b c ≡ back ψ a b c
 back_ext φ ψ e a b c = across_ext (λ x y. φ a x y) (λ x y. ψ a x y) (λ x y. e a x y) b c
 
--- an alternating χ is what ∂ gives on χ one step up in the first number, or one step down in the second
+-- an alternating χ is ∂ of χ with its first number raised by 1, minus any alternating χ'; and ∂ of χ' minus χ with its
+-- second number raised by 1
 raised : (χ χ' : ℕ → ℕ → ℤ) → ((a b : ℕ) → χ b a ≡ neg_ℤ (χ a b)) → ((a b : ℕ) → χ' b a ≡ neg_ℤ (χ' a b)) → (a b : ℕ)
     → across (λ x y. χ (suc x) y -ℤ χ' x y) a b ≡ χ a b
 raised χ χ' h k a b =
@@ -57,7 +58,7 @@ lowered χ χ' h k a b =
     let d = h a b in
     omega (arith, ints)
 
--- the alternating sum over the six orders
+-- the alternating sum of ψ over the six orders of a, b and c
 abbrev six : Triple → Triple
 six ψ a b c = ((ψ a b c -ℤ ψ b a c) -ℤ (ψ a c b -ℤ ψ c a b)) +ℤ (ψ b c a -ℤ ψ c b a)
 
@@ -109,7 +110,7 @@ back_front_back ψ a b c =
     let s = across_stepped (λ p q. ψ p a q -ℤ ψ p q a) b c in
     omega (arith, ints)
 
--- every test function is three steps
+-- φ with its first two numbers replaced by a climb; every test function is made by three such steps
 abbrev climbed_front : Triple → Triple
 climbed_front φ a b c = climb (λ x y. φ x y c) a b
 
@@ -143,6 +144,6 @@ braid_of_steps φ ψ is a b c =
     ∙ sym (back_front_back ψ a b c)
     ∙ sym (back_ext (front (back φ)) (front (back (three_steps ψ))) (front_ext (back φ) (back (three_steps ψ)) (back_ext φ (three_steps ψ) is)) a b c)
 
--- the braid relation
+-- the operators `front` and `back`, ∂ in the first two and in the last two of three variables, satisfy the braid relation
 pub front_back : (φ : Triple) (a b c : ℕ) → front (back (front φ)) a b c ≡ back (front (back φ)) a b c
 front_back φ = braid_of_steps φ (climbed_ends (climbed_back (climbed_front φ))) (λ x y z. sym (three_climbs φ x y z))

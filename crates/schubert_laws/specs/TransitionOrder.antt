@@ -4,12 +4,11 @@ use Rattle.std.specs.Prelude.{ℕ, ◌+◌, ◌*◌, ◌≤◌, List, length}
 use Rattle.sym_model.specs.PlaceOrders.{inversions}
 use Rattle.sym_model.specs.Permutation.{IsOneLine, letter, last_descent_place}
 
--- a permutation of at most n letters
+-- the list is a permutation of at most n letters
 pub record IsShort (n : ℕ) (w : List ℕ) : Type 0 where
   pub one_line : IsOneLine w
   pub few : length w ≤ n
 
--- the order that the rule lowers as a number to a base above the number of letters: by inversions,
--- then by the last descent, then by the letter there
+-- one number for (inversions, last descent, letter at the last descent) in lexicographic order; the transition rule decreases it
 abbrev pub rank : ℕ → List ℕ → ℕ
 rank base w = (inversions w * base + last_descent_place w) * base + letter w (last_descent_place w)

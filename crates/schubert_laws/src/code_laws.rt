@@ -6,10 +6,10 @@ ghost use Rattle.sym_model.specs.PlaceOrders.{places, inversions};
 ghost use Rattle.sym_model.specs.Permutation.{IsOneLine, kept, code, IsCode, letters_by_code};
 ghost use Rattle.sym_model.specs.Permutation.{from_code};
 
-/// The number of inversions is the sum of the code. Each list is the code of exactly one
-/// permutation where no entry is greater than the number of entries after it: the letters that are
-/// chosen by a code have that code, so that of the kept permutation is the code without zeros at
-/// its end, and a permutation is determined by its code.
+/// The number of inversions is the sum of the code. A list in which no entry is greater than the
+/// number of entries after it is the code of exactly one permutation: the letters that are chosen
+/// by a code have that code, so that of the kept permutation is the code without zeros at its end,
+/// and a permutation is determined by its code.
 ///
 /// Example: 3 1 2 has the code 2 0 0.
 pub fn code_law()

@@ -4,9 +4,9 @@ ghost use Rattle.std.specs.Prelude.{ℕ, ◌+◌, ◌<◌, ◌≤◌, ℤ};
 ghost use Rattle.sym_model.specs.Polynomial.{Poly, Same, In, nothing, plus, scale, negate, times};
 ghost use Rattle.sym_model.specs.DividedDifference.{variable, with_exchanged, divided_difference};
 
-/// ∂_i f is the quotient of f - s_i f by x_i - x_(i+1). It is linear and depends on the
-/// coefficients alone, its square is 0, two of them commute where they share no variable,
-/// neighbours obey the braid relation, and of a product ∂_i makes (∂_i f)·g + (s_i f)·(∂_i g).
+/// ∂_i f is the quotient of f - s_i f by x_i - x_(i+1). It is linear and depends only on the
+/// coefficients of f, its square is 0, two of them commute if they share no variable, neighbours
+/// satisfy the braid relation, and ∂_i (f·g) is (∂_i f)·g + (s_i f)·(∂_i g).
 pub fn divided_difference_law()
     ensures variables { (i n : ℕ) (f : Poly) → In n f → In n (divided_difference i f) }
     ensures quotient { (i n : ℕ) (f : Poly) → 1 ≤ i → i < n → In n f

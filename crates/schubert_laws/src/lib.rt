@@ -7,8 +7,8 @@
 //! `divided_difference_law`: the divided differences are linear, square to 0, commute at a
 //! distance, satisfy the braid relation and the rule of Leibniz. `path_law`: every descent gives
 //! the same Schubert polynomial, and fixed letters change nothing. `monk_law`: Monk's rule and
-//! transition, in every number of variables. `code_law`:
-//! a permutation and its code determine each other.
+//! transition, in every number of variables. `code_law`: a permutation and its code determine each
+//! other.
 #![tactic(auto)]
 
 mod code_laws;

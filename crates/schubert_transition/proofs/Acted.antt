@@ -1,29 +1,18 @@
 -- A monomial times a Schubert polynomial (specs/Acted).
---     acted_identity    the identity leaves the monomial
---     acted_start       1 times the Schubert polynomial
---     acted_natural     it has no negative coefficients
---     acted_at          and a monomial of it
+--     acted_start       1 times the Schubert polynomial is that polynomial
+--     acted_natural     the product has no negative coefficients
+--     acted_at          its coefficient at a monomial
 use Rattle.std.proofs.Common.{◌≡◌, ℕ, Bool, true, false, cond, List, [], refl, ap, ◌∙◌, arith, ℤ, pos, ◌≤ℤ◌}
-use Rattle.std.specs.Prelude.{None}
 use Rattle.std.proofs.lemmas.Int.{ints}
-use Rattle.sym_model.specs.Polynomial.{Poly, same, join, pair, one, no_exponents, resize, fits_in}
-use Rattle.sym_model.specs.Permutation.{IsOneLine, last_descent}
+use Rattle.sym_model.specs.Polynomial.{Poly, same, join, pair, one, resize, fits_in}
 use Rattle.sym_model.specs.Schubert.{schubert, schubert_in}
 use Rattle.sym_model.proofs.Sums.{total_not_negative}
-use Rattle.sym_model.proofs.Exponents.{same_true, same_refl, join_comm, join_zeros, length-resize, resize-nil, fits_in_length}
-use Rattle.sym_model.proofs.Polynomials.{pair_in, pair_determined, pair_one, at_only, In_restrict, at_only-nonnegative}
+use Rattle.sym_model.proofs.Exponents.{same_true, same_refl, join_zeros, resize-nil, fits_in_length}
+use Rattle.sym_model.proofs.Polynomials.{pair_in, at_only, In_restrict, at_only-nonnegative}
 use Rattle.sym_model.proofs.Integers.{cond-nonnegative}
-use Rattle.schubert_laws.proofs.LowerPermutations.{identity_is_one}
 use Rattle.schubert_transition.specs.Acted.{acted}
 use Rattle.transition_walk.proofs.Monomials.{HasMonomials}
 use Rattle.sym_model.proofs.PolynomialLaws.{restricted_test}
-
-pub acted_identity : (n : ℕ) (φ : List ℕ → ℤ) (w e : List ℕ) → IsOneLine w → last_descent w ≡ None → acted n φ w e ≡ restricted_test n φ e
-acted_identity n φ w e o d =
-    ap (λ z. cond (fits_in n e) z (pos 0))
-    (pair_determined (schubert_in w n) (one n) (λ β. φ (join (resize n e) β)) (identity_is_one w n o d)
-    ∙ pair_one n (λ β. φ (join (resize n e) β))
-    ∙ ap φ (join_comm (resize n e) (no_exponents n) ∙ join_zeros n (resize n e) (let l = length-resize n e in omega arith)))
 
 pub acted_start : (n : ℕ) (φ : List ℕ → ℤ) (w : List ℕ) → acted n φ w [] ≡ pair (schubert_in w n) φ
 acted_start n φ w =
@@ -31,7 +20,7 @@ acted_start n φ w =
     ∙ pair_in n (schubert_in w n) (λ β. φ (join (resize n []) β)) φ (In_restrict n (schubert w))
     (λ β l. ap φ (ap (λ α. join α β) (resize-nil n) ∙ join_zeros n β (omega arith)))
 
--- ---- coefficients
+-- ---- coefficients that are not negative
 
 monomials_natural : (f : Poly) (φ : List ℕ → ℤ) (h : HasMonomials f) → ((α : List ℕ) → pos 0 ≤ℤ φ α) → φ h.first ≤ℤ pair f φ
 monomials_natural f φ h k = let a = h.sums φ in let b = total_not_negative φ h.others k in omega (arith, ints)

@@ -1,6 +1,6 @@
 -- The list at the end of the transition rule is the Schubert polynomial.
---     final            of the list that is made
---     overflow_past    where something on the way is too large, so is a coefficient
+--     final            the list is the polynomial
+--     overflow_past    an overflow on the way shows a coefficient that exceeds the limit
 use Rattle.std.proofs.Common.{◌≡◌, ℕ, zero, suc, ◌+◌, ◌*◌, ◌^◌, ◌≤◌, Bool, true, false, cond, List, [], ◌∷◌, length, refl, sym, ap, ◌∙◌, subst, inl, inr, arith, ℤ, pos, negsuc, ◌+ℤ◌, ◌-ℤ◌, ◌*ℤ◌, ◌≤ℤ◌}
 use Rattle.std.specs.Prelude.{nat_abs, nat_eq, FitsSigned, Result, Ok, Err, IfOk, OnOk}
 use Rattle.std.specs.Int.{w128}
@@ -32,32 +32,29 @@ use Rattle.linear_combinations.proofs.Masses.{represents_sums}
 use Rattle.linear_combinations.proofs.Totals.{term-among}
 use Rattle.transition_walk.specs.Growth.{IsShare, SharesOverflow, top_of}
 use Rattle.transition_walk.specs.Transitions.{IsShort}
-use Rattle.transition_walk.proofs.Labels.{one_one_line}
+use Rattle.transition_walk.proofs.Answering.{sums_as}
 use Rattle.transition_walk.proofs.Monomials.{restrict_pair, schubert_monomials}
 use Rattle.transition_walk.proofs.Shares.{natural}
 use Rattle.schubert_transition.specs.Acted.{acted, raised_terms}
 use Rattle.schubert_transition.specs.TermLists.{AreTerms, IsMonomialTable, IsSchubertOf}
-use Rattle.schubert_transition.proofs.Acted.{acted_identity, acted_start, acted_at, shown_natural, at_only_here}
+use Rattle.schubert_transition.specs.ActedLaws.{identity_shows}
+use Rattle.schubert_transition.proofs.Acted.{acted_start, acted_at, shown_natural, at_only_here}
 use Rattle.schubert_transition.proofs.VariableShares.{coefficient_share, share_is, exact_share, outside_share, outside_falls, outside_start, within_by, within_terms}
 use Rattle.sym_model.proofs.PolynomialLaws.{restricted_test}
 use Rattle.sym_model.specs.PastLimit.{HasPast, IsCoefficientOfSchubert}
 use Rattle.linear_combinations.specs.Gains.{weighed}
 use Rattle.sparse_polys.proofs.PolynomialValues.{pair_x_to_in}
 
--- the identity leaves the monomial
-identity_shows : (n : ℕ) (φ : List ℕ → ℤ) (e : List ℕ) → acted n φ (1 ∷ []) e ≡ restricted_test n φ e
-identity_shows n φ e = acted_identity n φ (1 ∷ []) e one_one_line refl
+-- ---- the polynomial of the list
 
--- ---- what the list represents
-
--- the coefficients of the Schubert polynomial, in as many variables as there are letters
+-- the coefficient of x^α in S_w is that in S_w read in one variable for each letter of w
 coefficient_is : (w α : List ℕ) → coefficient_of (polynomials.schubert w) α ≡ pair (schubert_in w (length w)) (at_only α)
 coefficient_is w α = coefficient_pair (polynomials.schubert w) α ∙ sym (restrict_pair (length w) (polynomials.schubert w) (at_only α) (In_schubert w))
 
 past_from : (w γ : List ℕ) → pos (2 ^ 127) ≤ℤ pair (schubert_in w (length w)) (at_only γ) → HasPast (IsCoefficientOfSchubert w)
 past_from w γ h = (coefficient_of (polynomials.schubert w) γ, (γ, refl), is_past-from (coefficient_of (polynomials.schubert w) γ) (subst (λ z. pos (2 ^ 127) ≤ℤ z) (sym (coefficient_is w γ)) h))
 
--- ---- a label is told by its exponents in enough variables
+-- ---- in enough variables, the exponents determine the label
 
 trimmed_resize : (n : ℕ) (e : List ℕ) → length e ≤ n → without_last_zeros (resize n e) ≡ without_last_zeros e
 trimmed_resize zero [] h = refl
@@ -93,9 +90,9 @@ over_within φ ψ (t ∷ terms) h =
 trimmed_label : (e : List ℕ) → is_monomial_label e ≡ true → without_last_zeros e ≡ e
 trimmed_label e h = same_true (without_last_zeros e) e (and_parts _ _ (and_parts _ _ h).0).0
 
--- ---- no coefficient is negative
+-- ---- no coefficient of the list is negative
 
--- the weights of a list are its sums only where it has no negative coefficient
+-- if the sum of f(e)·|c| over the terms (e, c) is at most the sum of f(e)·c, then c is not negative for each term with f(e) > 0
 not_negative : (f : List ℕ → ℕ) (terms : WholeTerms) → pos (weighed f terms) ≤ℤ over (λ e. pos (f e)) terms
     → (t : List ℕ × ℤ) → Among t terms → 1 ≤ f t.0 → pos 0 ≤ℤ t.1
 not_negative f [] h t m some = absurd m
@@ -123,11 +120,11 @@ not_negative f (u ∷ terms) h t m some = by m (least u.1 (f u.0)) (all terms) (
         subst (λ (v : List ℕ × ℤ). pos 0 ≤ℤ v.1) (sym e) z
     by (inr k) a b rest = rest k (omega (arith, ints))
 
--- ---- the list that is made
+-- ---- the list at the end of the transition rule
 
--- what is known of it
+-- `terms` is S_w in every number of variables, a table of monomials, with coefficients below 2^127
 record IsMade (w : List ℕ) (terms : WholeTerms) : Type 0 where
-  value : (n : ℕ) (φ : List ℕ → ℤ) → over (acted n φ (1 ∷ [])) terms ≡ acted n φ w []
+  value : (n : ℕ) (φ : List ℕ → ℤ) → over (λ e. pair (x_to_in e n) φ) terms ≡ acted n φ w []
   table : IsMonomialTable terms
   held : AreHeld (pointwise nat_eq) (pos 0) (FitsSigned w128) terms
   shares : (share : List ℕ → List ℕ → ℕ) → IsShare (λ r v e. raised_terms r e) (λ e. 255 + size e) (length w) (top_of w 255) share
@@ -136,8 +133,7 @@ record IsMade (w : List ℕ) (terms : WholeTerms) : Type 0 where
 module _ (w : List ℕ) (short : IsShort (length w) w) (terms : WholeTerms) (is : IsMade w terms) where
   sums : (n : ℕ) (φ : List ℕ → ℤ) → over (restricted_test n φ) terms ≡ pair (schubert_in w n) φ
   sums n φ =
-      total_ext (λ (t : List ℕ × ℤ). t.1 *ℤ restricted_test n φ t.0) (λ (t : List ℕ × ℤ). t.1 *ℤ acted n φ (1 ∷ []) t.0)
-      (λ t. ap (λ z. t.1 *ℤ z) (sym (identity_shows n φ t.0))) terms
+      sums_as (restricted_test n φ) (λ e. pair (x_to_in e n) φ) (λ e. sym (pair_x_to_in n e φ)) terms
       ∙ is.value n φ ∙ acted_start n φ w
 
   within : (t : List ℕ × ℤ) → Among t terms → (length t.0 ≤ length w) × (size t.0 + 0 ≤ inversions w)
@@ -200,7 +196,7 @@ short_of : (w : List ℕ) → IsOneLine w → IsShort (length w) w
 short_of w one_line = record { one_line = one_line; few = omega arith }
 
 pub final : {E : Type 0} (w : List ℕ) (one : List ℕ) (r : Result WholeTerms E) → IsOneLine w → one ≡ []
-    → IfOk r (λ terms. (n : ℕ) (φ : List ℕ → ℤ) → over (acted n φ (1 ∷ [])) terms ≡ acted n φ w one)
+    → IfOk r (λ terms. (n : ℕ) (φ : List ℕ → ℤ) → over (λ e. pair (x_to_in e n) φ) terms ≡ acted n φ w one)
     → IfOk r IsMonomialTable → IfOk r (AreHeld (pointwise nat_eq) (pos 0) (FitsSigned w128))
     → IfOk r (λ terms. (share : List ℕ → List ℕ → ℕ) → IsShare (λ r v e. raised_terms r e) (λ e. 255 + size e) (length w) (top_of w (255 + size one)) share
     → weighed (share (1 ∷ [])) terms ≤ share w one)
@@ -220,9 +216,9 @@ pub fits_of : {E : Type 0} (w : List ℕ) (r : Result WholeTerms E) → IfOk r (
 fits_of w (Ok terms) h = h.fits
 fits_of w (Err e) h = tt
 
--- ---- what is too large on the way
+-- ---- overflows on the way
 
--- a coefficient of what waits at the label is one of the polynomial
+-- an overflow at a label makes the coefficient of x^γ exceed the limit, if γ occurs in the label times its polynomial
 reached : (w : List ℕ) → IsOneLine w
     → (o : SharesOverflow (λ r v e. raised_terms r e) (λ e. 255 + size e) (length w) (top_of w 255) (λ share. share w [])) (γ : List ℕ)
     → at_only o.label o.label ≤ℤ acted (length w) (at_only γ) o.perm o.label → HasPast (IsCoefficientOfSchubert w)

@@ -1,4 +1,4 @@
--- What is kept stays kept, by what the store does with its entries.
+-- The store of Schubert polynomials keeps its invariant when it changes.
 use Rattle.std.proofs.Common.{Bor, ◌≡◌, ◌+◌, ◌-◌, ◌<◌, ◌≤◌, ◌⊎◌, ℕ, zero, suc, Bool, true, false, cond, List, [], ◌∷◌, length, take, Option, Some, None, inl, inr, refl, sym, ap, ◌∙◌, subst, arith, option_map, pos}
 use Rattle.std.specs.Prelude.{Contains, nat_eq, IfSome, option_copied, Result, Ok, Err, OnOk, OnErr}
 use Rattle.std.specs.Cmp.Lexicographic.{pointwise}
@@ -19,11 +19,11 @@ use Rattle.sym_model.specs.Schubert.{schubert_in}
 use Rattle.schubert_transition.specs.Kept.{AreKept, IsSchubertStore, Store, kept_for, ComesFirst}
 use Rattle.schubert_transition.specs.TermLists.{IsSchubertOf, IsMonomialTable}
 
--- a test for the permutation
+-- whether a list is the permutation w
 abbrev is : List ℕ → List ℕ → Bool
 is w = pointwise nat_eq w
 
--- without the entry that a test finds there is one less
+-- removing the entry that a test finds leaves one entry less
 removed_length : {K V : Type 0} (test : K → Bool) (es : List (K × V)) (e : K × V) → lookup_entry test es ≡ Some e → length (remove_entry test es) + 1 ≡ length es
 removed_length test [] e h = cc
 removed_length {K} {V} test (f ∷ es) e h = by (test f.0) h (removed_length test es e)
@@ -59,14 +59,14 @@ promoted_store w store held = record {
   room = held.room;
 }
 
--- what is found is the polynomial of the permutation
+-- if the store of Schubert polynomials has `terms` at w, `terms` is S_w
 pub found : (w : List ℕ) (entries : List (List ℕ × WholeTerms)) (terms : WholeTerms) → AreKept entries
     → lookup (is w) entries ≡ Some terms → IsSchubertOf w terms
 found w entries terms kept at =
     let c = Contains-lookup (is w) entries terms at in
     subst (λ v. IsSchubertOf v terms) (sym (same_partition w c.0 c.2)) (kept.each (c.0, terms) c.1).0
 
--- a copy of a polynomial is one too
+-- if `terms` is S_w, so is a copy of it with the same coefficients
 pub copied : (w : List ℕ) (terms copy : WholeTerms) → IsMonomialTable copy → HasSameCoefficients (pointwise nat_eq) (pos 0) terms copy → IsSchubertOf w terms → IsSchubertOf w copy
 copied w terms copy second same h = record {
   represents = λ n. represents_same nat_list_eq_equiv same_partition terms copy h.table second same (λ exponents. x_to_in exponents n) (schubert_in w n) (h.represents n);
@@ -75,11 +75,11 @@ copied w terms copy second same h = record {
   fits = h.fits;
 }
 
--- and no longer
+-- a copy of a table with the same coefficients has at most as many terms
 pub as_long : (terms copy : WholeTerms) → IsMonomialTable terms → IsMonomialTable copy → HasSameCoefficients (pointwise nat_eq) (pos 0) terms copy → length copy ≤ length terms
 as_long terms copy first second same = length_same nat_list_eq_equiv same_partition (pos 0) whole refl copy terms second first (λ label. sym (same label))
 
--- after a put each entry was there, or is the one that was put
+-- after an insertion each entry is an old one or the inserted one
 pub put_kept : (c : LruCache (List ℕ) WholeTerms) (w : List ℕ) (terms : WholeTerms) → AreKept c.entries → IsSchubertOf w terms
     → length terms ≤ 4096 → AreKept (put_entries (pointwise nat_eq) c w terms)
 put_kept c w terms kept h few = record { each = λ e at. by e (Contains-put_entries (pointwise nat_eq) c w terms e at) }
@@ -90,7 +90,7 @@ put_kept c w terms kept h few = record { each = λ e at. by e (Contains-put_entr
     by e (inr (same, inr was)) =
         (subst (λ t. IsSchubertOf e.0 t) (sym same) (subst (λ v. IsSchubertOf v terms) (same_partition w e.0 was.2) h), subst (λ (t : WholeTerms). length t ≤ 4096) (sym same) few)
 
--- the same of an answer that lends it
+-- if the look-up of w returns a reference to a polynomial, that polynomial is S_w
 pub found_if : (w : List ℕ) (entries : List (List ℕ × WholeTerms)) (o : Option (Bor WholeTerms)) → AreKept entries
     → option_copied o ≡ lookup (is w) entries → IfSome o (λ terms. IsSchubertOf w terms.now)
 found_if w entries None kept at = tt
@@ -104,7 +104,7 @@ put_if c new w terms (Ok x) held h few well ill =
     (record { kept = put_kept c w terms held.kept h few; few = put_length (pointwise nat_eq) c w terms held.few held.room; room = held.room })
 put_if c new w terms (Err e) held h few well ill = subst IsSchubertStore (sym ill) held
 
--- what was put and was not kept before comes first
+-- if the store did not have w and has changed, the new one has w with its polynomial in front
 pub comes_first : (w : List ℕ) (old new : Store) → kept_for w old ≡ None
     → (new ≡ old) ⊎ ((polynomial : WholeTerms) × (new ≡ lru_cache (put_entries (pointwise nat_eq) old w polynomial) old.cap)) → (new ≡ old) ⊎ ComesFirst w old new
 comes_first w old new none (inl same) = inl same

@@ -1,4 +1,4 @@
--- Monomials times Schubert polynomials, seen through test functions.
+-- The product of a monomial and a Schubert polynomial, paired with a test function.
 use Rattle.std.specs.Prelude.{ℕ, ℤ, pos, List, [], ◌∷◌}
 use Rattle.sym_model.specs.DividedDifference.{raised}
 use Rattle.sym_model.specs.Polynomial.{join, pair}
@@ -6,12 +6,11 @@ use Rattle.sym_model.specs.Schubert.{schubert_in}
 use Rattle.sym_model.specs.WholeTerms.{WholeTerms}
 use Rattle.sym_model.proofs.PolynomialLaws.{restricted_test}
 
--- the pairing of x^exponents times the Schubert polynomial of w with a test function,
--- in n variables
+-- x^exponents times the Schubert polynomial of w, in n variables, paired with a test function
 abbrev pub acted : ℕ → (List ℕ → ℤ) → List ℕ → List ℕ → ℤ
 acted n φ w exponents =
     restricted_test n (λ α. pair (schubert_in w n) (λ β. φ (join α β))) exponents
 
--- the list of the one monomial x_r·x^exponents
+-- the list whose only term is the monomial x_r·x^exponents
 abbrev pub raised_terms : ℕ → List ℕ → WholeTerms
 raised_terms r exponents = (raised r exponents, pos 1) ∷ []

@@ -1,22 +1,28 @@
--- What the impls of `TimesVar` cite: a monomial times a Schubert polynomial under the transition
--- rule, and times a variable.
-use Rattle.std.proofs.Common.{◌≡◌, ℕ, ◌+◌, ◌≤◌, ◌<◌, Bool, true, false, ◌&&◌, cond, List, sym, ap}
+-- Lemmas that the implementations of `Factor` and `Rule` by `TimesVar` cite: a monomial times a Schubert polynomial
+-- under the transition rule, and times a variable.
+use Rattle.std.proofs.Common.{◌≡◌, ℕ, ◌+◌, ◌≤◌, ◌<◌, Bool, true, false, ◌&&◌, cond, List, [], ◌∷◌}
+use Rattle.std.proofs.Common.{refl, sym, ap}
 use Rattle.std.proofs.Common.{◌∙◌, subst, inl, inr, arith, ℤ, pos, ◌+ℤ◌, ◌*ℤ◌}
-use Rattle.sym_model.specs.DividedDifference.{raised}
+use Rattle.sym_model.specs.DividedDifference.{raised, x_to_in}
 use Rattle.sym_model.specs.LabelLimits.{is_monomial_label}
 use Rattle.sym_model.specs.Partition.{size}
 use Rattle.sym_model.specs.Permutation.{IsOneLine, IsTransition, times_swap, covers_down}
-use Rattle.sym_model.specs.Polynomial.{join, pair, resize, fits_in}
+use Rattle.sym_model.specs.Polynomial.{join, no_exponents, one, pair, resize, fits_in}
 use Rattle.sym_model.specs.Schubert.{schubert_in}
 use Rattle.sym_model.specs.Sum.{total}
-use Rattle.sym_model.proofs.Exponents.{join_assoc, resize-join, fits_in-join}
-use Rattle.sym_model.proofs.Polynomials.{pair_ext}
+use Rattle.sym_model.proofs.Exponents.{join_assoc, join_comm, join_zeros, length-resize, resize-join}
+use Rattle.sym_model.proofs.Exponents.{fits_in-join}
+use Rattle.sym_model.proofs.PolynomialLaws.{restricted_test}
+use Rattle.sym_model.proofs.Polynomials.{pair_determined, pair_ext, pair_one}
 use Rattle.sym_model.proofs.Ring.{one-product}
 use Rattle.sym_model.proofs.Sums.{total_zero}
 use Rattle.linear_combinations.specs.Gains.{over}
+use Rattle.schubert_laws.proofs.LowerPermutations.{identity_is_one}
+use Rattle.sparse_polys.proofs.PolynomialValues.{pair_x_to_in}
 use Rattle.sparse_polys.proofs.Raising.{size-raised}
 use Rattle.transition_walk.specs.Growth.{GrowsBy}
 use Rattle.transition_walk.specs.Transitions.{IsShort}
+use Rattle.transition_walk.proofs.Labels.{one_one_line}
 use Rattle.transition_walk.proofs.Monomials.{unit, pair_transition, pair_variable}
 use Rattle.schubert_transition.specs.Acted.{acted, raised_terms}
 use lib.IntN.{+ℤ_idl, +ℤ_idr}
@@ -58,6 +64,21 @@ acted_step n r s φ w e o t =
     by false =
         sym (+ℤ_idl (total (λ (x : List ℕ). pos 0) (covers_down r (times_swap r s w)))
         ∙ total_zero (covers_down r (times_swap r s w)))
+
+-- if w is the identity, x^e·S_w is x^e
+pub identity_shows : (n : ℕ) (φ : List ℕ → ℤ) (e : List ℕ)
+    → acted n φ (1 ∷ []) e ≡ restricted_test n φ e
+identity_shows n φ e =
+    ap (λ z. cond (fits_in n e) z (pos 0))
+    (pair_determined (schubert_in (1 ∷ []) n) (one n) (λ β. φ (join (resize n e) β))
+    (identity_is_one (1 ∷ []) n one_one_line refl)
+    ∙ pair_one n (λ β. φ (join (resize n e) β))
+    ∙ ap φ (join_comm (resize n e) (no_exponents n)
+    ∙ join_zeros n (resize n e) (let l = length-resize n e in omega arith)))
+
+pub variable_start : (n : ℕ) (φ : List ℕ → ℤ) (e : List ℕ)
+    → acted n φ (1 ∷ []) e ≡ pair (x_to_in e n) φ
+variable_start n φ e = identity_shows n φ e ∙ sym (pair_x_to_in n e φ)
 
 pub over_raised : (r : ℕ) (φ : List ℕ → ℤ) (e : List ℕ) → over φ (raised_terms r e) ≡ φ (raised r e)
 over_raised r φ e = +ℤ_idr (pos 1 *ℤ φ (raised r e)) ∙ one-product (φ (raised r e))

@@ -1,4 +1,4 @@
--- Kept Schubert polynomials.
+-- The store of Schubert polynomials.
 use Rattle.std.specs.Prelude.{◌≡◌, ℕ, ◌-◌, ◌<◌, ◌≤◌, List, ◌∷◌, length, take, nat_eq, Contains}
 use Rattle.std.specs.Prelude.{Option, None, IsSome}
 use Rattle.std.specs.Cmp.Lexicographic.{pointwise}
@@ -7,32 +7,32 @@ use Rattle.lru.specs.LruCache.{LruCache, lru_cache, promoted}
 use Rattle.sym_model.specs.WholeTerms.{WholeTerms}
 use Rattle.schubert_transition.specs.TermLists.{IsSchubertOf}
 
--- each permutation has its Schubert polynomial with it, of at most 4,096 terms
+-- each permutation is kept with its Schubert polynomial, which has at most 4,096 terms
 pub record AreKept (entries : List (List ℕ × WholeTerms)) : Type 0 where
   pub each : (e : List ℕ × WholeTerms) → Contains entries e
       → IsSchubertOf e.0 e.1 × (length e.1 ≤ 4096)
 
--- the permutations with their polynomials, the most recently asked first, and how many there may be
+-- the permutations with their polynomials, the most recently requested first, and the capacity
 abbrev pub Store : Type 0
 Store = LruCache (List ℕ) WholeTerms
 
--- a store of such permutations, and of no more than there may be, which is one at least
+-- a store of Schubert polynomials with at most as many entries as its capacity, which is at least 1
 pub record IsSchubertStore (store : Store) : Type 0 where
   pub kept : AreKept store.entries
   pub few : length store.entries ≤ store.cap
   pub room : 0 < store.cap
 
--- what the store has for a permutation
+-- the polynomial that the store has for w; `None` if it has none
 abbrev pub kept_for : List ℕ → Store → Option WholeTerms
 kept_for w store = lookup (pointwise nat_eq w) store.entries
 
--- it had the permutation, which goes first now
+-- the old store kept the permutation, and in the new one it is first
 abbrev pub GoesFirst : List ℕ → Store → Store → Type 0
 GoesFirst w old new =
     IsSome (kept_for w old) × (new ≡ lru_cache (promoted (pointwise nat_eq w) old.entries) old.cap)
 
--- it did not have the permutation, which comes first now with a polynomial,
--- and the last of a full store goes
+-- the old store did not keep the permutation; in the new one it is first, with a polynomial, and a full store dropped
+-- its last entry
 pub record ComesFirst (w : List ℕ) (old new : Store) : Type 0 where
   pub absent : kept_for w old ≡ None
   pub polynomial : WholeTerms

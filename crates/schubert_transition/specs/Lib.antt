@@ -1,4 +1,3 @@
--- The definitions that the contracts cite.
 pub mod Acted
 pub mod ActedLaws
 pub mod TermLists

@@ -1,4 +1,4 @@
--- Schubert polynomials as lists of monomials with whole coefficients.
+-- Schubert polynomials as lists of monomials with integer coefficients.
 use Rattle.std.specs.Prelude.{ℕ, ◌^◌, ◌≤◌, ◌≤ℤ◌, ◌<ℤ◌, nat_eq, ℤ, pos, List, length}
 use Rattle.std.specs.Cmp.Lexicographic.{pointwise}
 use Rattle.coeff_rings.specs.Fractions.{whole}
@@ -21,11 +21,11 @@ pub record IsTerm (n d : ℕ) (t : List ℕ × ℤ) : Type 0 where
   pub natural : pos 0 ≤ℤ t.1
   pub held : t.1 <ℤ pos (2 ^ 127)
 
--- each term is such a one
+-- each term has at most n variables, a degree of at most d, and a coefficient from 0 to 2^127 - 1
 abbrev pub AreTerms : ℕ → ℕ → WholeTerms → Type 0
 AreTerms n d terms = (t : List ℕ × ℤ) → Among t terms → IsTerm n d t
 
--- each monomial is in the list once, with a coefficient that is not 0
+-- each monomial occurs once, with a coefficient that is not 0
 abbrev pub IsMonomialTable : WholeTerms → Type 0
 IsMonomialTable terms = IsCombination (pointwise nat_eq) is_monomial_label whole terms
 

@@ -1,16 +1,19 @@
-//! Schubert polynomials by the transition rule, and a bounded store of those that were asked for.
+//! Schubert polynomials by the transition rule, and a bounded store of Schubert polynomials.
 //!
 //! What is proved:
 //!
 //! `schubert`, `schubert_terms`: the Schubert polynomial of a permutation, in every number of
-//! variables, by transition (`transition_walk`); `Large` exactly where a coefficient is 2^127 or
-//! more. `Memo`: a bounded store of Schubert polynomials over `lru`, each kept one that of its
-//! permutation, in every number of variables, with at most 4,096 terms. Its `schubert` and
-//! `schubert_terms` answer as those without a store; `kept` is None exactly where none is kept. It
-//! never keeps more than its capacity (`IsSchubertStore`, which every method that changes the store
-//! ensures). One that is kept goes first when it is asked for (`GoesFirst`); another one comes
-//! first, and the last of a full store goes (`ComesFirst`), or the store stays as it was, as it
-//! does for one of more than 4,096 terms and where `schubert` refuses.
+//! variables, by transition (`transition_walk`); `Large` is returned if and only if a coefficient
+//! is 2^127 or more. `Memo`: a bounded store of Schubert polynomials over `lru`; each kept
+//! polynomial is that of its permutation, in every number of variables, with at most 4,096 terms.
+//! Its `schubert` and `schubert_terms` return what the functions without a store do; `kept` returns
+//! None if and only if the polynomial is not kept.
+//!
+//! The store never keeps more than its capacity (`IsSchubertStore`, which every method that changes
+//! the store ensures). A kept polynomial moves to the front when it is requested (`GoesFirst`);
+//! another one is inserted in front, and a full store drops its last one (`ComesFirst`), or the
+//! store is unchanged, as it is for a polynomial of more than 4,096 terms and if `schubert` returns
+//! an error.
 #![tactic(auto)]
 
 mod memo;

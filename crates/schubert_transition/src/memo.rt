@@ -22,15 +22,15 @@ use std::alloc::Global;
 use std::marker::Model;
 use std::num::NonZeroUsize;
 
-/// The most terms of a polynomial that is kept.
+/// The greatest number of terms of a polynomial that is kept.
 const MOST_TERMS: usize = 4096;
 
-/// A polynomial with whole coefficients.
+/// A polynomial with integer coefficients.
 pub(crate) type Polynomial = Lin<Monomial, Int>;
 
 /// A bounded store of Schubert polynomials. When a full store takes another one, the least recently
-/// asked polynomial is dropped. A contract sees the permutations with their polynomials, the most
-/// recently asked first, and the capacity, which is never exceeded.
+/// requested polynomial is dropped. A contract sees the permutations with their polynomials, the
+/// most recently requested first, and the capacity, which is never exceeded.
 #[derive(Drop)]
 pub struct Memo {
     cache: LruCache<Perm, Polynomial>,
@@ -51,7 +51,7 @@ impl Model for Memo {
 }
 
 impl Memo {
-    /// A store of at most `capacity` polynomials, which is empty.
+    /// An empty store of at most `capacity` polynomials.
     pub fn new(alloc: Global, capacity: usize) -> Result<Memo, NoMemory>
         requires { (1 ≤ capacity) × (capacity ≤ 4096) }
         ensures { IfOk result (λ memo. memo ≡ lru_cache [] capacity) }
@@ -64,11 +64,11 @@ impl Memo {
     }
 
     /// The Schubert polynomial of a permutation. If it is kept, it moves to the front. Otherwise it
-    /// is computed and, with at most 4,096 terms, put in front, and a full store drops its last
-    /// one. If there is no memory for that, or it has more terms, the store stays as it is.
+    /// is computed; if it has at most 4,096 terms, it is inserted in front, and a full store drops
+    /// its last one. If there is no memory to keep it, or it has more terms, the store is
+    /// unchanged.
     ///
-    /// It is refused as `Large` exactly if a coefficient exceeds 2^127 - 1,
-    /// and then the store stays as it is.
+    /// Returns `Large` if and only if a coefficient exceeds 2^127 - 1; then the store is unchanged.
     pub fn schubert(&mut self, w: &Perm) -> Result<Polynomial, SumFault>
         ensures is { IfOk result (IsSchubertOf w.now) }
         ensures large { IsErrOf result SumFault.Large
@@ -93,8 +93,8 @@ impl Memo {
         }
     }
 
-    /// The polynomial that is kept for a permutation;
-    /// None exactly if none is kept for it. It takes no memory.
+    /// The polynomial kept for a permutation; None if and only if none is kept. It allocates no
+    /// memory.
     pub fn kept(&self, w: &Perm) -> Option<&Polynomial>
         ensures value { option_copied result ≡ lookup (pointwise nat_eq w.now) self.now.entries }
         ensures is { IfSome result (λ terms. IsSchubertOf w.now terms.now) }
@@ -103,10 +103,10 @@ impl Memo {
         self.cache.peek(w)
     }
 
-    /// The terms of the Schubert polynomial of a permutation, in the printed order,
-    /// kept as `schubert` keeps it.
+    /// The terms of the Schubert polynomial of a permutation, in the printed order; the polynomial
+    /// is kept as by `schubert`.
     ///
-    /// It is refused as `Large` exactly if a coefficient exceeds 2^127 - 1.
+    /// Returns `Large` if and only if a coefficient exceeds 2^127 - 1.
     pub fn schubert_terms(&mut self, w: &Perm) -> Result<Terms<Monomial, Int>, SumFault>
         ensures meets { IfOk result (λ terms.
             IsSchubertPolynomialOf w.now (as_fractions terms)) }
@@ -125,7 +125,7 @@ impl Memo {
         Ok(terms.sorted_terms()?)
     }
 
-    /// A copy of the polynomial that is kept for a permutation, where one is.
+    /// A copy of the polynomial kept for a permutation, or None if none is kept.
     fn copy_of(&self, w: &Perm) -> Result<Option<Polynomial>, NoMemory>
         ensures is { IfOk result (λ kept. IfSome kept (IsSchubertOf w.now)) }
         ensures found { IfOk result (λ kept. MatchOption kept
@@ -138,7 +138,7 @@ impl Memo {
         }
     }
 
-    /// Makes the permutation the most recently asked.
+    /// Makes the permutation the most recently requested one.
     fn promote(&mut self, w: &Perm)
         ensures kept { IsSchubertStore self.new }
         ensures capacity { self.new.cap ≡ self.old.cap }
@@ -148,8 +148,8 @@ impl Memo {
         self.cache.promote(w);
     }
 
-    /// The Schubert polynomial of a permutation, which is made,
-    /// and kept where it has at most 4,096 terms.
+    /// Computes the Schubert polynomial of a permutation, and keeps it if it has at most 4,096
+    /// terms.
     fn made(&mut self, w: &Perm) -> Result<Polynomial, SumFault>
         ensures is { IfOk result (IsSchubertOf w.now) }
         ensures large { IsErrOf result SumFault.Large
@@ -169,7 +169,7 @@ impl Memo {
         Ok(terms)
     }
 
-    /// The Schubert polynomial of a permutation, which is made.
+    /// Computes the Schubert polynomial of a permutation.
     fn fresh(&self, w: &Perm) -> Result<Polynomial, SumFault>
         ensures is { IfOk result (IsSchubertOf w.now) }
         ensures large { IsErrOf result SumFault.Large
@@ -180,7 +180,7 @@ impl Memo {
         schubert(self.alloc, w)
     }
 
-    /// Keeps a copy of the polynomial, or finds no memory for that.
+    /// Keeps a copy of the polynomial, if there is memory for it.
     fn keep(&mut self, w: &Perm, terms: &Polynomial)
         requires is { IsSchubertOf w.now terms.now }
         requires few { length terms.now ≤ 4096 }
@@ -197,7 +197,7 @@ impl Memo {
     }
 }
 
-/// Puts a polynomial into the store, or finds no memory for that.
+/// Inserts a polynomial into the store, if there is memory for it.
 fn put(cache: &mut LruCache<Perm, Polynomial>, w: Perm, terms: Polynomial)
     requires held { IsSchubertStore cache.old }
     requires is { IsSchubertOf w terms }

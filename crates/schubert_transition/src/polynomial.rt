@@ -14,7 +14,7 @@ use sparse_polys::Monomial;
 use std::alloc::Global;
 use transition_walk::{Factor, product_of};
 
-/// The variable x_r, by which the transition rule multiplies a polynomial.
+/// The rule that multiplies by the variable x_r: the factor of the transition rule for polynomials.
 #[derive(Drop)]
 pub(crate) struct TimesVar {
     pub(crate) r: u16,
@@ -41,9 +41,10 @@ impl Rule<Monomial, Monomial> for TimesVar {
 
 impl Factor<Monomial> for TimesVar {
     ghost use Rattle.std.specs.Prelude.{◌+◌};
+    ghost use Rattle.sym_model.specs.DividedDifference.{x_to_in};
     ghost use Rattle.sym_model.specs.Partition.{size};
     ghost use Rattle.schubert_transition.specs.Acted.{acted};
-    ghost use Rattle.schubert_transition.specs.ActedLaws.{variable_step, variable_grows};
+    ghost use Rattle.schubert_transition.specs.ActedLaws.{variable_start, variable_step, variable_grows};
 
     ghost made = { λ r v. record { r = r } };
 
@@ -53,20 +54,24 @@ impl Factor<Monomial> for TimesVar {
 
     ghost extra = { 0 };
 
+    ghost polynomial = { λ n exponents. x_to_in exponents n };
+
     ghost product = { acted };
 
     fn at(r: u16, _lower: &Perm) -> TimesVar {
         TimesVar { r }
     }
 
+    ghost start = { variable_start };
+
     ghost step = { variable_step };
 
     ghost grows = { variable_grows };
 }
 
-/// The Schubert polynomial of a permutation: what the transition rule makes of 1.
+/// The Schubert polynomial of a permutation, by the transition rule on 1.
 ///
-/// It is refused as `Large` exactly where a coefficient exceeds 2^127 - 1.
+/// Returns `Large` if and only if a coefficient exceeds 2^127 - 1.
 pub fn schubert(alloc: Global, w: &Perm) -> Result<Lin<Monomial, Int>, SumFault>
     ensures is { IfOk result (IsSchubertOf w.now) }
     ensures large { IsErrOf result SumFault.Large → HasPast (IsCoefficientOfSchubert w.now) }
@@ -78,7 +83,7 @@ pub fn schubert(alloc: Global, w: &Perm) -> Result<Lin<Monomial, Int>, SumFault>
 
 /// The terms of the Schubert polynomial of a permutation, in the printed order.
 ///
-/// It is refused as `Large` exactly where a coefficient exceeds 2^127 - 1.
+/// Returns `Large` if and only if a coefficient exceeds 2^127 - 1.
 pub fn schubert_terms(alloc: Global, w: &Perm) -> Result<Terms<Monomial, Int>, SumFault>
     ensures meets { IfOk result (λ terms.
         IsSchubertPolynomialOf w.now (as_fractions terms)) }

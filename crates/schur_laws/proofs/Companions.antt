@@ -1,5 +1,5 @@
--- The companion of a good tableau: the letter k + 1 stands in row r + 1 as often as the letter r + 1 stands in row k + 1 of its
--- companion, whose shape has the start as its inner and the sum as its outer partition.
+-- The companion of a good tableau: the letter k + 1 occurs in row r + 1 of the tableau as often as the letter r + 1 in
+-- row k + 1 of its companion, whose shape has the start as its inner and the sum as its outer partition.
 use Rattle.std.proofs.Common.{◌≡◌, ℕ, zero, suc, ◌+◌, ◌<◌, ◌≤◌, ◌⊎◌, List, [], ◌∷◌, map, length, drop, get_or, sym, ◌∙◌, ap, ap₂, subst, refl, inl, inr, arith}
 use Rattle.std.proofs.lemmas.Bool.{cases_lt}
 use Rattle.std.proofs.lemmas.List.{get_or_past, get_or-map, length-map}
@@ -11,11 +11,11 @@ use Rattle.schur_laws.proofs.SpelledWords.{spelled, spelled_rises, times_spelled
 use Rattle.schur_laws.proofs.TableauPlaces.{row}
 use Rattle.schur_laws.proofs.GoodTableaux.{sum_of, IsTableau, letters_up_to, all_up_to}
 
--- row k of the companion, from 0 on
+-- row k of the companion, counted from 0: zeros and the letters r + 1, each as often as the letter k + 1 occurs in row r of P
 companion_row : List ℕ → List (List ℕ) → ℕ → List ℕ
 companion_row start P k = spelled 0 (get_or start k 0 ∷ map (λ (w : List ℕ). times_in (suc k) w) P)
 
--- the lists that f gives of a, a + 1, .., of which there are n
+-- the n lists f(a), f(a + 1), .., f(a + n - 1)
 listed : (ℕ → List ℕ) → ℕ → ℕ → List (List ℕ)
 listed f a zero = []
 listed f a (suc n) = f a ∷ listed f (suc a) n
@@ -38,7 +38,7 @@ pub length_companion : (n : ℕ) (start : List ℕ) (P : List (List ℕ)) → le
 unfolding companion
 length_companion n start P = length_listed (companion_row start P) 0 n
 
--- what is told of each row of a companion
+-- Q is a companion of P: in row k, counted from 0, Q has `start` zeros, and the letter r + 1 as often as P has the letter k + 1 in row r
 pub record IsCompanion (start : List ℕ) (P Q : List (List ℕ)) : Type 0 where
   pub rises : (k : ℕ) → Rises (row Q k)
   pub zeros : (k : ℕ) → times_in 0 (row Q k) ≡ get_or start k 0
@@ -85,9 +85,10 @@ companion_tells n start outer inner end P s T = record {
         ∙ spelled_letters k r (cases_lt r (length P))
     by_letters k r (inr l) = ap (times_in (suc r)) (past k l) ∙ sym (T.letters r (suc k) (omega arith))
 
--- ---- rows of two neighbouring letters
+-- ---- the places of two neighbouring letters k + 1 and k + 2 in the rows
 
--- the places of the letters k + 1 and k + 2 in rows of which each stands rightly below the one above
+-- if the letters of each row are greater than those above, the places of the letters k + 1 and k + 2 in the rows
+-- satisfy `Places`
 letter_places : (P : List (List ℕ)) (k : ℕ) → ((r i : ℕ) → up_to_letter (suc i) (row P (suc r)) ≤ up_to_letter i (row P r))
     → Places (λ r. up_to_letter k (row P r)) (λ r. up_to_letter (suc k) (row P r)) (λ r. up_to_letter (suc (suc k)) (row P r))
     (λ r. times_in (suc (suc k)) (row P r)) (λ r. times_in (suc k) (row P r))
@@ -110,13 +111,13 @@ nothing_dropped : (j x : ℕ) → times_in x (drop j []) ≡ 0
 nothing_dropped zero x = refl
 nothing_dropped (suc j) x = refl
 
--- the sums right of a column, in more rows than there are
+-- adding m empty rows does not change the number of letters x right of column j
 right_in_more : (x j m : ℕ) (P : List (List ℕ)) → add_up (λ r. times_in x (drop j (row P r))) 0 (length P + m) ≡ add_up (λ r. times_in x (drop j (row P r))) 0 (length P)
 right_in_more x j m P =
     add_up-longer (λ r. times_in x (drop j (row P r))) 0 (length P) m
     (λ r l. ap (λ (w : List ℕ). times_in x (drop j w)) (get_or_past {X = List ℕ} P r [] (omega arith)) ∙ nothing_dropped j x)
 
--- a good tableau is one by the sums after each row
+-- in a good tableau P, the letters k + 2 in the rows up to r, added to start, are at most the letters k + 1 in the rows before r, added to start
 pub rows_compare : (n : ℕ) (start outer inner end : List ℕ) (P : List (List ℕ)) → IsTableau n start outer inner end P → (k r : ℕ)
     → get_or start (suc k) 0 + add_up (λ i. times_in (suc (suc k)) (row P i)) 0 (suc r) ≤ get_or start k 0 + add_up (λ i. times_in (suc k) (row P i)) 0 r
 rows_compare n start outer inner end P T k r =
@@ -143,7 +144,7 @@ rows_compare n start outer inner end P T k r =
         let g = T.good j k in
         omega arith
 
--- and sums after each row that compare so make it good
+-- if weakly increasing rows satisfy this comparison for each k and r, P is a good tableau
 pub columns_compare : (start : List ℕ) (P : List (List ℕ)) → ((r : ℕ) → Rises (row P r)) → ((r i : ℕ) → up_to_letter (suc i) (row P (suc r)) ≤ up_to_letter i (row P r))
     → ((k r : ℕ) → get_or start (suc k) 0 + add_up (λ i. times_in (suc (suc k)) (row P i)) 0 (suc r) ≤ get_or start k 0 + add_up (λ i. times_in (suc k) (row P i)) 0 r)
     → (j k : ℕ) → sum_of (drop j) start P (suc k) ≤ sum_of (drop j) start P k
@@ -156,7 +157,7 @@ columns_compare start P rises columns h j k =
 
 -- ---- the companion is a good tableau
 
--- letters up to k of a row of a companion
+-- the number of letters up to k in row i of a companion is counted by the letters i + 1 in the rows of the tableau
 companion_up_to : (n : ℕ) (start outer inner end : List ℕ) (P Q : List (List ℕ)) → IsTableau n start outer inner end P → IsCompanion start P Q → (i k : ℕ)
     → up_to_letter k (row Q i) ≡ get_or start i 0 + add_up (λ r. times_in (suc i) (row P r)) 0 k
 companion_up_to n start outer inner end P Q T C i k =
@@ -165,7 +166,7 @@ companion_up_to n start outer inner end P Q T C i k =
     let g = add_up-same (λ r. times_in (suc r) (row Q i)) (λ r. times_in (suc i) (row P r)) 0 k (C.letters i) in
     omega arith
 
--- and of a row of the tableau by the letters of its companion
+-- the number of letters up to k in row r of the tableau is r's inner part plus the number of letters r + 1 in the first k rows of its companion
 tableau_up_to : (n : ℕ) (start outer inner end : List ℕ) (P Q : List (List ℕ)) → IsTableau n start outer inner end P → IsCompanion start P Q → (r k : ℕ)
     → up_to_letter k (row P r) ≡ get_or inner r 0 + add_up (λ i. times_in (suc r) (row Q i)) 0 k
 tableau_up_to n start outer inner end P Q T C r k =
@@ -221,7 +222,7 @@ companion_tableau n start outer inner end P Q lq le T C = record {
         let c = T.columns r i in
         omega arith
 
--- ---- a tableau is told by its companion
+-- ---- two tableaux with the same companion are equal
 
 same_rows : (P Q : List (List ℕ)) → length P ≡ length Q → ((r : ℕ) → row P r ≡ row Q r) → P ≡ Q
 same_rows [] [] l e = refl

@@ -23,7 +23,7 @@ use Rattle.schur_laws.proofs.InnerShapeLists.{IsInside, inside-tells, same-witho
 use Rattle.sym_model.specs.Bounded.{AreAtMost}
 use lib.IntN.{+ℤ_idr}
 
--- ---- skew Schur polynomials as sums over rows
+-- ---- skew Schur polynomials as sums over the first row of a tableau
 
 may_follow_nothing : (d : ℕ) (T : List (List ℕ)) → may_follow d [] T ≡ true
 may_follow_nothing d [] = refl
@@ -41,7 +41,7 @@ pair_skew_schur n outer inner c φ holds =
     (λ T. ap (λ t. cond (t && semistandard inner T) (φ (content n (letters_of T))) (pos 0)) (sym (may_follow_nothing (c - part inner 1) T))) rows
     ∙ total_semistandard n outer inner c [] (λ T. φ (content n (letters_of T)))
 
--- below a row of zeros every row may stand
+-- if the letters of w are positive, w fits below a row of zeros
 zeros_rise : (n m : ℕ) (w : List ℕ) → AreLetters n w → columns_rise (replicate m 0) w ≡ true
 zeros_rise n zero w h = refl
 zeros_rise n (suc m) [] h = refl
@@ -55,7 +55,7 @@ below_zeros n m (a ∷ outer) h =
     (λ w k. sym (ap (λ t. cond t (total (λ T. h (w ∷ T)) (tableaux_below n outer [] 0 w)) (pos 0)) (zeros_rise n m w (rising-tells n 0 a w k).letters)))
     ∙ sym (total_straight n a outer (replicate m 0) h)
 
--- rows without cells at the end do not count
+-- a sum over the rows w of b letters below p, and over the tableaux of the shape l below w, is the sum over the tableaux of the shape b ∷ l below p
 row_in_front : (n b : ℕ) (l p : List ℕ) (g : List ℕ → ℤ)
     → total (λ w. cond (columns_rise p w) (total (λ T. g (w ++ letters_of T)) (tableaux_below n l [] 0 w)) (pos 0)) (rising_words n 0 b) ≡ total (λ T. g (letters_of T)) (tableaux_below n (in_front b l) [] 0 p)
 row_in_front n zero [] p g = ap (λ t. cond t (total (λ T. g ([] ++ letters_of T)) (tableaux_below n [] [] 0 [])) (pos 0) +ℤ pos 0) (columns_rise-nothing p) ∙ +ℤ_idr (g [] +ℤ pos 0)
@@ -70,7 +70,7 @@ below-without_last_zeros n (b ∷ shape) p g =
     (λ w. ap (λ z. cond (columns_rise p w) z (pos 0)) (below-without_last_zeros n shape w (λ l. g (w ++ l)))) (rising_words n 0 b)
     ∙ row_in_front n b (without_last_zeros shape) p g
 
--- ---- contents
+-- ---- the contents of rows cut at the letter n
 
 none_raised : (n j : ℕ) (w : List ℕ) (k : ℕ) → j ≤ n → AreLetters k w → times_in j (raised_by n w) ≡ 0
 none_raised n j [] k h l = refl
@@ -124,7 +124,7 @@ content-glued n k S T l m e =
     ∙ ap₂ ◌++◌ (map-among (λ j. times_in j w) (λ j. times_in j (letters_of S)) (after 0 n) (λ j o. let r = after_among 0 n j o in let h = r.1 in times_in_low n k j S T (omega arith) m e))
     (map-map (λ j. times_in j w) (λ j. n + j) (after 0 k) ∙ map-among (λ j. times_in (n + j) w) (λ j. times_in j (letters_of T)) (after 0 k) (λ j o. let r = after_among 0 k j o in times_in_high n j S T r.0 l e))
 
--- ---- the coproduct
+-- ---- the coproduct in n + k variables
 
 zeros_up_to : (n m : ℕ) → AreAtMost n (replicate m 0)
 zeros_up_to n zero = tt
@@ -134,7 +134,7 @@ length_zeros : (m : ℕ) → length {A = ℕ} (replicate m 0) ≡ m
 length_zeros zero = refl
 length_zeros (suc m) = ap suc (length_zeros m)
 
--- the tableaux of one shape inside and of what it leaves
+-- the sum over the tableaux S of an inner shape and T of the rest of the shape, with φ at the content of both
 one_inside : (n k : ℕ) (shape inner : List ℕ) (c m : ℕ) (φ : List ℕ → ℤ) → IsInside shape m inner
     → total (λ S. total (λ T. φ (content (n + k) (letters_of (glued n S T)))) (tableaux_below k shape inner c [])) (tableaux_below n inner [] 0 (replicate c 0))
     ≡ pair (beside (schur (without_last_zeros inner) n) (skew_schur shape (without_last_zeros inner) k)) φ

@@ -1,4 +1,4 @@
--- Columns rise in two rows exactly where they do in both parts that the rows are cut into at a letter n.
+-- Two rows have strictly increasing columns if and only if both parts of the rows, cut at a letter n, do.
 use Rattle.std.proofs.Common.{◌≡◌, ℕ, zero, suc, ◌+◌, ◌-◌, ◌<◌, ◌≤◌, ◌⊎◌, inl, inr, nat_le, nat_lt, Bool, true, false, ◌&&◌, List, [], ◌∷◌, ◌++◌, length, drop, refl, sym, ap, ap₂, ◌∙◌, arith}
 use Rattle.std.proofs.lemmas.Bool.{cases_lt, le-leb, lt-leb, lt-ltb, le-ltb}
 use Rattle.sym_model.specs.Schur.{columns_rise}

@@ -1,5 +1,5 @@
--- The tableaux of a straight shape with entries from 1 to n + k, cut at the entry n into a tableau of a shape inside and one of
--- the skew shape that is left.
+-- The tableaux of a straight shape with entries from 1 to n + k, cut at the entry n into a tableau of an inner shape
+-- and one of the skew shape that is left.
 use Rattle.std.proofs.Common.{◌≡◌, ℕ, ◌+◌, ◌-◌, ◌≤◌, inl, inr, nat_le, Bool, true, false, ◌&&◌, cond, List, [], ◌∷◌, ◌++◌, map, length, drop, min, refl, sym, ap, ◌∙◌, arith, ℤ, pos}
 use Rattle.std.proofs.lemmas.Int.{ints}
 use Rattle.sym_model.specs.Sum.{total, Among}
@@ -19,23 +19,23 @@ glued n [] T = []
 glued n (v ∷ S) [] = []
 glued n (v ∷ S) (w ∷ T) = (v ++ raised_by n w) ∷ glued n S T
 
--- the sum over a shape inside, a tableau of it below p and one of what is left below q
+-- the sum of h(S, T) over the inner shapes, the tableaux S of the inner shape that fit below p, and the tableaux T of the rest that fit below q
 abbrev pub cut_below : ℕ → ℕ → List ℕ → ℕ → List ℕ → List ℕ → (List (List ℕ) → List (List ℕ) → ℤ) → ℤ
 cut_below n k outer c p q h = total (λ inner. total (λ S. total (λ T. h S T) (tableaux_below k outer inner c q)) (tableaux_below n inner [] 0 p)) (shapes_inside outer c)
 
--- two rows in front
+-- h of the fillings S and T with the rows v and w in front of them
 abbrev before : (List (List ℕ) → List (List ℕ) → ℤ) → List ℕ → List ℕ → List (List ℕ) → List (List ℕ) → ℤ
 before h v w S T = h (v ∷ S) (w ∷ T)
 
--- the sum over the tableaux of one shape inside and of what it leaves
+-- the sum of h(S, T) over the tableaux S of one inner shape and T of the rest
 abbrev over_shape : ℕ → ℕ → ℕ → List ℕ → ℕ → List ℕ → List ℕ → (List (List ℕ) → List (List ℕ) → ℤ) → List ℕ → ℤ
 over_shape n k a outer c p q h inner = total (λ S. total (λ T. h S T) (tableaux_below k (a ∷ outer) inner c q)) (tableaux_below n inner [] 0 p)
 
--- the sum over those whose rows begin with v and w
+-- the sum of h over the fillings that begin with the rows v and w; 0 if w does not fit below q
 abbrev over_row : ℕ → List ℕ → ℕ → List ℕ → (List (List ℕ) → List (List ℕ) → ℤ) → ℕ → List ℕ → List ℕ → List (List ℕ) → List ℕ → ℤ
 over_row k outer c q h b v inner S w = cond (columns_rise q (drop (c - b) w)) (total (λ T. h (v ∷ S) (w ∷ T)) (tableaux_below k outer inner b w)) (pos 0)
 
--- the sums over the first rows come out
+-- the sum over inner shapes and tableaux is a sum over the first rows v and w, and then over the other rows
 first_rows : (n k a : ℕ) (outer : List ℕ) (c : ℕ) (p q : List ℕ) (h : List (List ℕ) → List (List ℕ) → ℤ)
     → cut_below n k (a ∷ outer) c p q h
     ≡ total (λ b. total (λ v. total (λ w. cond (columns_rise p v && columns_rise q (drop (c - b) w)) (cut_below n k outer b v w (before h v w)) (pos 0)) (rising_words k 0 (a - b))) (rising_words n 0 b)) (up_to (min a c))

@@ -1,5 +1,5 @@
--- As many good tableaux of a skew shape for a start come to a partition as good tableaux of the skew shape of that partition by
--- the start come, for the inner partition of the first shape as the start, to its outer one.
+-- The number of good tableaux of λ/μ for the start σ with sum τ equals the number of good tableaux of τ/σ for the start
+-- μ with sum λ.
 use Rattle.std.proofs.Common.{◌≡◌, ℕ, zero, suc, ◌<◌, ◌≤◌, ◌⊎◌, ◌==◌, Bool, true, false, cond, ◌&&◌, List, [], ◌∷◌, map, length, get_or, nat_le, sym, ◌∙◌, ap, subst, refl, inl, inr, arith, pos, filter}
 use Rattle.std.proofs.lemmas.List.{length-map, get_or_past}
 use Rattle.std.proofs.lemmas.Bool.{and_parts, cases_lt, leb-true, eqb-true}
@@ -19,11 +19,11 @@ use Rattle.tableau_laws.proofs.ColumnCounts.{sum_at_start, falling-resize}
 use Rattle.schur_laws.proofs.GoodTableaux.{is_counted, IsTableau, tableau_tells, tableau_back}
 use Rattle.schur_laws.proofs.Companions.{companion, length_companion, IsCompanion, companion_tells, companion_tableau, told_by_companion}
 
--- the padded rows of the good tableaux of outer/inner for start, with entries from 1 to n, that come to a partition
+-- the padded rows of the good tableaux of outer/inner for start, with entries from 1 to n, whose sum is `end`
 abbrev pub counted : ℕ → List ℕ → List ℕ → List ℕ → List ℕ → List (List (List ℕ))
 counted n start outer inner end = filter (is_counted n start end) (fillings_over n (pattern_of outer inner))
 
--- ---- one shape inside another, by places
+-- ---- one partition inside another, place by place
 
 pub contains_places : (outer inner : List ℕ) → contains outer inner ≡ true → (r : ℕ) → get_or inner r 0 ≤ get_or outer r 0
 contains_places outer [] h r = let e = get_or_past {X = ℕ} [] r 0 (omega arith) in omega arith
@@ -44,7 +44,7 @@ positive_at [] p r l = absurd (omega arith)
 positive_at (a ∷ parts) p zero l = p.0
 positive_at (a ∷ parts) p (suc r) l = positive_at parts p.1 r (omega arith)
 
--- a partition inside another has no more rows
+-- if a partition `inner` is inside `outer`, it has no more rows
 pub rows_inside : (outer inner : List ℕ) → IsPartition inner → contains outer inner ≡ true → rows inner ≤ rows outer
 rows_inside outer inner p c = by (cases_lt (length outer) (length inner))
   where
@@ -56,7 +56,7 @@ rows_inside outer inner p c = by (cases_lt (length outer) (length inner))
         absurd (omega arith)
     by (inr l) = l
 
--- ---- the counts
+-- ---- the tests that a counted tableau passes
 
 pub counted_tells : (n : ℕ) (start outer inner end : List ℕ) (P : List (List ℕ)) → Falls outer → contains outer inner ≡ true → length start ≤ n → length end ≤ n
     → Among P (counted n start outer inner end) → IsTableau n start outer inner end P
@@ -110,7 +110,7 @@ same_counts start outer inner end s o i e h g ls li =
     let b = at_most inner end start outer i e s o g h li ls in
     omega arith
 
--- ---- the same by columns
+-- ---- the number of counted tableaux, column by column
 
 pub counted_by_columns : (n : ℕ) (start outer inner end : List ℕ) → IsPartition start → length start ≤ n
     → pos (length (counted n start outer inner end)) ≡ over_columns n (column_lines outer inner) (is_sum end) (resize n start) []

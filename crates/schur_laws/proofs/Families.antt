@@ -1,6 +1,6 @@
 -- Families of symmetric polynomials: sums, multiples and products of them, the bases, the values of expressions and of lists.
---     family-one, -plus, -scale, -negate, -times, -basis, -value      they are families
---     degree-value                                                    an expression has at most its degree
+--     family-one, -plus, -scale, -negate, -times, -basis, -value      each of these is a family
+--     degree-value                                                    the value of an expression has at most its degree
 --     expansions_agree                                                an expansion in enough variables is one in every number
 use Rattle.std.proofs.Common.{ℕ, ◌/◌, ◌≤◌, inl, inr, true, cond, ℤ, pos, neg_ℤ, List, [], ◌∷◌, length, ◌*ℤ◌, refl, sym, ◌∙◌, ap, arith}
 use Rattle.std.proofs.lemmas.Bool.{cases_eq}
@@ -9,7 +9,7 @@ use Rattle.sym_model.specs.Partition.{IsPartition, size, sorted_parts}
 use Rattle.sym_model.specs.Bases.{at_most_one, has, product_over, elementary_of, complete_of, power_sum_of}
 use Rattle.sym_model.specs.Expansion.{Basis, elementaries, completes, power_sums, schurs, basis_polynomial, Terms, cleared, denominators, value, IsExpansionOf}
 use Rattle.sym_model.specs.Expression.{Tree, number, fraction, atom, negation, sum, difference, product, degree, lcm, denominator, cleared_value}
-use Rattle.sym_model.specs.WholeTerms.{EachLabel, numerators}
+use Rattle.sym_model.specs.WholeTerms.{HaveLabels, numerators}
 use Rattle.sym_model.specs.Symmetric.{Symmetric}
 use Rattle.sym_model.specs.Weight.{numerator}
 use Rattle.sym_model.proofs.Polynomials.{pair_negate, pair_restrict, same_from_pair, Same_trans, plus_respects, scale_respects, negate_respects, times_respects, In_one, In_plus, In_scale, In_negate, In_times, coefficient_outside, coefficient_plus, coefficient_scale}
@@ -28,7 +28,7 @@ use Rattle.schur_laws.proofs.FewVariables.{families_agree}
 use Rattle.schur_laws.proofs.SymmetricPolynomials.{symmetric-monomials, sorts_to-exchange, at_most_one-exchange, symmetric-plus, symmetric-scale, symmetric-negate, symmetric-times, symmetric-one}
 use lib.IntN.{*ℤ-zero}
 
--- ---- sums, multiples, products
+-- ---- sums, multiples and products of families
 
 pub family-one : IsSymmetricFamily one
 family-one = record { variables = In_one; symmetric = symmetric-one; compatible = λ k n h. restrict-one k n }
@@ -80,7 +80,7 @@ family-times f g s t = record {
       (times_respects (restrict k (f n)) (f k) (restrict k (g n)) (g k) (s.compatible k n h) (t.compatible k n h));
 }
 
--- ---- the bases
+-- ---- the bases as families
 
 symmetric-product_over : (f : ℕ → ℕ → Poly) (parts : List ℕ) (n : ℕ) → ((d : ℕ) → In n (f d n)) → ((d : ℕ) → Symmetric (f d n)) → Symmetric (product_over f parts n)
 symmetric-product_over f [] n i s = symmetric-one n
@@ -111,7 +111,7 @@ family-basis basis parts p = record {
   compatible = λ k n h. restrict-basis basis parts k n h p;
 }
 
--- ---- expressions
+-- ---- the values of expressions as families
 
 pub family-value : (e : Tree) → HasPartitions e → IsSymmetricFamily (cleared_value e)
 family-value (number a) p = family-scale (pos a) one family-one
@@ -130,9 +130,9 @@ family-value (difference e f) p =
     (family-negate (λ n. scale (pos (q / denominator f)) (cleared_value f n)) (family-scale (pos (q / denominator f)) (cleared_value f) (family-value f p.1)))
 family-value (product e f) p = family-times (cleared_value e) (cleared_value f) (family-value e p.0) (family-value f p.1)
 
--- ---- degrees
+-- ---- the degrees of values
 
--- past the degree of an expression there is nothing, at a list of any length
+-- above the degree of an expression each coefficient of its value is 0, at an exponent list of any length
 pub degree-value : (e : Tree) (n : ℕ) → HasDegreeAtMost (degree e) (cleared_value e n)
 degree-value e n α h = elim (cases_eq (length α) n) [
   | inl l ↦ coefficient-higher (numerator e) (degree e) n (cleared_value e n) (bounded_value e n) α l h
@@ -151,30 +151,30 @@ degree-scale d c f h α l = coefficient_scale c f α ∙ ap (λ z. c *ℤ z) (h 
 pub degree-basis : (basis : Basis) (parts : List ℕ) (n : ℕ) → HasDegreeAtMost (size parts) (basis_polynomial basis parts n)
 degree-basis basis parts n = degree-value (atom basis parts) n
 
--- ---- lists of terms
+-- ---- the values of lists of terms
 
 family-nothing : IsSymmetricFamily (λ n. nothing)
 family-nothing = record { variables = λ n t m. absurd m; symmetric = λ n left a b right. refl; compatible = λ k n h α. refl }
 
-family-list : (basis : Basis) (q : ℕ) (terms : Terms (List ℕ)) → EachLabel IsPartition (numerators terms)
+family-list : (basis : Basis) (q : ℕ) (terms : Terms (List ℕ)) → HaveLabels IsPartition (numerators terms)
     → IsSymmetricFamily (λ n. cleared (λ label. basis_polynomial basis label n) q terms)
 family-list basis q [] p = family-nothing
 family-list basis q (t ∷ terms) p =
     family-plus (λ n. scale (t.1.0 *ℤ pos (q / t.1.1)) (basis_polynomial basis t.0 n)) (λ n. cleared (λ label. basis_polynomial basis label n) q terms)
-    (family-scale (t.1.0 *ℤ pos (q / t.1.1)) (basis_polynomial basis t.0) (family-basis basis t.0 p.0))
-    (family-list basis q terms p.1)
+    (family-scale (t.1.0 *ℤ pos (q / t.1.1)) (basis_polynomial basis t.0) (family-basis basis t.0 (p (t.0, t.1.0) (inl refl))))
+    (family-list basis q terms (λ u m. p u (inr m)))
 
-degree-list : (basis : Basis) (q d n : ℕ) (terms : Terms (List ℕ)) → EachLabel (λ label. size label ≤ d) (numerators terms)
+degree-list : (basis : Basis) (q d n : ℕ) (terms : Terms (List ℕ)) → HaveLabels (λ label. size label ≤ d) (numerators terms)
     → HasDegreeAtMost d (cleared (λ label. basis_polynomial basis label n) q terms)
 degree-list basis q d n [] h = λ α l. refl
 degree-list basis q d n (t ∷ terms) h =
     degree-plus d (scale (t.1.0 *ℤ pos (q / t.1.1)) (basis_polynomial basis t.0 n)) (cleared (λ label. basis_polynomial basis label n) q terms)
-    (degree-scale d (t.1.0 *ℤ pos (q / t.1.1)) (basis_polynomial basis t.0 n) (degree_raised (size t.0) d (basis_polynomial basis t.0 n) h.0 (degree-basis basis t.0 n)))
-    (degree-list basis q d n terms h.1)
+    (degree-scale d (t.1.0 *ℤ pos (q / t.1.1)) (basis_polynomial basis t.0 n) (degree_raised (size t.0) d (basis_polynomial basis t.0 n) (h (t.0, t.1.0) (inl refl)) (degree-basis basis t.0 n)))
+    (degree-list basis q d n terms (λ u m. h u (inr m)))
 
--- an expansion in d variables, d at least the degree of the expression and of each label, is one in every number
-pub expansions_agree : (d : ℕ) (basis : Basis) (terms : Terms (List ℕ)) (e : Tree) → EachLabel IsPartition (numerators terms)
-    → EachLabel (λ label. size label ≤ d) (numerators terms) → HasPartitions e → degree e ≤ d
+-- if d is at least the degree of the expression and the size of each label, an expansion in d variables is one in every number of variables
+pub expansions_agree : (d : ℕ) (basis : Basis) (terms : Terms (List ℕ)) (e : Tree) → HaveLabels IsPartition (numerators terms)
+    → HaveLabels (λ label. size label ≤ d) (numerators terms) → HasPartitions e → degree e ≤ d
     → IsExpansionOf basis terms d (cleared_value e d) (denominator e) → (n : ℕ) → IsExpansionOf basis terms n (cleared_value e n) (denominator e)
 expansions_agree d basis terms e p h i k x n = record {
   positive = x.positive;

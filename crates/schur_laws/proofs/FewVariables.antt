@@ -1,6 +1,6 @@
--- A monomial of degree at most d has at most d variables, which may be the first d.
---     falling_padded      falling exponents that add up to at most d end in zeros past place d
---     families_agree      so families of degree at most d that agree in d variables agree everywhere
+-- A monomial of degree at most d has at most d variables, which can be taken as the first d.
+--     `falling_padded`    decreasing exponents with a sum of at most d are zeros after place d
+--     `families_agree`    families of degree at most d that agree in d variables agree in every number of variables
 use Rattle.std.proofs.Common.{◌≡◌, ℕ, zero, suc, ◌+◌, ◌-◌, ◌≤◌, inl, inr, cond, eqb, List, [], ◌∷◌, ◌++◌, length, replicate, refl, sym, ◌∙◌, ap, subst, arith, pos}
 use Rattle.std.proofs.lemmas.Bool.{cases_lt, cases_eq, eq-eqb}
 use Rattle.sym_model.specs.Polynomial.{Poly, Same, coefficient, resize}
@@ -14,15 +14,15 @@ use Rattle.sym_model.proofs.Parts.{size-zeros}
 use Rattle.beta_list_laws.proofs.NeighbourExchanges.{sort_back, sorted_falls}
 use Rattle.schur_laws.specs.SymmetricFamily.{IsSymmetricFamily, HasDegreeAtMost}
 
--- ---- falling exponents
+-- ---- weakly decreasing exponents
 
--- after a 0 a falling list has zeros only
+-- a decreasing list has only zeros after a 0
 zeros_after : (α : List ℕ) → Falls (0 ∷ α) → 0 ∷ α ≡ replicate (suc (length α)) 0
 zeros_after [] f = refl
 zeros_after (zero ∷ α) f = ap (λ (l : List ℕ). 0 ∷ l) (zeros_after α f.1)
 zeros_after (suc a ∷ α) f = let h = f.0 in absurd (omega arith)
 
--- falling exponents that add up to at most d are their first d, with zeros after them
+-- weakly decreasing exponents with a sum of at most d are zeros after their first d
 pub falling_padded : (d m : ℕ) (α : List ℕ) → Falls α → length α ≡ d + m → size α ≤ d → α ≡ resize d α ++ replicate m 0
 falling_padded zero zero [] f l h = refl
 falling_padded zero (suc m) [] f l h = absurd (omega arith)
@@ -34,14 +34,14 @@ falling_padded (suc d) m (zero ∷ α) f l h =
     ap (λ (r : List ℕ). 0 ∷ r) (falling_padded d m α (Falls_tail 0 α f) (omega arith) (omega arith))
 falling_padded (suc d) m (suc a ∷ α) f l h = ap (λ (r : List ℕ). suc a ∷ r) (falling_padded d m α (Falls_tail (suc a) α f) (omega arith) (omega arith))
 
--- ---- families
+-- ---- families of symmetric polynomials in different numbers of variables
 
--- with fewer variables a coefficient is that in d variables, with zeros after the exponents
+-- the coefficient of x^α in f(n) is that in f(n + m) of α followed by m zeros
 coefficient_in_fewer : (f : ℕ → Poly) (n m : ℕ) (α : List ℕ) → IsSymmetricFamily f
     → coefficient (f n) α ≡ cond (eqb (length α) n) (coefficient (f (n + m)) (α ++ replicate m 0)) (pos 0)
 coefficient_in_fewer f n m α s = sym (s.compatible n (n + m) (omega arith) α) ∙ coefficient_restrict_padded n m (f (n + m)) α (s.variables (n + m))
 
--- with more variables the coefficient at zeros after exponents in d variables is that in d variables
+-- the coefficient in f(d + m) of α, of length d, followed by m zeros, is that of x^α in f(d)
 coefficient_in_more : (f : ℕ → Poly) (d m : ℕ) (α : List ℕ) → IsSymmetricFamily f → length α ≡ d
     → coefficient (f (d + m)) (α ++ replicate m 0) ≡ coefficient (f d) α
 coefficient_in_more f d m α s l =
@@ -53,7 +53,7 @@ agree_in_fewer f g n m s t e α =
     ∙ ap (λ c. cond (eqb (length α) n) c (pos 0)) (e (α ++ replicate m 0))
     ∙ sym (coefficient_in_fewer g n m α t)
 
--- coefficients at falling exponents agree
+-- if f and g agree in d variables and have a degree of at most d, their coefficients at weakly decreasing exponents agree in d + m variables
 agree_falling : (d m : ℕ) (f g : ℕ → Poly) → IsSymmetricFamily f → IsSymmetricFamily g
     → HasDegreeAtMost d (f (d + m)) → HasDegreeAtMost d (g (d + m)) → Same (f d) (g d)
     → (α : List ℕ) → Falls α → coefficient (f (d + m)) α ≡ coefficient (g (d + m)) α
@@ -66,7 +66,7 @@ agree_falling d m f g s t p q e α h = elim (cases_eq (length α) (d + m)) [
   ]
 ]
 
--- by symmetry those at all exponents do
+-- and so, since they are symmetric, at all exponents
 agree_in_more : (d m : ℕ) (f g : ℕ → Poly) → IsSymmetricFamily f → IsSymmetricFamily g
     → HasDegreeAtMost d (f (d + m)) → HasDegreeAtMost d (g (d + m)) → Same (f d) (g d) → Same (f (d + m)) (g (d + m))
 agree_in_more d m f g s t p q e α =

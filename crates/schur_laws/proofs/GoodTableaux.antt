@@ -1,4 +1,4 @@
--- Good tableaux that come to a given sum, by how often each letter stands in each row.
+-- Good tableaux with a given sum, by the number of times that each letter occurs in each row.
 use Rattle.std.proofs.Common.{◌≡◌, ℕ, zero, suc, ◌+◌, ◌-◌, ◌<◌, ◌≤◌, ◌⊎◌, ◌==◌, Bool, true, cond, ◌&&◌, List, [], ◌∷◌, map, length, drop, get_or, nat_le, sym, ◌∙◌, ap, subst, refl, inl, inr, arith}
 use Rattle.std.proofs.lemmas.Bool.Decides.{nat_tests}
 use Rattle.std.proofs.lemmas.Bool.{cases_lt, and_parts, and_from}
@@ -22,13 +22,13 @@ use Rattle.schur_laws.proofs.RisingRows.{up_to_letter, one_more_letter, zeros_up
 use Rattle.schur_laws.proofs.Interlacing.{add_up, add_up-last, add_up-none}
 use Rattle.schur_laws.proofs.TableauPlaces.{row, RowCounts, line_tells, line_back, fit_at, fit_all, grid_tells, grid_back, letters_right, letters_in_all, good_tells, good_back, sum_at, places_fall, resized_at}
 
--- whether padded rows are a good tableau for start and come to a partition
+-- whether padded rows are a good tableau for start whose sum is `end`
 abbrev pub is_counted : ℕ → List ℕ → List ℕ → List (List ℕ) → Bool
 is_counted n start end P =
     are_tableau_columns (transposed P) && is_good_by_columns n start (transposed P)
     && same (without_last_zeros (sum_reached n start (transposed P))) end
 
--- start and the letters i + 1 of the rows, in all or right of a column
+-- start_i plus the number of letters i + 1 in the rows of P, after each row is cut by `cut`
 abbrev pub sum_of : (List ℕ → List ℕ) → List ℕ → List (List ℕ) → ℕ → ℕ
 sum_of cut start P i = get_or start i 0 + add_up (λ r. times_in (suc i) (cut (row P r))) 0 (length P)
 
@@ -43,7 +43,7 @@ pub record IsTableau (n : ℕ) (start outer inner end : List ℕ) (P : List (Lis
   pub all_good : (i : ℕ) → sum_of (λ w. w) start P (suc i) ≤ sum_of (λ w. w) start P i
   pub sums : (i : ℕ) → sum_of (λ w. w) start P i ≡ get_or end i 0
 
--- ---- letters of a word
+-- ---- the letters of a word
 
 pub letters_up_to : (k : ℕ) (w : List ℕ) → up_to_letter k w ≡ times_in 0 w + add_up (λ i. times_in (suc i) w) 0 k
 letters_up_to zero w = let e = zeros_up_to w in omega arith
@@ -63,7 +63,7 @@ all_up_to m (a ∷ w) h = by (cases_lt m a) (all_up_to m w (λ k l. let e = h k 
     by (inl l) e = let f = h a l in let g : cond {A = ℕ} (a == a) 1 0 ≡ 1 = grind (arith, nat_tests) in absurd (omega arith)
     by (inr l) e = let g : cond {A = ℕ} (nat_le a m) 1 0 ≡ 1 = grind (arith, nat_tests) in omega arith
 
--- ---- from the tests
+-- ---- consequences of the tests of a good tableau
 
 falls_for : (outer : List ℕ) (P : List (List ℕ)) → map length P ≡ outer → Falls outer → Falls (map length P)
 falls_for outer P e f = subst Falls (sym e) f
@@ -87,7 +87,7 @@ row_facts n outer inner P e inside f r = by (cases_lt r (length outer))
           letters = λ x m. ap (times_in x) past;
         }
 
--- places of the sum after the columns from one on
+-- start_(i+1) plus the number of letters i + 1 in the columns right of column j + 1, as a number of the sum reached and row by row
 sum_right : (n : ℕ) (start : List ℕ) (P : List (List ℕ)) → ((r k : ℕ) → n < k → times_in k (row P r) ≡ 0) → (j i : ℕ)
     → get_or (sum_reached n start (drop (suc j) (transposed P))) i 0 ≡ sum_of (drop (suc j)) start P i
 sum_right n start P h j i =
@@ -116,7 +116,7 @@ length_sum n start cs h =
     let d = length_content n (letters_of cs) in
     omega arith
 
--- the sum is a partition, without the zeros at its end, where its places are those of the partition
+-- if the list s of n numbers, without the zeros at its end, is the partition `end`, s and `end` have the same number at each place
 sum_tells : (n : ℕ) (s end : List ℕ) → length s ≡ n → length end ≤ n → without_last_zeros s ≡ end → (i : ℕ) → get_or s i 0 ≡ get_or end i 0
 sum_tells n s end l m e i = by (cases_lt i n)
   where

@@ -1,7 +1,7 @@
--- The greatest letter of rows that rise: they stand at the end.
---     over_rising             sums over the words that rise
---     rising-greatest         with one letter more, by how many of the greatest letter stand at the end
---     total_down_from-ext, -cut   sums over 0 to d
+-- The greatest letter of weakly increasing rows: its occurrences are at the end of each row.
+--     `over_rising`               sums over the weakly increasing words
+--     `rising-greatest`           sums with one more letter, by its number of occurrences at the end
+--     `total_down_from-ext`, `-cut`   sums over 0 to d
 use Rattle.std.proofs.Common.{◌≡◌, ℕ, zero, suc, ◌+◌, ◌-◌, ◌<◌, ◌≤◌, Bool, true, false, cond, ◌&&◌, List, [], ◌∷◌, ◌++◌, map, length, replicate, nat_le, sym, ◌∙◌, ap, ap₂, subst, refl, inl, inr, arith, ℤ, pos, ◌+ℤ◌, append-nil}
 use Rattle.std.proofs.lemmas.Bool.{le-leb, lt-leb}
 use Rattle.std.proofs.lemmas.Int.{ints}
@@ -15,12 +15,12 @@ use Rattle.tableau_laws.specs.Grid.{may_precede}
 use lib.IntN.{+ℤ_idl, +ℤ_idr}
 use Rattle.monomial_laws.proofs.Arrangements.{down_from-below}
 
--- ---- numbers from 0 to d
+-- ---- sums over the numbers from 0 to d
 
 pub total_down_from-ext : (f g : ℕ → ℤ) (d : ℕ) → ((i : ℕ) → i ≤ d → f i ≡ g i) → total f (down_from d) ≡ total g (down_from d)
 total_down_from-ext f g d h = total_among f g (down_from d) (λ i m. h i (down_from-below d i m))
 
--- terms that vanish past e
+-- if f is 0 from e + 1 to m + e, the sum of f up to m + e is that up to e
 pub total_down_from-cut : (f : ℕ → ℤ) (e m : ℕ) → ((i : ℕ) → e < i → i ≤ m + e → f i ≡ pos 0) → total f (down_from (m + e)) ≡ total f (down_from e)
 total_down_from-cut f e zero h = ap (λ d. total f (down_from d)) (let i : 0 + e ≡ e = omega arith in i)
 total_down_from-cut f e (suc m) h =
@@ -29,14 +29,14 @@ total_down_from-cut f e (suc m) h =
     ∙ +ℤ_idl (total f (down_from (m + e)))
     ∙ total_down_from-cut f e m (λ i l k. h i l (omega arith))
 
--- terms that vanish but at d
+-- if f is 0 before d, the sum of f up to d is f(d)
 total_down_from-first : (f : ℕ → ℤ) (d : ℕ) → ((i : ℕ) → i < d → f i ≡ pos 0) → total f (down_from d) ≡ f d
 total_down_from-first f zero h = +ℤ_idr (f 0)
 total_down_from-first f (suc d) h =
     ap (λ z. f (suc d) +ℤ z) (total_none f (down_from d) (λ i m. let l = down_from-below d i m in h i (omega arith)))
     ∙ +ℤ_idr (f (suc d))
 
--- ---- letters
+-- ---- the letters from 1 to n
 
 pub after_zero-last : (n : ℕ) → after 0 (suc n) ≡ after 0 n ++ (suc n ∷ [])
 after_zero-last n = after-last 0 n ∙ ap (λ k. after 0 n ++ (k ∷ [])) (let e : 0 + suc n ≡ suc n = omega arith in e)
@@ -57,9 +57,9 @@ words-letters n (suc k) w m =
     let long : suc (length v.0) ≡ suc k = ap suc rest.0 in
     subst (λ u. (length u ≡ suc k) × AreLetters n u) (sym v.2) (long, ((bounds.0, let h = bounds.1 in omega arith), rest.1))
 
--- ---- rows that rise
+-- ---- weakly increasing words as rows
 
--- the sum over the words of k letters up to n that rise
+-- the sum over the weakly increasing words of k letters up to n
 abbrev pub over_rising : ℕ → ℕ → (List ℕ → ℤ) → ℤ
 over_rising n k g = total (λ (w : List ℕ). cond (row_rises w) (g w) (pos 0)) (words n k)
 
@@ -72,7 +72,7 @@ nothing_either : (b : Bool) → cond b (pos 0) (pos 0) ≡ pos 0
 nothing_either true = refl
 nothing_either false = refl
 
--- no letter
+-- the sum over the words without letters is the value at the empty word
 pub rising-none : (n : ℕ) (g : List ℕ → ℤ) → over_rising n 0 g ≡ g []
 rising-none n g = +ℤ_idr (g [])
 
@@ -86,7 +86,7 @@ swap_tests true false z = refl
 swap_tests false true z = refl
 swap_tests false false z = refl
 
--- by the first letter
+-- the sum over the weakly increasing words of k + 1 letters is a sum over the first letter a and the word after it
 rising-front : (n k : ℕ) (g : List ℕ → ℤ)
     → over_rising n (suc k) g ≡ total (λ (a : ℕ). over_rising n k (λ w. cond (may_precede nat_le a w) (g (a ∷ w)) (pos 0))) (after 0 n)
 rising-front n k g =
@@ -103,13 +103,13 @@ rising-front n k g =
     (words n k))
     (after 0 n)
 
--- a letter up to n may stand before the greatest letter
+-- the letter n + 1, repeated at the end of a word, does not change whether a ≤ n can precede the word
 precedes-greatest : (n a i : ℕ) (v : List ℕ) → a ≤ n → may_precede nat_le a (v ++ replicate i (suc n)) ≡ may_precede nat_le a v
 precedes-greatest n a zero [] h = refl
 precedes-greatest n a (suc i) [] h = le-leb a (suc n) (omega arith)
 precedes-greatest n a i (b ∷ v) h = refl
 
--- and the greatest letter before itself alone
+-- a word of letters n + 1 can follow the letter n + 1
 greatest_precedes : (n i : ℕ) → may_precede nat_le (suc n) (replicate i (suc n)) ≡ true
 greatest_precedes n zero = refl
 greatest_precedes n (suc i) = le-leb (suc n) (suc n) (omega arith)
@@ -118,16 +118,17 @@ greatest_precedes-none : (n i k : ℕ) (v : List ℕ) → length v ≡ suc k →
 greatest_precedes-none n i k [] l h = absurd (omega arith)
 greatest_precedes-none n i k (b ∷ v) l h = let p = h.0.1 in lt-leb (suc n) b (omega arith)
 
--- the row with i of the greatest letter at its end
+-- the row v followed by i times the greatest letter
 abbrev pub ended : ℕ → ℕ → List ℕ → List ℕ
 ended n i v = v ++ replicate i (suc n)
 
--- what is to be shown, for rows of k letters
+-- for rows of k letters: the sum over the weakly increasing words with letters up to n + 1 is the sum over the number i of letters n + 1 at the end
+-- and the words of k - i letters up to n
 abbrev EndsWithGreatest : ℕ → ℕ → Type 0
 EndsWithGreatest n k =
     (g : List ℕ → ℤ) → over_rising (suc n) k g ≡ total (λ (i : ℕ). over_rising n (k - i) (λ v. g (ended n i v))) (down_from k)
 
--- a smaller letter in front
+-- the sum over the weakly increasing words of k + 1 letters that begin with a ≤ n
 smaller_front : (n k a : ℕ) (g : List ℕ → ℤ) → EndsWithGreatest n k → a ≤ n
     → over_rising (suc n) k (λ w. cond (may_precede nat_le a w) (g (a ∷ w)) (pos 0))
     ≡ total (λ (i : ℕ). over_rising n (k - i) (λ v. cond (may_precede nat_le a v) (g (a ∷ ended n i v)) (pos 0))) (down_from k)
@@ -154,7 +155,7 @@ smaller_fronts n k g rec =
     with_front : ℕ → ℕ → ℤ
     with_front a i = over_rising n (k - i) (λ v. cond (may_precede nat_le a v) (g (a ∷ ended n i v)) (pos 0))
 
--- the greatest letter in front
+-- the sum over the weakly increasing words of k + 1 letters that begin with n + 1: there is one, and all its letters are n + 1
 greatest_front : (n k : ℕ) (g : List ℕ → ℤ) → EndsWithGreatest n k
     → over_rising (suc n) k (λ w. cond (may_precede nat_le (suc n) w) (g (suc n ∷ w)) (pos 0)) ≡ g (replicate (suc k) (suc n))
 greatest_front n k g rec =

@@ -1,9 +1,9 @@
--- Rows of two neighbouring letters by three falling sequences: a row has y cells with the one letter, from place a to place b,
--- and x with the next one, from place b to place c.
+-- Rows of two neighbouring letters by three decreasing sequences: row r has y cells with the first letter, from place A
+-- to place B, and x with the next one, from place B to place C.
 use Rattle.std.proofs.Common.{◌≡◌, ℕ, zero, suc, ◌+◌, ◌<◌, ◌≤◌, ◌⊎◌, max, ◌∙◌, ap, ap₂, refl, inl, inr, arith}
 use Rattle.std.proofs.lemmas.Bool.{cases_lt}
 
--- f a + f (a + 1) + .., with k summands
+-- f a + f (a + 1) + .., k summands
 abbrev pub add_up : (ℕ → ℕ) → ℕ → ℕ → ℕ
 add_up f a zero = 0
 add_up f a (suc k) = f a + add_up f (suc a) k
@@ -20,7 +20,7 @@ pub add_up-none : (f : ℕ → ℕ) (a k : ℕ) → ((i : ℕ) → a ≤ i → f
 add_up-none f a zero e = refl
 add_up-none f a (suc k) e = let h = e a (omega arith) in let g = add_up-none f (suc a) k (λ i l. e i (omega arith)) in omega arith
 
--- with nothing from m on more summands add nothing
+-- if f is 0 from m on, more summands add nothing
 pub add_up-longer : (f : ℕ → ℕ) (a m k : ℕ) → ((i : ℕ) → a + m ≤ i → f i ≡ 0) → add_up f a (m + k) ≡ add_up f a m
 add_up-longer f a zero k e = let d : 0 + k ≡ k = omega arith in ap (add_up f a) d ∙ add_up-none f a k (λ i l. e i (omega arith))
 add_up-longer f a (suc m) k e =
@@ -28,14 +28,14 @@ add_up-longer f a (suc m) k e =
     let h = add_up-longer f (suc a) m k (λ i l. e i (omega arith)) in
     ap (add_up f a) d ∙ ap (λ n. f a + n) h
 
--- three sequences of places
+-- row r has y(r) cells from place A(r) to B(r) and x(r) cells from B(r) to C(r), and B(r + 1) ≤ A(r) and C(r + 1) ≤ B(r) for each r
 pub record Places (A B C x y : ℕ → ℕ) : Type 0 where
   pub first : (r : ℕ) → A r + y r ≡ B r
   pub second : (r : ℕ) → B r + x r ≡ C r
   pub left : (r : ℕ) → B (suc r) ≤ A r
   pub right : (r : ℕ) → C (suc r) ≤ B r
 
--- what lies right of each place
+-- X(j, r) and Y(j, r) are the numbers of cells of both letters that row r has right of place j
 pub record RightOf (A B C : ℕ → ℕ) (X Y : ℕ → ℕ → ℕ) : Type 0 where
   pub first : (j r : ℕ) → Y j r + max (A r) j ≡ max (B r) j
   pub second : (j r : ℕ) → X j r + max (B r) j ≡ max (C r) j
@@ -54,7 +54,7 @@ none_left A B C x y X Y p q j a (suc m) l =
     let h = none_left A B C x y X Y p q j (suc a) m (omega arith) in
     omega arith
 
--- a comparison by rows gives it at each column
+-- if the sums of x and y compare for each row, so do the sums of X and Y for each column
 pub by_columns : (A B C x y : ℕ → ℕ) (X Y : ℕ → ℕ → ℕ) → Places A B C x y → RightOf A B C X Y → (j m a s t : ℕ)
     → ((i : ℕ) → s + add_up x a (suc i) ≤ t + add_up y a i)
     → s + add_up (X j) a m ≤ t + add_up (Y j) a m
@@ -83,7 +83,7 @@ by_columns A B C x y X Y p q j (suc m) a s t h =
         let f = q.second j a in let g = p.second a in let f' = q.first j a in let g' = p.first a in
         omega arith
 
--- and the comparison at each column gives it by rows
+-- if the sums of X and Y compare for each column, so do the sums of x and y for each row
 pub by_rows : (A B C x y : ℕ → ℕ) (X Y : ℕ → ℕ → ℕ) → Places A B C x y → RightOf A B C X Y → (i m a s t most : ℕ) → i < m → B a ≤ most
     → ((j : ℕ) → j ≤ most → s + add_up (X j) a m ≤ t + add_up (Y j) a m)
     → s + add_up x a (suc i) ≤ t + add_up y a i

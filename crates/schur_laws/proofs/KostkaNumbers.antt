@@ -1,5 +1,5 @@
 -- The coefficients of Schur polynomials are Kostka numbers.
---     strips_off-removals     the horizontal strips of one size among all
+--     strips_off-removals     the removals of strips of k cells, among those of all sizes
 --     coefficient-schur_last  the coefficient by its last exponent
 --     coefficient-kostka      the coefficient of x^κ in s_λ
 use Rattle.std.proofs.lemmas.Int.{ints}
@@ -23,7 +23,7 @@ use Rattle.schur_laws.proofs.StripsRemoved.{removals, over_rows-greatest}
 use Rattle.schur_laws.proofs.Exchanged.{coefficient-last_first}
 use lib.IntN.{+ℤ_idr}
 
--- ---- numbers from 0 on
+-- ---- the numbers 0, 1, .., n - 1
 
 pub below-tells : (n i : ℕ) → Among i (below n) → i < n
 below-tells zero i m = absurd m
@@ -47,7 +47,7 @@ total_below f (suc n) =
     flip : (x y : ℤ) → x +ℤ y ≡ y +ℤ x
     flip x y = omega (arith, ints)
 
--- ---- strips of one size
+-- ---- strips of k cells among the removals of strips of any size
 
 pub strips_off-removals : (k : ℕ) (parts : List ℕ) (χ : List ℕ → ℤ)
     → total χ (strips_off k parts) ≡ total (λ (r : List ℕ × ℕ). cond (r.1 == k) (χ (without_last_zeros r.0)) (pos 0)) (removals parts)
@@ -94,7 +94,7 @@ strips_off-removals k (a ∷ parts) χ =
         (λ e. eq-eqb (i + s) k (let d = eqb-true s (k - i) e in omega arith))
         (λ e. eq-eqb s (k - i) (let d = eqb-true (i + s) k e in omega arith))
 
--- ---- coefficients
+-- ---- the coefficient of s_λ by its last exponent
 
 same-last : (γ α : List ℕ) (s k : ℕ) → same (γ ++ (s ∷ [])) (α ++ (k ∷ [])) ≡ ((s == k) && same γ α)
 same-last [] [] s k = refl
@@ -124,7 +124,7 @@ same-last (c ∷ γ) (b ∷ α) s k = ap (λ t. (c == b) && t) (same-last γ α 
     swap false true r = refl
     swap false false r = refl
 
--- a coefficient as a sum over rows; empty rows at the end change nothing
+-- the coefficient of x^α in s_λ is the sum, over tableaux by rows, of 1 at the content α
 coefficient-rows : (n : ℕ) (parts α : List ℕ) → coefficient (schur parts n) α ≡ over_rows n [] parts (at_only α)
 coefficient-rows n parts α = coefficient_pair (schur parts n) α ∙ pair-schur_rows n parts (at_only α)
 
@@ -150,9 +150,9 @@ coefficient-schur_last n k parts α f =
     (removals parts)
     ∙ sym (strips_off-removals k parts (λ rest. coefficient (schur rest n) α))
 
--- ---- what is left of a partition
+-- ---- the partition that is left
 
--- a partition with no greater first part, no more rows, and k cells fewer
+-- `rest` is a partition with k cells fewer than `parts`, no more rows, and no greater first part
 pub record IsLeft (k : ℕ) (parts rest : List ℕ) : Type 0 where
   pub partition : IsPartition rest
   pub few : length rest ≤ length parts
@@ -187,7 +187,7 @@ strips_off-tell k (a ∷ parts) rest p m =
       size_is = let e = size-in_front (a - i.0) r.0 in let s = l.size_is in let h = t.1 in omega arith;
     })
 
--- ---- Kostka numbers
+-- ---- Kostka numbers are coefficients of Schur polynomials
 
 pub coefficient-kostka : (parts content : List ℕ) → IsPartition parts → kostka parts content ≡ coefficient (schur parts (length content)) content
 coefficient-kostka [] [] p = refl

@@ -22,7 +22,7 @@ none_among : (ws : List (List ℕ)) → filter (λ (w : List ℕ). false) ws ≡
 none_among [] = refl
 none_among (w ∷ ws) = none_among ws
 
--- a start with more rows than there are letters has no good tableaux
+-- if λ has more than k rows, there is no good tableau for the start λ in k letters
 pub product_count-none : (k : ℕ) (λ' μ ν : List ℕ) → k < rows λ' → product_count k λ' μ ν ≡ 0
 product_count-none k λ' μ ν h =
     let came : List ℕ → Bool = λ w. same (without_last_zeros (join λ' (content k w))) ν in
@@ -36,7 +36,7 @@ product_by_shape λ' μ ν p q r h =
     product_count-columns (rows ν) λ' μ ν p q (rows_inside ν λ' p h)
     ∙ duality λ' μ [] ν p q IsPartition-none r (contains_nothing μ) h
 
--- a sum that a good tableau comes to holds the start
+-- if λ is not inside ν, no good tableau for the start λ has the sum ν
 pub product_outside : (λ' μ ν : List ℕ) → IsPartition λ' → IsPartition μ → IsPartition ν → contains ν λ' ≡ false → product_count (rows ν) λ' μ ν ≡ 0
 product_outside λ' μ ν p q r h = by (cases_lt (rows ν) (rows λ'))
   where

@@ -1,11 +1,11 @@
--- Rising words by how many of their letters are at most k.
+-- Weakly increasing words by the number of their letters that are at most k.
 use Rattle.std.proofs.Common.{◌≡◌, ℕ, zero, suc, ◌+◌, ◌-◌, ◌<◌, ◌≤◌, ◌⊎◌, ◌==◌, max, true, cond, List, [], ◌∷◌, length, drop, nat_le, sym, ◌∙◌, ap, ap₂, refl, inl, inr, arith}
 use Rattle.std.proofs.lemmas.Bool.Decides.{nat_tests}
 use Rattle.std.proofs.lemmas.Bool.{cases_lt, cases_eq, and_parts, and_from, leb-true, ltb-true, lt-ltb}
 use Rattle.sym_model.specs.Schur.{times_in}
 use Rattle.tableau_laws.specs.Grid.{is_chain, pass_by_place, may_precede, may_stand_above}
 
--- how many letters of a word are at most k
+-- the number of letters of a word that are at most k
 abbrev pub up_to_letter : ℕ → List ℕ → ℕ
 up_to_letter k [] = 0
 up_to_letter k (a ∷ w) = cond {A = ℕ} (nat_le a k) 1 0 + up_to_letter k w
@@ -13,7 +13,7 @@ up_to_letter k (a ∷ w) = cond {A = ℕ} (nat_le a k) 1 0 + up_to_letter k w
 one_letter : (a k : ℕ) → cond {A = ℕ} (a == suc k) 1 0 + cond {A = ℕ} (nat_le a k) 1 0 ≡ cond {A = ℕ} (nat_le a (suc k)) 1 0
 one_letter a k = grind (arith, nat_tests)
 
--- the letters at most k + 1 are those at most k and those that are k + 1
+-- the number of letters k + 1 plus that of the letters up to k is the number of letters up to k + 1
 pub one_more_letter : (k : ℕ) (w : List ℕ) → times_in (suc k) w + up_to_letter k w ≡ up_to_letter (suc k) w
 one_more_letter k [] = refl
 one_more_letter k (a ∷ w) = let e = one_more_letter k w in let f = one_letter a k in omega arith
@@ -37,7 +37,8 @@ none_up_to k a (b ∷ w) h l =
     let f : cond {A = ℕ} (nat_le a k) 1 0 ≡ 0 = grind (arith, nat_tests) in
     omega arith
 
--- the letters k + 1 right of place j in a rising word
+-- if w is weakly increasing, the number of its letters k + 1 right of place j, plus max(number of letters up to k, j), is max(number of letters up to
+-- k + 1, j)
 pub right_of_place : (k j : ℕ) (w : List ℕ) → Rises w → times_in (suc k) (drop j w) + max (up_to_letter k w) j ≡ max (up_to_letter (suc k) w) j
 right_of_place k zero w h = let e = one_more_letter k w in let f : drop 0 w ≡ w = grind arith in ap (λ v. times_in (suc k) v + max (up_to_letter k w) 0) f ∙ omega arith
 right_of_place k (suc j) [] h = omega arith
@@ -51,7 +52,7 @@ right_of_place k (suc j) (a ∷ w) h =
     late r l (inl e) = let n = none_up_to k a w h l in let g : cond {A = ℕ} (nat_le a (suc k)) 1 0 ≡ 1 = grind (arith, nat_tests) in omega arith
     late r l (inr d) = let n = none_up_to k a w h l in let m = none_up_to (suc k) a w h (omega arith) in omega arith
 
--- ---- a rising word above another
+-- ---- counts of a weakly increasing word below another
 
 pub below_counts : (k : ℕ) (v w : List ℕ) → pass_by_place may_stand_above v w ≡ true → length w ≤ length v → up_to_letter (suc k) w ≤ up_to_letter k v
 below_counts k v [] h l = omega arith
@@ -95,7 +96,7 @@ counts_below (a ∷ v) (b ∷ w) r s h =
             let g : cond {A = ℕ} (nat_le a k) 1 0 ≤ 1 = grind (arith, nat_tests) in
             omega arith
 
--- ---- a rising word is told by how often each letter stands in it
+-- ---- a weakly increasing word is determined by the number of times that each letter occurs in it
 
 pub few_times : (k : ℕ) (w : List ℕ) → times_in k w ≤ up_to_letter k w
 few_times zero w = let e = zeros_up_to w in omega arith

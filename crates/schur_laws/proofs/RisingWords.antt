@@ -1,4 +1,4 @@
--- Words that are weakly increasing, and how they are cut at a letter n: the letters up to n, and those after it lowered by n.
+-- Weakly increasing words, cut at a letter n: the letters up to n, and those after n lowered by n.
 use Rattle.std.proofs.Common.{◌≡◌, ℕ, zero, suc, ◌+◌, ◌-◌, ◌<◌, ◌≤◌, ◌⊎◌, inl, inr, nat_le, Bool, true, false, ◌&&◌, cond, List, [], ◌∷◌, ◌++◌, map, length, min, refl, sym, ap, ap₂, subst, ◌∙◌, arith, ℤ, pos, ◌+ℤ◌, flat_map}
 use Rattle.std.proofs.lemmas.Bool.{cases_lt, le-leb, lt-leb}
 use Rattle.std.proofs.lemmas.Int.{ints}
@@ -15,22 +15,22 @@ abbrev pub rising_words : ℕ → ℕ → ℕ → List (List ℕ)
 rising_words n x zero = [] ∷ []
 rising_words n x (suc b) = flat_map (λ y. cond (nat_le x y) (map (λ w. y ∷ w) (rising_words n y b)) []) (after 0 n)
 
--- each letter is one from 1 to n
+-- each letter of the word is one from 1 to n
 abbrev pub AreLetters : ℕ → List ℕ → Type 0
 AreLetters n [] = Unit {0}
 AreLetters n (a ∷ w) = (0 < a) × (a ≤ n) × AreLetters n w
 
--- the letters raised by n
+-- each letter of w raised by n
 abbrev pub raised_by : ℕ → List ℕ → List ℕ
 raised_by n w = map (λ j. n + j) w
 
--- ---- sums under a test
+-- ---- sums restricted by a test
 
 pub cond_both : (p q : Bool) (z : ℤ) → cond (p && q) z (pos 0) ≡ cond p (cond q z (pos 0)) (pos 0)
 cond_both true q z = refl
 cond_both false q z = refl
 
--- ---- the words of the definitions
+-- ---- weakly increasing words among all words
 
 pub total_rising : (n x b : ℕ) (f : List ℕ → ℤ) → total f (rising_words n x (suc b)) ≡ total (λ y. cond (nat_le x y) (total (λ w. f (y ∷ w)) (rising_words n y b)) (pos 0)) (after 0 n)
 total_rising n x b f =
@@ -57,7 +57,7 @@ total_rising_words n b f =
     from_zero [] = refl
     from_zero (a ∷ w) = sym (ap (λ t. t && row_rises (a ∷ w)) (le-leb 0 a (omega arith)))
 
--- a word that rises has letters from 1 to n, and its length
+-- w is a word of b letters from 1 to n
 pub record IsWord (n b : ℕ) (w : List ℕ) : Type 0 where
   pub letters : AreLetters n w
   pub long : length w ≡ b
@@ -77,7 +77,7 @@ rising-tells n x (suc b) w m =
         let high : y ≤ n = let h = r.1 in omega arith in
         subst (λ u. IsWord n (suc b) u) (sym v.2) (record { letters = (r.0, high, i.letters); long = ap suc i.long })
 
--- ---- letters after n
+-- ---- words in letters after n
 
 pub after_shift : (n a k : ℕ) → after (n + a) k ≡ map (λ j. n + j) (after a k)
 after_shift n a zero = refl
@@ -97,7 +97,7 @@ raise-le n x j = by (cases_lt j x)
     by (inl l) = lt-leb (n + x) (n + j) (omega arith) ∙ sym (lt-leb x j l)
     by (inr l) = le-leb (n + x) (n + j) (omega arith) ∙ sym (le-leb x j l)
 
--- words that rise from a letter after n on
+-- a sum over the weakly increasing words in letters n + 1, .., n + k is that over the words in letters 1, .., k, with each letter raised by n
 rising_after : (n k b x : ℕ) (g : List ℕ → ℤ) → 0 < x → total g (rising_words (n + k) (n + x) b) ≡ total (λ w. g (raised_by n w)) (rising_words k x b)
 rising_after n k zero x g h = refl
 rising_after n k (suc b) x g h =
@@ -112,7 +112,7 @@ rising_after n k (suc b) x g h =
     ∙ +ℤ_idl (total (λ j. cond (nat_le x j) (total (λ w. g (raised_by n (j ∷ w))) (rising_words k j b)) (pos 0)) (after 0 k))
     ∙ sym (total_rising k x b (λ w. g (raised_by n w)))
 
--- ---- the cut
+-- ---- sums over words that are cut at the letter n
 
 total_next : (a : ℕ) (g : ℕ → ℤ) → total g (after 0 (suc a)) ≡ total (λ b. g (suc b)) (up_to a)
 total_next a g =
@@ -120,7 +120,7 @@ total_next a g =
     (ap (total g) (ap (λ i. after i a) (let e : 0 + 1 ≡ 1 + 0 = omega arith in e) ∙ after_shift 1 0 a)
     ∙ total_map g (λ j. 1 + j) (after 0 a) ∙ total_ext (λ j. g (1 + j)) (λ j. g (suc j)) (λ j. ap g (let e : 1 + j ≡ suc j = omega arith in e)) (after 0 a))
 
--- of all words that rise: those that go on with letters after n, after a word with letters up to n
+-- the sum of f over the words v followed by a weakly increasing word of m letters, raised by n
 abbrev pub cut_sum : ℕ → ℕ → (List ℕ → ℤ) → ℕ → List ℕ → ℤ
 cut_sum n k f m v = total (λ w. f (v ++ raised_by n w)) (rising_words k 0 m)
 
@@ -165,7 +165,7 @@ total_cut_words n k (suc a) x f h =
         (λ b. ap (λ i. total (cut_sum n k f i) (rising_words n x (suc b))) (let e : a - b ≡ suc a - suc b = omega arith in e)) (up_to a)
         ∙ sym (total_next a (λ b. total (cut_sum n k f (suc a - b)) (rising_words n x b)))
 
--- the numbers up to a that are at most c
+-- if g is summed over the numbers b ≤ a with b ≤ c only, the sum is that up to min(a, c)
 pub total_up_to : (a c : ℕ) (g : ℕ → ℤ) → total (λ b. cond (nat_le b c) (g b) (pos 0)) (up_to a) ≡ total g (up_to (min a c))
 total_up_to a c g = ap₂ ◌+ℤ◌ (ap (λ t. cond t (g 0) (pos 0)) (le-leb 0 c (omega arith))) (ap (λ i. total (λ b. cond (nat_le b i) (g b) (pos 0)) (after 0 a)) (let e : c ≡ 0 + c = omega arith in e) ∙ from 0 a c)
   where

@@ -1,7 +1,7 @@
--- Lists of Kostka numbers, and what bounds them.
+-- Lists of Kostka numbers, and their bounds.
 --     list-schur            the list of the Kostka numbers is the Schur polynomial
---     kostka-other_size     none of another size
---     kostka-not_negative   and -within: bounds
+--     kostka-other_size     a Kostka number is 0 if the content has another size
+--     kostka-not_negative   and -within: bounds of Kostka numbers
 --     kostka-ones           there is a standard tableau of each shape
 use Rattle.std.proofs.Common.{◌≡◌, ℕ, zero, suc, ◌+◌, ◌-◌, ◌*◌, ◌≤◌, Bool, true, false, cond, eqb, min, List, [], ◌∷◌, ◌++◌, map, length, replicate, length-append, sym, ◌∙◌, ap, subst, refl, inl, inr, arith, ℤ, pos}
 use Rattle.std.specs.Prelude.{◌≤ℤ◌, nat_abs}
@@ -31,9 +31,9 @@ use Rattle.schur_laws.specs.Kostka.{below, strips_off, kostka}
 use Rattle.schur_laws.proofs.Exchanged.{coefficient-sorted}
 use Rattle.schur_laws.proofs.KostkaNumbers.{Among-below, partition_tail, strips_off-tell, coefficient-kostka}
 
--- ---- the list
+-- ---- the coefficients of s_λ depend only on the sorted exponents
 
--- the coefficient at exponents in any order, with any zeros
+-- the coefficient of x^α in s_λ is that at α sorted, without its zeros, so it depends neither on the order of the exponents nor on zeros
 coefficient-schur_sorted : (n : ℕ) (parts α : List ℕ) → IsPartition parts → length α ≡ n
     → coefficient (schur parts n) α ≡ coefficient (schur parts (length (sorted_parts α))) (sorted_parts α)
 coefficient-schur_sorted n parts α p long =
@@ -56,7 +56,7 @@ list-schur parts terms p h n =
     ∙ coefficient-kostka parts (sorted_parts α) p
     ∙ sym (coefficient-schur_sorted n parts α p long))
 
--- ---- bounds
+-- ---- bounds of Kostka numbers
 
 pub kostka-other_size : (parts content : List ℕ) → IsPartition parts → (size content ≡ size parts → ⊥) → kostka parts content ≡ pos 0
 kostka-other_size [] [] p h = absurd (h refl)
@@ -89,7 +89,7 @@ kostka-within parts content p =
 
 -- ---- each shape has a standard tableau
 
--- a strip of any size up to the number of columns can be taken off
+-- for each k up to the number of columns of a partition, a horizontal strip of k cells can be removed
 pub some_strip : (k : ℕ) (parts : List ℕ) → k ≤ part parts 1 → IsPartition parts → (rest : List ℕ) × Among rest (strips_off k parts)
 some_strip zero [] h p = ([], inl refl)
 some_strip (suc k) [] h p = absurd (omega arith)

@@ -1,4 +1,4 @@
--- The rising word with a given number of each letter.
+-- The weakly increasing word with a given number of each letter.
 use Rattle.std.proofs.Common.{◌≡◌, ℕ, zero, suc, ◌+◌, ◌<◌, ◌≤◌, ◌==◌, true, cond, List, [], ◌∷◌, ◌++◌, replicate, get_or, nat_le, sym, ◌∙◌, ap, refl, arith}
 use Rattle.std.proofs.lemmas.Bool.Decides.{nat_tests}
 use Rattle.std.proofs.lemmas.Bool.{and_from, le-leb}

@@ -1,8 +1,8 @@
 -- The cells with the greatest letter of a semistandard tableau are a horizontal strip, and what is left is a semistandard
 -- tableau with fewer letters.
---     removals            all shapes with a horizontal strip taken off, empty rows kept, and its number of cells
+--     removals            all shapes that removing a horizontal strip leaves, with empty rows kept, and the number of its cells
 --     ended_content       the content of a row with the greatest letter at its end
---     over_rows-greatest  sums over tableaux with one letter more
+--     over_rows-greatest  sums over tableaux with one more letter
 use Rattle.std.proofs.Common.{◌≡◌, ℕ, zero, suc, ◌+◌, ◌-◌, ◌<◌, ◌≤◌, Bool, true, false, cond, ◌&&◌, List, [], ◌∷◌, ◌++◌, map, length, replicate, nat_le, nat_lt, sym, ◌∙◌, ap, ap₂, refl, arith, ℤ, pos, ◌+ℤ◌, append-nil, flat_map}
 use Rattle.std.proofs.lemmas.Bool.{le-leb, lt-leb, lt-ltb, ne_eqb, eq-eqb, leb-true}
 use Rattle.std.proofs.lemmas.List.{map-append, length-replicate}
@@ -23,7 +23,7 @@ use Rattle.schur_laws.proofs.TableauRows.{over_rows, over_rows-ext, over_rows-no
 use Rattle.sym_model.specs.Bounded.{AreAtMost}
 use lib.IntN.{+ℤ_idr}
 
--- the shapes that are left when a horizontal strip is taken off, with how many cells it has; empty rows are kept
+-- the shapes that removing a horizontal strip leaves, with the number of its cells; empty rows are kept
 abbrev pub removals : List ℕ → List (List ℕ × ℕ)
 removals [] = ([], 0) ∷ []
 removals (a ∷ parts) =
@@ -33,7 +33,7 @@ pub letters_up_to : (n : ℕ) (w : List ℕ) → AreLetters n w → AreAtMost n 
 letters_up_to n [] h = tt
 letters_up_to n (a ∷ w) h = (h.0.1, letters_up_to n w h.1)
 
--- ---- contents
+-- ---- the contents of rows that end with the greatest letter
 
 times_in-higher : (n k : ℕ) (w : List ℕ) → AreLetters n w → n < k → times_in k w ≡ 0
 times_in-higher n k [] h l = refl
@@ -70,9 +70,10 @@ join-last [] (c ∷ γ) i j e = absurd (omega arith)
 join-last (b ∷ β) [] i j e = absurd (omega arith)
 join-last (b ∷ β) (c ∷ γ) i j e = ap (λ l. (b + c) ∷ l) (join-last β γ i j (omega arith))
 
--- ---- columns
+-- ---- columns of rows that end with the greatest letter
 
--- below a row that ends with the greatest letter a row stands only as far as the smaller letters go
+-- if the rows `upper` and v are followed by c and i letters n + 1, v fits below `upper` if and only if it does so without these letters, and length v
+-- + i is at most the length of `upper`
 columns_rise-ended : (n c i : ℕ) (upper v : List ℕ) → AreAtMost n upper → AreLetters n v → length v + i ≤ length upper + c
     → columns_rise (ended n c upper) (ended n i v) ≡ (nat_le (length v + i) (length upper) && columns_rise upper v)
 columns_rise-ended n zero zero [] [] u h l = refl
@@ -113,7 +114,7 @@ columns_rise-ended n c i (a ∷ upper) (b ∷ v) u h l =
     swap false true r = refl
     swap false false r = refl
 
--- ---- sums
+-- ---- sums over rows
 
 rising-under : (n k : ℕ) (b : Bool) (f : List ℕ → ℤ) → over_rising n k (λ v. cond b (f v) (pos 0)) ≡ cond b (over_rising n k f) (pos 0)
 rising-under n k true f = refl
@@ -143,16 +144,17 @@ four true false s f xs = sym (ap (λ z. cond s z (pos 0)) (total_zero xs) ∙ no
     nothing_either false = refl
 four false q s f xs = refl
 
--- ---- the greatest letter taken off
+-- ---- tableaux with their greatest letter removed
 
--- what is to be shown, for a shape
+-- the sum over the tableaux of a shape with letters up to n + 1 is the sum, over the removals of a horizontal strip from it, of that over the
+-- tableaux of what is left, with letters up to n
 abbrev LosesGreatest : ℕ → List ℕ → Type 0
 LosesGreatest n parts =
     (c : ℕ) (upper : List ℕ) (φ : List ℕ → ℤ) → AreAtMost n upper → Falls parts → part parts 1 ≤ length upper + c
     → over_rows (suc n) (ended n c upper) parts φ
     ≡ cond (nat_le (part parts 1) (length upper)) (total (λ (r : List ℕ × ℕ). over_rows n upper r.0 (λ γ. φ (γ ++ (r.1 ∷ [])))) (removals parts)) (pos 0)
 
--- one row with i of the greatest letter, and what stands below it
+-- the sum over the rows v followed by i letters n + 1, and over the tableaux below this row
 row_ended : (n c i a : ℕ) (upper v parts : List ℕ) (φ : List ℕ → ℤ) → LosesGreatest n parts → AreAtMost n upper → Falls (a ∷ parts) → a ≤ length upper + c → i ≤ a
     → length v ≡ a - i → AreLetters n v
     → cond (columns_rise (ended n c upper) (ended n i v)) (over_rows (suc n) (ended n i v) parts (λ γ. φ (join (content (suc n) (ended n i v)) γ))) (pos 0)
@@ -170,7 +172,7 @@ row_ended n c i a upper v parts φ rec u f l h e m =
     (removals parts)))
     ∙ four (nat_le a (length upper)) (columns_rise upper v) (nat_le (part parts 1) (a - i)) (λ (r : List ℕ × ℕ). over_rows n v r.0 (λ γ. φ (join (content n v) γ ++ ((i + r.1) ∷ [])))) (removals parts)
 
--- the numbers of the greatest letter that a first row can have
+-- if g(i) is summed over the i ≤ a for which p ≤ a - i, the sum is that over i ≤ a - p
 total_greatest : (a p : ℕ) (g : ℕ → ℤ) → p ≤ a → total (λ (i : ℕ). cond (nat_le p (a - i)) (g i) (pos 0)) (down_from a) ≡ total g (down_from (a - p))
 total_greatest a p g h =
     ap (λ d. total f (down_from d)) (let e : a ≡ p + (a - p) = omega arith in e)

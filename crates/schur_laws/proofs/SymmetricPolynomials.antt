@@ -1,5 +1,5 @@
--- Which polynomials are symmetric.
---     symmetric-monomials             a sum of monomials whose test no exchange changes
+-- Polynomials that are symmetric.
+--     symmetric-monomials             a sum of the monomials that pass a test which no exchange changes
 --     symmetric-plus, -scale, -negate, -times
 use Rattle.std.proofs.Common.{◌≡◌, ℕ, zero, suc, ◌==◌, Bool, true, false, ◌&&◌, cond, eqb, nat_le, ℤ, pos, neg_ℤ, ◌+ℤ◌, ◌*ℤ◌, List, [], ◌∷◌, ◌++◌, length, replicate, refl, sym, ◌∙◌, ap, ap₂}
 use Rattle.sym_model.specs.Polynomial.{Poly, same, coefficient, In, one, plus, scale, negate, times, join, pair}
@@ -14,7 +14,7 @@ use Rattle.beta_list_laws.proofs.NeighbourExchanges.{size-exchange, length-excha
 use Rattle.alternant_laws.proofs.Symmetry.{pair_exchanged}
 use Rattle.alternant_laws.proofs.StraightenedMonomials.{sorted-exchange}
 
--- no exchange of neighbours changes the test
+-- if two neighbours of a list are exchanged, the result of the test is the same
 abbrev pub SeesNoExchange : (List ℕ → Bool) → Type 0
 SeesNoExchange test = (left : List ℕ) (a b : ℕ) (right : List ℕ) → test (left ++ (a ∷ b ∷ right)) ≡ test (left ++ (b ∷ a ∷ right))
 
@@ -26,7 +26,7 @@ symmetric-monomials test n d e left a b right =
     (e left a b right)
     ∙ sym (coefficient-monomials test n d (left ++ (b ∷ a ∷ right)))
 
--- ---- tests that see no exchange
+-- ---- tests whose result does not change if neighbours are exchanged
 
 pub sorts_to-exchange : (parts : List ℕ) → SeesNoExchange (λ α. same (sorted_parts α) parts)
 sorts_to-exchange parts left a b right = ap (λ (l : List ℕ). same l parts) (sorted-exchange left a b right)
@@ -35,7 +35,7 @@ pub at_most_one-exchange : SeesNoExchange at_most_one
 at_most_one-exchange [] a b right = and_middle (nat_le a 1) (nat_le b 1) (at_most_one right)
 at_most_one-exchange (c ∷ left) a b right = ap (λ t. nat_le c 1 && t) (at_most_one-exchange left a b right)
 
--- ---- sums, multiples, products
+-- ---- sums, multiples and products of symmetric polynomials
 
 pub symmetric-plus : (f g : Poly) → Symmetric f → Symmetric g → Symmetric (plus f g)
 symmetric-plus f g s t left a b right =
@@ -51,7 +51,7 @@ pub symmetric-negate : (f : Poly) → Symmetric f → Symmetric (negate f)
 symmetric-negate f s left a b right =
     coefficient_negate f (left ++ (a ∷ b ∷ right)) ∙ ap neg_ℤ (s left a b right) ∙ sym (coefficient_negate f (left ++ (b ∷ a ∷ right)))
 
--- an exchange at place k changes no coefficient of a product
+-- if f and g are symmetric, the coefficient of f·g at γ is that at γ with neighbours exchanged
 times-exchanged : (n k : ℕ) (f g : Poly) (γ : List ℕ) → In n f → In n g → Symmetric f → Symmetric g
     → coefficient (times f g) (exchanged k γ) ≡ coefficient (times f g) γ
 times-exchanged n k f g γ i j s t =
@@ -70,7 +70,7 @@ symmetric-times n f g i j s t left a b right =
     sym (times-exchanged n (length left) f g (left ++ (a ∷ b ∷ right)) i j s t)
     ∙ ap (coefficient (times f g)) (exchanged_at left a b right)
 
--- ---- the polynomial 1
+-- ---- the polynomial 1 is symmetric
 
 zeros-exchange : (n : ℕ) → SeesNoExchange (λ α. same (replicate n 0) α)
 zeros-exchange zero [] a b right = refl

@@ -17,11 +17,11 @@ use Rattle.alternant_laws.proofs.StraightShapes.{at_content}
 use Rattle.schur_laws.proofs.RisingRows.{Rises, rises_rest, none_up_to, few_times}
 use Rattle.schur_laws.proofs.Interlacing.{add_up}
 
--- row r, from 0 on
+-- row r of the padded rows, counted from 0
 abbrev pub row : List (List ℕ) → ℕ → List ℕ
 row P r = get_or P r []
 
--- ---- the letters of a row
+-- ---- the letters of a padded row
 
 pub record RowCounts (n b k : ℕ) (w : List ℕ) : Type 0 where
   pub zeros : times_in 0 w ≡ b
@@ -114,7 +114,7 @@ fit_all n (a ∷ outer) inner (w ∷ P) e h =
         let d : 1 + r ≡ suc r = omega arith in
         subst (λ b. Fits n (line_of b (get_or outer r 0 - b)) (row P r)) (sym (f ∙ ap (λ i. get_or inner i 0) d)) (h (suc r) (omega arith))
 
--- ---- the rows of a tableau
+-- ---- the padded rows of a good tableau
 
 first_row : (P : List (List ℕ)) → first_line P ≡ row P 0
 first_row [] = refl
@@ -140,7 +140,7 @@ grid_back (w ∷ P) h g =
     (and_from (pass_by_place may_stand_above w (first_line P)) (is_padded_tableau P)
     (subst (λ v. pass_by_place may_stand_above w v ≡ true) (sym (first_row P)) (g 0)) (grid_back P (λ r. h (suc r)) (λ r. g (suc r))))
 
--- ---- the sums reached
+-- ---- the sums of a good tableau after columns
 
 drop_put : (k j : ℕ) (w : List ℕ) (cs : List (List ℕ))
     → times_in k (letters_of (drop (suc j) (put_row w cs))) ≡ times_in k (drop (suc j) w) + times_in k (letters_of (drop (suc j) cs))

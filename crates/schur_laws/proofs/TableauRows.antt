@@ -1,9 +1,9 @@
 -- Sums over the semistandard tableaux of a straight shape, row by row from the first on.
---     over_rows               of a number for each content, with a row above the first one
---     pair-schur_rows         a pairing with a Schur polynomial is such a sum
---     over_rows-ext           the numbers of contents of n places count alone
---     over_rows-zeros         empty rows at the end count nothing
---     over_rows-no_row_above  a row of zeros above is as none
+--     over_rows               the sum of φ of the contents, over tableaux with a row above the first one
+--     pair-schur_rows         the pairing of φ with a Schur polynomial is such a sum
+--     over_rows-ext           only the values of φ at lists of n numbers matter
+--     over_rows-zeros         empty rows at the end add nothing
+--     over_rows-no_row_above  a row of zeros above changes nothing
 use Rattle.std.proofs.Common.{◌≡◌, ℕ, zero, suc, Bool, true, false, cond, ◌&&◌, List, [], ◌∷◌, ◌++◌, map, length, replicate, nat_lt, sym, ◌∙◌, ap, ap₂, refl, ℤ, pos}
 use Rattle.std.proofs.lemmas.Bool.{lt-ltb, and_from}
 use Rattle.std.proofs.Math.Bool.{and-true, and_assoc}
@@ -23,19 +23,19 @@ use Rattle.alternant_laws.proofs.Exchanges.{length_content}
 use Rattle.schur_laws.proofs.GreatestLetters.{over_rising, rising-ext, rising-none, AreLetters}
 use lib.IntN.{+ℤ_idr}
 
--- the sum over the semistandard tableaux with rows of these lengths and letters up to n that may stand below the row `upper`
+-- the sum over the semistandard tableaux with rows of these lengths and letters up to n that fit below the row `upper`
 abbrev pub over_rows : ℕ → List ℕ → List ℕ → (List ℕ → ℤ) → ℤ
 over_rows n upper [] φ = φ (content n [])
 over_rows n upper (a ∷ parts) φ =
     over_rising n a (λ v. cond (columns_rise upper v) (over_rows n v parts (λ γ. φ (join (content n v) γ))) (pos 0))
 
--- ---- a pairing is such a sum
+-- ---- the pairing with a Schur polynomial is a sum over rows
 
 semistandard-front : (row : List ℕ) (rows : List (List ℕ)) → semistandard [] (row ∷ rows) ≡ (row_rises row && (columns_rise row (first_line rows) && semistandard [] rows))
 semistandard-front row [] = sym (ap (λ b. row_rises row && (b && true)) (columns_rise-nothing row) ∙ and-true (row_rises row))
 semistandard-front row (lower ∷ rows) = and_assoc (row_rises row) (columns_rise row lower) (semistandard [] (lower ∷ rows))
 
--- whether the rows of a tableau may stand below a row
+-- whether the rows are a semistandard tableau that fits below the row `upper`
 abbrev stands_below : List ℕ → List (List ℕ) → Bool
 stands_below upper rows = columns_rise upper (first_line rows) && semistandard [] rows
 
@@ -75,9 +75,9 @@ pair-schur_rows n parts φ =
     ∙ ap (λ l. total (λ (rows : List (List ℕ)). cond (semistandard [] rows) (φ (content n (letters_of rows))) (pos 0)) (fillings_of n l)) (row_lengths-none parts)
     ∙ total_below n [] parts φ
 
--- ---- what does not count
+-- ---- changes that do not change the sum
 
--- numbers of other lists than contents
+-- if φ and ψ agree at lists of n numbers, their sums over rows are equal
 pub over_rows-ext : (n : ℕ) (upper parts : List ℕ) (φ ψ : List ℕ → ℤ) → ((γ : List ℕ) → length γ ≡ n → φ γ ≡ ψ γ) → over_rows n upper parts φ ≡ over_rows n upper parts ψ
 over_rows-ext n upper [] φ ψ h = h (content n []) (length_content n [])
 over_rows-ext n upper (a ∷ parts) φ ψ h =
@@ -86,7 +86,7 @@ over_rows-ext n upper (a ∷ parts) φ ψ h =
     (over_rows-ext n v parts (λ γ. φ (join (content n v) γ)) (λ γ. ψ (join (content n v) γ))
     (λ γ k. h (join (content n v) γ) (length-join_same n (content n v) γ (length_content n v) k))))
 
--- an empty row at the end
+-- the sum over the tableaux of one empty row below `upper` is φ at the content of the empty word
 one_empty_row : (n : ℕ) (upper : List ℕ) (φ : List ℕ → ℤ) → over_rows n upper (0 ∷ []) φ ≡ φ (content n [])
 one_empty_row n upper φ =
     rising-none n (λ v. cond (columns_rise upper v) (φ (join (content n v) (content n []))) (pos 0))
@@ -105,7 +105,7 @@ over_rows-zeros n upper (a ∷ parts) φ =
     ∙ rising-ext n a _ _
     (λ v l m. ap (λ z. cond (columns_rise upper v) z (pos 0)) (over_rows-zeros n v parts (λ γ. φ (join (content n v) γ))))
 
--- a row of zeros above
+-- if the letters of v are positive, v fits below a row of zeros
 zeros_above : (n m : ℕ) (v : List ℕ) → AreLetters n v → columns_rise (replicate m 0) v ≡ true
 zeros_above n zero v h = refl
 zeros_above n (suc m) [] h = refl

@@ -1,4 +1,4 @@
--- Shapes with a horizontal strip taken off, and the Kostka numbers (Macdonald, I.5 and I.6).
+-- Shapes without a horizontal strip, and the Kostka numbers (Macdonald, I.5 and I.6).
 use Rattle.std.specs.Prelude.{ℕ, zero, suc, ◌-◌, ◌==◌, min, cond, ℤ, pos, List, [], ◌∷◌, ◌++◌, map}
 use Rattle.std.specs.Prelude.{flat_map}
 use Rattle.sym_model.specs.Sum.{total}
@@ -10,16 +10,15 @@ abbrev pub below : ℕ → List ℕ
 below zero = []
 below (suc n) = below n ++ (n ∷ [])
 
--- the partitions ρ such that λ/ρ is a horizontal strip of k cells, each once: i cells are removed
--- from the first row, at most those with no cell below, and k - i from the other rows
+-- the partitions ρ such that λ/ρ is a horizontal strip of k cells, each once: i cells are removed from the first row,
+-- at most those with no cell below, and k - i from the other rows
 abbrev pub strips_off : ℕ → List ℕ → List (List ℕ)
 strips_off k [] = cond (k == 0) ([] ∷ []) []
 strips_off k (a ∷ parts) =
     flat_map (λ i. map (λ rest. in_front (a - i) rest) (strips_off (k - i) parts))
     (below (suc (min k (a - part parts 1))))
 
--- in how many ways a partition is taken off to nothing by horizontal strips with these numbers of
--- cells, one after another:
+-- the number of ways to remove a whole partition by horizontal strips with these numbers of cells, one after another:
 -- the number of semistandard tableaux of that shape and content
 abbrev pub kostka : List ℕ → List ℕ → ℤ
 kostka parts [] = cond (same parts []) (pos 1) (pos 0)

@@ -5,8 +5,8 @@ use Rattle.sym_model.specs.Polynomial.{Poly, Same, In, coefficient, restrict}
 use Rattle.sym_model.specs.Partition.{size}
 use Rattle.sym_model.specs.Symmetric.{Symmetric}
 
--- f n is a symmetric polynomial in n variables, for every n,
--- and f n with the variables past the first k set to 0 is f k
+-- f n is a symmetric polynomial in n variables, for every n, and f n with all variables after the first k set to 0 is f
+-- k
 pub record IsSymmetricFamily (f : ℕ → Poly) : Type 0 where
   pub variables : (n : ℕ) → In n (f n)
   pub symmetric : (n : ℕ) → Symmetric (f n)

@@ -7,8 +7,8 @@ ghost use Rattle.sym_model.specs.Schur.{schur, skew_schur};
 ghost use Rattle.sym_model.specs.Expansion.{beside};
 ghost use Rattle.schur_laws.specs.InnerShapes.{shapes_inside};
 
-/// In n + k variables the Schur polynomial of λ is the sum over the partitions μ inside λ of s_μ in
-/// the first n variables times s_(λ/μ) in the k variables after them (Macdonald, I.5): a tableau
+/// In n + k variables the Schur polynomial of λ is the sum, over the partitions μ inside λ, of s_μ
+/// in the first n variables times s_(λ/μ) in the k variables after them (Macdonald, I.5): a tableau
 /// with entries from 1 to n + k is cut at the entry n.
 pub fn coproduct_law()
     ensures { (n k : ℕ) (shape : List ℕ) → IsPartition shape

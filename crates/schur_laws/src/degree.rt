@@ -1,27 +1,27 @@
-//! Symmetric polynomials in every number of variables at once,
-//! and how few variables determine them.
+//! Symmetric polynomials in every number of variables at once, and the number of variables that
+//! determines them.
 
 ghost use Rattle.std.specs.Prelude.{ℕ, ◌≤◌, List};
 ghost use Rattle.sym_model.specs.Polynomial.{Poly, Same};
 ghost use Rattle.sym_model.specs.Partition.{IsPartition, size};
 ghost use Rattle.sym_model.specs.Expansion.{Basis, Terms, IsExpansionOf};
 ghost use Rattle.sym_model.specs.Expression.{Tree, degree, denominator, cleared_value};
-ghost use Rattle.sym_model.specs.WholeTerms.{EachLabel, numerators};
+ghost use Rattle.sym_model.specs.WholeTerms.{HaveLabels, numerators};
 ghost use Rattle.schur_laws.specs.SymmetricFamily.{IsSymmetricFamily, HasDegreeAtMost};
 ghost use Rattle.schur_laws.specs.PartitionAtoms.{HasPartitions};
 
 /// Two families of symmetric polynomials of degree at most d, one polynomial for each number of
 /// variables, that agree in d variables agree in every number of variables (Macdonald, I.2): a
 /// monomial of degree at most d has at most d variables, and by symmetry these may be the first d.
-/// So a list of terms that expands an expression in d variables expands it in every number, where d
-/// is at least the degree of the expression and the size of each label.
+/// So a list of terms that expands an expression in d variables expands it in every number, if d is
+/// at least the degree of the expression and the size of each label.
 pub fn degree_law()
     ensures agrees { (d : ℕ) (f g : ℕ → Poly) → IsSymmetricFamily f → IsSymmetricFamily g
         → ((n : ℕ) → HasDegreeAtMost d (f n)) → ((n : ℕ) → HasDegreeAtMost d (g n))
         → Same (f d) (g d) → (n : ℕ) → Same (f n) (g n) }
     ensures expansions { (d : ℕ) (basis : Basis) (terms : Terms (List ℕ)) (e : Tree)
-        → EachLabel IsPartition (numerators terms)
-        → EachLabel (λ label. size label ≤ d) (numerators terms)
+        → HaveLabels IsPartition (numerators terms)
+        → HaveLabels (λ label. size label ≤ d) (numerators terms)
         → HasPartitions e → degree e ≤ d
         → IsExpansionOf basis terms d (cleared_value e d) (denominator e)
         → (n : ℕ) → IsExpansionOf basis terms n (cleared_value e n) (denominator e) }

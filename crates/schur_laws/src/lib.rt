@@ -1,5 +1,5 @@
 //! Laws of Schur polynomials: in the monomial basis, in two sets of variables, their products as
-//! counts of skew shapes, and how many variables determine a symmetric polynomial.
+//! counts of skew shapes, and the number of variables that determines a symmetric polynomial.
 //!
 //! A law function has an empty body: its contract is the law.
 //!
@@ -7,13 +7,13 @@
 //!
 //! `schur_in_monomials_law`: Schur polynomials in m are lists of Kostka numbers, counted by
 //! horizontal strips, in every number of variables. `coproduct_law`: a Schur polynomial in two sets
-//! of variables, by cutting tableaux at an entry. `duality_law`: as many good tableaux of λ/μ for
-//! the start σ come to τ as good tableaux of τ/σ for the start μ come to λ; so coefficients of
-//! products are counts of lattice tableaux of skew shapes, and the factors may change places.
-//! `degree_law`: two families of symmetric polynomials of degree at most d, one for each number of
-//! variables, that agree in d variables agree in every number of variables; so a list that expands
-//! an expression in d variables expands it in every number, if d is at least the degree of the
-//! expression and the size of each label.
+//! of variables, by cutting tableaux at an entry. `duality_law`: the number of good tableaux of λ/μ
+//! for the start σ with sum τ equals the number of good tableaux of τ/σ for the start μ with sum λ;
+//! so coefficients of products are counts of lattice tableaux of skew shapes, and the factors can
+//! be exchanged. `degree_law`: two families of symmetric polynomials of degree at most d, one for
+//! each number of variables, that agree in d variables agree in every number of variables; so a
+//! list that expands an expression in d variables expands it in every number, if d is at least the
+//! degree of the expression and the size of each label.
 #![tactic(auto)]
 
 mod coproduct;

@@ -12,7 +12,7 @@ ghost use Rattle.schur_laws.specs.Kostka.{kostka};
 
 /// A list with the Kostka numbers K(λ,κ) as the coefficients of the partitions κ is the Schur
 /// polynomial of λ, in every number of variables. K(λ,κ) is the number of semistandard tableaux of
-/// shape λ and content κ, for contents in any order; it counts the ways to take λ off by horizontal
+/// shape λ and content κ, for contents in any order; it counts the ways to remove λ by horizontal
 /// strips of κ₁, κ₂, .. cells, and is at most the growth at the size of λ.
 ///
 /// Example: two tableaux of shape (2,1) have the content (1,1,1).

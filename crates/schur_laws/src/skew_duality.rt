@@ -1,4 +1,4 @@
-//! The duality of products and skew shapes.
+//! The duality of good tableaux of two skew shapes.
 
 ghost use Rattle.std.specs.Prelude.{◌≡◌, ℕ, pos, true, false, List, []};
 ghost use Rattle.sym_model.specs.Partition.{IsPartition, rows};
@@ -7,16 +7,17 @@ ghost use Rattle.sym_model.specs.Schur.{contains};
 ghost use Rattle.sym_model.specs.GoodTableau.{product_count};
 ghost use Rattle.tableau_laws.specs.ColumnFold.{over_columns, column_lines, is_sum};
 
-/// For partitions σ inside τ and μ inside λ: as many good tableaux of the shape λ/μ for the start σ
-/// come to τ as good tableaux of the shape τ/σ for the start μ come to λ. The one has the letter k
-/// in its row r as often as the other has the letter r in its row k.
+/// For partitions σ inside τ and μ inside λ: the number of good tableaux of the shape λ/μ for the
+/// start σ with sum τ equals the number of good tableaux of the shape τ/σ for the start μ with sum
+/// λ. In corresponding tableaux the letter k occurs in row r of the first as often as r in row k of
+/// the second.
 ///
 /// So a coefficient of the product of two Schur polynomials is a count of lattice tableaux of a
-/// skew shape, those of ν/λ with the content μ; it is 0 where λ does not lie inside ν; and the
-/// factors may change places.
+/// skew shape, those of ν/λ with the content μ; it is 0 if λ is not inside ν; and the factors can
+/// be exchanged.
 ///
-/// Example: s_(2,1) stands twice in s_(3,2,1)/(2,1),
-/// and s_(3,2,1) twice in the product of s_(2,1) by itself.
+/// Example: s_(2,1) has the coefficient 2 in s_((3,2,1)/(2,1)), and s_(3,2,1) has the coefficient 2
+/// in the square of s_(2,1).
 pub fn duality_law()
     ensures skew_shapes { (σ τ λ' μ : List ℕ) → IsPartition σ → IsPartition λ' → IsPartition μ
         → IsPartition τ

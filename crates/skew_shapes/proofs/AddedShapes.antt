@@ -1,6 +1,6 @@
--- The rim hooks that can be put on a partition (specs/AddedHooks).
+-- The rim hooks that can be added to a partition (specs/AddedHooks).
 --     ending_none, ending_one, ending_next    the rim hooks with one last row after another
---     hooks_added                             they are the rim hooks, in falling lexicographic order
+--     hooks_added                             the list has the rim hooks, in decreasing lexicographic order
 use Rattle.std.proofs.Common.{◌≡◌, ◌⊎◌, ℕ, suc, ◌+◌, ◌-◌, ◌<◌, ◌≤◌, ◌==◌, max, nat_lt, nat_le, Bool, true, false, ◌||◌, cond, List, [], ◌∷◌, ◌++◌, map, refl, sym, ap, ◌∙◌, subst, inl, inr, arith, flat_map}
 use Rattle.std.proofs.lemmas.Bool.{cases_lt, cases_eq, and_parts, and_from}
 use Rattle.std.proofs.lemmas.Bool.Decides.{nat_tests}
@@ -22,7 +22,7 @@ use Rattle.skew_shapes.specs.HookLists.{AreHooksAdded}
 use Rattle.skew_shapes.specs.AddedHooks.{can_add, added_row, with_hook, hooks_ending, hooks_ending_after, BeginsFrom}
 use Rattle.skew_shapes.proofs.LoneShapes.{none_fits, one_fits, among_fitting, from_fitting, fall_after, fall_fitting, before_by_row, same_rows, rows_at, rows_fall}
 
--- ---- the test
+-- ---- the test whether a rim hook in the rows first to last can be added
 
 pub record CanAdd (k : ℕ) (inner : List ℕ) (first last : ℕ) : Type 0 where
   pub longer : part inner first + (last - first) < part inner last + k
@@ -62,7 +62,7 @@ can_add-from k inner first last c =
     by (inl e) = one (nat_le (part inner last + k) (part inner (first - 1) + (last - first))) e
     by (inr h) = at_most (part inner last + k) (part inner (first - 1) + (last - first)) h
 
--- a rim hook with a later last row does not begin before
+-- a rim hook with a later last row does not begin earlier
 pub later_begins : (k : ℕ) (inner : List ℕ) (first last next end : ℕ) → Falls inner → 1 ≤ next → first ≤ last → next ≤ end → last ≤ end
     → CanAdd k inner first last → CanAdd k inner next end → first ≤ next
 later_begins k inner first last next end f h o p l c d = by (cases_lt next first) c.below
@@ -76,7 +76,7 @@ later_begins k inner first last next end f h o p l c d = by (cases_lt next first
         let z = d.longer in
         absurd (omega arith)
 
--- ---- the rim hooks with one last row
+-- ---- the rim hooks that end in one given row
 
 pub ending_none : (k : ℕ) (inner : List ℕ) (first last : ℕ) → Falls inner → BeginsFrom k inner first last → first ≤ last
     → (first < last → part inner first + last < part inner last + k + first) → can_add k inner first last ≡ false → hooks_ending k inner last ≡ []
@@ -124,7 +124,7 @@ begins_next k inner first last f b = record {
   passed = λ i l m. (let o = b.ordered in let p = falls_part inner f last (omega arith) in let q = b.passed i l m in omega arith);
 }
 
--- ---- its rows
+-- ---- the rows of the partition with the rim hook added
 
 outside_row : (k : ℕ) (inner : List ℕ) (first last i : ℕ) → (i < first) ⊎ (last < i) → added_row k inner first last i ≡ part inner i
 outside_row k inner first last i h = ap (λ (b : Bool). cond b (part inner i) (cond (i == first) (part inner last + k - (last - first)) (part inner (i - 1) + 1))) (by h)
@@ -151,7 +151,7 @@ later_row k inner first last i h l =
 chained_row : (k : ℕ) (inner : List ℕ) (first last i : ℕ) → first ≤ i → i < last → added_row k inner first last (i + 1) ≡ part inner i + 1
 chained_row k inner first last i h l = later_row k inner first last (i + 1) (omega arith) (omega arith) ∙ ap (λ j. part inner j + 1) (let e : i + 1 - 1 ≡ i = omega arith in e)
 
--- the last row of the rim hook has cells
+-- if a rim hook can be added, the last of its rows becomes longer
 last_row : (k : ℕ) (inner : List ℕ) (first last : ℕ) → Falls inner → 1 ≤ first → first ≤ last → CanAdd k inner first last → part inner last < added_row k inner first last last
 last_row k inner first last f h o c = by (cases_lt first last)
   where
@@ -208,7 +208,7 @@ rows_falling k inner first last f h o c i l = by (cases_lt (i + 1) first) (cases
         let z = falls_part inner f i l in
         omega arith
 
--- the rows of the partition with the rim hook
+-- row i of the partition with the rim hook has the length `added_row`
 pub hook_part : (k : ℕ) (inner : List ℕ) (first last i : ℕ) → 1 ≤ i → part (with_hook k inner first last) i ≡ added_row k inner first last i
 hook_part k inner first last i h =
     rows_at (added_row k inner first last) (max (rows inner) last) i h
@@ -302,7 +302,7 @@ found k inner ν first last f p s h = record { counts = h.counts; ordered = h.or
     is = same_rows ν (with_hook k inner first last) p.positive (hook_partition k inner first last f h.counts h.ordered fits).positive
         (λ i l. row i l (cases_lt i first) (cases_lt last i) (cases_eq i first) ∙ sym (hook_part k inner first last i l))
 
--- ---- the list
+-- ---- the list of the shapes with an added rim hook
 
 first_before : (k : ℕ) (inner : List ℕ) (first last next end : ℕ) → Falls inner → 1 ≤ first → 1 ≤ next → first ≤ last → next ≤ end → last < end
     → CanAdd k inner first last → CanAdd k inner next end

@@ -1,4 +1,4 @@
--- How many cells a skew shape has.
+-- The number of cells of a skew shape is the size of outer less that of inner.
 use Rattle.std.proofs.Common.{◌≡◌, ℕ, zero, suc, ◌+◌, ◌-◌, ◌≤◌, List, [], ◌∷◌, ◌++◌, length, take, get_or, ◌∙◌, ap, refl, arith, flat_map}
 use Rattle.std.proofs.lemmas.List.{length-map, length-append, take_all}
 use Rattle.sym_model.specs.Partition.{ArePositive, part, size, after, cells, row_cells}
@@ -33,7 +33,7 @@ size-take_one [] (suc k) = omega arith
 size-take_one (a ∷ xs) zero = omega arith
 size-take_one (a ∷ xs) (suc k) = omega (arith, size-take_one xs k)
 
--- the cells of the first rows
+-- the number of cells in the first k rows plus the sum of the first k parts of inner is the sum of the first k parts of outer
 cells_in_front :
     (outer inner : List ℕ) (k : ℕ) → ((i : ℕ) → get_or inner i 0 ≤ get_or outer i 0) → k ≤ length outer → length inner ≤ length outer
     → length (flat_map (row_cells outer inner) (after 0 k)) + size (take k inner) ≡ size (take k outer)

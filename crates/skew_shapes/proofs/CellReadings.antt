@@ -13,7 +13,7 @@ use Rattle.sym_model.proofs.Lists.{each-append}
 use Rattle.skew_shapes.proofs.KeptRows.{is_cell-tells, number_in-set, number_in-set_here}
 use Rattle.std.proofs.Math.ListN.{set}
 
--- ---- the letters of a column
+-- ---- the letters of one column of a filling
 
 take_one :
     (g : ℕ → ℕ) (c k n : ℕ) → take 1 (drop n (map g (after c k))) ≡ cond (nat_lt n k) (g (c + n + 1) ∷ []) []
@@ -74,7 +74,7 @@ map_cells : (f : ℕ → ℕ → ℕ) (j : ℕ) (xs : List ℕ) → map (λ i. f
 map_cells f j [] = refl
 map_cells f j (x ∷ xs) = ap (λ l. f x j ∷ l) (map_cells f j xs)
 
--- the letters of a column, from top to bottom
+-- the letters of a column are the numbers of its cells, from top to bottom
 pub column-rows_by :
     (f : ℕ → ℕ → ℕ) (outer inner : List ℕ) (j : ℕ)
     → column inner (rows_by f outer inner) j ≡ map (λ (c : ℕ × ℕ). f c.0 c.1) (column_cells outer inner j)
@@ -89,7 +89,7 @@ each-cells f outer inner (j ∷ js) =
     ap₂ (λ x y. x ++ y) (column-rows_by f outer inner j) (each-cells f outer inner js)
     ∙ sym (map-append (λ (c : ℕ × ℕ). f c.0 c.1) (column_cells outer inner j) (flat_map (column_cells outer inner) js))
 
--- the column reading has the numbers of the cells in the order of the reading
+-- the column reading of the filling with f in each cell is the list of f of the cells in reading order
 pub reading-rows_by :
     (f : ℕ → ℕ → ℕ) (outer inner : List ℕ)
     → column_reading outer inner (rows_by f outer inner) ≡ map (λ (c : ℕ × ℕ). f c.0 c.1) (reading_cells outer inner)
@@ -98,7 +98,7 @@ reading-rows_by f outer inner =
     ap (λ n. flat_map (column inner (rows_by f outer inner)) (reverse (after 0 n))) e
     ∙ each-cells f outer inner (reverse (after 0 (columns outer)))
 
--- ---- the letters of a word in the cells, one by one
+-- ---- the letters of a word, written into the cells one by one
 
 other_cell : (i j row column : ℕ) → ((i ≡ row) × (j ≡ column) → ⊥) → ((i == row) && (j == column)) ≡ false
 other_cell i j row column h = elim (cases_eq i row) [
@@ -137,7 +137,7 @@ letter-absent i j (c ∷ done) (a ∷ w) h =
     (other_cell c.0 c.1 i j (λ e. h (inl (ap₂ {C = ℕ × ℕ} (λ x y. (x, y)) (sym e.0) (sym e.1)))))
     ∙ letter-absent i j done w (λ m. h (inr m))
 
--- ---- the cells in the order of the reading, one by one
+-- ---- the cells in reading order, listed one by one
 
 select-push : (test : ℕ → Bool) (xs : List ℕ) (x : ℕ) → filter test (xs ++ x ∷ []) ≡ filter test xs ++ cond (test x) (x ∷ []) []
 select-push test [] x = refl
@@ -189,7 +189,7 @@ right-more outer inner (suc i) h l =
     ∙ each-append (column_cells outer inner) (reverse (after (suc i) k)) (suc i ∷ [])
     ∙ ap (λ l. flat_map (column_cells outer inner) (reverse (after (suc i) k)) ++ l) (append-nil (column_cells outer inner (suc i)))
 
--- a cell is not among those before it
+-- a cell is not among the cells before it in the reading
 pub not_before :
     (outer inner : List ℕ) (j k : ℕ) → Among (k + 1, j) (cells_right_of outer inner j ++ cells_above outer inner j k) → ⊥
 not_before outer inner j k m = by (Among_from_append (k + 1, j) (cells_right_of outer inner j) (cells_above outer inner j k) m)
@@ -211,7 +211,7 @@ reached_cell : (outer inner : List ℕ) (j k : ℕ) → reaches outer inner j (k
 reached_cell outer inner j k h =
     is_cell-tells outer inner (k + 1) j (ap (λ b. b && reaches outer inner j (k + 1)) (le-leb 1 (k + 1) (omega arith)) ∙ h)
 
--- ---- a letter put into its cell
+-- ---- a letter is written into its cell
 
 pub letters-put :
     (starts numbers outer inner w : List ℕ) (j k a : ℕ) → HasPlaces starts outer (length numbers)
@@ -252,7 +252,7 @@ letters-put starts numbers outer inner w j k a h r held e row column c =
         (append_assoc (cells_right_of outer inner j) (cells_above outer inner j k) ((k + 1, j) ∷ [])
         ∙ ap (λ l. cells_right_of outer inner j ++ l) (sym (above-reached outer inner j k r)))
 
--- no letter is left
+-- if the word has no letter left, the other cells get no letter
 pub letters-spent :
     (starts numbers outer inner w : List ℕ) (j k : ℕ) → reaches outer inner j (k + 1) ≡ true
     → HoldsLetters starts numbers outer inner (cells_right_of outer inner j ++ cells_above outer inner j k) w
@@ -286,7 +286,7 @@ letters-spent starts numbers outer inner w j k r held short row column c =
         ∙ ap (λ l. letter_of_cell (k + 1) j l w) more
         ∙ sym (ap₂ (λ x y. letter_of_cell x y (cells_right_of outer inner j ++ cells_above outer inner j (k + 1)) w) p q)
 
--- the next row has no cell in the column
+-- if the next row has no cell in the column, it is skipped
 pub letters-passed :
     (starts numbers outer inner w : List ℕ) (j k : ℕ) → reaches outer inner j (k + 1) ≡ false
     → HoldsLetters starts numbers outer inner (cells_right_of outer inner j ++ cells_above outer inner j k) w

@@ -1,4 +1,4 @@
--- Rows of numbers that are a function of the cell: what stands in a cell, and one cell changed, added or dropped.
+-- Rows of numbers that are a function of the cell: the number in a cell, and one cell changed, added or removed.
 use Rattle.std.proofs.Common.{◌≡◌, ℕ, zero, suc, ◌+◌, ◌-◌, ◌<◌, ◌≤◌, true, ◌&&◌, leb, ltb, List, [], ◌∷◌, map, length, take, get_or, slice_index, ◌∙◌, ap, ap₂, sym, refl, arith}
 use Rattle.std.proofs.Math.ListN.{set}
 use Rattle.std.proofs.lemmas.Bool.{le-leb, lt-ltb, and_from}
@@ -11,7 +11,7 @@ use Rattle.sym_model.proofs.Parts.{get_or-without_last_zeros, get_or-lowered, ge
 use Rattle.skew_shapes.specs.CellFillings.{is_cell, row_of, place_in_row, rows_with_entry}
 use Rattle.skew_shapes.specs.Rows.{row_by, rows_by}
 
--- ---- lists of values at the numbers that follow one another
+-- ---- lists of the values at consecutive numbers
 
 pub map_after-at : {B : Type 0} (g : ℕ → B) (a k n : ℕ) (d : B) → n < k → get_or (map g (after a k)) n d ≡ g (a + n + 1)
 map_after-at g a zero n d h = absurd (omega arith)
@@ -23,7 +23,7 @@ map_after-ext f g a zero e = refl
 map_after-ext f g a (suc k) e =
     ap₂ ◌∷◌ (e (a + 1) (omega arith) (omega arith)) (map_after-ext f g (a + 1) k (λ i h l. e i (omega arith) (omega arith)))
 
--- one value changed
+-- setting one place of a list of values of f gives the values of a function that differs from f only there
 pub map_after-set :
     {B : Type 0} (f g : ℕ → B) (a k n : ℕ) (x : B) → n < k → g (a + n + 1) ≡ x
     → ((i : ℕ) → a < i → i ≤ a + k → (i ≡ a + n + 1 → ⊥) → g i ≡ f i)
@@ -43,7 +43,7 @@ take-map_after f a k zero h = refl
 take-map_after f a zero (suc m) h = absurd (omega arith)
 take-map_after f a (suc k) (suc m) h = ap (λ l. f (a + 1) ∷ l) (take-map_after f (a + 1) k m (omega arith))
 
--- ---- cells
+-- ---- the rows of cells
 
 -- a row with a cell is a row of the outer partition
 pub cell_row : (outer inner : List ℕ) (row column : ℕ) → IsCell outer inner row column → row ≤ length outer
@@ -56,7 +56,7 @@ is_cell-from outer inner row column c =
     (and_from (ltb (part inner row) column) (leb column (part outer row)) (lt-ltb (part inner row) column c.outside)
     (le-leb column (part outer row) c.within))
 
--- ---- what stands in a cell
+-- ---- the number in a cell of a filling
 
 pub row_of-rows_by :
     (f : ℕ → ℕ → ℕ) (outer inner : List ℕ) (row : ℕ) → 1 ≤ row → row ≤ length outer
@@ -77,7 +77,7 @@ letter-rows_by f outer inner row column c =
     ap (λ l. get_or l n 0) (row_of-rows_by f outer inner row c.row_counts (cell_row outer inner row column c))
     ∙ map_after-at (f row) p (part outer row - p) n 0 (omega arith) ∙ ap (f row) e
 
--- equal numbers in all cells
+-- if f and g agree at all cells of outer/inner, their fillings are equal
 pub rows_by-ext :
     (f g : ℕ → ℕ → ℕ) (outer inner : List ℕ) → ((row column : ℕ) → IsCell outer inner row column → f row column ≡ g row column)
     → rows_by f outer inner ≡ rows_by g outer inner
@@ -87,7 +87,7 @@ rows_by-ext f g outer inner h =
     map_after-ext (f row) (g row) (part inner row) (part outer row - part inner row)
     (λ column c d. h row column (record { row_counts = omega arith; outside = c; within = omega arith })))
 
--- the lengths of the rows
+-- the lengths of the rows of a filling are the parts of outer minus those of inner
 lengths_after :
     (f : ℕ → ℕ → ℕ) (outer inner : List ℕ) (a k : ℕ)
     → map length (map (row_by f outer inner) (after a k)) ≡ map (λ row. part outer row - part inner row) (after a k)
@@ -123,7 +123,7 @@ row_lengths-by_places (a ∷ outer) (b ∷ inner) =
 pub lengths-rows_by : (f : ℕ → ℕ → ℕ) (outer inner : List ℕ) → map length (rows_by f outer inner) ≡ row_lengths outer inner
 lengths-rows_by f outer inner = lengths_after f outer inner 0 (length outer) ∙ sym (row_lengths-by_places outer inner)
 
--- ---- one number changed
+-- ---- a filling with one number changed
 
 pub rows_by-set :
     (f g : ℕ → ℕ → ℕ) (outer inner : List ℕ) (row column a : ℕ) → IsCell outer inner row column → g row column ≡ a
@@ -150,7 +150,7 @@ rows_by-set f g outer inner row column a c e o =
     map_after-ext (g i) (f i) (part inner i) (part outer i - part inner i)
     (λ j q r. o i j (record { row_counts = omega arith; outside = q; within = omega arith }) (λ s. d (s.0 ∙ sym this)))))
 
--- ---- parts of a partition with one lowered
+-- ---- the parts of a partition with one of them lowered by 1
 
 pub part-lowered_here : (xs : List ℕ) (row : ℕ) → 1 ≤ row → part (without_last_zeros (lowered_at row xs)) row ≡ part xs row - 1
 part-lowered_here xs zero h = absurd (omega arith)

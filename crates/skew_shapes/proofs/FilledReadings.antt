@@ -1,4 +1,4 @@
--- Letters in all cells are the filling of a word.
+-- Letters written into all cells are the filling of a word.
 use Rattle.std.proofs.Common.{◌≡◌, ℕ, List, ap, subst}
 use Rattle.sym_model.specs.Tableau.{SkewFilling}
 use Rattle.sym_model.specs.TableauList.{letter_of_cell, reading_cells}

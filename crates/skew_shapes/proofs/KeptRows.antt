@@ -28,7 +28,7 @@ is_cell-tells outer inner row column h =
       within = leb-true column (part outer row) q.1;
     }
 
--- each cell has its place
+-- the place of each cell is within the list
 pub place_within :
     (starts outer inner : List ℕ) (places row column : ℕ) → HasPlaces starts outer places → IsCell outer inner row column
     → place_of starts row column < places
@@ -47,7 +47,7 @@ row_within starts outer inner places row column h c =
     let counts = c.row_counts in
     omega (arith, h.rows)
 
--- and no other cell has it
+-- if two cells are different, so are their places in the list
 pub place_apart :
     (starts outer inner : List ℕ) (places i j k l : ℕ) → HasPlaces starts outer places → IsCell outer inner i j → IsCell outer inner k l
     → ((i ≡ k) × (j ≡ l) → ⊥) → place_of starts i j ≡ place_of starts k l → ⊥
@@ -84,7 +84,7 @@ place_apart starts outer inner places i j k l h c d n e =
         let starts_same : get_or starts (i - 1) 0 ≡ get_or starts (k - 1) 0 = ap (λ r. get_or starts (r - 1) 0) same in
         n (same, omega arith)
 
--- ---- a number put into a cell
+-- ---- one number written into its cell
 
 pub number_in-set :
     (starts numbers outer inner : List ℕ) (row column a i j : ℕ) → HasPlaces starts outer (length numbers) → IsCell outer inner row column
@@ -118,7 +118,7 @@ entry-filling_in shape starts numbers row column h =
     sym (ap (λ b. cond b (Some (slice_index (row_of (rows_by (number_in starts numbers) shape.0 shape.1) row) (place_in_row shape.1 row column))) None) h
     ∙ ap Some (letter-rows_by (number_in starts numbers) shape.0 shape.1 row column c))
 
--- ---- the numbers of a row
+-- ---- the numbers of one row
 
 pub map_after-slice :
     (xs : List ℕ) (s p k : ℕ) → s + p + k ≤ length xs → map (λ j. get_or xs (s + (j - 1)) 0) (after p k) ≡ take k (drop (s + p) xs)
@@ -132,7 +132,7 @@ map_after-slice xs s p (suc k) h =
     ap₂ ◌∷◌ (ap (λ n. get_or xs n 0) e) (map_after-slice xs s (p + 1) k (omega arith) ∙ ap (λ n. take k (drop n xs)) f)
     ∙ sym (ap (take (suc k)) (drop-cons xs (s + p) 0 (omega arith)))
 
--- ---- where the rows begin
+-- ---- the places at which the rows begin in the list
 
 size-take-rises : (xs : List ℕ) (i k : ℕ) → i ≤ k → size (take i xs) ≤ size (take k xs)
 size-take-rises [] zero zero h = omega arith
@@ -161,7 +161,7 @@ places-from starts lengths e h = record {
   within = λ i l. omega (arith, h i l, size-take-within lengths i l);
 }
 
--- ---- the last cell of a row dropped
+-- ---- fillings without the last cell of a row
 
 pub rows-lowered : (xs : List ℕ) (row : ℕ) → 1 ≤ row → length (without_last_zeros (lowered_at row xs)) ≤ length xs
 rows-lowered xs zero h = absurd (omega arith)
@@ -226,7 +226,7 @@ filling_in-dropped shape starts numbers row h l =
     ∙ take-map_after (row_by f new inner) 0 (length outer) (length new) (rows-lowered outer row h)) in
     ap (λ (xs : List (List ℕ)). let t : SkewFilling = record { outer = new; inner = inner; rows = xs } in t) rows
 
--- ---- the last inner cell of a row made a cell
+-- ---- fillings in which the last inner cell of a row becomes a cell with the entry 0
 
 within_outer : (outer inner : List ℕ) (i j : ℕ) → IsCell outer inner i j → IsCell outer [] i j
 within_outer outer inner i j c =
@@ -283,7 +283,7 @@ filling_in-added shape starts numbers row places c =
     (λ j q r. there i j (record { row_counts = omega arith; outside = q; within = omega arith }) (λ e. d (e.0 ∙ sym this))))) in
     ap (λ (xs : List (List ℕ)). let t : SkewFilling = record { outer = outer; inner = new; rows = xs } in t) rows
 
--- ---- shapes with a part lowered
+-- ---- skew shapes with one part lowered
 
 pub IsSkew-inner_lowered :
     (outer inner new : List ℕ) (row : ℕ) → IsSkew outer inner → HasInnerCorner row inner
@@ -359,7 +359,7 @@ IsSkew-outer_lowered outer inner new (suc i) s c p e =
       holds = contains-from new inner (subst (λ xs. Holds xs inner) (sym e) all);
     }
 
--- ---- the slice of a row
+-- ---- one row as a slice of the list
 
 pub row-kept :
     (shape : List ℕ × List ℕ) (starts numbers : List ℕ) (row from to : ℕ) → IsKept shape starts numbers → 1 ≤ row → row ≤ length shape.0

@@ -1,4 +1,4 @@
--- What the listers say of the height of the current rim hook.
+-- The height that a lister of rim hooks returns for its current shape.
 use Rattle.std.proofs.Common.{◌≡◌, ℕ, ◌+◌, ◌-◌, ◌≤◌, ◌∙◌, Bool, true, false, List, refl, subst}
 use Rattle.std.specs.Prelude.{IfSome, IsTrue}
 use Rattle.sym_model.specs.Strip.{height}

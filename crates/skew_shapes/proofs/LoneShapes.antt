@@ -1,10 +1,10 @@
 -- Lists of the shapes that fit, and shapes by their rows.
 --     none_fits, one_fits, among_fitting, from_fitting    the shapes at the numbers that pass a test
---     fall_after, fall_fitting                            shapes in falling lexicographic order
---     before_by_row                                       the first row that differs tells the order
---     same_rows                                           a partition is known by its rows
---     part_within                                         no row is longer than the partition is great
---     rows_at, rows_fall, rows_next                       a list of rows that are a function of the row
+--     fall_after, fall_fitting                            shapes in decreasing lexicographic order
+--     before_by_row                                       the order is that of the first rows that differ
+--     same_rows                                           a partition is determined by its rows
+--     part_within                                         no row is longer than the size of the partition
+--     rows_at, rows_fall, rows_next                       a list of rows given by a function
 use Rattle.std.proofs.Common.{◌≡◌, ◌⊎◌, ℕ, zero, suc, ◌+◌, ◌-◌, ◌<◌, ◌≤◌, Bool, true, false, cond, List, [], ◌∷◌, ◌++◌, map, get_or, refl, sym, ap, ap₂, ◌∙◌, subst, inl, inr, arith, flat_map}
 use Rattle.std.proofs.lemmas.Bool.{cases_lt, false_from_ne_true as not_true}
 use Rattle.std.proofs.lemmas.Cmp.{nat_cmp_total, tied_itself}
@@ -22,7 +22,7 @@ use Rattle.sym_model.proofs.Parts.{past_end, get_or-without_last_zeros, part-get
 use Rattle.sym_model.proofs.PartitionLists.{FallsLexicographically-append, greater_first}
 use Rattle.skew_shapes.proofs.CellRows.{map_after-at}
 
--- ---- the shapes at the numbers that pass a test
+-- ---- lists of the shapes whose number passes a test
 
 abbrev pub fitting : (ℕ → Bool) → (ℕ → List ℕ) → List ℕ → List (List ℕ)
 fitting test shape xs = flat_map (λ i. cond (test i) (shape i ∷ []) []) xs
@@ -61,7 +61,7 @@ from_fitting test shape ν xs m =
     by i true e (inr h) = absurd h
     by i false e h = absurd h
 
--- ---- the order
+-- ---- lists that are in decreasing order, one after another
 
 pub fall_after : (f : ℕ → List (List ℕ)) (a n : ℕ) → ((i : ℕ) → a < i → i ≤ a + n → FallsLexicographically (f i))
     → ((i j : ℕ) (x y : List ℕ) → a < i → i < j → j ≤ a + n → Among x (f i) → Among y (f j) → falling_lexicographic x y ≡ Less)
@@ -77,7 +77,7 @@ fall_after f a (suc n) h c =
     let s1 = s.1 in
     c (a + 1) r.0 x y (omega arith) (omega arith) (omega arith) m r.2)
 
--- where one number at most passes the test
+-- if at most one number passes the test, the list of the shapes of those that pass is in decreasing order
 pub fall_fitting : (test : ℕ → Bool) (shape : ℕ → List ℕ) (a n : ℕ)
     → ((i j : ℕ) → a < i → i < j → j ≤ a + n → test i ≡ true → test j ≡ true → ⊥) → FallsLexicographically (fitting test shape (after a n))
 fall_fitting test shape a n h =
@@ -108,7 +108,7 @@ before_at (suc n) (a ∷ x) (b ∷ y) e h =
 pub before_by_row : (row : ℕ) (x y : List ℕ) → 1 ≤ row → ((i : ℕ) → 1 ≤ i → i < row → part x i ≡ part y i) → part y row < part x row → falling_lexicographic x y ≡ Less
 before_by_row row x y h e l = before_at (row - 1) x y (λ j m. sym (part-get_or x j) ∙ e (j + 1) (omega arith) (omega arith) ∙ part-get_or y j) l
 
--- ---- rows
+-- ---- partitions with equal rows
 
 same_places : (x y : List ℕ) → ArePositive x → ArePositive y → ((j : ℕ) → get_or x j 0 ≡ get_or y j 0) → x ≡ y
 same_places [] [] p q e = refl
@@ -122,7 +122,7 @@ same_rows x y p q e = same_places x y p q (λ j. sym (part-get_or x j) ∙ e (j 
 pub part_within : (parts : List ℕ) (i : ℕ) → part parts i ≤ size parts
 part_within parts i = get_or-le-size parts (i - 1)
 
--- a row of a list of rows that are 0 past the last
+-- if f(i) is 0 for i > n, row i of the list f(1), .., f(n), without the zeros at its end, is f(i)
 pub rows_at : (f : ℕ → ℕ) (n i : ℕ) → 1 ≤ i → (n < i → f i ≡ 0) → part (without_last_zeros (map f (after 0 n))) i ≡ f i
 rows_at f n i h z = get_or-without_last_zeros (map f (after 0 n)) (i - 1) ∙ by (cases_lt n i)
   where

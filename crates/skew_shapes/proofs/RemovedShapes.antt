@@ -1,6 +1,6 @@
--- The rim hooks that can be taken from a partition (specs/RemovedHooks).
---     beginning_none, beginning_one, beginning_next    the rim hooks with one first row after another, upwards
---     hooks_removed                                    they are the rim hooks, in falling lexicographic order
+-- The rim hooks that can be removed from a partition (specs/RemovedHooks).
+--     beginning_none, beginning_one, beginning_next    the rim hooks for each first row, from the lowest up
+--     hooks_removed                                    the list has the rim hooks, in decreasing lexicographic order
 use Rattle.std.proofs.Common.{◌≡◌, ◌⊎◌, ℕ, zero, suc, ◌+◌, ◌-◌, ◌<◌, ◌≤◌, ◌==◌, nat_lt, nat_le, Bool, true, false, ◌||◌, cond, List, [], ◌∷◌, ◌++◌, map, refl, sym, ap, ◌∙◌, subst, inl, inr, arith}
 use Rattle.std.proofs.lemmas.Bool.{cases_lt, cases_eq, and_parts, and_from}
 use Rattle.std.proofs.lemmas.Bool.Decides.{nat_tests}
@@ -23,7 +23,7 @@ use Rattle.skew_shapes.specs.HookLists.{AreHooksRemoved}
 use Rattle.skew_shapes.specs.RemovedHooks.{can_remove, left_row, without_hook, hooks_beginning, hooks_beginning_within, EndsUpTo}
 use Rattle.skew_shapes.proofs.LoneShapes.{none_fits, one_fits, among_fitting, from_fitting, fall_fitting, before_by_row, same_rows, rows_at, rows_fall}
 
--- ---- the test
+-- ---- the test whether a rim hook in the rows first to last can be removed
 
 pub record CanRemove (k : ℕ) (outer : List ℕ) (first last : ℕ) : Type 0 where
   pub below : part outer (last + 1) + k ≤ part outer first + (last - first)
@@ -51,14 +51,14 @@ can_remove-from k outer first last c =
     at_most : (a b : ℕ) → a ≤ b → nat_le a b ≡ true
     at_most a b h = grind (arith, nat_tests)
 
--- the last row of the rim hook is a row of the partition
+-- if a rim hook can be removed, its last row is a row of the partition
 pub last_within : (k : ℕ) (outer : List ℕ) (first last : ℕ) → CanRemove k outer first last → (0 < part outer last) × (last ≤ rows outer)
 last_within k outer first last c = (positive, elim (cases_lt (rows outer) last) [ inl l ↦ absurd (let e = past_end outer (last - 1) (omega arith) in let p = positive in omega arith) | inr l ↦ l ])
   where
     positive : 0 < part outer last
     positive = let a = c.below in let b = c.shorter in omega arith
 
--- one last row at most goes with a first row
+-- a rim hook with a given first row has at most one last row
 no_two : (k : ℕ) (outer : List ℕ) (first last end : ℕ) → Falls outer → first ≤ last → last < end → CanRemove k outer first last → CanRemove k outer first end → ⊥
 no_two k outer first last end f o l c d =
     let a = c.below in
@@ -66,7 +66,7 @@ no_two k outer first last end f o l c d =
     let x = falls_far outer f (last + 1) end (omega arith) (omega arith) in
     absurd (omega arith)
 
--- ---- the rim hooks with one first row
+-- ---- the rim hooks that begin in one given row
 
 pub beginning_none : (k : ℕ) (outer : List ℕ) (first last : ℕ) → Falls outer → EndsUpTo k outer first last → first ≤ last
     → (first < last → part outer first + last < part outer last + first + k) → can_remove k outer first last ≡ false → hooks_beginning k outer first ≡ []
@@ -126,7 +126,7 @@ ends_next k outer first last f h b = record {
   passed = λ i l m. (let p = falls_far outer f (first - 1) first (omega arith) (omega arith) in let q = b.passed i l m in omega arith);
 }
 
--- ---- its rows
+-- ---- the rows of the partition after the rim hook is removed
 
 outside_row : (k : ℕ) (outer : List ℕ) (first last i : ℕ) → (i < first) ⊎ (last < i) → left_row k outer first last i ≡ part outer i
 outside_row k outer first last i h = ap (λ (b : Bool). cond b (part outer i) (cond (i == last) (part outer first + (last - first) - k) (part outer (i + 1) - 1))) (by h)
@@ -150,7 +150,7 @@ earlier_row k outer first last i h l =
     within_row k outer first last i h (omega arith)
     ∙ ap (λ (b : Bool). cond b (part outer first + (last - first) - k) (part outer (i + 1) - 1)) (let e : (i == last) ≡ false = grind (arith, nat_tests) in e)
 
--- each row of the rim hook has cells
+-- if a rim hook can be removed, each of its rows becomes shorter
 row_shorter : (k : ℕ) (outer : List ℕ) (first last i : ℕ) → Falls outer → 1 ≤ first → first ≤ i → i ≤ last → CanRemove k outer first last → left_row k outer first last i < part outer i
 row_shorter k outer first last i f h l m c = by (cases_eq i last)
   where
@@ -204,7 +204,7 @@ rows_falling k outer first last f h o c i l = by (cases_lt i first) (cases_lt (i
         let z = falls_part outer f i l in
         omega arith
 
--- the rows of the partition without the rim hook
+-- row i of the partition without the rim hook has the length `left_row`
 pub left_part : (k : ℕ) (outer : List ℕ) (first last i : ℕ) → CanRemove k outer first last → 1 ≤ i → part (without_hook k outer first last) i ≡ left_row k outer first last i
 left_part k outer first last i c h =
     let w = (last_within k outer first last c).1 in
@@ -282,7 +282,7 @@ found k outer ν first last f p s h = record { counts = h.counts; ordered = h.or
     is = same_rows ν (without_hook k outer first last) p.positive (left_partition k outer first last f h.counts h.ordered fits).positive
         (λ i l. row i l (cases_lt i first) (cases_lt last i) (cases_eq i last) ∙ sym (left_part k outer first last i fits l))
 
--- ---- the list
+-- ---- the list of the shapes that a removal leaves
 
 lower_before : (k : ℕ) (outer : List ℕ) (first last next end : ℕ) → Falls outer → 1 ≤ next → next < first → first ≤ last → next ≤ end
     → CanRemove k outer first last → CanRemove k outer next end

@@ -1,4 +1,4 @@
--- A tableau by the tests of its rows.
+-- A filling is a tableau if and only if each of its rows passes the test.
 use Rattle.std.proofs.Common.{◌≡◌, ℕ, zero, suc, ◌+◌, ◌-◌, ◌<◌, Bool, true, false, ◌&&◌, cond, nat_le, nat_lt, List, [], ◌∷◌, ◌++◌, length, drop, get_or, slice_index_or, ◌∙◌, ap, ap₂, sym, refl, inl, inr, arith, append-nil}
 use Rattle.std.proofs.lemmas.Bool.{cases_lt, lt-ltb, le-ltb, and_parts}
 use Rattle.std.proofs.Math.Bool.{and-true}
@@ -9,7 +9,7 @@ use Rattle.sym_model.specs.Tableau.{SkewFilling, are_letters}
 use Rattle.skew_shapes.specs.CellFillings.{IsFilling, IsTableauWithin, is_tableau, row_of}
 use Rattle.skew_shapes.specs.RowTests.{row_passes, stands_below}
 
--- ---- every
+-- ---- a test of every number of a list
 
 every-append : (test : ℕ → Bool) (v w : List ℕ) → every test (v ++ w) ≡ (every test v && every test w)
 every-append test [] w = refl
@@ -49,7 +49,7 @@ every_after-fails test a (suc k) (suc i) h e =
     never true = refl
     never false = refl
 
--- ---- the tests of the rows
+-- ---- the test of one row after another
 
 row_of-next : (row : List ℕ) (rows : List (List ℕ)) (i : ℕ) → 0 < i → row_of (row ∷ rows) (i + 1) ≡ row_of rows i
 row_of-next row rows i h =

@@ -1,7 +1,7 @@
--- The shapes that a vertical strip makes of a partition (specs/VerticalStrips).
---     vertical_on-tell, Among-vertical_on    they are those whose rows have at most one cell more, and fall
---     vertical_on-fall                       they stand in falling lexicographic order
---     vertical_strips                        they are the vertical strips
+-- The partitions made by adding a vertical strip to a partition (specs/VerticalStrips).
+--     `vertical_on-tell`, `Among-vertical_on`  the listed shapes: each row has at most one cell more
+--     `vertical_on-fall`                       the list is in decreasing lexicographic order
+--     `vertical_strips`                        the list has the vertical strips
 use Rattle.std.proofs.Common.{◌≡◌, ℕ, zero, suc, ◌+◌, ◌-◌, ◌<◌, ◌≤◌, min, List, [], ◌∷◌, ◌++◌, map, get_or, refl, sym, ap, ap₂, ◌∙◌, subst, inl, inr, arith, flat_map}
 use Rattle.std.specs.Prelude.{replicate}
 use Rattle.std.proofs.lemmas.List.{length-replicate}
@@ -16,9 +16,9 @@ use Rattle.skew_shapes.specs.HorizontalStrips.{counting_down}
 use Rattle.skew_shapes.proofs.StripLists.{down-tells, among-down, fall-each}
 use Rattle.skew_shapes.specs.VerticalStrips.{vertical_on, AreVerticalStrips}
 
--- ---- rows with at most one cell more
+-- ---- shapes whose rows have at most one cell more
 
--- each row is the inner one or has one cell more, and they fall from `most`
+-- each row of outer is that of inner or has one cell more, outer is weakly decreasing, and its first row is at most `most`
 abbrev IsBeside : ℕ → List ℕ → List ℕ → Type 0
 IsBeside most [] [] = Unit {0}
 IsBeside most [] (b ∷ outer) = (b ≡ 1) × (b ≤ most) × IsBeside b [] outer
@@ -30,7 +30,7 @@ beside_size most [] outer o = omega arith
 beside_size most (a ∷ inner) [] o = absurd o
 beside_size most (a ∷ inner) (b ∷ outer) o = let r = beside_size b inner outer o.3 in let l = o.0 in omega arith
 
--- what a list of shapes has
+-- each row of outer has at most one cell more than that of inner, the cells are `left` more, and the rows at most `left` more
 pub record IsWidened (most left : ℕ) (inner outer : List ℕ) : Type 0 where
   pub beside : IsBeside most inner outer
   pub cells : size outer ≡ size inner + left
@@ -87,7 +87,7 @@ Among-vertical_on most left (a ∷ inner) (b ∷ outer) f o s =
     falls_more a b [] l f = tt
     falls_more a b (c ∷ inner) l f = (let x = f.0 in omega arith, f.1)
 
--- ---- the order
+-- ---- the listed shapes are in decreasing lexicographic order
 
 pub vertical_on-fall : (most left : ℕ) (inner : List ℕ) → FallsLexicographically (vertical_on most left inner)
 vertical_on-fall most left [] = (λ y m. absurd m, tt)
@@ -95,7 +95,7 @@ vertical_on-fall most left (a ∷ inner) =
     fall-each (λ row. vertical_on row (left + a - row) inner) (min most (a + min left 1)) (min most (a + min left 1) + 1 - a) (omega arith)
     (λ row m. vertical_on-fall row (left + a - row) inner)
 
--- ---- they are vertical strips
+-- ---- the listed shapes are the vertical strips
 
 beside-first : (most : ℕ) (inner outer : List ℕ) → IsBeside most inner outer → get_or outer 0 0 ≤ most
 beside-first most [] [] o = omega arith
@@ -165,7 +165,7 @@ vertical_strips inner k p = record {
   );
 }
 
--- the shapes stay within the limits where the cells and rows that are asked for do
+-- if |inner| + k ≤ 4096 and inner has at most 512 - k rows, each shape of the list is within the limits
 pub widened_limits : (inner : List ℕ) (k : ℕ) → IsPartition inner → size inner + k ≤ 4096 → rows inner + k ≤ 512
     → (rest : List ℕ) → Among rest (vertical_on (part inner 1 + 1) k inner) → IsWithinLimits rest
 widened_limits inner k p cells few rest m =
@@ -174,9 +174,9 @@ widened_limits inner k p cells few rest m =
     let b = g.few in
     record { partition = beside-falls (part inner 1 + 1) inner rest p.positive g.beside; few = omega arith; small = omega arith }
 
--- ---- one first row after another
+-- ---- shapes by their first row
 
--- a shape with a further row is one of those that are listed
+-- if a listed shape of the other rows is put below a first row of length `row`, the result is a listed shape
 pub listed_further : (most left a row n : ℕ) (inner rest : List ℕ) → n < min most (a + min left 1) + 1 - a → row ≡ min most (a + min left 1) - n → Among rest (vertical_on row (left + a - row) inner)
     → Among (row ∷ rest) (vertical_on most left (a ∷ inner))
 listed_further most left a row n inner rest h e m =
@@ -184,7 +184,7 @@ listed_further most left a row n inner rest h e m =
     (among-down (min most (a + min left 1)) (min most (a + min left 1) + 1 - a) row (omega arith) (omega arith))
     (Among-map (λ rest. row ∷ rest) rest (vertical_on row (left + a - row) inner) m)
 
--- the shapes with all first rows are all of them
+-- if the first row has had all of its lengths, the shapes added are the whole list
 pub widened_all : (most left a n : ℕ) (below rows inner : List ℕ) (before cur : List (List ℕ)) → a ∷ below ≡ inner → n ≡ min most (a + min left 1) + 1 - a
     → cur ≡ before ++ map (λ rest. rows ++ rest) (flat_map (λ row. map (λ rest. row ∷ rest) (vertical_on row (left + a - row) below)) (counting_down (min most (a + min left 1)) n))
     → cur ≡ before ++ map (λ rest. rows ++ rest) (vertical_on most left inner)

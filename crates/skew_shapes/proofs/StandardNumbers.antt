@@ -1,4 +1,4 @@
--- How often numbers stand in a tableau, and standard tableaux.
+-- The number of times that a number occurs in a tableau, and standard tableaux.
 use Rattle.std.proofs.Common.{◌≡◌, ℕ, zero, suc, ◌+◌, ◌-◌, ◌<◌, ◌≤◌, true, ◌&&◌, ◌==◌, List, [], ◌∷◌, ◌++◌, map, length, take, get_or, slice_index_or, replicate, ◌∙◌, ap, ap₂, sym, refl, subst, arith, append-nil, length-append, eqb-true}
 use Rattle.std.proofs.lemmas.Bool.{eq-eqb, and_parts}
 use Rattle.std.proofs.lemmas.List.{take_more, length-map}
@@ -11,7 +11,7 @@ use Rattle.sym_model.proofs.Lists.{each-append}
 use Rattle.sym_model.proofs.Tableaux.{length-row_lengths, row_lengths-none}
 use Rattle.skew_shapes.specs.CellFillings.{IsTableauWithin, row_of}
 
--- ---- rows one by one
+-- ---- the letters of the first rows of a tableau
 
 pub letters-more :
     (rows : List (List ℕ)) (i : ℕ) → i < length rows → letters_of (take (i + 1) rows) ≡ letters_of (take i rows) ++ row_of rows (i + 1)
@@ -53,7 +53,7 @@ pub straight-letters : (t : SkewFilling) → IsTableauWithin t → t.inner ≡ [
 straight-letters t h e =
     length-letters t.rows ∙ ap size (h.tableau.cells ∙ ap (row_lengths t.outer) e ∙ row_lengths-none t.outer)
 
--- ---- each number once
+-- ---- tableaux in which each number occurs once
 
 once_tells :
     (w : List ℕ) (a k : ℕ) → every (λ n. times_in n w == 1) (after a k) ≡ true → map (λ n. times_in n w) (after a k) ≡ replicate k 1

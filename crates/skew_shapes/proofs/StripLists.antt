@@ -1,7 +1,7 @@
--- The shapes that a horizontal strip makes of a partition (specs/HorizontalStrips).
---     strips_on-tell, Among-strips_on    they are those with rows between the old ones
---     strips_on-fall                     they stand in falling lexicographic order
---     horizontal_strips                  they are the horizontal strips
+-- The partitions made by adding a horizontal strip to a partition (specs/HorizontalStrips).
+--     `strips_on-tell`, `Among-strips_on`  the listed shapes: each row is between two rows of inner
+--     `strips_on-fall`                     the list is in decreasing lexicographic order
+--     `horizontal_strips`                  the list has the horizontal strips
 use Rattle.std.proofs.Common.{◌≡◌, ℕ, zero, suc, ◌+◌, ◌-◌, ◌<◌, ◌≤◌, ◌==◌, min, max, Bool, true, false, cond, List, [], ◌∷◌, ◌++◌, map, length, get_or, drop, refl, sym, ap, ap₂, ◌∙◌, subst, inl, inr, arith, append_assoc, eqb-true, add-one, flat_map}
 use Rattle.std.specs.Prelude.{Option, Some, None, IsSome, slice_get}
 use Rattle.std.specs.Option.{option_to_list}
@@ -19,7 +19,7 @@ use Rattle.partitions.specs.Limits.{IsWithinLimits}
 use Rattle.skew_shapes.specs.HorizontalStrips.{counting_down, strips_on, last_of, AreHorizontalStrips}
 use Rattle.std.proofs.lemmas.Grind.{flat_map-append}
 
--- ---- numbers that count down
+-- ---- numbers that decrease by 1
 
 pub down-tells : (high n a : ℕ) → n ≤ high + 1 → Among a (counting_down high n) → (a ≤ high) × (high < a + n)
 down-tells high zero a h m = absurd m
@@ -36,9 +36,9 @@ down-next high (suc n) =
     ap (counting_down high) (let s : suc n + 1 ≡ suc (n + 1) = omega arith in s)
     ∙ ap (λ l. high ∷ l) (down-next (high - 1) n ∙ ap (λ a. counting_down (high - 1) n ++ (a ∷ [])) (let e : high - 1 - n ≡ high - suc n = omega arith in e))
 
--- ---- rows between rows
+-- ---- shapes whose rows lie between two rows of inner
 
--- each row is at least the inner one, and at most the inner one above it, the first at most `most`
+-- each row of outer is at least that of inner and at most the row of inner above it, and the first row is at most `most`
 abbrev IsOver : ℕ → List ℕ → List ℕ → Type 0
 IsOver most [] [] = Unit {0}
 IsOver most [] (b ∷ outer) = (0 < b) × (b ≤ most) × (outer ≡ [])
@@ -57,7 +57,7 @@ over_size most (a ∷ inner) (b ∷ outer) o =
     let y = r.1 in
     (omega arith, omega arith)
 
--- what a list of shapes has
+-- each row of outer lies between two rows of inner, the cells are `left` more, and the rows at most `left` more
 pub record IsGrown (most left : ℕ) (inner outer : List ℕ) : Type 0 where
   pub over : IsOver most inner outer
   pub cells : size outer ≡ size inner + left
@@ -121,7 +121,7 @@ Among-strips_on most left (a ∷ inner) (b ∷ outer) f o s =
     (among-down (min most (a + left)) (min most (a + left) + 1 - max left a) b (omega arith) (omega arith))
     (Among-map (λ rest. b ∷ rest) outer (strips_on a (left + a - b) inner) (Among-strips_on a (left + a - b) inner outer f.1 o.2 (omega arith)))
 
--- ---- the order
+-- ---- the listed strips are in decreasing lexicographic order
 
 pub fall-each : (rest : ℕ → List (List ℕ)) (high n : ℕ) → n ≤ high + 1 → ((a : ℕ) → Among a (counting_down high n) → FallsLexicographically (rest a))
     → FallsLexicographically (flat_map (λ a. map (λ x. a ∷ x) (rest a)) (counting_down high n))
@@ -152,7 +152,7 @@ strips_on-fall most left (a ∷ inner) =
     fall-each (λ row. strips_on a (left + a - row) inner) (min most (a + left)) (min most (a + left) + 1 - max left a) (omega arith)
     (λ row m. strips_on-fall a (left + a - row) inner)
 
--- ---- they are horizontal strips
+-- ---- the listed shapes are the horizontal strips
 
 over-falls : (most : ℕ) (inner outer : List ℕ) → ArePositive inner → IsOver most inner outer → IsPartition outer
 over-falls most [] [] p o = record { falls = tt; positive = tt }
@@ -231,7 +231,7 @@ horizontal_strips inner k p = record {
   );
 }
 
--- ---- a list of shapes, one first row after another
+-- ---- shapes by their first row
 
 pub map_append : (g : List ℕ → List ℕ) (xs ys : List (List ℕ)) → map g (xs ++ ys) ≡ map g xs ++ map g ys
 map_append g [] ys = refl
@@ -245,7 +245,7 @@ pub append_none : (xs : List (List ℕ)) → xs ++ [] ≡ xs
 append_none [] = refl
 append_none (x ∷ xs) = ap (λ l. x ∷ l) (append_none xs)
 
--- the shapes with one of the first rows so far
+-- the shapes of the list that have `row` as their first row
 abbrev pub grown : ℕ → ℕ → List ℕ → ℕ → List (List ℕ)
 grown a left inner row = map (λ rest. row ∷ rest) (strips_on a (left + a - row) inner)
 
@@ -265,7 +265,7 @@ each-next later high n rows longer before cur new c l e =
     ∙ sym (flat_map-append (λ row. map (λ rest. row ∷ rest) (later row)) (counting_down high n) ((high - n) ∷ []))
     ∙ ap (flat_map (λ row. map (λ rest. row ∷ rest) (later row))) (sym (down-next high n))))
 
--- a shape with a further row is one of those that are listed
+-- if a listed shape of the other rows is put below a first row of length `row`, the result is a listed shape
 pub listed_further : (most left a row n : ℕ) (inner rest : List ℕ) → n < min most (a + left) + 1 - max left a → row ≡ min most (a + left) - n → Among rest (strips_on a (left + a - row) inner)
     → Among (row ∷ rest) (strips_on most left (a ∷ inner))
 listed_further most left a row n inner rest h e m =
@@ -277,7 +277,7 @@ pub map_rest : (xs : List (List ℕ)) → map (λ (rest : List ℕ). [] ++ rest)
 map_rest [] = refl
 map_rest (x ∷ xs) = ap (λ l. x ∷ l) (map_rest xs)
 
--- the shapes stay within the limits where the cells and rows that are asked for do
+-- if |inner| + k ≤ 4096 and inner has at most 512 - k rows, each shape of the list is within the limits
 pub grown_limits : (inner : List ℕ) (k : ℕ) → IsPartition inner → size inner + k ≤ 4096 → rows inner + k ≤ 512
     → (rest : List ℕ) → Among rest (strips_on (part inner 1 + k) k inner) → IsWithinLimits rest
 grown_limits inner k p cells few rest m =
@@ -286,7 +286,7 @@ grown_limits inner k p cells few rest m =
     let b = g.few in
     record { partition = over-falls (part inner 1 + k) inner rest p.positive g.over; few = omega arith; small = omega arith }
 
--- after the last row
+-- if no cell is left after the last row of inner, the list has only the empty shape
 pub last_empty : (left : ℕ) → left ≡ 0 → strips_on left left [] ≡ [] ∷ []
 last_empty left e = ap (λ n. strips_on n n []) e
 
@@ -297,14 +297,14 @@ last_row left h = by (left == 0) refl
     by true e = absurd (let z = eqb-true left 0 e in omega arith)
     by false e = refl
 
--- the shapes with all first rows are all of them
+-- if the first row has had all of its lengths, the shapes added are the whole list
 pub grown_all : (most left a n : ℕ) (below rows inner : List ℕ) (before cur : List (List ℕ)) → a ∷ below ≡ inner → n ≡ min most (a + left) + 1 - max left a
     → cur ≡ before ++ map (λ rest. rows ++ rest) (flat_map (grown a left below) (counting_down (min most (a + left)) n)) → cur ≡ before ++ map (λ rest. rows ++ rest) (strips_on most left inner)
 grown_all most left a n below rows inner before cur split e c =
     c ∙ ap (λ k. before ++ map (λ rest. rows ++ rest) (flat_map (grown a left below) (counting_down (min most (a + left)) k))) e
     ∙ ap (λ l. before ++ map (λ rest. rows ++ rest) (strips_on most left l)) split
 
--- ---- a list as it comes
+-- ---- the next shape that a lister returns
 
 next_here : (i : ℕ) (xs : List (List ℕ)) → i < length xs → drop i xs ≡ option_to_list (slice_get xs i) ++ drop (suc i) xs
 next_here i [] h = absurd (omega arith)

@@ -25,13 +25,13 @@ abbrev pub with_hook : ℕ → List ℕ → ℕ → ℕ → List ℕ
 with_hook k inner first last =
     without_last_zeros (map (added_row k inner first last) (after 0 (max (rows inner) last)))
 
--- the partitions that come of rim hooks with this last row: at most one
+-- the partitions made by rim hooks with this last row: at most one
 abbrev pub hooks_ending : ℕ → List ℕ → ℕ → List (List ℕ)
 hooks_ending k inner last =
     flat_map (λ first. cond (can_add k inner first last) (with_hook k inner first last ∷ []) [])
     (after 0 last)
 
--- those that come of rim hooks with a last row after this one
+-- the partitions made by rim hooks whose last row is after `last`
 abbrev pub hooks_ending_after : ℕ → List ℕ → ℕ → List (List ℕ)
 hooks_ending_after k inner last =
     flat_map (hooks_ending k inner) (after last (rows inner + k - last))
@@ -50,7 +50,8 @@ pub record IsAddedIn (buffer : List ℕ) (k : ℕ) (inner : List ℕ) (first las
   pub rows_are : take (max (rows inner) last) buffer
       ≡ map (added_row k inner first last) (after 0 (max (rows inner) last))
 
--- the state of a lister of added rim hooks
+-- the fields of a lister of added rim hooks are consistent: sizes are within the limits, and the rim hook in the rows first to last is the current
+-- one if `listed`
 pub record IsAdding (inner : List ℕ) (k : ℕ) (buffer : List ℕ) (first last : ℕ)
     (listed : Bool) : Type 0 where
   pub falls : Falls inner
@@ -61,7 +62,8 @@ pub record IsAdding (inner : List ℕ) (k : ℕ) (buffer : List ℕ) (first last
   pub begins : BeginsFrom k inner first last
   pub current : IsTrue listed → IsAddedIn buffer k inner first last
 
--- the hooks after the one from first to last, and that one itself if it is listed
+-- the state of the lister: the partitions with a rim hook that ends after `last` are still to be listed, and that with the rows first to last is the
+-- current one if `listed`
 abbrev pub adding_at : List ℕ → ℕ → ℕ → ℕ → Bool → HooksListed
 adding_at inner k first last listed =
     record {

@@ -28,11 +28,11 @@ is_tableau t = are_letters (letters_of t.rows) && semistandard t.inner t.rows
 abbrev pub filled_with : List ℕ → List ℕ → List ℕ → SkewFilling
 filled_with outer inner w = record { outer = outer; inner = inner; rows = filling_of outer inner w }
 
--- the row of a filling, counted from 1
+-- row `row`, counted from 1, of a filling
 abbrev pub row_of : List (List ℕ) → ℕ → List ℕ
 row_of rows row = slice_index_or rows (row - 1) []
 
--- the number of cells of its row that are left of the column
+-- the number of cells of row `row` that are left of `column`
 abbrev pub place_in_row : List ℕ → ℕ → ℕ → ℕ
 place_in_row inner row column = column - (part inner row + 1)
 

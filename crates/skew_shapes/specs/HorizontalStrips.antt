@@ -1,4 +1,4 @@
--- Lists of the shapes that a horizontal strip makes of a partition.
+-- Lists of the partitions made by adding a horizontal strip to a partition.
 use Rattle.std.specs.Prelude.{◌≡◌, ◌↔◌, ℕ, zero, suc, ◌+◌, ◌-◌, ◌==◌, min, max, cond, List, [], ◌∷◌}
 use Rattle.std.specs.Prelude.{map, Option, None, slice_get, flat_map}
 use Rattle.sym_model.specs.Sum.{Among}
@@ -18,10 +18,10 @@ abbrev pub counting_down : ℕ → ℕ → List ℕ
 counting_down high zero = []
 counting_down high (suc n) = high ∷ counting_down (high - 1) n
 
--- the partitions made by adding a horizontal strip of `left` cells to the rows of a partition, with
--- a first row of at most `most`, by decreasing first row: from the longest to the shortest that
--- leaves no more cells than the rows below it can take, each of which grows at most to the length
--- that the row above it had
+-- The partitions made by adding a horizontal strip of `left` cells to the rows of a partition, with a first row of at
+-- most `most`, by decreasing first row: from the longest to the shortest that leaves no more cells than the rows below
+-- it can take, each of which grows at most to the length that the row above it had. After the last row `most` has no
+-- effect: all cells left are one row.
 abbrev pub strips_on : ℕ → ℕ → List ℕ → List (List ℕ)
 strips_on most left [] = cond (left == 0) ([] ∷ []) ((left ∷ []) ∷ [])
 strips_on most left (a ∷ inner) =
@@ -29,7 +29,7 @@ strips_on most left (a ∷ inner) =
     flat_map (λ row. map (λ rest. row ∷ rest) (strips_on a (left + a - row) inner))
     (counting_down longest (longest + 1 - max left a))
 
--- the last shape of that number of shapes from the front, if the number is not 0
+-- the i-th of the shapes, counted from 1; none for 0
 abbrev pub last_of : ℕ → List (List ℕ) → Option (List ℕ)
 last_of zero shapes = None
 last_of (suc i) shapes = slice_get shapes i

@@ -1,15 +1,14 @@
--- How the rim hooks that can be taken from a partition are listed: by their first rows,
--- the lowest first.
--- Rows are counted from 1.
+-- The order in which the rim hooks that can be removed from a partition are listed: by their first rows, the lowest
+-- first. Rows are counted from 1.
 use Rattle.std.specs.Prelude.{◌≡◌, ℕ, zero, suc, ◌+◌, ◌-◌, ◌<◌, ◌≤◌, ◌==◌, nat_lt, nat_le, Bool}
 use Rattle.std.specs.Prelude.{true, IsTrue, ◌&&◌, ◌||◌, cond, List, [], ◌∷◌, ◌++◌, map, length}
 use Rattle.std.specs.Prelude.{Some, None, flat_map}
 use Rattle.sym_model.specs.Partition.{Falls, after, part, rows, without_last_zeros}
 use Rattle.skew_shapes.specs.HookLists.{HooksListed}
 
--- whether a rim hook of k cells can be taken from outer in the rows first, .., last: each of them
--- but the last shrinks to the length of the row below less 1, and what is left of the cells makes
--- the last shorter, and no shorter than the row below it
+-- whether a rim hook of k cells can be removed from outer in the rows first, .., last: each of them but the last
+-- shrinks to the length of the row below less 1, and the remaining cells make the last row shorter, but not shorter
+-- than the row below it
 abbrev pub can_remove : ℕ → List ℕ → ℕ → ℕ → Bool
 can_remove k outer first last =
     nat_le (part outer (last + 1) + k) (part outer first + (last - first))
@@ -32,7 +31,7 @@ hooks_beginning k outer first =
     flat_map (λ last. cond (can_remove k outer first last)
     (without_hook k outer first last ∷ []) []) (after (first - 1) (rows outer + 1 - first))
 
--- those that are left by rim hooks with a first row among that number of upper rows
+-- the partitions left by rim hooks with a first row among the first `above` rows
 abbrev pub hooks_beginning_within : ℕ → List ℕ → ℕ → List (List ℕ)
 hooks_beginning_within k outer zero = []
 hooks_beginning_within k outer (suc above) =
@@ -53,7 +52,8 @@ pub record IsLeftIn (buffer : List ℕ) (k : ℕ) (outer : List ℕ) (first last
   pub fits : can_remove k outer first last ≡ true
   pub rows_are : buffer ≡ map (left_row k outer first last) (after 0 (rows outer))
 
--- what a lister of rim hooks to be removed keeps
+-- the fields of a lister of removed rim hooks are consistent: the buffer has a place for each row, and the rim hook in the rows first to last is the
+-- current one if `listed`
 pub record IsRemoving (outer : List ℕ) (k : ℕ) (buffer : List ℕ) (first last : ℕ)
     (listed : Bool) : Type 0 where
   pub falls : Falls outer
@@ -62,7 +62,8 @@ pub record IsRemoving (outer : List ℕ) (k : ℕ) (buffer : List ℕ) (first la
   pub ends : EndsUpTo k outer first last
   pub current : IsTrue listed → IsLeftIn buffer k outer first last
 
--- the hooks to be removed after the one from first to last, and that one itself if it is listed
+-- the state of the lister: the partitions without a rim hook that begins before `first` are still to be listed, and that of the rows first to last is
+-- the current one if `listed`
 abbrev pub removing_at : List ℕ → ℕ → ℕ → ℕ → Bool → HooksListed
 removing_at outer k first last listed =
     record {

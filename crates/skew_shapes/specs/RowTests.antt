@@ -5,7 +5,7 @@ use Rattle.sym_model.specs.Schur.{row_rises, columns_rise}
 use Rattle.sym_model.specs.Tableau.{are_letters}
 use Rattle.skew_shapes.specs.CellFillings.{row_of}
 
--- whether the letters of a row are greater than those above them in the row before
+-- whether the letters of the row below `row` are greater than those above them
 abbrev pub stands_below : List ℕ → List (List ℕ) → ℕ → Bool
 stands_below inner rows row =
     columns_rise (row_of rows row)

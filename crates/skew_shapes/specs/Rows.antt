@@ -18,11 +18,11 @@ rows_by f outer inner = map (row_by f outer inner) (after 0 (rows outer))
 abbrev pub place_of : List ℕ → ℕ → ℕ → ℕ
 place_of starts row column = slice_index starts (row - 1) + (column - 1)
 
--- the number of a cell
+-- the number in the cell (row, column)
 abbrev pub number_in : List ℕ → List ℕ → ℕ → ℕ → ℕ
 number_in starts numbers row column = slice_index numbers (place_of starts row column)
 
--- the filling that is kept so
+-- the filling of the shape whose numbers are kept in this list
 abbrev pub filling_in : List ℕ × List ℕ → List ℕ → List ℕ → SkewFilling
 filling_in shape starts numbers =
     record {

@@ -1,4 +1,4 @@
--- What the type `Skew` holds.
+-- The pairs of partitions that the type `Skew` holds.
 use Rattle.std.specs.Prelude.{◌≡◌, ℕ, true, List}
 use Rattle.sym_model.specs.Schur.{contains}
 use Rattle.partitions.specs.Limits.{IsWithinLimits}

@@ -1,4 +1,4 @@
--- Lists of the shapes that a vertical strip makes of a partition.
+-- Lists of the partitions made by adding a vertical strip to a partition.
 use Rattle.std.specs.Prelude.{◌≡◌, ◌↔◌, ℕ, ◌+◌, ◌-◌, min, List, [], ◌∷◌, map, replicate, flat_map}
 use Rattle.sym_model.specs.Sum.{Among}
 use Rattle.sym_model.specs.Partition.{IsPartition, size}

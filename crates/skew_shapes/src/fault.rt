@@ -1,4 +1,4 @@
-//! Why a list of numbers is not taken as the column reading of a tableau.
+//! The reasons why a list of numbers is not the column reading of a tableau.
 ghost use Rattle.std.specs.Prelude.{◌≡◌};
 ghost use Rattle.skew_shapes.specs.declared.fault.TableauFault.TheVariants.{NoMemory as no_memory};
 
@@ -6,7 +6,7 @@ use calc_base::NoMemory;
 use std::alloc::AllocError;
 use thiserror::Error;
 
-/// Why a list of numbers is not taken as the column reading of a tableau.
+/// The reason why a list of numbers is not taken as the column reading of a tableau.
 #[derive(Clone, Copy, Debug, PartialEq, Eq, Hash, Error)]
 pub enum TableauFault {
     /// The number of entries differs from the number of cells.
@@ -15,7 +15,7 @@ pub enum TableauFault {
     /// The filling is not semistandard with entries at least 1.
     #[error("the filling is not semistandard with entries at least 1")]
     Order,
-    /// Memory was refused.
+    /// Memory ran out.
     #[error("out of memory")]
     NoMemory,
 }

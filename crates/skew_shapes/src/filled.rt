@@ -18,9 +18,8 @@ use calc_base::NoMemory;
 use std::alloc::Global;
 use std::marker::Model;
 
-/// A skew shape with a number in each of its cells, with no rule among these numbers. Its places
-/// are taken when it is made, one for each cell of its outer partition,
-/// and no public call of it takes memory.
+/// A skew shape with a number in each of its cells; the numbers are arbitrary. It has a place for
+/// each cell of its outer partition, allocated when it is made; no public method allocates memory.
 #[derive(Debug, Drop)]
 pub struct Filled {
     shape: Skew,
@@ -52,7 +51,7 @@ impl Filled {
         })
     }
 
-    /// The column reading.
+    /// The column reading: the columns from the rightmost to the leftmost, each from top to bottom.
     pub(crate) fn column_reading(&self) -> Result<Word, NoMemory>
         ensures { IfOk result (λ w. w
             ≡ column_reading self.now.outer self.now.inner self.now.rows) }
@@ -68,7 +67,7 @@ impl Filled {
         Word::from_slice(*self.numbers.allocator(), &letters)
     }
 
-    /// The shape.
+    /// The shape whose cells hold the numbers.
     pub fn shape(&self) -> &Skew
         ensures value { result.now ≡ (self.now.outer, self.now.inner) }
         ensures filling { IsFilling self.now }
@@ -97,7 +96,7 @@ impl Filled {
         Some(self.numbers[place(&self.starts, row, column)])
     }
 
-    /// Puts a number into the cell of this row and this column; all other cells stay.
+    /// Sets the number in the cell of this row and this column; all other cells stay unchanged.
     pub fn set(&mut self, row: u16, column: u16, value: u16)
         requires { IsCell self.old.outer self.old.inner row column }
         ensures { self.new ≡ with_entry self.old row column value }
@@ -106,9 +105,9 @@ impl Filled {
         self.numbers[place] = value;
     }
 
-    /// Makes the last inner cell of this row, counted from 1,
-    /// a cell of the shape with the number 0; all else stays.
-    /// That row of the inner partition is longer than the next one.
+    /// Makes the last inner cell of this row, counted from 1, a cell of the shape with the number
+    /// 0; everything else is unchanged. That row of the inner partition must be longer than the
+    /// next one.
     pub fn add_inner_cell(&mut self, row: u16)
         requires { HasInnerCorner row self.old.inner }
         ensures { self.new ≡ with_inner_cell self.old row }
@@ -132,8 +131,9 @@ impl Filled {
         );
     }
 
-    /// Drops the last cell of this row, counted from 1; all else stays. That row of the outer
-    /// partition is longer than the next one, and than the same row of the inner partition.
+    /// Removes the last cell of this row, counted from 1; everything else is unchanged. That row of
+    /// the outer partition must be longer than the next one, and than the same row of the inner
+    /// partition.
     pub fn drop_outer_cell(&mut self, row: u16)
         requires corner { HasInnerCorner row self.old.outer }
         requires cell { part self.old.inner row < part self.old.outer row }
@@ -179,7 +179,7 @@ impl Filled {
         all_positive(numbers) && (rises(numbers) && self.stands_on_next(row))
     }
 
-    /// Whether the numbers below those of this row are greater; so it is for the last row.
+    /// Whether the numbers below those of this row are greater; true for the last row.
     fn stands_on_next(&self, row: u16) -> bool
         requires { (1 ≤ row) × (row ≤ rows self.now.outer) }
         ensures { result ≡ (if nat_lt row

@@ -20,9 +20,10 @@ use std::marker::Model;
 #[derive(Drop)]
 pub struct HooksAdded {
     base: Partition,
-    /// How many cells a rim hook has.
+    /// The number of cells of a rim hook.
     k: u16,
-    /// A place for each row that a partition can have; the lengths of the rows of the current one.
+    /// A place for each row that a partition can have, with the length of that row in the current
+    /// one.
     buffer: Vec<u16>,
     /// The rows of the current rim hook. The next ones end after its last row.
     hook: HookRows,
@@ -76,7 +77,7 @@ impl Lister for HooksAdded {
 
     ghost item = { λ l. l.item };
 
-    // The clauses of the trait, and that the inner partition stays.
+    // The clauses of the trait hold, and the inner partition is unchanged.
     fn advance(&mut self) -> bool
         ensures next { self.old.rest ≡ option_to_list self.new.item ++ self.new.rest }
         ensures found { IsTrue result ↔ IsSome self.new.item }

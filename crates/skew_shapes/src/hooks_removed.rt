@@ -21,9 +21,9 @@ use std::marker::Model;
 #[derive(Drop)]
 pub struct HooksRemoved {
     base: Partition,
-    /// How many cells a rim hook has.
+    /// The number of cells of a rim hook.
     k: u16,
-    /// A place for each row; the lengths that the rows have in the current partition.
+    /// A place for each row, with the length of that row in the current partition.
     buffer: Vec<u16>,
     /// The rows of the current rim hook. The next ones begin before its first row.
     hook: HookRows,
@@ -79,7 +79,7 @@ impl Lister for HooksRemoved {
 
     ghost item = { λ l. l.item };
 
-    // The clauses of the trait, and that the outer partition stays.
+    // The clauses of the trait hold, and the outer partition is unchanged.
     fn advance(&mut self) -> bool
         ensures next { self.old.rest ≡ option_to_list self.new.item ++ self.new.rest }
         ensures found { IsTrue result ↔ IsSome self.new.item }
@@ -145,7 +145,7 @@ fn last_passed(outer: &[u16], k: u16, hook: HookRows) -> u16
     last
 }
 
-/// Whether a rim hook of `k` cells can be taken away in these rows.
+/// Whether a rim hook of `k` cells can be removed in these rows.
 fn can_be_removed(outer: &[u16], k: u16, hook: HookRows) -> bool
     requires counts { 1 ≤ hook.first }
     requires ordered { hook.first ≤ hook.last }

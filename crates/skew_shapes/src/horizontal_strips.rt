@@ -1,4 +1,4 @@
-//! The shapes that a horizontal strip makes of a partition, as a list and one at a time.
+//! The partitions made by adding a horizontal strip to a partition, as a list and one at a time.
 ghost use Rattle.std.specs.Prelude.{◌≡◌, ◌+◌, ◌^◌, ◌<◌, ◌≤◌, ◌∷◌, ◌++◌, [], None, ℕ, List, map};
 ghost use Rattle.std.specs.Prelude.{IfOk, OnOk};
 ghost use Rattle.sym_model.specs.Partition.{Falls, rows, size};
@@ -16,7 +16,7 @@ use std::marker::Model;
 #[derive(Drop)]
 pub struct HorizontalStrips {
     shapes: Vec<Partition>,
-    // How many shapes have come; one more than there are after the last.
+    // The number of shapes listed so far; after the last one, one more than there are.
     listed: usize,
 }
 

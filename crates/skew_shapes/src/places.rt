@@ -39,7 +39,7 @@ fn has_cell(outer: &[u16], inner: &[u16], row: usize, column: u16) -> bool
     inner.get(row).copied().unwrap_or(0) < column && column <= outer[row]
 }
 
-/// Puts the letters of a word into the cells of outer/inner in the order of the column reading.
+/// Writes the letters of a word into the cells of outer/inner in the order of the column reading.
 pub(crate) fn put_columns(
     numbers: &mut [u16],
     starts: &[u16],
@@ -61,8 +61,7 @@ pub(crate) fn put_columns(
     }
 }
 
-/// Puts the letters of a word into the cells of outer/inner in place of all numbers that were
-/// there.
+/// Replaces all numbers with the letters of a word, written into the cells of outer/inner.
 pub(crate) fn replace_columns(
     numbers: &mut [u16],
     starts: &[u16],
@@ -79,8 +78,8 @@ pub(crate) fn replace_columns(
     put_columns(numbers, starts, outer, inner, word);
 }
 
-/// Puts the letters into the cells of one column. `rest` has those of the word that are left,
-/// and so has the answer.
+/// Writes letters into the cells of one column. `rest` has the letters of the word that are left
+/// before, and the result those that are left after.
 fn put_column<'a>(
     numbers: &mut [u16],
     starts: &[u16],
@@ -115,8 +114,7 @@ fn put_column<'a>(
     rest
 }
 
-/// Puts the numbers of the cells of outer/inner at the end of a list,
-/// in the order of the column reading.
+/// Appends the numbers of the cells of outer/inner to a list, in the order of the column reading.
 pub(crate) fn push_columns(
     letters: &mut Vec<u16>,
     starts: &[u16],
@@ -162,7 +160,7 @@ fn push_column(
     Ok(())
 }
 
-/// The numbers without the first `count`.
+/// The numbers after the first `count`.
 pub(crate) fn without_first(numbers: &[u16], count: usize) -> &[u16]
     ensures { result.now ≡ drop count numbers.now }
 {
@@ -173,7 +171,7 @@ pub(crate) fn without_first(numbers: &[u16], count: usize) -> &[u16]
     }
 }
 
-/// The numbers from one place up to another.
+/// The numbers from the place `from` up to the place before `to`.
 pub(crate) fn between(numbers: &[u16], from: usize, to: usize) -> &[u16]
     requires { (from ≤ to) × (to ≤ length numbers.now) }
     ensures { result.now ≡ take (to - from) (drop from numbers.now) }
@@ -181,7 +179,7 @@ pub(crate) fn between(numbers: &[u16], from: usize, to: usize) -> &[u16]
     &numbers[from..to]
 }
 
-/// Puts zeros in place of all numbers.
+/// Sets all numbers to zero.
 fn clear(numbers: &mut [u16])
     ensures { (k : ℕ) → slice_index numbers.new k ≡ 0 }
 {

@@ -44,7 +44,7 @@ impl Standard {
         Ok(Standard { tableau: t })
     }
 
-    /// The tableau.
+    /// The tableau that is standard.
     pub fn tableau(&self) -> &Tableau
         ensures value { result.now ≡ self.now }
         ensures standard { (self.now.inner ≡ []) × IsStandard self.now.rows }

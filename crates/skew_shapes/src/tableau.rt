@@ -61,7 +61,7 @@ impl Tableau {
         }
     }
 
-    /// The tableau that a filling is.
+    /// The tableau with the numbers of a filling.
     pub(crate) fn of(filled: Filled) -> Tableau
         requires { IsTableauWithin filled }
         ensures { result ≡ filled }
@@ -110,7 +110,7 @@ impl Tableau {
         self.filled.column_reading()
     }
 
-    /// The same shape and entries, with no rule among them.
+    /// The filling with the same shape and entries, which may then be changed.
     pub fn into_filled(self) -> Filled
         ensures { result ≡ self }
     {

@@ -1,4 +1,4 @@
--- Products of scalars and counts that are added to a cleared list, and where they overflow.
+-- Products of scalars and counts that are added to a cleared list, and their overflows.
 use Rattle.std.proofs.Common.{◌≡◌, ◌⊎◌, ℕ, zero, suc, ◌*◌, ◌^◌, ◌<◌, ◌≤◌, Bool, true, List, [], ◌∷◌, sym, ◌∙◌, ap, ap₂, subst, refl, inl, inr, arith, ℤ, pos, ◌*ℤ◌, unsigned_abs}
 use Rattle.std.specs.Prelude.{nat_eq, nat_abs, Option, Some, None, IfSome}
 use Rattle.std.specs.Int.{◌∣◌}
@@ -37,9 +37,9 @@ use Rattle.linear_combinations.specs.Cleared.{OverflowsCleared}
 use native.Mathlib.Nat.{mul-le-mul_left, mul-pos, dvd-mul_left}
 use lib.IntN.{+ℤ_idr, *ℤ-zero, zero-*ℤ}
 
--- ---- one product of scalars
+-- ---- the product of two scalars
 
--- the number 1 divides
+-- the number 1 divides 1
 abbrev one_divides : (1 ∣ 1)
 one_divides = dvd-mul_left 1 1
 
@@ -66,7 +66,7 @@ product-value d e a b p c n la lb lp f g h =
           ∙ ap₂ ◌*ℤ◌ (ap (scaled (d * e)) f ∙ u.1) (scaled-count n),
     )
 
--- the product of two scalars is refused for its size alone
+-- the product of two scalars is refused only if it is too large
 pub product-refused : {R : Type 0} (value : R → Fraction) (x y : R) (d e : ℕ)
     → AnswersProduct value x y None → IsDenominator d (value x) × IsDenominator e (value y)
     → d * e < 2 ^ 127 → 2 ^ 127 ≤ magnitude d (value x) * magnitude e (value y)
@@ -87,7 +87,7 @@ product-refused value x y d e answers h small = by (cases_lt (magnitude d (value
         cc
     by (inr l) = l
 
--- the absolute value of a product of two numerators
+-- the absolute value of a product of two numerators is the product of their absolute values
 size_product : (d e : ℕ) (a b : Fraction) → nat_abs (scaled d a *ℤ scaled e b) ≡ magnitude d a * magnitude e b
 size_product d e a b = nat_abs-product (scaled d a) (scaled e b) ∙ ap₂ (λ m n. m * n) (size_scaled d a) (size_scaled e b)
 
@@ -134,7 +134,7 @@ refused-second value x y p w d e n lx ly f g answers h small =
     let both = ap₂ ◌*◌ size one in
     omega arith
 
--- ---- one term more
+-- ---- one more term added to a product
 
 pub at_same : (label : List ℕ) → pointwise nat_eq label label ≡ true
 at_same label = (bytes_eq-Decides label label).1 refl
@@ -155,7 +155,7 @@ Overflows-count d e n a b old k large =
     let m = ap (λ i. i * n) (size_product d e a b) in
     overflows_alone nat_list_eq_equiv same_partition (over (d * e) old) k (scaled d a *ℤ scaled e b *ℤ pos n) (omega arith)
 
--- a number that is not below 2^127 stays so with a factor
+-- if m_l·m_r has a coefficient of 2^127 or more, adding its product with two scalars that are not 0 overflows
 pub Overflows-many : (d e : ℕ) (a b : Fraction) (old : Terms (List ℕ)) (l r : List ℕ) → 0 < magnitude d a → 0 < magnitude e b
     → (ν : List ℕ) × IsPartition ν × (2 ^ 127 ≤ arrangements l r ν)
     → OverflowsCleared (pointwise nat_eq) (d * e) old
@@ -174,7 +174,7 @@ pub if_some : {A : Type 0} {P Q : A → Type 0} (o : Option A) → ((x : A) → 
 if_some None f h = h
 if_some (Some x) f h = f x h
 
--- a term is not 0
+-- in a table, the coefficient of a term, times a common denominator q, is not 0
 pub magnitude-positive : (q : ℕ) (terms : Terms (List ℕ)) (t : List ℕ × Fraction) → IsCombination (pointwise nat_eq) is_label terms → Among t terms
     → 0 < q → t.1.1 ∣ q → 0 < magnitude q t.1
 magnitude-positive q terms t is m some h =

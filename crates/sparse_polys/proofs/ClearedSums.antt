@@ -1,6 +1,6 @@
 -- Lists to which terms are added one after another, with their fractions cleared
 -- (linear_combinations' specs/Cleared).
---     found_over, mass_over, table_over   a cleared list is a table of whole numbers
+--     found_over, mass_over, table_over   a cleared list is a table of integers
 --     Gains-term, Overflows-term          one term, in a list of fractions
 --     Gains-entry, Overflows-entry        one term, in a table over any ring
 --     scaled_twice                        a multiple of a multiple
@@ -65,7 +65,7 @@ module _ (q : ℕ) where
   mass_over [] = refl
   mass_over (t ∷ terms) = ap₂ (λ a b. a + b) (nat_abs-product t.1.0 (pos (q / t.1.1))) (mass_over terms)
 
-  -- its sums
+  -- the sum of the list with its fractions cleared by q, against φ, is a sum over the terms
   pub over_sum : (φ : List ℕ → ℤ) (terms : Terms (List ℕ)) → pair (over q terms) φ ≡ total (λ (t : List ℕ × Fraction). scaled q t.1 *ℤ φ t.0) terms
   over_sum φ terms = total_map (λ (t : List ℕ × ℤ). t.1 *ℤ φ t.0) (λ (t : List ℕ × Fraction). (t.0, scaled q t.1)) terms
 
@@ -87,7 +87,7 @@ module _ (q : ℕ) where
     distinct_over : IsDistinct (pointwise nat_eq) (keys_of (over q terms))
     distinct_over = subst (IsDistinct (pointwise nat_eq)) (sym (keys_over terms)) is.distinct
 
-    -- what it has at a label
+    -- the coefficient of the list with its fractions cleared by q is q times that of the list
     pub found_over : (e : List ℕ) → sum_over (only (pointwise nat_eq) e) (over q terms) ≡ scaled q (coefficient_at terms e)
     found_over e = over_at nat_list_eq_equiv same_partition (over q terms) distinct_over e ∙ coefficient_over terms e
 
@@ -111,7 +111,7 @@ module _ (q : ℕ) where
             r.1)
             (proper terms p.1 (λ u m. divides u (inr m)))
 
--- ---- one term
+-- ---- one term added to a list
 
 module _ {is_label : List ℕ → Bool} (q : ℕ) (old new : Terms (List ℕ)) (k : List ℕ) (c : Fraction)
     (is : IsCombination (pointwise nat_eq) is_label old) (also : IsCombination (pointwise nat_eq) is_label new) (low : InLowestTerms c)
@@ -149,7 +149,7 @@ module _ {is_label : List ℕ → Bool} (q : ℕ) (old new : Terms (List ℕ)) (
     gains = record { sums = λ φ. sums_more φ ∙ ap (λ y. pair (over q old) φ +ℤ pair ((k, y) ∷ []) φ) e };
   }
 
--- a sum is refused for its size alone
+-- a sum is refused only if it is too large
 module _ {R : Type 0} (is_held : R → Type 0) (value : R → Fraction) (checked : R → R → Option R) (answers : (a b : R) → is_held a → is_held b → AnswersSum value a b (checked a b))
     (q : ℕ) (old : Terms (List ℕ)) (k : List ℕ) (c : Fraction) (refused : IsRefused is_held value checked (coefficient_at old k) c)
     (some : 0 < q) (small : q < 2 ^ 127) (divides : c.1 ∣ q)
@@ -184,7 +184,7 @@ module _ {R : Type 0} (is_held : R → Type 0) (value : R → Fraction) (checked
       let h = ap (λ b. cond b (nat_abs z) 0) (nat_list_eq_equiv.refl k) in
       (k, omega arith)
 
--- the same of the entries of a table
+-- adding a coefficient to the entries of a table over any ring adds it to the list of their values
 module _ {R : Type 0} (value : R → Fraction) (zero : R) (none : value zero ≡ whole (pos 0))
     {is_label : List ℕ → Bool} (q : ℕ) (entries : List (List ℕ × R)) (k : List ℕ) (v : R)
     (was : Entries.IsCombination (pointwise nat_eq) is_label value entries) (some : 0 < q)
@@ -216,7 +216,7 @@ module _ {R : Type 0} (value : R → Fraction) (zero : R) (none : value zero ≡
         (coefficient_values value zero none (pointwise nat_eq) entries k) refl refused) some small
         divides cleared (combination_values value (pointwise nat_eq) is_label entries was) z e
 
--- ---- one product
+-- ---- the product of two coefficients
 
 pub record IsClearedProduct (d e : ℕ) (a b c : Fraction) : Type 0 where
   pub positive : 0 < d * e
@@ -237,9 +237,9 @@ cleared-product d e a b c la lb f h =
           ∙ ap₂ ◌*◌ (unsigned_abs-scaled d a) (unsigned_abs-scaled e b);
     }
 
--- ---- multiples
+-- ---- multiples of multiples
 
--- a multiple of a multiple
+-- d times a list, and then c times the result, is c·d times the list
 pub scaled_twice : {L : Type 0} (c d : ℤ) (xs : WholeTermsOf L) → multiple (c *ℤ d) xs ≡ multiple c (multiple d xs ++ [])
 scaled_twice c d [] = refl
 scaled_twice {L} c d (t ∷ xs) = ap (λ z. (t.0, z) ∷ multiple (c *ℤ d) xs) (product_assoc c d t.1) ∙ ap (λ (l : WholeTermsOf L). (t.0, c *ℤ (d *ℤ t.1)) ∷ l) (scaled_twice c d xs)

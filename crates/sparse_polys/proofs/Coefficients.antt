@@ -24,7 +24,7 @@ pub keys-terms_of : {L R : Type 0} (value : R → Fraction) (es : List (L × R))
 keys-terms_of value [] = refl
 keys-terms_of value (e ∷ es) = ap (λ ks. e.0 ∷ ks) (keys-terms_of value es)
 
--- the value that a look-up stands for
+-- the value of the coefficient that a look-up finds, or 0 if it finds none
 abbrev pub value_at : {R : Type 0} → (R → Fraction) → Option R → Fraction
 value_at value None = whole (pos 0)
 value_at value (Some c) = value c

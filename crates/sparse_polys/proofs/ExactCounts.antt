@@ -1,4 +1,4 @@
--- Counts that are below 2^127 are exact (specs/Products).
+-- Counts of a search that are below 2^127 are exact (specs/MonomialProducts).
 use Rattle.std.proofs.Common.{◌≡◌, ◌⊎◌, ℕ, zero, suc, ◌^◌, ◌<◌, ◌≤◌, cond, List, [], ◌∷◌, length, get_or, sym, ap, subst, refl, inl, inr, arith}
 use Rattle.std.specs.Prelude.{All}
 use Rattle.sym_model.specs.Sum.{Among}

@@ -1,4 +1,4 @@
--- What a list of terms is when its coefficients at all labels are known (specs/Products).
+-- Lists of terms whose coefficients at all labels are known (specs/Products).
 --     coefficient-over      the coefficients of the list times q
 --     expansion_product     a list with the coefficients of a product is the product, in every number of variables
 use Rattle.std.proofs.Common.{◌≡◌, ℕ, ◌+◌, ◌*◌, ◌/◌, ◌<◌, Bool, true, false, cond, List, [], ◌∷◌, length, sym, ◌∙◌, ap, ap₂, subst, refl, inl, inr, arith, ℤ, pos, ◌*ℤ◌}
@@ -55,7 +55,7 @@ not_here t terms is ν e = lookup-none (pointwise nat_eq ν) terms (none_past_he
 pub coefficient-over : (q : ℕ) (terms : Terms (List ℕ)) → IsPartitionTable terms → (ν : List ℕ) → coefficient (over q terms) ν ≡ scaled q (coefficient_at terms ν)
 coefficient-over q terms is ν = coefficient_of_over (over q terms) ν ∙ found_over q terms is ν
 
--- ---- labels stand once
+-- ---- the coefficients of labels that occur once
 
 absent : (k : List ℕ) (terms : Terms (List ℕ)) → lookup (pointwise nat_eq k) terms ≡ None → Among k (labels_of terms) → ⊥
 absent k [] e m = m
@@ -67,7 +67,7 @@ absent k (u ∷ terms) e m = by (pointwise nat_eq k u.0) refl e (absent k terms)
     by false p none rest (inl i) = let t : pointwise nat_eq k u.0 ≡ true = (bytes_eq-Decides k u.0).1 i in cc
     by false p none rest (inr n) = rest none n
 
--- the coefficient of a label that is there
+-- the coefficient at the label of a term of a table is that of the term
 pub found_at : (terms : Terms (List ℕ)) → IsPartitionTable terms → (t : List ℕ × Fraction) → Among t terms → coefficient_at terms t.0 ≡ t.1
 found_at [] is t m = absurd m
 found_at (u ∷ terms) is t m = by (pointwise nat_eq t.0 u.0) refl (found_at terms (table_tail u terms is) t) m
@@ -84,7 +84,7 @@ once_labels [] is = tt
 once_labels (t ∷ terms) is =
     (absent t.0 terms (not_here t terms is t.0 ((bytes_eq-Decides t.0 t.0).1 refl)), once_labels terms (table_tail t terms is))
 
--- ---- common denominators
+-- ---- common denominators of tables
 
 reduced_at : (terms : Terms (List ℕ)) → IsPartitionTable terms → (t : List ℕ × Fraction) → Among t terms → (0 < t.1.1) × (0 < nat_abs t.1.0)
 reduced_at terms is t m = let r = is_reduced-tells t.1 (term-tests terms is t m).0 in (r.denominator, r.nonzero)
@@ -102,14 +102,14 @@ common-denominators terms is = record {
 partition_at : (terms : Terms (List ℕ)) → IsPartitionTable terms → (t : List ℕ × Fraction) → Among t terms → IsPartition t.0
 partition_at terms is t m = (is_label-tells t.0 (term-tests terms is t m).1).partition
 
--- what divides at each partition divides each term
+-- if q is a multiple of the denominator of the coefficient at each partition, it is one of the denominator of each term
 pub divides_terms : (q : ℕ) (product : Terms (List ℕ)) → IsPartitionTable product → ((ν : List ℕ) → IsPartition ν → (coefficient_at product ν).1 ∣ q)
     → (t : List ℕ × Fraction) → Among t product → t.1.1 ∣ q
 divides_terms q product ip h t m =
     subst (λ (c : Fraction). c.1 ∣ q) (found_at product ip t m)
     (h t.0 (partition_at product ip t m))
 
--- ---- the product
+-- ---- the product of two lists
 
 value-list : (terms : Terms (List ℕ)) → IsList (over (denominators terms) terms) (λ n. value Basis.monomials terms n)
 value-list terms n α = ap (λ (f : Poly). coefficient f α) (sym (cleared-over (denominators terms) n terms))
@@ -117,7 +117,8 @@ value-list terms n α = ap (λ (f : Poly). coefficient f α) (sym (cleared-over 
 cancel : (num : ℤ) (D den r : ℕ) → r * den ≡ D → num *ℤ pos D ≡ num *ℤ pos r *ℤ pos den
 cancel num D den r e = ap (λ n. num *ℤ pos n) (sym e) ∙ sym (product_assoc num (pos r) (pos den))
 
--- a list to which the product was added term by term, with the fractions cleared by any common denominators
+-- product is the list to which all products of terms were added, with the fractions cleared by any common
+-- denominators
 abbrev pub IsClearedProduct : Terms (List ℕ) → Terms (List ℕ) → Terms (List ℕ) → Type 0
 IsClearedProduct left right product =
     (d e : ℕ) → IsCommonDenominator d left → IsCommonDenominator e right
@@ -159,7 +160,7 @@ expansion_product left right product il ir cleared =
     (λ n. value Basis.monomials left n) (λ n. value Basis.monomials right n) (value-list left) (value-list right)
     (λ ν p. coefficient-over D product ip ν ∙ sums_from D f g product adds ν p))
 
--- the product with the empty list
+-- the product with the empty list is empty
 pub times_nothing : (f : Poly) → times f [] ≡ []
 times_nothing [] = refl
 times_nothing (s ∷ f) = times_nothing f
@@ -173,9 +174,9 @@ expansion_nothing left [] product n d e h =
     record { positive = omega arith; equal = λ α. sym (ap (λ g. coefficient (scale (pos 1) g) α) (times_nothing f)) } in
     subst (λ (l : Terms (List ℕ)). IsExpansionOf Basis.monomials l n (times f []) d) (sym e) none
 
--- ---- the sizes of its labels
+-- ---- the labels of a product have sums of sizes
 
--- the size of each label is the sum of two sizes
+-- the size of each label of a product is the sum of the sizes of a label of `left` and one of `right`
 pub sums_of_sizes : (d e : ℕ) (left right product : Terms (List ℕ)) → 0 < d * e
     → GainsCleared (pointwise nat_eq) is_label (d * e) [] (products (over d left) (over e right))
     product → AreSums left right product
@@ -187,7 +188,7 @@ sums_of_sizes d e left right product some adds t m =
     (λ ν. (l r : List ℕ × Fraction) × Among l left × Among r right × (size l.0 + size r.0 ≡ size ν)) (λ u n. absurd n) (products_sizes d e left right)
     (t.0, scaled q t.1) (Among-map (λ (u : List ℕ × Fraction). (u.0, scaled q u.1)) t product m)
 
--- ---- least common denominators
+-- ---- least common denominators of lists
 
 pub least-positive : (terms : Terms (List ℕ)) → ((t : List ℕ × Fraction) → Among t terms → 0 < t.1.1) → 0 < common_denominator terms
 least-positive [] h = omega arith
@@ -209,7 +210,7 @@ least-denominators terms is = record {
   multiple = least-multiple terms (λ t m. (reduced_at terms is t m).0);
 }
 
--- ---- whole coefficients
+-- ---- lists of integers have the denominator 1
 
 pub whole-denominators : (terms : WholeTerms) → IsCommonDenominator 1 (terms_of whole terms)
 whole-denominators terms = record { positive = omega arith; multiple = divides terms }
@@ -236,16 +237,16 @@ whole_product left right product adds ν p =
     ∙ sums_from 1 f g (terms_of whole product) adds ν p
     ∙ ap₂ (λ (l r : WholeTerms). product_coefficient l r ν) (over-one left) (over-one right)
 
--- ---- the sizes of labels
+-- ---- the sizes of labels and the values of entries
 
--- a term of the values is that of an entry with the same label
+-- if u is a term of the list of values, there is an entry with a label of its size
 label_among : {R : Type 0} (value : R → Fraction) (entries : List (List ℕ × R)) (u : List ℕ × Fraction)
     → Among u (terms_of value entries) → (t : List ℕ × R) × Among t entries × (size t.0 ≡ size u.0)
 label_among {R = R} value entries u m =
     let v = Among_from_map (λ (p : List ℕ × R). (p.0, value p.1)) u entries m in
     (v.0, v.1, ap (λ (w : List ℕ × Fraction). size w.0) (sym v.2))
 
--- the sizes of labels do not depend on the coefficients
+-- if the labels of the values of a product are sums of labels of the values of its factors, so are those of the entries
 pub sums_values : {R : Type 0} (value : R → Fraction) (left right product : List (List ℕ × R))
     → AreSums (terms_of value left) (terms_of value right) (terms_of value product)
     → AreSums left right product

@@ -1,5 +1,5 @@
--- The printed order of monomials is the order of their degrees and lists of exponents turned round: where one list is
--- the front of the other, the longer one has an exponent that is not 0 after it.
+-- The printed order of monomials is the reversed order of their degrees and lists of exponents: if one list is the
+-- front of the other, the longer one has an exponent that is not 0 after it.
 use Rattle.std.proofs.Common.{◌≡◌, ℕ, zero, suc, List, [], ◌∷◌, refl, sym, ap, ◌∙◌, inl, inr, ◌⊎◌, arith}
 use Rattle.std.specs.Cmp.{nat_cmp_is}
 use Rattle.std.specs.Cmp.Lexicographic.{slice_cmp}
@@ -14,7 +14,7 @@ positive_cmp a = sym (nat_cmp_is (suc a) 0 Greater (omega arith))
 zero_cmp : (a : ℕ) → nat_cmp 0 (suc a) ≡ Less
 zero_cmp a = sym (nat_cmp_is 0 (suc a) Less (omega arith))
 
--- read against no exponents, a list has a positive one first or zeros alone
+-- compared with no exponents, a list has a positive one and so comes first, or it has only zeros
 abbrev HasPositive : List ℕ → Type 0
 HasPositive u = ((falling_lexicographic [] u ≡ Greater) × (falling_lexicographic u [] ≡ Less)) ⊎ (without_last_zeros u ≡ [])
 
@@ -58,7 +58,7 @@ pub printed_order-trimmed :
     → ordering_then (nat_cmp (size y) (size x)) (slice_cmp nat_cmp y x) ≡ printed_order x y
 printed_order-trimmed x y p q = ap (ordering_then (nat_cmp (size y) (size x))) (sym (falling_lexicographic-trimmed x y p q))
 
--- the list without its last zeros has none
+-- removing the last zeros of a list twice is removing them once
 pub trimmed_once : (x : List ℕ) → without_last_zeros (without_last_zeros x) ≡ without_last_zeros x
 trimmed_once [] = refl
 trimmed_once (a ∷ x) = by a (without_last_zeros x) (trimmed_once x)

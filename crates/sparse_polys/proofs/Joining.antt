@@ -1,4 +1,4 @@
--- The exponents of a product of monomials.
+-- The exponents of a product of two monomials, place by place.
 use Rattle.std.proofs.Common.{◌≡◌, ℕ, zero, suc, ◌+◌, ◌<◌, ◌≤◌, max, List, [], ◌∷◌, ◌++◌, length, get_or, take, ap, ◌∙◌, arith}
 use Rattle.std.proofs.lemmas.List.{take_more}
 use Rattle.sym_model.specs.Polynomial.{join}
@@ -6,13 +6,13 @@ use Rattle.sym_model.specs.Partition.{size}
 use Rattle.sym_model.proofs.Exponents.{size-join, length-join, get_or-join}
 use Rattle.sparse_polys.specs.Limits.{HasDegree, IsWithinLimits}
 
--- one place more of the sums
+-- the first i + 1 places of a sum are the first i and the sum of the numbers at place i
 pub take-join : (a b : List ℕ) (i : ℕ) → i < max (length a) (length b) → take (i + 1) (join a b) ≡ take i (join a b) ++ (get_or a i 0 + get_or b i 0) ∷ []
 take-join a b i h =
     let l = length-join a b in
     take_more (join a b) i 0 (omega arith) ∙ ap (λ n. take i (join a b) ++ n ∷ []) (get_or-join a b i)
 
--- a sum at a place is at most the sum of all
+-- the sum a_i + b_i is at most the sum of all of them
 pub entry-join : (a b : List ℕ) (i : ℕ) → get_or a i 0 + get_or b i 0 ≤ size (join a b)
 entry-join a b i =
     let s = size-join a b in

@@ -1,4 +1,4 @@
--- What the type holds and the test of a label say the same.
+-- The invariant of the type and the test of a label agree.
 use Rattle.std.proofs.Common.{◌≡◌, ℕ, ◌&&◌, true, List, length}
 use Rattle.std.specs.Prelude.{nat_le}
 use Rattle.std.proofs.lemmas.Bool.{and_from, le-leb}

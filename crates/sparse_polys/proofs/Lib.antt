@@ -22,3 +22,10 @@ pub mod Accumulating
 pub mod Rows
 pub mod ExactCounts
 pub mod Expansions
+pub mod WholeLists
+pub mod Bounds
+pub mod PartitionTerms
+pub mod TableSums
+pub mod Quotients
+pub mod DividedLists
+pub mod Families

@@ -1,4 +1,4 @@
--- The terms of a list, one after another.
+-- The terms of a list of pairs, one after another.
 use Rattle.std.proofs.Common.{◌≡◌, ℕ, List, [], ◌∷◌, ◌++◌, map, refl, ap, ◌∙◌, ℤ, ◌*ℤ◌}
 use Rattle.std.proofs.lemmas.List.{map-append}
 use Rattle.sym_model.specs.Expansion.{Fraction}
@@ -21,7 +21,8 @@ module _ {R : Type 0} (value : R → Fraction) where
   over_pieces q [] ys = refl
   over_pieces q (x ∷ xs) ys = ap (λ l. (x.0, scaled q (value x.1)) ∷ l) (over_pieces q xs ys)
 
-  -- what is gained for pairs is gained for their pieces: a term times the list, the list times another, and x_r times the list
+  -- a list of pairs is added by adding its pieces: a term times the list, the list times another, and x_r times the
+  -- list
   pub row_pieces : (s : Term) (e : ℕ) (xs ys : List (List ℕ × R))
       → times (s ∷ []) (over e (terms_of value (xs ++ ys))) ≡ times (s ∷ []) (over e (terms_of value xs)) ++ times (s ∷ []) (over e (terms_of value ys))
   row_pieces s e [] ys = refl

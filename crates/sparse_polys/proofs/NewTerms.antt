@@ -1,4 +1,4 @@
--- A list of terms whose monomials are those of another list times a variable: the next one is not there yet.
+-- A list of terms whose monomials are those of another list times a variable: the next one is new.
 use Rattle.std.proofs.Common.{◌≡◌, ℕ, Bool, true, false, cond, List, [], ◌∷◌, ◌++◌, refl, sym, ap, ◌∙◌, subst, inl, inr, pos}
 use Rattle.std.specs.Prelude.{nat_eq, Some, None}
 use Rattle.std.specs.List.{IsDistinct}
@@ -24,7 +24,7 @@ use Rattle.sparse_polys.specs.Products.{coefficient_at, AreRaised}
 use Rattle.sparse_polys.specs.Raised.{raised}
 use Rattle.sparse_polys.proofs.Raising.{raised-same}
 
--- a monomial that no term has has the coefficient 0
+-- a monomial without a term has the coefficient 0
 absent_coefficient : (terms : Terms (List ℕ)) (k : List ℕ) → ((t : List ℕ × Fraction) → Among t terms → t.0 ≡ k → ⊥) → coefficient_at terms k ≡ whole (pos 0)
 absent_coefficient [] k h = refl
 absent_coefficient (u ∷ terms) k h = by (pointwise nat_eq k u.0) refl (absent_coefficient terms k (λ t m. h t (inr m)))
@@ -33,7 +33,7 @@ absent_coefficient (u ∷ terms) k h = by (pointwise nat_eq k u.0) refl (absent_
     by true p rest = absurd (h u (inl refl) (sym (same_partition k u.0 p)))
     by false p rest = rest
 
--- what a look-up misses no term has
+-- a monomial that a look-up does not find is that of no term
 missed : (terms : Terms (List ℕ)) (k : List ℕ) → lookup (pointwise nat_eq k) terms ≡ None → (t : List ℕ × Fraction) → Among t terms → t.0 ≡ k → ⊥
 missed [] k none t m e = m
 missed (u ∷ terms) k none t m e = by (pointwise nat_eq k u.0) refl none (missed terms k) m
@@ -58,7 +58,7 @@ module _ {R : Type 0} (value : R → Fraction) (r : ℕ) (done rest : List (List
   split : terms_of value done ++ (k, value v) ∷ terms_of value rest ≡ terms
   split = sym (map-append (λ (p : List ℕ × R). (p.0, value p.1)) done ((k, v) ∷ rest)) ∙ all
 
-  -- the next one is new
+  -- the product of the next monomial and the variable is not in the list yet
   pub new_label : coefficient_at cur (raised r k) ≡ whole (pos 0)
   new_label =
       absent_coefficient cur (raised r k) (λ t m e.
@@ -71,7 +71,7 @@ module _ {R : Type 0} (value : R → Fraction) (r : ℕ) (done rest : List (List
       (subst (λ (l : Terms (List ℕ)). IsDistinct (pointwise nat_eq) (keys_of l)) (sym split) is.distinct) in
       missed (terms_of value done) k none u.0 u.1 same)
 
-  -- and put in it is one of the products
+  -- with the next term k added, each monomial of the new list is still the product of a monomial of the old one and the variable
   pub labels_next : (new : Terms (List ℕ)) → IsPolynomialTable cur → IsPolynomialTable new → HasMoreAt (pointwise nat_eq) cur (raised r k) (value v) new
       → AreRaised r (terms_of value (done ++ (k, v) ∷ [])) new
   labels_next new was also more t m = by (pointwise nat_eq (raised r k) t.0) refl

@@ -1,8 +1,8 @@
--- The polynomial that a list of monomials stands for, through sums over its terms with the fractions cleared.
---     represents          a list with the sums of a polynomial stands for it
+-- The polynomial of a list of monomials, through sums over its terms with the fractions cleared.
+--     represents          a list with the sums of a polynomial represents it
 --     product_value       the sums of a product of two polynomials
 --     variable_value      the sums of a product with a variable
---     product_overflows   a product that overflows is of lists with large absolute values
+--     product_overflows   if a product overflows, the absolute values of its factors have large sums
 use Rattle.std.proofs.Common.{◌≡◌, ℕ, ◌-◌, ◌+◌, ◌*◌, ◌/◌, ◌^◌, ◌<◌, ◌≤◌, max, map, length, Bool, true, false, cond, ◌&&◌, List, [], ◌∷◌, ◌++◌, refl, sym, ap, ap₂, ◌∙◌, subst, inl, inr, arith, ℤ, pos, ◌+ℤ◌, ◌*ℤ◌}
 use Rattle.std.specs.Prelude.{nat_eq, nat_abs, Option, Some, replicate}
 use Rattle.std.specs.Int.{◌∣◌}
@@ -53,7 +53,7 @@ pair_cleared n q (t ∷ terms) φ =
     pair_plus (scale (scaled q t.1) (x_to_in t.0 n)) (cleared (λ e. x_to_in e n) q terms) φ
     ∙ ap₂ ◌+ℤ◌ (pair_scale (scaled q t.1) (x_to_in t.0 n) φ ∙ ap (λ z. scaled q t.1 *ℤ z) (pair_x_to_in n t.0 φ)) (pair_cleared n q terms φ)
 
--- ---- the terms of a list
+-- ---- the coefficients of a table of monomials
 
 found_at : (terms : Terms (List ℕ)) → IsPolynomialTable terms → (t : List ℕ × Fraction) → Among t terms → coefficient_at terms t.0 ≡ t.1
 found_at terms is t m = ap (λ (o : Option Fraction). unwrap_or o (pos 0, 1)) (by terms is.distinct m)
@@ -79,7 +79,7 @@ common-denominators terms is = record {
   multiple = divides-denominators terms;
 }
 
--- ---- least common denominators
+-- ---- least common denominators of tables of monomials
 
 pub least-denominators : (terms : Terms (List ℕ)) → IsPolynomialTable terms → IsCommonDenominator (common_denominator terms) terms
 least-denominators terms is = record {
@@ -87,7 +87,8 @@ least-denominators terms is = record {
   multiple = least-multiple terms (positive_at terms is);
 }
 
--- where the product of two sums of absolute values is large, the product of the weights is
+-- let d and e be the least common denominators: if d·e, or the product of the sums of absolute values over them, is at least 2^127, so is the product
+-- of the weights
 pub weights-large : (left right : Terms (List ℕ)) → IsPolynomialTable left → IsPolynomialTable right
     → (common_denominator left * common_denominator right < 2 ^ 127 → 2 ^ 127 ≤ absolute_sum (common_denominator left) left * absolute_sum (common_denominator right) right)
     → 2 ^ 127 ≤ list_weight left * list_weight right
@@ -113,7 +114,7 @@ weights-large left right is also h =
         let y = o.1 in
         elim (cases_lt (d * e) (2 ^ 127)) [ inl l ↦ (let g = h l in omega arith) | inr l ↦ omega arith ]
 
--- ---- what a list stands for
+-- ---- the polynomial of a list
 
 cross : (d q r : ℕ) → r ∣ d → r ∣ q → d * (q / r) ≡ q * (d / r)
 cross d q r h k =
@@ -161,9 +162,9 @@ represents terms d n f is clear sums =
           ∙ sym (pair_scale (pos q) f φ));
     }
 
--- ---- products
+-- ---- products of two polynomials
 
--- one monomial times a polynomial
+-- restricting x^e and each term of a list to n variables before multiplying them gives the restriction of their products
 row_value : (n : ℕ) (terms : Terms (List ℕ)) (φ : List ℕ → ℤ) (e : List ℕ)
     → restricted_test n (λ α. pair (value_in terms n) (λ β. φ (join α β))) e ≡ pair (over (denominators terms) terms) (λ β. restricted_test n φ (join e β))
 row_value n terms φ e = by (fits_in n e) refl
@@ -208,7 +209,7 @@ variable_value n r terms φ =
     ∙ row_value n terms φ x
     ∙ pair_ext f (λ β. restricted_test n φ (join x β)) (λ e. restricted_test n φ (raised r e)) (λ e. ap (restricted_test n φ) (join_comm x e)))
 
--- the product with the empty list
+-- the product with an empty list represents 0
 pub represents_nothing : (n d : ℕ) (left right product : Terms (List ℕ)) → product ≡ [] → length right ≡ 0
     → Represents (λ e. x_to_in e n) product (times (value_in left n) (value_in right n)) d
 represents_nothing n d left (t ∷ right) product e h = absurd (omega arith)
@@ -217,7 +218,7 @@ represents_nothing n d left [] product e h =
     subst (λ (l : Terms (List ℕ)). Represents (λ e. x_to_in e n) l (times f []) d) (sym e)
     (record { positive = omega arith; equal = λ α. sym (ap (λ g. coefficient (scale (pos 1) g) α) (times_nothing f)) })
 
--- ---- large products
+-- ---- products of two lists that overflow
 
 mass_row : (s : Term) (g : WholeTerms) → mass (map (λ (t : Term). (join s.0 t.0, s.1 *ℤ t.1)) g) ≡ nat_abs s.1 * mass g
 mass_row s [] = omega arith

@@ -1,6 +1,6 @@
 -- The product of two lists of terms in m as one list (specs/MonomialProducts).
---     counted_gains, counted_overflows        what a search counts is the list of m_λ·m_μ
---     products_coefficient, products_large    what the product of two lists has at a partition
+--     counted_gains, counted_overflows        the counts of a search are the list of m_λ·m_μ
+--     products_coefficient, products_large    the coefficients of the product of two lists
 --     products_sizes                          the sizes of its labels
 use Rattle.std.proofs.Common.{◌≡◌, ◌⊎◌, ℕ, ◌+◌, ◌*◌, ◌^◌, Bool, true, false, cond, List, [], ◌∷◌, ◌++◌, map, refl, sym, ap, ◌∙◌, subst, inl, inr, arith, ℤ, pos, ◌+ℤ◌, ◌*ℤ◌}
 use Rattle.std.specs.Prelude.{nat_eq, nat_abs, ◌≤ℤ◌}
@@ -36,7 +36,7 @@ use Rattle.linear_combinations.specs.Cleared.{GainsCleared, OverflowsCleared}
 use Rattle.linear_combinations.proofs.Cleared.{Gains-as}
 use Rattle.sparse_polys.proofs.ExactCounts.{all_among}
 
--- each label of a list has the property, or the list has nothing there
+-- for each ν, either ν has the property P of the labels of g, or ν does not occur in g
 label_or_none : (P : List ℕ → Type 0) (g : WholeTerms) → HaveLabels P g → (ν : List ℕ) → (P ν) ⊎ (mass_at (pointwise nat_eq) ν g ≡ 0)
 label_or_none P [] h ν = inr refl
 label_or_none P (t ∷ g) h ν = by (pointwise nat_eq ν t.0) refl (label_or_none P g (λ u n. h u (inr n)) ν)
@@ -46,7 +46,7 @@ label_or_none P (t ∷ g) h ν = by (pointwise nat_eq ν t.0) refl (label_or_non
     by false p (inl y) = inl y
     by false p (inr z) = inr (omega arith)
 
--- ---- m_λ·m_μ
+-- ---- m_λ·m_μ as a list
 
 module _ (l r : List ℕ) where
   pub terms_labels : HaveLabels (λ ν. IsPartition ν × (size ν ≡ size l + size r)) (product_terms l r)
@@ -86,7 +86,7 @@ module _ (l r : List ℕ) where
   pub terms_mass : (ν : List ℕ) → IsPartition ν → pos (mass_at (pointwise nat_eq) ν (product_terms l r)) ≡ pos (arrangements l r ν)
   terms_mass ν p = sym (counts_at (pointwise nat_eq) ν (product_terms l r) terms_counts) ∙ sym (coefficient_over (product_terms l r) ν) ∙ terms_coefficient ν p
 
--- ---- what a search counts
+-- ---- the counts of a search as a list
 
 abbrev pub counted_terms : List Counted → WholeTerms
 counted_terms counted = map (λ (t : Counted). (t.parts.items, pos t.count)) counted
@@ -159,7 +159,7 @@ module _ (l r : List ℕ) (counted : List Counted) (labels : AreCounted (size l 
 pub counted_pieces : (z : ℤ) (xs ys : List Counted) → scaled z (counted_terms (xs ++ ys)) ≡ scaled z (counted_terms xs) ++ scaled z (counted_terms ys)
 counted_pieces z xs ys = ap (scaled z) (map-append (λ (t : Counted). (t.parts.items, pos t.count)) xs ys) ∙ scaled_append z (counted_terms xs) (counted_terms ys)
 
--- ---- the product of two lists
+-- ---- the product of two lists in m
 
 replaced_mass : (image : List ℕ → WholeTerms) (ν : List ℕ) (terms : WholeTerms)
     → pos (mass_at (pointwise nat_eq) ν (replaced image terms)) ≡ pair (absolute terms) (λ k. pos (mass_at (pointwise nat_eq) ν (image k)))
@@ -189,11 +189,11 @@ module _ (f g : WholeTerms) (ν : List ℕ) (p : IsPartition ν) where
       ∙ pair_ext (absolute g) (λ r. pos (mass_at (pointwise nat_eq) ν (product_terms l r))) (λ r. pos (arrangements l r ν)) (λ r. terms_mass l r ν p))
       ∙ sym (product_coefficient-arrangements (absolute f) (absolute g) ν)
 
--- a property of all labels of all products of two labels
+-- if P holds for the labels of all products of two terms, it holds for those of the product of the lists
 products_labels : (P : List ℕ → Type 0) (f g : WholeTerms) → ((s t : List ℕ × ℤ) → Among s f → Among t g → HaveLabels P (product_terms s.0 t.0)) → HaveLabels P (products f g)
 products_labels P f g h = labels_replaced (λ l. replaced (product_terms l) g) P f (λ s m. labels_replaced (product_terms s.0) P g (λ t n. h s t m n))
 
--- where the product overflows, so does the product of the absolute values at some partition
+-- if the product overflows, so does the product of the absolute values at some partition
 pub products_large : (f g : WholeTerms) → Overflows (pointwise nat_eq) [] (products f g) → (ν : List ℕ) × IsPartition ν × (pos (2 ^ 127) ≤ℤ product_coefficient (absolute f) (absolute g) ν)
 products_large f g o = by (label_or_none IsPartition (products f g) (products_labels IsPartition f g (λ s t m n u k. (terms_labels s.0 t.0 u k).0)) o.0)
   where
@@ -201,7 +201,7 @@ products_large f g o = by (label_or_none IsPartition (products f g) (products_la
     by (inl p) = let l = o.1 in (o.0, p, subst (λ z. pos (2 ^ 127) ≤ℤ z) (products_mass f g o.0 p) (omega (arith, ints)))
     by (inr z) = let l = o.1 in absurd (omega arith)
 
--- the size of each label is the sum of two sizes
+-- the size of each label of the product is the sum of the sizes of a label of each list
 pub products_sizes : (d e : ℕ) (left right : Terms (List ℕ))
     → HaveLabels (λ ν. (l r : List ℕ × Fraction) × Among l left × Among r right × (size l.0 + size r.0 ≡ size ν)) (products (over d left) (over e right))
 products_sizes d e left right =

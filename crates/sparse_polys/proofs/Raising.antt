@@ -1,6 +1,6 @@
--- A monomial times a variable: its exponents with one of them raised by 1.
---     set-raised          the exponents with zeros after them and 1 more at a place
---     HasDegree-raised    they lie within the limits
+-- A monomial times a variable: its exponents with one of them increased by 1.
+--     set-raised          the exponents with zeros after them and 1 added at a place
+--     HasDegree-raised    the product is within the limits
 use Rattle.std.proofs.Common.{◌≡◌, ◌⊎◌, ℕ, zero, suc, ◌+◌, ◌-◌, ◌<◌, ◌≤◌, max, List, [], ◌∷◌, ◌++◌, length, get_or, set, take, drop, refl, sym, ap, ap₂, ◌∙◌, subst, inl, inr, arith, add-one, add-zero, append-nil, length-append, take_all}
 use Rattle.std.specs.List.{refill}
 use Rattle.std.proofs.lemmas.List.{length-replicate, take-append-le}
@@ -12,7 +12,7 @@ use Rattle.sparse_polys.specs.Limits.{HasDegree}
 use Rattle.sparse_polys.specs.Raised.{raised}
 use Rattle.sparse_polys.proofs.ExponentOrder.{front_tail}
 
--- the exponents of the variable after the first k
+-- the exponents of the variable with the index k + 1
 abbrev unit : ℕ → List ℕ
 unit k = no_exponents k ++ (1 ∷ [])
 
@@ -46,7 +46,7 @@ set-raised k at old x e p h =
     padded (inl z) = ap (λ j. join (old ++ no_exponents j) (unit at)) z ∙ ap (λ y. join y (unit at)) (append-nil old)
     padded (inr l) = join-padded k at old (subst (λ y. length y ≤ at + 1) e l)
 
--- a list that is not empty
+-- the list x is not empty
 abbrev IsSome : List ℕ → Type 0
 IsSome x = (b : ℕ) × (y : List ℕ) × (x ≡ b ∷ y)
 
@@ -102,13 +102,13 @@ size-padded [] zero = refl
 size-padded [] (suc k) = let h = size-padded [] k in omega arith
 size-padded (a ∷ e) k = ap (λ n. a + n) (size-padded e k)
 
--- the same number of elements put in the place of a list's
+-- refilling a list with one of the same length gives the latter
 pub refilled : (xs ws : List ℕ) → length ws ≡ length xs → refill (length xs) xs ws ≡ ws
 refilled xs ws h = take-append-le (length xs) ws (drop (length ws) xs) (omega arith) ∙ ap (λ n. take n ws) (sym h) ∙ take_all (length ws) ws (omega arith)
 
--- ---- a monomial is known by its product with a variable
+-- ---- a monomial is determined by its product with a variable
 
--- the number at a place lowered by 1
+-- the list with the number at place k lowered by 1
 abbrev lowered : ℕ → List ℕ → List ℕ
 lowered k [] = []
 lowered zero (a ∷ x) = (a - 1) ∷ x

@@ -1,4 +1,4 @@
--- What a search finds (specs/Search), from one part to the next.
+-- The counts of a search (specs/Search), from one part to the next.
 use Rattle.std.proofs.Common.{◌≡◌, ◌⊎◌, ℕ, zero, suc, ◌+◌, ◌-◌, ◌*◌, ◌^◌, ◌<◌, ◌≤◌, min, Bool, true, false, ◌&&◌, cond, eqb, leb, ltb, Option, Some, None, List, [], ◌∷◌, ◌++◌, length, get_or, drop, drop-cons, add-one, sym, ◌∙◌, ap, ap₂, subst, refl, inl, inr, arith}
 use Rattle.std.proofs.lemmas.Bool.{eq-eqb, ne_eqb, le-leb, lt-leb, leb-true, cases_lt, cases_eq, and_parts, ltb-true, lt-ltb, and_from}
 use Rattle.sym_model.specs.Polynomial.{same}
@@ -13,7 +13,7 @@ use Rattle.monomial_laws.proofs.Arrangements.{arrangements-sizes}
 use Rattle.sym_model.proofs.Numbers.{below_more}
 use Rattle.sym_model.specs.Bounded.{AreBelow}
 
--- ---- states of one size
+-- ---- states whose remaining parts have one size
 
 pub states_first : (left : ℕ) (s : State) (states : List State) → AreStates left (s ∷ states) → IsRest left s.left.items s.right.items
 states_first left s states h = h 0 s (omega arith)
@@ -21,7 +21,7 @@ states_first left s states h = h 0 s (omega arith)
 pub states_rest : (left : ℕ) (s : State) (states : List State) → AreStates left (s ∷ states) → AreStates left states
 states_rest left s states h k d l = h (suc k) d (omega arith)
 
--- parts of another size are not made
+-- if |rest| is not the size of the remaining parts, there is no way to continue to it
 pub ways-sizes : (left : ℕ) (states : List State) (rest : List ℕ) → AreStates left states → (left ≡ size rest → ⊥) → ways states rest ≡ 0
 ways-sizes left [] rest h n = refl
 ways-sizes left (s ∷ states) rest h n =
@@ -34,7 +34,7 @@ arrangements-end : (l r : List ℕ) → IsRest 0 l r → arrangements l r [] ≡
 arrangements-end l r s =
     ap₂ (λ (x y : List ℕ). arrangements x y []) (no_part l s.first.positive (omega (arith, s.sizes))) (no_part r s.second.positive (omega (arith, s.sizes)))
 
--- one state more in the sum of those that end
+-- if nothing is left, taking the count of state i into the total and going on with the later states does not change the capped total
 pub end_next : (total : ℕ) (xs : List State) (i : ℕ) (s : State) (goal : ℕ) → AreStates 0 xs → i < length xs → s ≡ get_or xs i s
     → capped (total + ways (drop i xs) []) ≡ goal → capped (min (total + s.count) (2 ^ 128 - 1) + ways (drop (i + 1) xs) []) ≡ goal
 end_next total xs i s goal h l e g =
@@ -47,7 +47,7 @@ end_next total xs i s goal h l e g =
 
 -- ---- the parts chosen so far
 
--- one part more
+-- the remaining parts without their first one, if that is the chosen part x; otherwise None
 then_part : ℕ → Option (List ℕ) → Option (List ℕ)
 then_part x None = None
 then_part x (Some rest) = after_prefix (x ∷ []) rest
@@ -71,7 +71,7 @@ falls_from-below m (x ∷ rest) e =
     let l = leb-true x m q.1 in
     (omega arith, below_more (x + 1) (m + 1) rest (omega arith) (falls_from-below x rest p.1))
 
--- ---- from one greatest part to the next
+-- ---- the search from one greatest part to the next smaller one
 
 pub found-step : (prefix : List ℕ) (i : ℕ) (states next : List State) (ν : List ℕ)
     → ((rest : List ℕ) → AreBelow (i + 1 + 1) rest → capped (ways next rest) ≡ capped (ways states ((i + 1) ∷ rest)))
@@ -120,7 +120,7 @@ found-step prefix i states next ν h =
             bound (inl l) = lt-leb y (i + 1) (omega arith) ∙ sym (lt-leb y i l)
             bound (inr l) = le-leb y (i + 1) (omega arith) ∙ sym (le-leb y i l)
 
--- with no part allowed there is nothing, as long as something is left
+-- if no part may be chosen and something is left, ν is not found
 pub found-none : (prefix : List ℕ) (left : ℕ) (states : List State) (ν : List ℕ) → AreStates left states → 0 < left → found prefix 0 states ν ≡ 0
 found-none prefix left states ν h l = by (after_prefix prefix ν)
   where
@@ -134,7 +134,7 @@ found-none prefix left states ν h l = by (after_prefix prefix ν)
         no true = refl
         no false = refl
 
--- no part is greater than what is left
+-- allowing parts greater than the size that is left finds nothing more
 found-top : (prefix : List ℕ) (left m : ℕ) (states : List State) (ν : List ℕ) → AreStates left states → left ≤ m → found prefix left states ν ≡ found prefix m states ν
 found-top prefix left m states ν h l = by (after_prefix prefix ν)
   where
@@ -158,7 +158,7 @@ found-min prefix left m states ν h = by (cases_lt left m)
     by (inl l) = let e : min m left ≡ left = omega arith in ap (λ k. found prefix k states ν) e ∙ found-top prefix left m states ν h (omega arith)
     by (inr l) = let e : min m left ≡ m = omega arith in ap (λ k. found prefix k states ν) e
 
--- where nothing is left, the chosen parts are found
+-- if nothing is left, ν is found if and only if it consists of the chosen parts
 pub found-end : (prefix : List ℕ) (m : ℕ) (states : List State) (ν : List ℕ) → AreStates 0 states → found prefix m states ν ≡ cond (same prefix ν) (capped (ways states [])) 0
 found-end [] m states [] h = refl
 found-end [] m states (y ∷ ν) h = by (ltb 0 y) refl
@@ -182,7 +182,7 @@ pub count_at-append : (xs ys : List Counted) (ν : List ℕ) → count_at (xs ++
 count_at-append [] ys ν = omega arith
 count_at-append (t ∷ xs) ys ν = omega (arith, count_at-append xs ys ν)
 
--- ---- the chosen parts as a partition
+-- ---- the chosen parts and the next one as a partition
 
 Falls-front : (prefix : List ℕ) (m : ℕ) → Falls (prefix ++ (m ∷ [])) → Falls prefix
 Falls-front [] m f = tt
@@ -216,7 +216,7 @@ IsChosen-more m x prefix h l c = record {
   positive = ArePositive-append prefix x h c.positive;
 }
 
--- no states, no ways
+-- from no states, ν is not found
 pub found-nothing : (prefix : List ℕ) (m : ℕ) (ν : List ℕ) → found prefix m [] ν ≡ 0
 found-nothing prefix m ν = by (after_prefix prefix ν)
   where
@@ -228,14 +228,14 @@ found-nothing prefix m ν = by (after_prefix prefix ν)
         none true = refl
         none false = refl
 
--- one entry more
+-- if a partition of `total` is appended to partitions of `total`, each entry is still one
 pub counted-more : (total : ℕ) (terms : List Counted) (t : Counted) → IsPartition t.parts.items → size t.parts.items ≡ total → AreCounted total terms → AreCounted total (terms ++ (t ∷ []))
 counted-more total [] t p s h zero d l = (p, s)
 counted-more total [] t p s h (suc k) d l = absurd (omega arith)
 counted-more total (u ∷ terms) t p s h zero d l = h zero d (omega arith)
 counted-more total (u ∷ terms) t p s h (suc k) d l = counted-more total terms t p s (λ j e m. h (suc j) e (omega arith)) k d (omega arith)
 
--- ---- the search from the beginning
+-- ---- a search from its beginning
 
 IsPartition-goes_on : (m x : ℕ) (rest : List ℕ) → Falls (x ∷ rest) → ArePositive (x ∷ rest) → x ≤ m → falls_from m (x ∷ rest) ≡ true
 IsPartition-goes_on m x [] f p h = and_from (ltb 0 x && leb x m) true (and_from (ltb 0 x) (leb x m) (lt-ltb 0 x p.0) (le-leb x m h)) refl
@@ -244,7 +244,7 @@ IsPartition-goes_on m x (y ∷ rest) f p h =
     (and_from (ltb 0 x) (leb x m) (lt-ltb 0 x p.0) (le-leb x m h))
     (IsPartition-goes_on x y rest f.1 p.1 f.0)
 
--- from one state with nothing chosen all arrangements are found
+-- a search from one state with the labels l and r, and no chosen part, finds each arrangement
 pub found-all : (l r ν : List ℕ) (s : State) (total : ℕ) → s.left.items ≡ l → s.right.items ≡ r → s.count ≡ 1 → IsPartition ν → size l + size r ≡ total
     → found [] total (s ∷ []) ν ≡ capped (arrangements l r ν)
 found-all l r [] s total a b k p z = ap capped (one l r [] s a b k)
@@ -276,9 +276,9 @@ found-all l r (x ∷ rest) s total a b k p z = by (cases_lt total x)
         ap (λ t. cond t (capped (ways (s ∷ []) (x ∷ rest))) 0) (IsPartition-goes_on total x rest p.falls p.positive h)
         ∙ ap capped one
 
--- ---- the count of each entry
+-- ---- the count of each entry of the result
 
--- the chosen parts go on with nothing
+-- after the chosen parts, nothing of the list of these parts is left
 after_prefix-all : (prefix : List ℕ) → after_prefix prefix prefix ≡ Some []
 after_prefix-all [] = refl
 after_prefix-all (a ∷ prefix) = ap (λ b. cond b (after_prefix prefix prefix) None) (eq-eqb a a refl) ∙ after_prefix-all prefix
@@ -286,7 +286,7 @@ after_prefix-all (a ∷ prefix) = ap (λ b. cond b (after_prefix prefix prefix) 
 pub Counts-end : (f : List ℕ → ℕ) (prefix : List ℕ) (m : ℕ) (states : List State) → Counts f prefix m states → capped (ways states []) ≡ f prefix
 Counts-end f prefix m states h = h prefix [] (after_prefix-all prefix) refl
 
--- what goes on with a part and then the rest
+-- if removing x leaves `rest`, the remaining parts are x ∷ rest
 then_part-some : (x : ℕ) (o : Option (List ℕ)) (rest : List ℕ) → then_part x o ≡ Some rest → o ≡ Some (x ∷ rest)
 unfolding then_part
 then_part-some x None rest e = cc
@@ -311,14 +311,14 @@ Counts-step f prefix x m states next p l h k ν rest a b =
     ∙ k ν (x ∷ rest) (then_part-some x (after_prefix prefix ν) rest (sym (after_prefix-append prefix x ν) ∙ a))
     (and_from (ltb 0 x && leb x m) (falls_from x rest) (and_from (ltb 0 x) (leb x m) (lt-ltb 0 x p) (le-leb x m l)) b)
 
--- one entry more
+-- if all counts so far are those of f, and the next entry has the count of f, so are all counts with it
 pub counts-more : (f : List ℕ → ℕ) (terms : List Counted) (t : Counted) → t.count ≡ f t.parts.items → HaveCounts f terms → HaveCounts f (terms ++ (t ∷ []))
 counts-more f [] t e h zero d l = e
 counts-more f [] t e h (suc k) d l = absurd (omega arith)
 counts-more f (u ∷ terms) t e h zero d l = h zero d (omega arith)
 counts-more f (u ∷ terms) t e h (suc k) d l = counts-more f terms t e (λ j i m. h (suc j) i (omega arith)) k d (omega arith)
 
--- from one state with nothing chosen each count is the number of arrangements
+-- from one state with nothing chosen, each count is the number of arrangements
 pub Counts-begin : (l r : List ℕ) (s : State) (m : ℕ) → s.left.items ≡ l → s.right.items ≡ r → s.count ≡ 1
     → Counts (λ ν. capped (arrangements l r ν)) [] m (s ∷ [])
 Counts-begin l r s m a b k ν rest e f =

@@ -1,4 +1,4 @@
--- What is left when one part of the partition is taken from both labels (specs/Ways).
+-- The remaining parts after one part of the partition is removed from both labels (specs/Ways).
 use Rattle.std.proofs.Common.{◌≡◌, ◌⊎◌, ℕ, zero, suc, ◌+◌, ◌-◌, ◌*◌, ◌<◌, ◌≤◌, Bool, true, false, ◌&&◌, ◌||◌, cond, eqb, leb, List, [], ◌∷◌, length, get_or, drop, not, sym, ◌∙◌, ap, ap₂, subst, refl, inl, inr, arith, ℤ, pos, ◌+ℤ◌}
 use Rattle.std.proofs.lemmas.Int.{ints}
 use Rattle.std.proofs.lemmas.Bool.{eq-eqb, le-leb, cases_lt, both_ways, and_parts, leb-true, or_right}
@@ -21,7 +21,7 @@ IsRest-taken a b left l r s h k = record {
   sizes = omega (arith, s.sizes, size-taken a l s.first h, size-taken b r s.second k);
 }
 
--- with a part left that no part to come reaches there is no way
+-- if a remaining part is greater than all parts still to come, there is no way
 pub taken-above_left : (a b left : ℕ) (l r ν : List ℕ) → IsRest left l r → AreBelow (a + b + 1) ν → HasPartAbove (a + b) (without_one a l) → taken l r a b ν ≡ 0
 taken-above_left a b left l r ν s below (k, m, h) = by (has b (0 ∷ r))
   where
@@ -38,9 +38,9 @@ taken-above_right a b left l r ν s below (k, m, h) = by (has b (0 ∷ r))
         ∙ arrangements-lacking k ν (without_one b r) (without_one a l) (IsPartition-without_one b r s.second) (IsPartition-without_one a l s.first) m (below_more (a + b + 1) k ν (omega arith) below)
     by false = refl
 
--- ---- the sum over the parts of the left label
+-- ---- the ways summed over the parts of the left label
 
--- the ways that the parts of a list give, each of them taken from the left label
+-- the sum over the parts b ≤ x of the list of the number of ways in which b is removed from the left label and x - b from the right one
 abbrev pub taken_over : ℕ → List ℕ → List ℕ → List ℕ → List ℕ → ℕ
 taken_over x l r ν [] = 0
 taken_over x l r ν (b ∷ bs) = cond (leb b x) (taken l r b (x - b) ν) 0 + taken_over x l r ν bs
@@ -55,7 +55,7 @@ taken_over-total x l r ν (b ∷ bs) = by (leb b x) (has (x - b) (0 ∷ r)) (arr
     by true false n {z} e = omega (arith, ints)
     by false t n {z} e = omega (arith, ints)
 
--- nothing from the left label, or one of its different parts
+-- of the first part x, either nothing is removed from l, or one of the different parts of l and the rest from r
 pub arrangements-first : (x : ℕ) (ν l r : List ℕ) → IsPartition l → IsPartition r → arrangements l r (x ∷ ν) ≡ taken l r 0 x ν + taken_over x l r ν (distinct l)
 arrangements-first x ν l r p q = as_number (arrangements-cons x ν l r p q ∙ taken_over-total x l r ν (distinct (0 ∷ l))) ∙ ap (taken_over x l r ν) zero_first ∙ first
   where
@@ -68,12 +68,12 @@ arrangements-first x ν l r p q = as_number (arrangements-cons x ν l r p q ∙ 
     first : taken_over x l r ν (0 ∷ distinct l) ≡ taken l r 0 x ν + taken_over x l r ν (distinct l)
     first = ap₂ (λ (b : Bool) (n : ℕ). cond b (taken l r 0 n ν) 0 + taken_over x l r ν (distinct l)) (le-leb 0 x (omega arith)) (let e : x - 0 ≡ x = omega arith in e)
 
--- ---- capped sums
+-- ---- sums capped at 2^128 - 1
 
 pub capped-add : (a b z : ℕ) → capped a ≡ capped b → capped (a + z) ≡ capped (b + z)
 capped-add a b z e = omega arith
 
--- ---- the first part
+-- ---- if the first part of a label is above a bound, the label has a part above it
 
 pub first-above : (part : ℕ) (parts : List ℕ) (first : ℕ) → 0 < length parts → first ≡ get_or parts 0 first → leb first part ≡ false → HasPartAbove part parts
 first-above part [] first h e t = absurd (omega arith)
@@ -83,11 +83,11 @@ first-above part (c ∷ parts) first h e t = (first, ap (λ b. b || has first pa
     by (inl l) = l
     by (inr l) = absurd (both_ways (leb first part) t (le-leb first part l))
 
--- nothing more of what is 0
+-- if t is 0, adding k·t does not change a capped sum
 pub nothing_more : (n k t : ℕ) → t ≡ 0 → capped n ≡ capped (n + k * t)
 nothing_more n k t e = ap (λ m. capped m) (let p = ap (λ j. k * j) e in omega arith)
 
--- ---- the loop over the parts of the left label
+-- ---- the capped sum during the loop over the parts of the left label
 
 pub first_way : (w1 w0 k t o a : ℕ) → capped w1 ≡ capped (w0 + k * t) → a ≡ t + o → capped (w1 + k * o) ≡ capped (w0 + k * a)
 first_way w1 w0 k t o a h e = capped-add w1 (w0 + k * t) (k * o) h ∙ ap (λ n. capped n) (let p = ap (λ n. k * n) e in let q : w0 + k * t + k * o ≡ w0 + k * a = omega arith in q)
@@ -98,7 +98,7 @@ next_way w2 w1 k t o rest goal h e g =
     ∙ ap (λ n. capped n) (let p = ap (λ n. k * n) e in let q : w1 + k * t + k * rest ≡ w1 + k * o = omega arith in q)
     ∙ g
 
--- a part that is chosen, and one that is skipped
+-- the sum over the parts from index i on, if part i is a choice: its ways, plus the sum over the later parts
 pub taken_over-choice : (x : ℕ) (l r ν parts : List ℕ) (i : ℕ) → i < length parts → is_choice_at parts i x ≡ true
     → taken_over x l r ν (distinct (drop i parts)) ≡ taken l r (get_or parts i 0) (x - get_or parts i 0) ν + taken_over x l r ν (distinct (drop (i + 1) parts))
 taken_over-choice x l r ν parts i h e =
@@ -126,7 +126,7 @@ taken_over-passed x l r ν parts i h e =
         ap (λ b. cond b (taken l r (get_or parts i 0) (x - get_or parts i 0) ν) 0 + taken_over x l r ν (distinct (drop (i + 1) parts))) k
         ∙ (let e : 0 + taken_over x l r ν (distinct (drop (i + 1) parts)) ≡ taken_over x l r ν (distinct (drop (i + 1) parts)) = omega arith in e)
 
--- ---- the loop over the states
+-- ---- the capped sum during the loop over the states
 
 pub next_state : (w2 w1 t o rest goal : ℕ) → capped w2 ≡ capped (w1 + t) → o ≡ t + rest → capped (w1 + o) ≡ goal → capped (w2 + rest) ≡ goal
 next_state w2 w1 t o rest goal h e g =
@@ -138,7 +138,7 @@ rest_at a b l r e s = subst (λ k. IsRest k l r) e s
 pub below_at : (a b : ℕ) (ν : List ℕ) → a ≡ b → AreBelow a ν → AreBelow b ν
 below_at a b ν e s = subst (λ k. AreBelow k ν) e s
 
--- a part that is chosen is one of the label, and at most the part that is taken
+-- if part i is a choice for x, it is at most x
 pub choice-within : (x : ℕ) (parts : List ℕ) (i : ℕ) → is_choice_at parts i x ≡ true → get_or parts i 0 ≤ x
 choice-within x parts i e = leb-true (get_or parts i 0) x (and_parts (leb (get_or parts i 0) x) (not (has (get_or parts i 0) (drop (i + 1) parts))) e).0
 

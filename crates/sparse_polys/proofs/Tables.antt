@@ -1,8 +1,8 @@
 -- Lists of fractions as entries of a table of fractions.
---     terms-fractions      a list of fractions stands for itself
---     term-tests           what each term of a combination is
+--     terms-fractions      a list of fractions is its own list of terms
+--     term-tests           the tests that each term of a combination passes
 --     canonical-fractions  the tests of a canonical list
---     table_gained         what gains terms from nothing is a table
+--     table_gained         a list that gains terms from nothing is a table
 use Rattle.std.proofs.Common.{◌≡◌, Bool, true, ◌&&◌, [], ◌∷◌, ℕ, pos, refl, ap, ap₂}
 use Rattle.std.specs.Cmp.{IsEquivalence}
 use Rattle.std.specs.List.{IsDistinct}
@@ -22,12 +22,12 @@ use Rattle.linear_combinations.proofs.Totals.{term-among}
 use Rattle.sparse_polys.specs.Combination.{terms_of, coefficient, are_terms, is_canonical_list}
 use Rattle.sparse_polys.specs.Combination.{IsCombination}
 
--- a list of fractions stands for itself
+-- a list of fractions is its own list of terms
 pub terms-fractions : {L : Type 0} (terms : Terms L) → terms_of (λ (c : Fraction). c) terms ≡ terms
 terms-fractions [] = refl
 terms-fractions (t ∷ terms) = ap (λ ts. t ∷ ts) (terms-fractions terms)
 
--- a term of a combination has a coefficient in lowest terms that is not 0, and a label of its type
+-- in a combination, the coefficient of each term is in lowest terms and not 0, and its label is within the limits of its type
 pub term-tests : {L : Type 0} {eq : L → L → Bool} {is_label : L → Bool} (terms : Terms L)
     → IsCombination eq is_label terms → (t : L × Fraction) → Among t terms
     → (is_reduced t.1 ≡ true) × (is_label t.0 ≡ true)
@@ -50,7 +50,7 @@ module _ {L : Type 0} (is_label : L → Bool) where
   is_ordered-fractions order (t ∷ u ∷ terms) =
       ap (λ b. is_lt (order t.0 u.0) && b) (is_ordered-fractions order (u ∷ terms))
 
-  -- a canonical list passes the tests of one
+  -- a list is canonical if and only if it is in order and each term passes the test of one
   pub canonical-fractions : (order : L → L → Ordering) (terms : Terms L)
       → is_canonical_list order is_label terms
       ≡ (is_ordered order terms
@@ -58,7 +58,7 @@ module _ {L : Type 0} (is_label : L → Bool) where
   canonical-fractions order terms =
       ap₂ (λ a b. a && b) (is_ordered-fractions order terms) (are_terms-fractions terms)
 
-  -- each coefficient is in lowest terms
+  -- in a combination, the coefficient of each label is in lowest terms
   pub lowest-coefficient : {eq : L → L → Bool} → IsEquivalence eq
       → ((x y : L) → eq x y ≡ true → x ≡ y) → (terms : Terms L)
       → are_terms is_label terms ≡ true → (k : L) → InLowestTerms (coefficient eq terms k)
@@ -66,7 +66,7 @@ module _ {L : Type 0} (is_label : L → Bool) where
       lowest-entry laws same is_label (λ (r : Fraction). r) (whole (pos 0))
       (InLowestTerms-whole (pos 0)) terms proper k
 
--- a list that has gained terms from nothing is a table
+-- a list that has gained terms, starting from the empty one, is a combination
 pub table_gained : {L : Type 0} {eq : L → L → Bool} {is_label : L → Bool} (q : ℕ)
     (gained : WholeTermsOf L) (new : Terms L) → GainsCleared eq is_label q [] gained new
     → IsCombination eq is_label new

@@ -1,4 +1,4 @@
--- What is true of a list of labels with scalars, said of the list of their values.
+-- Properties of a list of labels with scalars, as properties of the list of their values.
 use Rattle.std.proofs.Common.{◌≡◌, Bool, true, false, ◌&&◌, List, [], ◌∷◌, length, pos, suc, refl, sym, ap, ap₂, ◌∙◌, subst, inl, inr, if◌then◌else◌}
 use Rattle.std.specs.Prelude.{Option, Some, None}
 use Rattle.std.specs.List.{IsDistinct}
@@ -51,7 +51,7 @@ module _ {L R : Type 0} (value : R → Fraction) where
   among_values t (e ∷ es) (inl h) = inl (ap (λ (u : L × R). (u.0, value u.1)) h)
   among_values t (e ∷ es) (inr m) = inr (among_values t es m)
 
-  -- ---- coefficients
+  -- ---- the coefficients of a list of values
 
   module _ (zero : R) (none : value zero ≡ whole (pos 0)) (eq : L → L → Bool) where
     pub coefficient_values : (es : List (L × R)) (k : L) → value (Entries.coefficient eq zero es k) ≡ coefficient eq (terms_of value es) k
@@ -70,7 +70,7 @@ module _ {L R : Type 0} (value : R → Fraction) where
           by true = sums (Entries.coefficient eq zero old k) c ∙ ap (λ (r : Fraction). fraction_sum r (value c)) (coefficient_values old k)
           by false = coefficient_values old q
 
--- ---- what is refused
+-- ---- operations that are refused
 
 module _ {R : Type 0} (value : R → Fraction) (is_held : R → Type 0) (checked : R → R → Option R) where
   pub refused_values : (a b : R) (x y : Fraction) → value a ≡ x → value b ≡ y → Entries.IsRefused is_held checked a b → IsRefused is_held value checked x y

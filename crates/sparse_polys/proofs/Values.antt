@@ -1,4 +1,4 @@
--- Combinations with the same coefficients stand for the same polynomial, whatever the order of their terms.
+-- Combinations with the same coefficients have the same value as polynomials, whatever the order of their terms.
 use Rattle.std.proofs.Common.{◌≡◌, ℕ, ◌*◌, ◌/◌, ◌<◌, Bool, true, List, [], ◌∷◌, length, ℤ, pos, ◌+ℤ◌, ◌*ℤ◌, refl, sym, ap, ap₂, ◌∙◌, subst, inl, inr, arith}
 use Rattle.std.specs.Cmp.{IsEquivalence}
 use Rattle.sym_model.specs.Sum.{total, Among, Once, Within}
@@ -19,12 +19,12 @@ module _ {L : Type 0} where
       exchanged : (a b n : ℕ) → a * (b * n) ≡ b * (a * n)
       exchanged a b n = omega arith
 
-  -- a list that stands within another, and lacks a member of it, stands within the rest
+  -- if ys is within xs and x is not in ys, then ys is within xs without x
   within_rest : (x : L × Fraction) (xs ys : Terms L) (m : Among x xs) → (Among x ys → ⊥) → Within ys xs → Within ys (without x xs m)
   within_rest x xs ys m lacks w z n =
       elim (Among-without z x xs m (w z n)) [ inl e ↦ absurd (lacks (subst (λ u. Among u ys) e n)) | inr r ↦ r ]
 
-  -- the denominators of a list without repeats that stands within another of its length
+  -- if ys is without repeats, within xs and of its length, both have the same product of denominators
   denominators-within : (xs ys : Terms L) → Once ys → Within ys xs → length ys ≡ length xs → denominators ys ≡ denominators xs
   denominators-within [] [] o w l = refl
   denominators-within (x ∷ xs) [] o w l = absurd (omega arith)
@@ -35,7 +35,7 @@ module _ {L : Type 0} where
       let r = denominators-within (without y xs m) ys o.1 (within_rest y xs ys m o.0 (Within_tail y ys xs w)) k in
       ap (λ n. y.1.1 * n) r ∙ sym (denominators-without y xs m)
 
-  -- what a term adds to a coefficient where the fractions are cleared by q
+  -- the contribution of a term to a coefficient, with the fractions cleared by q
   abbrev share : (L → Poly) → ℕ → List ℕ → L × Fraction → ℤ
   share polynomial q α t = (t.1.0 *ℤ pos (q / t.1.1)) *ℤ coefficient_of (polynomial t.0) α
 
@@ -45,7 +45,7 @@ module _ {L : Type 0} where
       coefficient_plus (scale (t.1.0 *ℤ pos (q / t.1.1)) (polynomial t.0)) (cleared polynomial q terms) α
       ∙ ap₂ ◌+ℤ◌ (coefficient_scale (t.1.0 *ℤ pos (q / t.1.1)) (polynomial t.0) α) (coefficient-cleared polynomial q terms α)
 
-  -- two lists with the same sums and denominators stand for the same
+  -- if two lists have the same sums and the same product of denominators, they represent the same polynomials
   represents_same : (polynomial : L → Poly) (first second : Terms L) (f : Poly) (d : ℕ)
       → ((g : L × Fraction → ℤ) → total g first ≡ total g second) → denominators first ≡ denominators second
       → Represents polynomial first f d → Represents polynomial second f d

@@ -1,5 +1,5 @@
--- Finite linear combinations of labels, as lists of terms: the definitions of linear_combinations'
--- specs/Entries for lists of fractions.
+-- Finite linear combinations of labels, as lists of terms: the definitions of specs/Entries in linear_combinations
+-- for lists of fractions.
 use Rattle.std.specs.Prelude.{ℕ, nat_eq, pos, Bool, List, map}
 use Rattle.std.specs.Cmp.Lexicographic.{pointwise}
 use Rattle.std.specs.declared.cmp.Ordering.{Ordering}
@@ -9,19 +9,19 @@ use Rattle.sym_model.specs.Canonical.{is_label}
 use Rattle.sym_model.specs.LabelLimits.{is_monomial_label}
 use Rattle.linear_combinations.specs.Entries
 
--- the list of terms that pairs of labels and scalars stand for
+-- the list of terms of a list of pairs of labels and scalars
 abbrev pub terms_of : {L R : Type 0} → (R → Fraction) → List (L × R) → Terms L
 terms_of {L} {R} value pairs = map (λ (p : L × R). (p.0, value p.1)) pairs
 
--- the coefficient of a label in a list of terms, 0 where the label is not there
+-- the coefficient of a label in a list of terms; 0 if the label does not occur
 abbrev pub coefficient : {L : Type 0} → (L → L → Bool) → Terms L → L → Fraction
 coefficient eq terms label = Entries.coefficient eq (pos 0, 1) terms label
 
--- whether each coefficient is in lowest terms and not 0, and each label one of its type
+-- whether each coefficient is in lowest terms and not 0, and each label lies in the limits of its type
 abbrev pub are_terms : {L : Type 0} → (L → Bool) → Terms L → Bool
 are_terms is_label terms = Entries.are_terms (λ (c : Fraction). c) is_label terms
 
--- a finite linear combination: each label stands once, with a coefficient that is not 0
+-- a finite linear combination: each label occurs once, with a coefficient that is not 0
 abbrev pub IsCombination : {L : Type 0} → (L → L → Bool) → (L → Bool) → Terms L → Type 0
 IsCombination eq is_label terms = Entries.IsCombination eq is_label (λ (c : Fraction). c) terms
 
@@ -39,15 +39,15 @@ abbrev pub is_canonical_list : {L : Type 0} → (L → L → Ordering) → (L �
 is_canonical_list order is_label terms =
     Entries.is_canonical_list order is_label (λ (c : Fraction). c) terms
 
--- the new list has the value c more at the label, and at every other label what the old one has
+-- the new list is the old one with c added at the label; every other coefficient is the same
 abbrev pub HasMoreAt : {L : Type 0} → (L → L → Bool) → Terms L → L → Fraction → Terms L → Type 0
 HasMoreAt eq old label c new = Entries.HasMoreAt eq (pos 0, 1) fraction_sum old label c new
 
--- the list has at every label the sum of what the two others have
+-- the coefficient of each label is the sum of those in the two other lists
 abbrev pub IsSumOf : {L : Type 0} → (L → L → Bool) → Terms L → Terms L → Terms L → Type 0
 IsSumOf eq first second sum = Entries.IsSumOf eq (pos 0, 1) fraction_sum first second sum
 
--- the list has at every label what the other has, times c
+-- the coefficient of each label is that of the other list times c
 abbrev pub IsMultipleOf : {L : Type 0} → (L → L → Bool) → Terms L → Fraction → Terms L → Type 0
 IsMultipleOf eq terms c multiple =
     Entries.IsMultipleOf eq (pos 0, 1) fraction_product terms c multiple

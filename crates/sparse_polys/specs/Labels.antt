@@ -1,5 +1,5 @@
--- What the labels' impls cite: equal labels are the same,
--- and only those tie in the printed order, which is total.
+-- Lemmas that the label types cite: equal labels are the same, and the printed order is total, with ties only between
+-- equal labels.
 use Rattle.std.proofs.Common.{◌≡◌, ℕ, true, List, ◌&&◌, ap₂}
 use Rattle.std.specs.Prelude.{nat_eq, IsTrue}
 use Rattle.std.specs.Cmp.{IsTotalOrder}

@@ -8,3 +8,7 @@ pub mod Products
 pub mod Ways
 pub mod Search
 pub mod MonomialProducts
+pub mod LabelSizes
+pub mod Tables
+pub mod Large
+pub mod Families

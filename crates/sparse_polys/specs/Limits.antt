@@ -1,4 +1,4 @@
--- What the type `Monomial` holds.
+-- The exponents that the type `Monomial` holds.
 use Rattle.std.specs.Prelude.{◌≡◌, ℕ, ◌≤◌, List, length}
 use Rattle.sym_model.specs.Partition.{size, without_last_zeros}
 
@@ -8,7 +8,7 @@ pub record IsWithinLimits (exponents : List ℕ) : Type 0 where
   pub few : length exponents ≤ 255
   pub small : size exponents ≤ 32385
 
--- the same, and their degree is this
+-- exponents within the limits of a monomial, and their degree
 pub record HasDegree (exponents : List ℕ) (degree : ℕ) : Type 0 where
   pub limits : IsWithinLimits exponents
   pub degree_is : degree ≡ size exponents

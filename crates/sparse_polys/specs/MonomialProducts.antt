@@ -22,7 +22,7 @@ greatest_size (t ∷ terms) = max (size t.0) (greatest_size terms)
 abbrev pub AreSmall : List Counted → Type 0
 AreSmall terms = All (λ (t : Counted). t.count < 2 ^ 127) terms
 
--- some count is not below 2^127
+-- some count is 2^127 or more
 abbrev pub HasLarge : List Counted → Type 0
 HasLarge terms = (t : Counted) × Among t terms × (2 ^ 127 ≤ t.count)
 
@@ -36,7 +36,7 @@ product_terms left right =
 abbrev pub products : WholeTerms → WholeTerms → WholeTerms
 products left right = replaced (λ l. replaced (product_terms l) right) left
 
--- VALUE: the last list is the product of the two others, read in m, in every number of variables
+-- VALUE: the last list is the product of the two others, as expansions in m, in every number of variables
 abbrev pub IsProductInMonomials : Terms (List ℕ) → Terms (List ℕ) → Terms (List ℕ) → Type 0
 IsProductInMonomials left right product =
     (n : ℕ) → IsExpansionOf monomials product n

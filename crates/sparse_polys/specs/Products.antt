@@ -19,15 +19,14 @@ IsProductOf left right product =
     (n : ℕ) → Represents (λ e. x_to_in e n) product (times (value_in left n) (value_in right n))
     (denominators left * denominators right)
 
--- each product of a monomial of the first list and one of the second stays within the limits of a
--- monomial
+-- each product of a monomial of the first list and one of the second is within the limits of a monomial
 abbrev pub FitTogether : Terms (List ℕ) → Terms (List ℕ) → Type 0
 FitTogether first second =
     (s t : List ℕ × Fraction) → Among s first → Among t second → IsWithinLimits (join s.0 t.0)
 
--- each product with x_r stays within the limits of a monomial
-abbrev pub HasRoom : ℕ → Terms (List ℕ) → Type 0
-HasRoom r terms = (t : List ℕ × Fraction) → Among t terms → IsWithinLimits (raised r t.0)
+-- each product with x_r is within the limits of a monomial
+abbrev pub HaveRoomForVariable : ℕ → Terms (List ℕ) → Type 0
+HaveRoomForVariable r terms = (t : List ℕ × Fraction) → Among t terms → IsWithinLimits (raised r t.0)
 
 -- the coefficient of a monomial
 abbrev pub coefficient_at : Terms (List ℕ) → List ℕ → Fraction

@@ -1,8 +1,8 @@
--- Where a ring refuses an operation, said of the values of the two scalars.
+-- The condition under which a ring refuses an operation, by the values of the two scalars.
 use Rattle.std.specs.Prelude.{◌≡◌, Option, None}
 use Rattle.sym_model.specs.Expansion.{Fraction}
 
--- the operation has no answer at the scalars with these two values
+-- the operation has no result at some scalars with these two values
 pub record IsRefused {R : Type 0} (is_held : R → Type 0) (value : R → Fraction)
     (checked : R → R → Option R) (a b : Fraction) : Type 0 where
   pub left : R

@@ -1,4 +1,4 @@
--- What the labels' impls cite: labels that tie in the printed order are the same.
+-- Lemmas that the label types cite: labels that tie in the printed order are the same.
 use Rattle.std.proofs.Common.{◌≡◌, ℕ, List}
 use Rattle.std.specs.Prelude.{IsTrue}
 use Rattle.std.specs.Cmp.{IsTotalOrder}

@@ -1,5 +1,4 @@
--- What is left of two labels while a partition is put together part by part, with the number of
--- ways that led there.
+-- The remaining parts of two labels while a partition is built part by part, with the number of ways to reach them.
 use Rattle.std.specs.Prelude.{◌≡◌, ℕ, Bool, ◌&&◌, not, nat_le, slice_index, drop, ◌+◌, ◌-◌, ◌*◌}
 use Rattle.std.specs.Prelude.{◌^◌, ◌<◌, true, cond, min, List, [], ◌∷◌, map, All}
 use Rattle.sym_model.specs.Partition.{IsPartition, size}
@@ -9,15 +8,15 @@ use Rattle.sym_model.specs.RaisedPart.{without_one}
 use Rattle.monomial_laws.specs.MonomialProduct.{arrangements}
 use Rattle.sparse_polys.specs.declared.states.State.{State}
 
--- a number that is counted up to 2^128 - 1
+-- the number, or 2^128 - 1 if it is greater
 abbrev pub capped : ℕ → ℕ
 capped n = min n (2 ^ 128 - 1)
 
--- what of the left and of the right label a state leaves
+-- the remaining parts of the left and of the right label in a state
 abbrev pub labels_left : State → List ℕ × List ℕ
 labels_left s = (s.left.items, s.right.items)
 
--- in how many ways the states go on to the parts ν
+-- the number of ways in which the states continue to the parts ν
 abbrev pub ways : List State → List ℕ → ℕ
 ways [] ν = 0
 ways (s ∷ states) ν = s.count * arrangements s.left.items s.right.items ν + ways states ν
@@ -28,25 +27,25 @@ pub record IsRest (left : ℕ) (one other : List ℕ) : Type 0 where
   pub second : IsPartition other
   pub sizes : size one + size other ≡ left
 
--- each state is left of the same size
+-- the remaining parts of each state are partitions, together of the size `left`
 abbrev pub AreStates : ℕ → List State → Type 0
 AreStates left states = All (λ (s : State). IsRest left s.left.items s.right.items) states
 
--- no two states leave the same of both labels
+-- no two states have the same remaining parts
 abbrev pub LeaveOnce : List State → Type 0
 LeaveOnce states = Once (map labels_left states)
 
--- in how many ways ν is made of what is left when a is taken from one label and b from the other, b
--- being one of its parts or 0
+-- the number of ways to write ν as a sum of arrangements of `one` without a and `other` without b, if b is a part
+-- of `other` or 0; otherwise 0
 abbrev pub taken : List ℕ → List ℕ → ℕ → ℕ → List ℕ → ℕ
 taken one other a b ν =
     cond (has b (0 ∷ other)) (arrangements (without_one a one) (without_one b other) ν) 0
 
--- some part is greater than the number
+-- some part of the list is greater than the number
 abbrev pub HasPartAbove : ℕ → List ℕ → Type 0
 HasPartAbove part parts = (k : ℕ) × (has k parts ≡ true) × (part < k)
 
--- whether the part at place i is at most the given one and does not stand after it again
+-- whether the part at place i is at most the given one and does not occur after it again
 abbrev pub is_choice_at : List ℕ → ℕ → ℕ → Bool
 is_choice_at parts i part =
     nat_le (slice_index parts i) part && not (has (slice_index parts i) (drop (i + 1) parts))

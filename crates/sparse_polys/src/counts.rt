@@ -1,4 +1,4 @@
-//! The product of two labels, with counts that are exact.
+//! The product of two labels, with exact counts.
 ghost use Rattle.std.specs.Prelude.{◌≡◌, ℕ, ◌+◌, ◌^◌, ◌<◌, ◌≤◌, true, false, List, IfOk, IsErrOf};
 ghost use Rattle.sym_model.specs.Partition.{IsPartition, size};
 ghost use Rattle.monomial_laws.specs.MonomialProduct.{arrangements};
@@ -9,7 +9,7 @@ use crate::search::{Counted, label_product};
 use calc_base::SumFault;
 use std::alloc::Global;
 
-/// Whether some count is not below 2^127.
+/// Whether some count is 2^127 or more.
 fn too_large(terms: &[Counted]) -> bool
     ensures small { result ≡ false → AreSmall terms.now }
     ensures large { result ≡ true → HasLarge terms.now }
@@ -22,8 +22,8 @@ fn too_large(terms: &[Counted]) -> bool
     false
 }
 
-/// The partitions in the product of two labels, each with the number of its ways,
-/// where all are below 2^127.
+/// The partitions in the product of two labels, each with its number of ways. Returns `Large` if
+/// one of these is 2^127 or more.
 pub(crate) fn exact_product(
     alloc: Global,
     left: &[u16],

@@ -28,7 +28,7 @@ use coeff_rings::{Int, Ring};
 use partitions::Partition;
 use std::alloc::Global;
 
-/// The product of two scalars and a count, or `None` where it is too large.
+/// The product of two scalars and a count, or `None` if it is too large.
 fn times_count<R: Ring>(left: R, right: R, count: u128) -> Option<R>
     requires { count < 2 ^ 127 }
     ensures value { IfSome result
@@ -115,7 +115,7 @@ fn add_pair<R: Ring>(
     Ok(())
 }
 
-/// Adds the product of a term with a list.
+/// Adds the product of a term and a list.
 fn add_row<R: Ring>(
     alloc: Global,
     label: &Partition,
@@ -145,7 +145,8 @@ fn add_row<R: Ring>(
     Ok(())
 }
 
-/// The product of two lists, its coefficients times any common denominators of the two.
+/// The product of two lists. The contract gives its coefficients times any common denominators of
+/// the two.
 fn cleared_product<R: Ring>(
     alloc: Global,
     left: &Lin<Partition, R>,
@@ -176,9 +177,9 @@ fn cleared_product<R: Ring>(
 /// The product of two expansions in m, in every number of variables. The greatest sizes of their
 /// labels add up to at most 512.
 ///
-/// It is refused as `Large` only where the product of the least common denominators of both lists
-/// is 2^127 or more, or that product times some coefficient of the product of the lists with the
-/// absolute values as coefficients is.
+/// Returns `Large` only if the product of the least common denominators of both lists is 2^127 or
+/// more, or this product times some coefficient of the product of the two lists with absolute
+/// values as coefficients.
 pub fn times_in_m<R: Ring>(
     alloc: Global,
     left: &Lin<Partition, R>,
@@ -197,10 +198,10 @@ pub fn times_in_m<R: Ring>(
     cleared_product(alloc, left, right)
 }
 
-/// The product of two expansions in m with whole coefficients: what `times_in_m` gives.
+/// The product of two expansions in m with integer coefficients, as by `times_in_m`.
 ///
-/// It is refused as `Large` only where some coefficient of the product of the lists with the
-/// absolute values as coefficients is 2^127 or more.
+/// Returns `Large` only if some coefficient of the product of the two lists with absolute values as
+/// coefficients is 2^127 or more.
 pub fn times_whole_in_m(
     alloc: Global,
     left: &Lin<Partition, Int>,

@@ -1,4 +1,4 @@
-//! Why a list of numbers is not taken as the exponents of a monomial.
+//! The errors of lists of exponents.
 ghost use Rattle.std.specs.Prelude.{◌≡◌};
 ghost use Rattle.sparse_polys.specs.declared.fault.MonoFault.TheVariants.{NoMemory as no_memory};
 
@@ -6,16 +6,16 @@ use calc_base::NoMemory;
 use std::alloc::AllocError;
 use thiserror::Error;
 
-/// Why a list of numbers is not taken as the exponents of a monomial.
+/// The reasons for which a list of numbers is not the exponents of a monomial.
 #[derive(Clone, Copy, Debug, PartialEq, Eq, Hash, Error)]
 pub enum MonoFault {
     /// There are more than 255 exponents.
     #[error("more than 255 exponents")]
     TooMany,
-    /// The degree is past 32,385.
+    /// The degree exceeds 32,385.
     #[error("a degree of more than 32385")]
     TooBig,
-    /// Memory was refused.
+    /// Memory could not be allocated.
     #[error("out of memory")]
     NoMemory,
 }

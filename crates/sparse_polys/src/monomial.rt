@@ -20,16 +20,16 @@ use std::cmp::Ordering;
 use std::hash::{Hash, Hasher};
 use std::marker::Model;
 
-/// The most exponents, and the greatest degree, of a monomial.
+/// The greatest number of exponents, and the greatest degree, of a monomial.
 const MAX_EXPONENTS: usize = 255;
 
 const MAX_DEGREE: u32 = 32385;
 
-/// The exponents of a monomial. Up to 16 are kept with no memory taken.
+/// The exponents of a monomial. Up to 16 exponents allocate no memory.
 type Exponents = SmallVec<u16, 16>;
 
 /// A monomial: its exponents without the zeros at their end. It has at most 255 exponents and a
-/// degree of at most 32,385. Up to 16 exponents are kept with no memory taken.
+/// degree of at most 32,385. Up to 16 exponents allocate no memory.
 #[derive(Debug, Drop)]
 pub struct Monomial {
     exponents: Exponents,
@@ -49,10 +49,10 @@ impl Model for Monomial {
 }
 
 impl Monomial {
-    /// The monomial with these exponents, where zeros at the end are dropped.
+    /// The monomial with these exponents, without the zeros at the end.
     ///
-    /// It is refused as `TooMany` where more than 255 exponents are left, else as `TooBig` where
-    /// their sum is past 32,385. At most 16 exponents take no memory.
+    /// Returns `TooMany` if more than 255 exponents are left, otherwise `TooBig` if their sum
+    /// exceeds 32,385. Up to 16 exponents allocate no memory.
     pub fn from_exponents(alloc: Global, exponents: &[u16]) -> Result<Monomial, MonoFault>
         ensures ok { IfOk result (λ m. m ≡ without_last_zeros exponents.now) }
         ensures limits { OnOk result (IsWithinLimits (without_last_zeros exponents.now)) }
@@ -75,7 +75,7 @@ impl Monomial {
         Ok(with_degree(alloc, exponents, degree as u16)?)
     }
 
-    /// The monomial 1. It takes no memory.
+    /// The monomial 1. It allocates no memory.
     pub fn one(alloc: Global) -> Monomial
         ensures { result ≡ [] }
     {
@@ -85,8 +85,8 @@ impl Monomial {
         }
     }
 
-    /// The product with the variable x_r, for r from 1 to 255 and a degree below 32,385. At most 16
-    /// exponents take no memory.
+    /// The product with the variable x_r, for r from 1 to 255 and a degree below 32,385. Up to 16
+    /// exponents allocate no memory.
     pub fn times_var(&self, r: u16) -> Result<Monomial, NoMemory>
         requires first { 1 ≤ r }
         requires last { r ≤ 255 }
@@ -101,8 +101,8 @@ impl Monomial {
         })
     }
 
-    /// The product with another monomial, where it stays within the limits. At most 16 exponents
-    /// take no memory.
+    /// The product with another monomial; it must be within the limits. Up to 16 exponents allocate
+    /// no memory.
     pub fn times(&self, other: &Monomial) -> Result<Monomial, NoMemory>
         requires { IsWithinLimits (join self.now other.now) }
         ensures { IfOk result (λ m. m ≡ join self.now other.now) }
@@ -130,8 +130,8 @@ impl Monomial {
         self.degree
     }
 
-    /// How this monomial and `other` stand in print: the greater degree first, then falling
-    /// lexicographic order of the exponents. `Equal` only for equal monomials.
+    /// Compares this monomial with `other` in the printed order: the greater degree first, then
+    /// decreasing lexicographic order of the exponents. `Equal` only for equal monomials.
     pub fn cmp_printed(&self, other: &Monomial) -> Ordering
         ensures value { result ≡ printed_order self.now other.now }
         ensures equal { result ≡ Ordering.Equal → self.now ≡ other.now }
@@ -143,7 +143,7 @@ impl Monomial {
             .then(other.exponents().cmp(&self.exponents()))
     }
 
-    /// An equal monomial. At most 16 exponents take no memory.
+    /// An equal monomial. Up to 16 exponents allocate no memory.
     pub fn copy(&self) -> Result<Monomial, NoMemory>
         ensures ok { IfOk result (λ copy. copy ≡ self.now) }
         ensures inline { length self.now ≤ 16 → IsOk result }
@@ -188,7 +188,7 @@ fn with_degree(alloc: Global, exponents: &[u16], degree: u16) -> Result<Monomial
     })
 }
 
-/// The sums of the numbers at each place, where a missing number is 0.
+/// The sums of the numbers at each place; missing numbers count as 0.
 fn joined(alloc: Global, first: &[u16], second: &[u16]) -> Result<Exponents, AllocError>
     requires { size (join first.now second.now) < 2 ^ 16 }
     ensures { IfOk result (λ sums. sums.items ≡ join first.now second.now) }
@@ -200,14 +200,15 @@ fn joined(alloc: Global, first: &[u16], second: &[u16]) -> Result<Exponents, All
     Ok(sums)
 }
 
-/// The number at an index, or 0 past the end.
+/// The number at an index, or 0 after the end.
 fn number_at(numbers: &[u16], at: usize) -> u16
     ensures { result ≡ slice_index_or numbers.now at 0 }
 {
     numbers.get(at).copied().unwrap_or(0)
 }
 
-/// Adds 1 to the exponent at a place, counted from 0.
+/// Adds 1 to the exponent at the place `at`, counted from 0, with zeros appended up to there if
+/// needed.
 fn raise(exponents: &mut Exponents, at: usize) -> Result<(), AllocError>
     requires place { at < 255 }
     requires small { size exponents.old.items < 32385 }

@@ -10,8 +10,8 @@ use partitions::Partition;
 use std::cmp::Ordering;
 use std::marker::Model;
 
-/// Two partitions, the label of a term of a coproduct. In print pairs stand by the first partition,
-/// then by the second.
+/// Two partitions, the label of a term of a coproduct. Pairs are printed in the order of the first
+/// partition, then of the second.
 #[derive(Debug, PartialEq, Eq, Hash, Drop)]
 pub struct Pair {
     /// The partition that is printed first.

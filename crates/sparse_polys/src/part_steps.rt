@@ -1,4 +1,4 @@
-//! One part of the partition taken from the labels in all ways.
+//! One part of the partition removed from the labels in all ways.
 ghost use Rattle.std.specs.Prelude.{◌≡◌, ℕ, ◌+◌, ◌*◌, ◌^◌, ◌<◌, ◌≤◌, ◌∷◌, [], true, false, List};
 ghost use Rattle.std.specs.Prelude.{length, IfOk, OnOk};
 ghost use Rattle.sym_model.specs.Bases.{has};
@@ -11,7 +11,7 @@ use crate::parts::{has_part, without_part};
 use crate::states::{State, add_state};
 use std::alloc::{AllocError, Global};
 
-/// Whether no part is greater than `part`.
+/// Whether no part is greater than `part`; the parts are weakly decreasing.
 fn is_within(parts: &[u16], part: u16) -> bool
     ensures { result ≡ false → HasPartAbove part parts.now }
 {
@@ -21,15 +21,15 @@ fn is_within(parts: &[u16], part: u16) -> bool
     }
 }
 
-/// Whether the number is a part, or 0.
+/// Whether `part` is one of the parts, or 0.
 fn can_give(parts: &[u16], part: u16) -> bool
     ensures { result ≡ has part (0 ∷ parts.now) }
 {
     part == 0 || has_part(parts, part)
 }
 
-/// Takes a from the left label and b from the right one, where b is one of its parts or 0, and
-/// leaves out what no parts up to a + b can use up.
+/// Removes a from the left label and b from the right one, if b is one of its parts or 0. The
+/// result is dropped if parts up to a + b cannot use it up.
 fn take_both(
     alloc: Global,
     state: &State,
@@ -63,8 +63,8 @@ fn take_both(
     add_state(next, left, right, state.count)
 }
 
-/// Whether the part at a place can be taken from the left label,
-/// and does not stand after it again.
+/// Whether the part at a place can be removed from the left label, and does not occur after it
+/// again.
 fn is_choice(parts: &[u16], i: usize, part: u16) -> bool
     requires { i < length parts.now }
     ensures { result ≡ is_choice_at parts.now i part }
@@ -73,7 +73,7 @@ fn is_choice(parts: &[u16], i: usize, part: u16) -> bool
     a <= part && !has_part(&parts[i + 1..], a)
 }
 
-/// Takes the part from one state in all ways.
+/// Removes the part from one state in all ways.
 fn take_part(
     alloc: Global,
     state: &State,
@@ -99,7 +99,9 @@ fn take_part(
     Ok(())
 }
 
-/// Takes the part from all states in all ways. No two of the states that it gives leave the same.
+/// Removes the part `part` of the product's partition from all states: a from the left label and b
+/// from the right one, in all ways with a + b = `part`. No two of the resulting states have the
+/// same remaining parts.
 pub(crate) fn step(alloc: Global, states: &[State], part: u16) -> Result<Vec<State>, AllocError>
     ensures ways { IfOk result (λ next. (ν : List ℕ) (size : ℕ) → AreBelow (part + 1) ν
         → AreStates size states.now

@@ -6,7 +6,7 @@ ghost use Rattle.sym_model.specs.RaisedPart.{without_one};
 
 use std::alloc::{AllocError, Global};
 
-/// Whether the number is a part.
+/// Whether `part` is one of the parts.
 pub(crate) fn has_part(parts: &[u16], part: u16) -> bool
     ensures { result ≡ has part parts.now }
 {
@@ -18,7 +18,7 @@ pub(crate) fn has_part(parts: &[u16], part: u16) -> bool
     false
 }
 
-/// The parts without the first one that is the number.
+/// The parts without the first one that equals `part`.
 pub(crate) fn without_part(alloc: Global, parts: &[u16], part: u16) -> Result<Vec<u16>, AllocError>
     ensures { IfOk result (λ rest. rest.items ≡ without_one part parts.now) }
 {

@@ -10,8 +10,8 @@ use partitions::Partition;
 use std::cmp::Ordering;
 use std::marker::Model;
 
-/// A power of q and a partition, the label of a term of a quantum product. In print the lesser
-/// power stands first, then they stand by the partition.
+/// A power of q and a partition, the label of a term of a quantum product. Labels are printed in
+/// increasing order of the power, then in the order of the partition.
 #[derive(Debug, PartialEq, Eq, Hash, Drop)]
 pub struct Power {
     /// The exponent of q.

@@ -12,7 +12,7 @@ ghost use Rattle.monomial_laws.specs.ExpressionTerms.{over};
 ghost use Rattle.coeff_rings.specs.Fractions.{scaled, whole};
 ghost use Rattle.sparse_polys.specs.Combination.{terms_of, HasMoreAt, IsPolynomialTable};
 ghost use Rattle.sparse_polys.specs.Limits.{IsWithinLimits};
-ghost use Rattle.sparse_polys.specs.Products.{value_in, coefficient_at, FitTogether, HasRoom};
+ghost use Rattle.sparse_polys.specs.Products.{value_in, coefficient_at, FitTogether, HaveRoomForVariable};
 ghost use Rattle.sparse_polys.specs.Products.{IsProductOf};
 ghost use Rattle.linear_combinations.specs.Cleared.{AreCleared, IsCommonDenominator, IsDenominator};
 ghost use Rattle.linear_combinations.specs.Cleared.{GainsCleared, OverflowsCleared};
@@ -76,12 +76,10 @@ fn add_row<R: Ring>(
     Ok(())
 }
 
-/// The product of two polynomials, in every number of variables. Each product of a monomial of the
-/// one and a monomial of the other stays within the limits of a monomial:
-/// its degree is at most 32,385.
+/// The product of two polynomials, in every number of variables. Each product of a monomial of one
+/// and a monomial of the other is within the limits of a monomial: its degree is at most 32,385.
 ///
-/// It is refused as `Large` only where the weights of the two lists have a product of 2^127 or
-/// more.
+/// Returns `Large` only if the weights of the two lists have a product of 2^127 or more.
 pub fn times<R: Ring>(alloc: Global, left: &Poly<R>, right: &Poly<R>) -> Result<Poly<R>, SumFault>
     requires { FitTogether (terms_of R.value left.now) (terms_of R.value right.now) }
     ensures value { IfOk result (λ product. IsProductOf (terms_of R.value left.now)
@@ -101,12 +99,12 @@ pub fn times<R: Ring>(alloc: Global, left: &Poly<R>, right: &Poly<R>) -> Result<
 }
 
 /// The product of a polynomial and the variable x_r, in every number of variables. The place r is
-/// from 1 to 255, and each product of a monomial and x_r stays within the limits of a monomial. No
-/// coefficient changes, so memory alone is wanted.
+/// from 1 to 255, and each product of a monomial and x_r is within the limits of a monomial. Fails
+/// only if out of memory, since no coefficient changes.
 pub fn times_var<R: Ring>(alloc: Global, list: Poly<R>, r: u16) -> Result<Poly<R>, NoMemory>
     requires first { 1 ≤ r }
     requires last { r ≤ 255 }
-    requires room { HasRoom r (terms_of R.value list) }
+    requires room { HaveRoomForVariable r (terms_of R.value list) }
     ensures { IfOk result (λ product. (n : ℕ) → Represents (λ e. x_to_in e n)
         (terms_of R.value product) (times (variable_in r n) (value_in (terms_of R.value list) n))
         (denominators (terms_of R.value list))) }
@@ -118,7 +116,7 @@ pub fn times_var<R: Ring>(alloc: Global, list: Poly<R>, r: u16) -> Result<Poly<R
     Ok(product)
 }
 
-/// Adds a term with a monomial that is not there, which no ring refuses.
+/// Adds a term with a new monomial, which no ring refuses.
 fn add_new<R: Ring>(sum: &mut Poly<R>, monomial: Monomial, c: R) -> Result<(), NoMemory>
     requires { coefficient_at (terms_of R.value sum.old) monomial ≡ whole (pos 0) }
     ensures more { OnOk result (HasMoreAt (pointwise nat_eq) (terms_of R.value sum.old) monomial

@@ -1,4 +1,4 @@
-//! The partitions of the product of two labels, by their parts from the greatest down.
+//! The partitions of the product of two labels, found by their parts from the greatest down.
 ghost use Rattle.std.specs.Prelude.{◌≡◌, ℕ, ◌+◌, ◌^◌, ◌<◌, [], List, All, IfOk, OnOk, vec_len};
 ghost use Rattle.sym_model.specs.Partition.{IsPartition, size};
 ghost use Rattle.monomial_laws.specs.MonomialProduct.{arrangements};
@@ -11,16 +11,16 @@ use crate::parts::size_of;
 use crate::states::State;
 use std::alloc::{AllocError, Global};
 
-/// A partition with a number of ways, which stands at 2^128 - 1 where there are more.
+/// A partition with its number of ways, or 2^128 - 1 if there are more.
 #[derive(Drop)]
 pub(crate) struct Counted {
-    /// The parts of the partition, falling.
+    /// The parts of the partition in decreasing order.
     pub parts: Vec<u16>,
     /// The number of ways.
     pub count: u128,
 }
 
-/// A copy of the parts.
+/// A copy of the list of parts.
 fn copy_of(alloc: Global, parts: &[u16]) -> Result<Vec<u16>, AllocError>
     ensures { IfOk result (λ copy. copy.items ≡ parts.now) }
 {
@@ -29,7 +29,7 @@ fn copy_of(alloc: Global, parts: &[u16]) -> Result<Vec<u16>, AllocError>
     Ok(copy)
 }
 
-/// The number of ways in which nothing is left.
+/// The number of ways that the states count, if no parts are left.
 fn ways_to_end(states: &[State]) -> u128
     requires { AreStates 0 states.now }
     ensures { result ≡ capped (ways states.now []) }
@@ -41,9 +41,8 @@ fn ways_to_end(states: &[State]) -> u128
     total
 }
 
-/// Puts after `out` each partition that has the chosen parts first and goes on from the states
-/// with parts up to
-/// `largest`, `left` being the size that is still to come.
+/// Appends to `out` each partition that begins with the chosen parts and continues from the states
+/// with parts up to `largest`; `left` is the size of the parts that are still to be chosen.
 fn extend(
     alloc: Global,
     states: &[State],
@@ -87,8 +86,8 @@ fn extend(
 }
 
 /// The partitions in the product of two monomial symmetric polynomials, each with the number of
-/// ways in which it is an arrangement of the one label plus an arrangement of the other. A
-/// partition that is not there has no way.
+/// ways to write it as the sum of an arrangement of one label and an arrangement of the other. A
+/// partition that is not listed has no way.
 pub(crate) fn label_product(
     alloc: Global,
     left: &[u16],

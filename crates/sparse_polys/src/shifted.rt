@@ -1,4 +1,4 @@
-//! Permutations beside a monomial, the labels of products of double Schubert polynomials.
+//! Pairs of a permutation and a monomial, the labels of products of double Schubert polynomials.
 ghost use Rattle.std.specs.Prelude.{length, nat_le, ◌&&◌};
 ghost use Rattle.sym_model.specs.LabelLimits.{is_shifted_label};
 ghost use Rattle.sym_model.specs.PrintedOrder.{shifted_order};
@@ -10,7 +10,8 @@ use std::cmp::Ordering;
 use std::marker::Model;
 
 /// A permutation and a monomial in the variables y, the label of a term y^e·S_w of a product of
-/// double Schubert polynomials. In print labels stand by the permutation, then by the monomial.
+/// double Schubert polynomials. Labels are printed in the order of the permutation, then of the
+/// monomial.
 #[derive(Debug, PartialEq, Eq, Hash, Drop)]
 pub struct Shifted {
     /// The permutation.

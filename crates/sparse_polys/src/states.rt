@@ -1,4 +1,4 @@
-//! What is left of two labels, and in how many ways it came to be left.
+//! The remaining parts of two labels, with the number of ways to reach them.
 ghost use Rattle.std.specs.Prelude.{◌≡◌, ℕ, ◌+◌, ◌*◌, ◌<◌, ◌↔◌, List, length, map, IfOk, OnOk};
 ghost use Rattle.std.specs.Prelude.{IfSome, IsTrue, MatchOption, slice_get};
 ghost use Rattle.sym_model.specs.Sum.{Among};
@@ -7,7 +7,7 @@ ghost use Rattle.sparse_polys.specs.Ways.{capped, labels_left, ways, IsRest, Are
 
 use std::alloc::AllocError;
 
-/// What is left of the left and of the right label, and the number of ways, up to 2^128 - 1.
+/// The remaining parts of the left and of the right label, and the number of ways, up to 2^128 - 1.
 #[derive(Drop)]
 pub(crate) struct State {
     pub(crate) left: Vec<u16>,
@@ -15,14 +15,14 @@ pub(crate) struct State {
     pub(crate) count: u128,
 }
 
-/// Whether this is left.
+/// Whether the state has these remaining parts.
 fn is_left(state: &State, left: &[u16], right: &[u16]) -> bool
     ensures { IsTrue result ↔ (labels_left state.now ≡ (left.now, right.now)) }
 {
     state.left.as_slice() == left && state.right.as_slice() == right
 }
 
-/// The place of the state with what is left; None exactly where no state leaves that.
+/// The index of the state with these remaining parts; None if and only if there is none.
 fn place_of(states: &[State], left: &[u16], right: &[u16]) -> Option<usize>
     ensures { MatchOption result (Among (left.now, right.now) (map labels_left states.now) → ⊥)
         (λ i. (i < length states.now)
@@ -36,7 +36,8 @@ fn place_of(states: &[State], left: &[u16], right: &[u16]) -> Option<usize>
     None
 }
 
-/// Adds ways to what is left, at its state where it has one, so that no two states leave the same.
+/// Adds ways at these remaining parts, to their state if there is one, so that no two states have
+/// the same remaining parts.
 pub(crate) fn add_state(
     states: &mut Vec<State>,
     left: Vec<u16>,

@@ -1,5 +1,5 @@
--- Permutations in which at most m greater letters come before each letter: something is left of each.
---     some_cover    one of those that the transition rule makes is such a permutation too
+-- Permutations in which at most m greater letters come before each letter: their polynomials in m variables are not 0.
+--     some_cover    one of the covers in the transition rule is such a permutation too
 --     some_shape    so the Schubert polynomial in m variables has a positive Schur coefficient
 use Rattle.std.proofs.Common.{◌≡◌, ◌⊎◌, ℕ, zero, suc, ◌+◌, ◌-◌, ◌<◌, ◌≤◌, Bool, false, List, [], ◌∷◌, ◌==◌, map, take, drop, length, get_or, refl, sym, ◌∙◌, ap, ap₂, subst, arith, inl, inr, cond, count_by, Some, None, Option, unwrap_or, pos, ◌≤ℤ◌}
 use Rattle.std.proofs.lemmas.Int.{ints}
@@ -27,18 +27,18 @@ use Rattle.schubert_laws.proofs.Transition.{IsStep, get_swap_other, once_get}
 use Rattle.schubert_laws.proofs.TransitionFromOne.{step_of, kept_swap, covers_down_kept}
 use Rattle.schubert_laws.specs.TransitionOrder.{rank}
 use Rattle.perm_codes.proofs.OneSwap.{lies_between, rising_count}
-use Rattle.stanley_laws.specs.GreaterBefore.{HasMoreBefore}
-use Rattle.stanley_laws.specs.Grassmannian.{IsRising, front_shape}
-use Rattle.stanley_laws.specs.SchurPositive.{schur_test}
-use Rattle.stanley_laws.proofs.GreaterBefore.{before, at_letter, from_letters, to_letters, greater_longer, greater_fewer, greater_past, greater_one, greater_both, smaller_between, take_later, take_front}
-use Rattle.stanley_laws.proofs.SchurPositive.{front_partition, front_rows, rising_covers, schur_pairs}
+use Rattle.stanley_expand.specs.GreaterBefore.{HasMoreBefore}
+use Rattle.stanley_expand.specs.Grassmannian.{IsRising, front_shape}
+use Rattle.stanley_expand.specs.SchurPositive.{schur_test}
+use Rattle.stanley_expand.proofs.GreaterBefore.{before, at_letter, from_letters, to_letters, greater_longer, greater_fewer, greater_past, greater_one, greater_both, smaller_between, take_later, take_front}
+use Rattle.stanley_expand.proofs.SchurPositive.{front_partition, front_rows, rising_covers, schur_pairs}
 use Rattle.stanley_expand.proofs.GreaterLetters.{greater_next}
 use Rattle.stanley_expand.proofs.Steps.{covers_pair, shape_pairs}
 use Rattle.stanley_expand.proofs.Tables.{perms_natural}
 
--- ---- counts in the front of a list
+-- ---- counts of greater letters in the front of a list
 
--- no entry lies above the one bound and up to the other
+-- if no entry is above x and at most z, at most as many are greater than x as are greater than z
 greater_gap : (x z q : ℕ) (w : List ℕ) → ((c : ℕ) → c < q → (get_or w c 0 ≤ x) ⊎ (z < get_or w c 0)) → greater x (take q w) ≤ greater z (take q w)
 greater_gap x z zero w h = omega arith
 greater_gap x z (suc q) [] h = omega arith
@@ -75,7 +75,7 @@ none_between low high (suc n) zero (y ∷ w) h l =
 none_between low high n (suc k) [] h l = absurd (omega arith)
 none_between low high n (suc k) (y ∷ w) h l = none_between low high n k w (λ c a b. h (suc c) (omega arith) (omega arith)) (omega arith)
 
--- the greatest entry in front of place q that is smaller than x, if there is one
+-- either some entry before place q is the greatest of those smaller than x, or no entry before q is smaller than x
 find_smaller : (x q : ℕ) (w : List ℕ) → ((i : ℕ) × (i < q) × (get_or w i 0 < x) × ((c : ℕ) → c < q → (get_or w c 0 ≤ get_or w i 0) ⊎ (x ≤ get_or w c 0))) ⊎ ((c : ℕ) → c < q → x ≤ get_or w c 0)
 find_smaller x zero w = inr (λ c l. absurd (omega arith))
 find_smaller x (suc q) w = by (find_smaller x q w) (cases_lt (get_or w q 0) x)
@@ -94,9 +94,9 @@ find_smaller x (suc q) w = by (find_smaller x q w) (cases_lt (get_or w q 0) x)
       | inr g ↦ inl (i, omega arith, s, at_last (λ c. (get_or w c 0 ≤ get_or w i 0) ⊎ (x ≤ get_or w c 0)) all (inl g))
     ]
 
--- ---- the two exchanges, with places counted from 0
+-- ---- the two exchanges of the transition rule, with places counted from 0
 
--- the last descent and its partner: but for the place q no letter has more greater ones in front than before
+-- if no letter of w has more than m greater ones before it, the same holds after exchanging q and b for each letter but that at q
 down_few : (m q b p : ℕ) (w : List ℕ) → IsOneLine w → IsStep w q b → ((i : ℕ) → i < length w → before w i ≤ m) → p < length w → (p ≡ q → ⊥)
     → before (swap_at q b w) p ≤ m
 down_few m q b p w o s few i n =
@@ -142,7 +142,7 @@ down_few m q b p w o s few i n =
           | inr e ↦ let x = get_swap_other q b j 0 w e (λ z. omega arith) in let y = smaller_between q b j w o s (omega arith) l in omega arith
         ]
 
--- and the place q has one fewer than m
+-- if the letter at b has at most m greater ones before it, then after exchanging q and b the letter at q has fewer than m
 down_first : (m q b : ℕ) (w : List ℕ) → IsStep w q b → before w b ≤ m → before (swap_at q b w) q < m
 down_first m q b w s few =
     let order = s.order in
@@ -154,7 +154,8 @@ down_first m q b w s few =
     let c = counts-less (get_or w b 0) (get_or w q 0) s.falls in
     omega arith
 
--- the place q and the greatest smaller letter in front of it
+-- exchanging the letter at q with the greatest smaller letter before it leaves at most m greater letters before
+-- each place
 up_few : (m i q p : ℕ) (u : List ℕ) → i < q → q < length u → get_or u i 0 < get_or u q 0
     → ((c : ℕ) → c < q → (c ≡ i → ⊥) → (get_or u c 0 < get_or u i 0) ⊎ (get_or u q 0 < get_or u c 0))
     → ((c : ℕ) → c < length u → (c ≡ q → ⊥) → before u c ≤ m) → before u q < m → p < length u → before (swap_at i q u) p ≤ m
@@ -196,7 +197,7 @@ up_few m i q p u h k l gap few first inside = elim (cases_eq p q) [
   ]
 ]
 
--- ---- one that the transition rule makes
+-- ---- a cover in the transition rule with few greater letters before each place
 
 abbrev IsLeft : ℕ → ℕ → List ℕ → Type 0
 IsLeft m q u = (i : ℕ) × (i < q) × (inversions (swap_at i q u) ≡ inversions u + 1) × ((p : ℕ) → p < length u → before (swap_at i q u) p ≤ m)
@@ -250,7 +251,7 @@ some_left m q b w o s last few = by (find_smaller (get_or (swap_at q b w) q 0) q
               (λ c x n. down_few m q b c w o s few (omega arith) n) (down_first m q b w s (few b inside)) k,
         )
 
--- fixed letters at the end make no difference
+-- if no letter of v has more than m greater letters before it, neither has one of v without its last fixed letters
 few_kept : (m : ℕ) (v : List ℕ) → IsOneLine v → ((p : ℕ) → p < length v → before v p ≤ m) → HasMoreBefore m (kept v) → ⊥
 few_kept m v o few more =
     let f = from_letters m (kept v) (one_line_kept v o) more in
@@ -294,7 +295,7 @@ some_cover w r s m o t h few =
     at_most : {n : ℕ} → (m < n → ⊥) → n ≤ m
     at_most {n} f = elim (cases_lt m n) [ inl l ↦ absurd (f l) | inr l ↦ l ]
 
--- ---- a positive Schur coefficient
+-- ---- a Schur coefficient that is positive
 
 abbrev pub HasShape : ℕ → List ℕ → Type 0
 HasShape m u = (κ : List ℕ) × IsPartition κ × (rows κ ≤ m) × (pos 1 ≤ℤ pair (schubert_in u m) (schur_test m κ))

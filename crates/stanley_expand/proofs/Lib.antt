@@ -1,3 +1,9 @@
+pub mod SortingPaths
+pub mod Grassmannian
+pub mod FirstPlaces
+pub mod FixedFront
+pub mod SchurPositive
+pub mod GreaterBefore
 pub mod Tables
 pub mod Steps
 pub mod FewBefore

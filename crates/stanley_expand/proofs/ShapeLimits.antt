@@ -10,8 +10,8 @@ use Rattle.partitions.specs.Limits.{IsWithinLimits}
 use Rattle.schubert_laws.specs.TransitionOrder.{IsShort}
 use Rattle.schubert_laws.proofs.Ranks.{letter_within}
 use Rattle.schubert_laws.proofs.TransitionFromOne.{get_past}
-use Rattle.stanley_laws.specs.Grassmannian.{IsRising, front_beta, front_shape}
-use Rattle.stanley_laws.proofs.SchurPositive.{front_strict, length_front, front_partition, front_rows}
+use Rattle.stanley_expand.specs.Grassmannian.{IsRising, front_beta, front_shape}
+use Rattle.stanley_expand.proofs.SchurPositive.{front_strict, length_front, front_partition, front_rows}
 
 size_falling : (t : ℕ) (b : List ℕ) → FallsStrictly b → get_or b 0 0 ≤ t + length b - 1 → size b ≤ size (staircase (length b)) + length b * t
 size_falling t [] f h = omega arith

@@ -1,4 +1,4 @@
--- One step of the walk in pairings: a permutation is replaced, or its Schur polynomial is added.
+-- One step of the walk, paired with test functions: a permutation is replaced, or its Schur polynomial is added.
 use Rattle.std.proofs.Common.{◌≡◌, ℕ, ◌+◌, ◌-◌, ◌*◌, ◌^◌, ◌<◌, ◌≤◌, List, [], ◌∷◌, ◌∙◌, refl, sym, ap, subst, arith, inl, inr, Bool, true, false, cond, ℤ, negsuc, pos, ◌+ℤ◌, ◌*ℤ◌, ◌≤ℤ◌, unwrap_or}
 use Rattle.std.specs.Prelude.{nat_abs, nat_eq}
 use Rattle.std.specs.Cmp.Lexicographic.{pointwise, nat_list_eq_equiv}
@@ -31,17 +31,17 @@ use Rattle.linear_combinations.proofs.Found.{coefficient_over}
 use Rattle.linear_combinations.proofs.Gains.{over_at}
 use Rattle.linear_combinations.proofs.Masses.{labels_gained}
 use Rattle.linear_combinations.proofs.Totals.{term-among}
-use Rattle.stanley_laws.specs.Grassmannian.{IsRising, front_shape}
-use Rattle.stanley_laws.specs.SchurPositive.{schur_test}
-use Rattle.stanley_laws.proofs.FirstPlaces.{dropped, leaf}
-use Rattle.stanley_laws.proofs.SchurPositive.{front_partition, front_rows, rising_covers, schur_pairs}
+use Rattle.stanley_expand.specs.Grassmannian.{IsRising, front_shape}
+use Rattle.stanley_expand.specs.SchurPositive.{schur_test}
+use Rattle.stanley_expand.proofs.FirstPlaces.{dropped, leaf}
+use Rattle.stanley_expand.proofs.SchurPositive.{front_partition, front_rows, rising_covers, schur_pairs}
 use Rattle.stanley_expand.specs.Walk.{AreShapes, IsHeld, IsWorkedOff, OverflowsWith, number}
 use Rattle.stanley_expand.proofs.Tables.{waited_natural}
 use Rattle.linear_combinations.specs.Entries.{IsWholeTable}
 
--- ---- Schur coefficients
+-- ---- the Schur coefficients of the sum
 
--- the Schur coefficient at κ of a sum of Schur polynomials is what stands at κ
+-- the Schur coefficient at κ of a sum of Schur polynomials is its coefficient at κ
 pub over_schurs : (m : ℕ) (κ : List ℕ) (terms : WholeTerms) → IsWholeTable terms → IsPartition κ → rows κ ≤ m
     → over (λ ν. pair (schur ν m) (schur_test m κ)) terms ≡ over (only (pointwise nat_eq) κ) terms
 over_schurs m κ terms is q few =
@@ -49,9 +49,9 @@ over_schurs m κ terms is q few =
     (λ t k. ap (λ z. t.1 *ℤ z) (schur_pairs m t.0 κ (is_label-tells t.0 (and_parts _ _ (term-among is_label whole terms is.proper t k)).1).partition q few))
     ∙ sym (coefficient_pair terms κ) ∙ coefficient_over terms κ
 
--- ---- the sum so far
+-- ---- the sum with one more shape
 
--- a shape more, with a count
+-- adding c ≥ 0 at a partition κ with at most m rows gives a table of shapes again
 pub more_shapes : (m : ℕ) (κ : List ℕ) (c : ℤ) (old new : WholeTerms) → rows κ ≤ m → pos 0 ≤ℤ c → Gains old ((κ, c) ∷ []) new → IsWholeTable new → IsHeld new
     → AreShapes m old → AreShapes m new
 more_shapes m κ c old new few natural gains table held was = record {
@@ -66,7 +66,7 @@ more_shapes m κ c old new few natural gains table held was = record {
       omega (arith, ints);
 }
 
--- what is too large with a count more is so at its label
+-- if adding the count c at κ overflows, the Schur coefficient there is at least 2^127
 pub large_at : (κ : List ℕ) (c : ℤ) (old : WholeTerms) → IsDistinct (pointwise nat_eq) (keys_of old) → IsHeld old
     → ((ν : List ℕ) → pos 0 ≤ℤ over (only (pointwise nat_eq) ν) old) → pos 0 ≤ℤ c
     → Overflows (pointwise nat_eq) old ((κ, c) ∷ []) → pos (2 ^ 127) ≤ℤ (over (only (pointwise nat_eq) κ) old +ℤ c)
@@ -91,22 +91,23 @@ large_at κ c old distinct held natural positive o = by (pointwise nat_eq o.0 κ
         let a = natural_abs (over (only (pointwise nat_eq) o.0) old) n in
         absurd (omega (arith, ints))
 
--- ---- a permutation is replaced
+-- ---- a permutation replaced by its covers
 
--- those that the transition rule makes of a permutation come to its Schubert polynomial
+-- if p is increasing at the first m places and r > m, the sum of the Schubert polynomials of the covers in the transition rule, in m variables, is
+-- that of p
 pub covers_pair : (m n r s : ℕ) (p : List ℕ) (φ : List ℕ → ℤ) → IsRising m n p → IsTransition p r s → m < r
     → pair (schubert_in p m) φ ≡ total (λ x. pair (schubert_in x m) φ) (covers_down r (times_swap r s p))
 covers_pair m n r s p φ i t h =
     pair_determined (schubert_in p m) (schuberts_in (covers_down r (times_swap r s p)) m) φ (dropped p r s m i.short.one_line t h)
     ∙ pair_each (λ (x : List ℕ). schubert_in x m) (covers_down r (times_swap r s p)) φ
 
--- so does what they come to with a count
+-- c times the sum of the Schubert polynomials of these covers is c times that of p
 pub put_pair : (m n r s : ℕ) (p : List ℕ) (c : ℤ) (φ : List ℕ → ℤ) (covers : List (List ℕ)) → covers ≡ covers_down r (times_swap r s p) → IsRising m n p → IsTransition p r s → m < r
     → c *ℤ total (λ x. pair (schubert_in x m) φ) covers ≡ c *ℤ pair (schubert_in p m) φ
 put_pair m n r s p c φ covers e i t h =
     ap (λ xs. c *ℤ total (λ x. pair (schubert_in x m) φ) xs) e ∙ ap (λ z. c *ℤ z) (sym (covers_pair m n r s p φ i t h))
 
--- they have smaller numbers
+-- the covers in the transition rule have smaller table numbers than p, and are increasing at the first places
 pub covers_number : (m r s : ℕ) (p x : List ℕ) → m ≤ 64 → IsRising m (m + 16) p → IsTransition p r s → m < r → Among x (covers_down r (times_swap r s p))
     → IsRising m (m + 16) x × (number m x < number m p)
 covers_number m r s p x few i t h mem =
@@ -127,7 +128,7 @@ covers_number m r s p x few i t h mem =
       ],
     )
 
--- ---- its Schur polynomial is added
+-- ---- the Schur polynomial of a permutation added
 
 module _ (m n : ℕ) (p : List ℕ) (i : IsRising m n p) (h : last_descent_place p ≤ m) where
   pub shape_pairs : (φ : List ℕ → ℤ) → pair (schubert_in p m) φ ≡ pair (schur (front_shape m p) m) φ
@@ -145,7 +146,7 @@ module _ (m n : ℕ) (p : List ℕ) (i : IsRising m n p) (h : last_descent_place
     shapes = more_shapes m (front_shape m p) c old new (front_rows m p) natural gains table held;
   }
 
-  -- some coefficient is too large where a count more at its partition is
+  -- if adding the count c at the partition of p overflows, some Schur coefficient is 2^127 or more
   pub large_shape : (c : ℤ) (old : WholeTerms) (todo : List WholeTerms) → pos 0 ≤ℤ c → Overflows (pointwise nat_eq) old ((front_shape m p, c) ∷ [])
       → OverflowsWith m old todo (λ φ. c *ℤ pair (schubert_in p m) φ)
   large_shape c old todo positive overflow waiting is =

@@ -1,8 +1,8 @@
--- The tables of what waits: sums over them, and what a permutation more changes.
+-- The tables of waiting permutations: sums over them, and their change by one more permutation.
 --     waited_natural    no Schur coefficient of what waits is negative
---     put_step          a permutation more, with its count
---     none_step, both_steps, as_step    nothing, one thing after another, and the same said otherwise
---     large_with        more that is not negative leaves a large coefficient large
+--     put_step          one more permutation, with its count
+--     none_step, both_steps, as_step    nothing, two steps in turn, and a step with the same pairings
+--     large_with        adding something that is not negative leaves a large coefficient large
 use Rattle.std.proofs.Common.{◌≡◌, ℕ, zero, suc, Bool, ◌+◌, ◌^◌, ◌<◌, ◌≤◌, List, [], ◌∷◌, ◌++◌, length, get_or, set, replicate, refl, sym, ◌∙◌, ap, subst, arith, inl, inr, ℤ, pos, ◌+ℤ◌, ◌*ℤ◌, ◌≤ℤ◌}
 use Rattle.std.specs.Prelude.{nat_eq}
 use Rattle.std.specs.Cmp.Lexicographic.{pointwise, nat_list_eq_equiv}
@@ -34,14 +34,14 @@ use Rattle.std.specs.Int.{w128}
 use Rattle.std.specs.Prelude.{FitsSigned}
 use Rattle.linear_combinations.proofs.Masses.{labels_gained}
 use Rattle.transition_walk.proofs.TodoLists.{total_set}
-use Rattle.stanley_laws.specs.Grassmannian.{IsRising}
-use Rattle.stanley_laws.specs.SchurPositive.{schur_test}
-use Rattle.stanley_laws.proofs.SchurPositive.{schur_positive, natural}
+use Rattle.stanley_expand.specs.Grassmannian.{IsRising}
+use Rattle.stanley_expand.specs.SchurPositive.{schur_test}
+use Rattle.stanley_expand.proofs.SchurPositive.{schur_positive, natural}
 use Rattle.stanley_expand.specs.Walk.{WaitsAt, AreWaiting, AreShapes, IsHeld, waited, walked, IsWorkedOff, HasLargeShape, OverflowsWith}
 
 -- ---- sums that are not negative
 
--- a sum of counts times values that are not negative
+-- if no count and no value is negative, the sum of counts times values is not negative
 pub over_natural : (f : List ℕ → ℤ) (table : WholeTerms) → AreCounts table → HaveLabels (λ p. pos 0 ≤ℤ f p) table → pos 0 ≤ℤ over f table
 over_natural f [] counts values = omega (arith, ints)
 over_natural f (t ∷ table) counts values =
@@ -50,7 +50,7 @@ over_natural f (t ∷ table) counts values =
     omega (arith, ints)
 
 module _ (m : ℕ) (κ : List ℕ) (q : IsPartition κ) (few : rows κ ≤ m) where
-  -- the Schur coefficient of one that rises
+  -- the Schur coefficients of a permutation with increasing first letters are not negative
   pub rising_natural : (p : List ℕ) → IsRising m (m + 16) p → pos 0 ≤ℤ pair (schubert_in p m) (schur_test m κ)
   rising_natural p i = natural m (schubert_in p m) κ (schur_positive m (m + 16) p i) q few
 
@@ -75,7 +75,7 @@ module _ (m : ℕ) (κ : List ℕ) (q : IsPartition κ) (few : rows κ ≤ m) wh
       let b = perms_natural ps (λ x i. rising x (inr i)) in
       omega (arith, ints)
 
--- ---- steps, one after another
+-- ---- steps that follow one another
 
 pub none_step : (m : ℕ) (sum : WholeTerms) (todo : List WholeTerms) (more : (List ℕ → ℤ) → ℤ) → ((φ : List ℕ → ℤ) → more φ ≡ pos 0) → IsWorkedOff m sum todo more sum todo
 none_step m sum todo more none = record {
@@ -117,16 +117,16 @@ pub overflows_as : (m : ℕ) (sum : WholeTerms) (todo : List WholeTerms) (f g : 
 overflows_as m sum todo f g e large waiting shapes =
     large_same m (λ φ. walked m φ sum todo +ℤ f φ) (λ φ. walked m φ sum todo +ℤ g φ) (λ φ. ap (λ z. walked m φ sum todo +ℤ z) (e φ)) (large waiting shapes)
 
--- ---- loops
+-- ---- the elements that a loop has visited, and those still to come
 
--- those so far, the next one and the rest
+-- the elements before x, x itself and those after it are all elements
 pub still_all : {A : Type 0} (done rest left all : List A) (x : A) → left ≡ x ∷ rest → done ++ left ≡ all → done ++ x ∷ rest ≡ all
 still_all done rest left all x next e = ap (λ xs. done ++ xs) (sym next) ∙ e
 
 pub next_among : {A : Type 0} (done rest all : List A) (x : A) → done ++ x ∷ rest ≡ all → Among x all
 next_among done rest all x e = subst (Among x) e (Among-append_right x done (x ∷ rest) (inl refl))
 
--- permutations with one count, and one of them is too much
+-- if adding one permutation p of a list with the count c overflows, so does adding all of the list
 pub large_perm : (m : ℕ) (c : ℤ) (sum : WholeTerms) (todo mid : List WholeTerms) (done rest all : List (List ℕ)) (p : List ℕ) → pos 0 ≤ℤ c → done ++ p ∷ rest ≡ all
     → ((x : List ℕ) → Among x all → IsRising m (m + 16) x) → IsWorkedOff m sum todo (λ φ. c *ℤ total (λ x. pair (schubert_in x m) φ) done) sum mid
     → OverflowsWith m sum mid (λ φ. c *ℤ pair (schubert_in p m) φ) → OverflowsWith m sum todo (λ φ. c *ℤ total (λ x. pair (schubert_in x m) φ) all)
@@ -146,7 +146,7 @@ large_perm m c sum todo mid done rest all p positive e rising step large waiting
     three : (c x y z : ℤ) → c *ℤ (x +ℤ (y +ℤ z)) ≡ c *ℤ x +ℤ (c *ℤ y +ℤ c *ℤ z)
     three c x y z = distributes_left c x (y +ℤ z) ∙ ap (λ w. c *ℤ x +ℤ w) (distributes_left c y z)
 
--- permutations with counts, and one of them is too much
+-- if adding one term of a table overflows, so does adding the whole table
 pub large_count : (m : ℕ) (sum sum2 : WholeTerms) (todo mid : List WholeTerms) (done rest all : WholeTerms) (t : List ℕ × ℤ) → done ++ t ∷ rest ≡ all
     → HaveLabels (IsRising m (m + 16)) all → AreCounts all → IsWorkedOff m sum todo (λ φ. over (λ x. pair (schubert_in x m) φ) done) sum2 mid
     → OverflowsWith m sum2 mid (λ φ. t.1 *ℤ pair (schubert_in t.0 m) φ) → OverflowsWith m sum todo (λ φ. over (λ x. pair (schubert_in x m) φ) all)
@@ -160,12 +160,12 @@ large_count m sum sum2 todo mid done rest all t e rising counts step large waiti
     omega (arith, ints))
     (large (step.waiting waiting) (step.shapes shapes))
 
--- ---- a permutation more
+-- ---- one more permutation in its table
 
 pub only_natural : (x y : List ℕ) → pos 0 ≤ℤ only (pointwise nat_eq) x y
 only_natural x y = cond-nonnegative (pointwise nat_eq x y) (pos 1) (omega (arith, ints))
 
--- what each table has, and the new one too
+-- if P holds of each table and of the new one, it holds of each after the replacement
 set_all : (P : WholeTerms → Type 0) (todo : List WholeTerms) (at : ℕ) (new : WholeTerms) → at < length todo → P new → ((k : ℕ) → P (get_or todo k [])) → (k : ℕ) → P (get_or (set todo at new) k [])
 set_all P todo at new inside here old k = elim (cases_eq k at) [
   | inl e ↦ subst (λ n. P (get_or (set todo at new) n [])) (sym e) (subst P (sym (get_or-set_same todo at new [] inside)) here)
@@ -173,7 +173,7 @@ set_all P todo at new inside here old k = elim (cases_eq k at) [
 ]
 
 module _ (m at : ℕ) (p : List ℕ) (c : ℤ) (waits : WaitsAt m at p) (positive : pos 0 ≤ℤ c) where
-  -- in its table
+  -- adding a permutation to a table of counts gives a table of counts
   pub more_counts : (old new : WholeTerms) {is_label : List ℕ → Bool} → IsCombination (pointwise nat_eq) is_label whole new → Gains old ((p, c) ∷ []) new
       → AreCounts old → AreCounts new
   more_counts old new is gains counts t i =
@@ -208,7 +208,7 @@ module _ (m at : ℕ) (p : List ℕ) (c : ℤ) (waits : WaitsAt m at p) (positiv
       there : table ≡ get_or todo at []
       there = here ∙ get_or_default todo at table [] inside
 
--- ---- the last table, and those in front of it
+-- ---- the last table and those before it
 
 no_terms : IsWholeTable []
 no_terms = IsCombination-empty (pointwise nat_eq) is_label whole
@@ -248,7 +248,7 @@ module _ (m : ℕ) (todo rest : List WholeTerms) (table : WholeTerms) (e : todo 
       let a = ap (total (λ t. over (λ p. pair (schubert_in p m) φ) t)) e ∙ total_append (λ t. over (λ p. pair (schubert_in p m) φ) t) rest (table ∷ []) in
       omega (arith, ints)
 
--- ---- empty tables
+-- ---- lists of empty tables
 
 module _ (m : ℕ) where
   empty_table : (n at : ℕ) → ◌≡◌ {A = WholeTerms} (get_or (replicate n []) at []) []
@@ -268,7 +268,7 @@ module _ (m : ℕ) where
   empty_waited φ zero = refl
   empty_waited φ (suc n) = let a = empty_waited φ n in omega (arith, ints)
 
--- ---- the start
+-- ---- the empty table of shapes
 
 pub no_shapes : (m : ℕ) → AreShapes m []
 no_shapes m = record {

@@ -1,1 +1,4 @@
+pub mod Grassmannian
+pub mod SchurPositive
+pub mod GreaterBefore
 pub mod Walk

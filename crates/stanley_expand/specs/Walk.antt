@@ -1,4 +1,4 @@
--- What still waits for the transition rule, and the sum of Schur polynomials so far.
+-- Permutations that wait for the transition rule, and the sum of Schur polynomials so far.
 use Rattle.std.specs.Prelude.{◌≡◌, ℕ, ◌+◌, ◌-◌, ◌*◌, ◌^◌, ◌≤◌, ◌≤ℤ◌, ◌+ℤ◌, ℤ, pos, nat_eq, nat_lt}
 use Rattle.std.specs.Prelude.{FitsSigned, List, [], cond, length, get_or}
 use Rattle.std.specs.Int.{w128}
@@ -14,16 +14,17 @@ use Rattle.sym_model.specs.WholeTerms.{WholeTerms, AreCounts}
 use Rattle.sym_model.specs.Permutation.{letter, last_descent_place}
 use Rattle.linear_combinations.specs.Entries.{AreHeld, IsWholeTable}
 use Rattle.linear_combinations.specs.Gains.{over, only, HaveLabels}
-use Rattle.stanley_laws.specs.Grassmannian.{IsRising}
-use Rattle.stanley_laws.specs.SchurPositive.{schur_test}
+use Rattle.stanley_expand.specs.Grassmannian.{IsRising}
+use Rattle.stanley_expand.specs.SchurPositive.{schur_test}
 
--- the number of the table in which a permutation waits: by the last descent past place m, and then
--- by the letter there, in at most 80; 0 if there is no such descent
+-- the number of the table in which a permutation waits: by its last descent after place m, and then by the letter
+-- there, for at most 80 letters; 0 if there is no such descent
 abbrev pub number : ℕ → List ℕ → ℕ
 number m p = cond (nat_lt m (last_descent_place p))
     ((last_descent_place p - m) * 81 + letter p (last_descent_place p)) 0
 
--- the permutation rises at the places 1 to m and waits in the table with this number
+-- the permutation has increasing letters at places 1 to m and at most m + 16 letters, and waits in the table with
+-- this number
 pub record WaitsAt (m at : ℕ) (p : List ℕ) : Type 0 where
   pub rising : IsRising m (m + 16) p
   pub here : number m p ≡ at
@@ -39,23 +40,22 @@ pub record AreShapes (m : ℕ) (sum : WholeTerms) : Type 0 where
   pub few : HaveLabels (λ κ. rows κ ≤ m) sum
   pub natural : (κ : List ℕ) → pos 0 ≤ℤ over (only (pointwise nat_eq) κ) sum
 
--- what waits, in tables by their numbers from 0: permutations with counts
+-- tables of waiting permutations with counts, by their numbers from 0
 pub record AreWaiting (m : ℕ) (todo : List WholeTerms) : Type 0 where
   pub labels : (at : ℕ) → HaveLabels (WaitsAt m at) (get_or todo at [])
   pub counts : (at : ℕ) → AreCounts (get_or todo at [])
   pub distinct : (at : ℕ) → IsDistinct (pointwise nat_eq) (keys_of (get_or todo at []))
   pub held : (at : ℕ) → IsHeld (get_or todo at [])
 
--- the Schubert polynomials that wait, in m variables, each times its count,
--- paired with a test function
+-- the sum of the waiting Schubert polynomials in m variables, each times its count, paired with a test function
 abbrev pub waited : ℕ → (List ℕ → ℤ) → List WholeTerms → ℤ
 waited m φ todo = total (λ table. over (λ p. pair (schubert_in p m) φ) table) todo
 
--- the sum so far and what waits, paired with a test function
+-- the sum so far and the waiting polynomials, paired with a test function
 abbrev pub walked : ℕ → (List ℕ → ℤ) → WholeTerms → List WholeTerms → ℤ
 walked m φ sum todo = over (λ κ. pair (schur κ m) φ) sum +ℤ waited m φ todo
 
--- VALUE: something was added, given by its pairings
+-- VALUE: the sum and the waiting polynomials together have gained `more`, given by its pairings
 pub record IsWorkedOff (m : ℕ) (sum : WholeTerms) (todo : List WholeTerms)
     (more : (List ℕ → ℤ) → ℤ) (sum2 : WholeTerms) (todo2 : List WholeTerms) : Type 0 where
   pub value : (φ : List ℕ → ℤ) → walked m φ sum2 todo2 ≡ walked m φ sum todo +ℤ more φ
@@ -68,7 +68,7 @@ abbrev pub HasLargeShape : ℕ → ((List ℕ → ℤ) → ℤ) → Type 0
 HasLargeShape m sum =
     (κ : List ℕ) × IsPartition κ × (rows κ ≤ m) × (pos (2 ^ 127) ≤ℤ sum (schur_test m κ))
 
--- OVERFLOW: with what is added, some Schur coefficient is 2^127 or more
+-- OVERFLOW: when `more` is added, some Schur coefficient is 2^127 or more
 abbrev pub OverflowsWith : ℕ → WholeTerms → List WholeTerms → ((List ℕ → ℤ) → ℤ) → Type 0
 OverflowsWith m sum todo more = AreWaiting m todo → AreShapes m sum
     → HasLargeShape m (λ φ. walked m φ sum todo +ℤ more φ)

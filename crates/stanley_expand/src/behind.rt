@@ -9,7 +9,7 @@ use calc_base::NoMemory;
 use perm_codes::Perm;
 use std::alloc::Global;
 
-/// 1^m × w: the permutation after m fixed letters.
+/// 1^m × w: the permutation w after m fixed letters, with m = `fixed`.
 pub(crate) fn behind_fixed(alloc: Global, w: &Perm, fixed: u16) -> Result<Perm, NoMemory>
     requires fixed { fixed ≤ 64 }
     requires letters { length w.now ≤ 16 }

@@ -14,15 +14,15 @@ use partitions::Partition;
 use perm_codes::Perm;
 use std::alloc::Global;
 
-/// The Stanley polynomial of a permutation of at most 16 letters, in as many variables as `rows`
-/// says, in Schur polynomials, with no label of more rows. `rows` is from 1 to 64.
+/// The Stanley polynomial of a permutation of at most 16 letters, in `rows` variables, in Schur
+/// polynomials, with no label of more rows. `rows` is from 1 to 64.
 ///
-/// It is refused as `Large` exactly if a coefficient exceeds 2^127 - 1.
+/// Returns `Large` if and only if a coefficient exceeds 2^127 - 1.
 ///
-/// The permutation stands after `rows` fixed letters, and the transition rule of Lascoux and
-/// Schützenberger lowers it without the terms of variables after the last one, until Grassmannian
-/// permutations are left, whose polynomials are Schur polynomials (Macdonald, Notes on Schubert
-/// polynomials, IV and VII).
+/// The transition rule of Lascoux and Schützenberger starts from 1^`rows` × w and drops the terms
+/// with a variable after the last one, until only Grassmannian permutations are left, whose
+/// Schubert polynomials are Schur polynomials (Macdonald, Notes on Schubert polynomials, IV and
+/// VII).
 pub fn stanley(alloc: Global, w: &Perm, rows: u16) -> Result<Terms<Partition, Int>, SumFault>
     requires variables { (1 ≤ rows) × (rows ≤ 64) }
     requires letters { length w.now ≤ 16 }

@@ -1,14 +1,14 @@
-//! Greater letters in front of a letter.
+//! The number of greater letters before a letter.
 ghost use Rattle.std.specs.Prelude.{◌≡◌, ◌≤◌, ◌↔◌, IsTrue, length};
 ghost use Rattle.sym_model.specs.BetaList.{greater};
-ghost use Rattle.stanley_laws.specs.GreaterBefore.{HasMoreBefore};
+ghost use Rattle.stanley_expand.specs.GreaterBefore.{HasMoreBefore};
 
 use perm_codes::Perm;
 
-/// Whether more than `most` greater letters stand in front of some letter.
+/// Whether some letter has more than `most` greater letters before it.
 ///
-/// A letter after a smaller one has no more of them than that one, so only the letters at which the
-/// permutation falls are counted.
+/// A letter that follows a smaller one has at most as many of them as that one, so they are counted
+/// only for a letter that follows a greater one.
 pub(crate) fn has_more_before(perm: &Perm, most: u16) -> bool
     requires { length perm.now ≤ 254 }
     ensures { IsTrue result ↔ HasMoreBefore most perm.now }
@@ -28,7 +28,7 @@ pub(crate) fn has_more_before(perm: &Perm, most: u16) -> bool
     false
 }
 
-/// How many letters are greater than `bound`.
+/// The number of letters greater than `bound`.
 fn count_greater(bound: u8, letters: &[u8]) -> u16
     requires { length letters.now ≤ 255 }
     ensures { result ≡ greater bound letters.now }

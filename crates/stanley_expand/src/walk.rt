@@ -10,7 +10,7 @@ ghost use Rattle.sym_model.specs.WholeTerms.{WholeTerms, AreCounts};
 ghost use Rattle.partitions.specs.Limits.{IsWithinLimits};
 ghost use Rattle.linear_combinations.specs.Gains.{Gains, Overflows, HaveLabels, over};
 ghost use Rattle.transition_walk.specs.Transitions.{IsShort};
-ghost use Rattle.stanley_laws.specs.Grassmannian.{IsRising, front_beta, front_shape};
+ghost use Rattle.stanley_expand.specs.Grassmannian.{IsRising, front_beta, front_shape};
 ghost use Rattle.stanley_expand.specs.Walk.{AreShapes, HasLargeShape, IsHeld, IsWorkedOff};
 ghost use Rattle.stanley_expand.specs.Walk.{OverflowsWith, WaitsAt, number, walked};
 ghost use Rattle.linear_combinations.specs.Entries.{IsWholeTable};
@@ -24,20 +24,20 @@ use perm_codes::Perm;
 use std::alloc::Global;
 use transition_walk::transition_places;
 
-/// The most letters of a permutation that waits.
+/// The greatest number of letters of a permutation that waits.
 const MAX_LETTERS: usize = 80;
 
 /// A sum of Schur polynomials.
 pub(crate) type Schurs = Lin<Partition, Int>;
 
-/// Permutations that wait, each with the number of times that the rule came to it.
+/// The permutations that wait, each with the number of times that the rule reached it.
 type Counts = Lin<Perm, Int>;
 
-/// The Schubert polynomial of a permutation that rises at the places from 1 to `rows`, in that
-/// number of variables, as a sum of Schur polynomials.
+/// The Schubert polynomial of a permutation with increasing letters at places 1 to `rows`, in
+/// `rows` variables, as a sum of Schur polynomials.
 ///
-/// The table of the greatest number is worked off first: the transition rule lowers the number, so
-/// equal permutations have met there by then.
+/// The table with the greatest number is worked off first: the transition rule lowers the number,
+/// so by then all equal permutations are in that table.
 pub(crate) fn in_schurs(alloc: Global, start: Perm, rows: u16) -> Result<Schurs, SumFault>
     requires few { rows ≤ 64 }
     requires rising { IsRising rows (rows + 16) start }
@@ -56,7 +56,7 @@ pub(crate) fn in_schurs(alloc: Global, start: Perm, rows: u16) -> Result<Schurs,
     Ok(sum)
 }
 
-/// That number of empty tables.
+/// `count` empty tables.
 fn empty_tables(alloc: Global, count: usize) -> Result<Vec<Counts>, NoMemory>
     ensures { IfOk result (λ tables. tables.items ≡ replicate count []) }
 {
@@ -67,8 +67,8 @@ fn empty_tables(alloc: Global, count: usize) -> Result<Vec<Counts>, NoMemory>
     Ok(tables)
 }
 
-/// The number of the table in which a permutation waits: by the last descent past the place
-/// `rows`, and then by the letter there. It is 0 if there is no such descent.
+/// The number of the table in which a permutation waits: by its last descent after place `rows`,
+/// and then by the letter there. It is 0 if there is no such descent.
 fn number(perm: &Perm, rows: u16) -> usize
     ensures number { result ≡ number rows perm.now }
     ensures small { result < 16777216 }
@@ -84,8 +84,8 @@ fn number(perm: &Perm, rows: u16) -> usize
     }
 }
 
-/// Adds a permutation with its count to the table where it waits. Nothing is left of one in which
-/// more than `rows` greater letters stand in front of some letter.
+/// Adds a permutation with its count to the table of its number. It is dropped if some letter has
+/// more than `rows` greater letters before it, since its polynomial in `rows` variables is 0.
 fn put(todo: &mut Vec<Counts>, perm: Perm, count: Int, rows: u16) -> Result<(), SumFault>
     requires few { rows ≤ 64 }
     requires rising { IsRising rows (rows + 16) perm }
@@ -128,8 +128,8 @@ fn work_off_each(
     Ok(())
 }
 
-/// Puts in the place of a permutation those that the transition rule makes of it; one without a
-/// descent after the place `rows` is Grassmannian, and its Schur polynomial is added to the sum.
+/// Replaces a permutation by those of the transition rule; one without a descent after place `rows`
+/// is Grassmannian, and its Schur polynomial is added to the sum.
 fn work_off(
     alloc: Global,
     todo: &mut Vec<Counts>,
@@ -157,8 +157,8 @@ fn work_off(
     add_shape(alloc, sum, perm, count, rows)
 }
 
-/// Puts the permutations in their tables that the transition rule makes, but for the one that is
-/// multiplied by a variable.
+/// Adds the permutations of the transition rule at places r and s to their tables, except the one
+/// that is multiplied by a variable.
 fn expand(
     todo: &mut Vec<Counts>,
     perm: &Perm,
@@ -183,7 +183,7 @@ fn expand(
     put_each(todo, lower.covers_down(r)?, count, rows)
 }
 
-/// Adds permutations with one count to the tables where they wait.
+/// Adds permutations, all with the count `count`, to the tables of their numbers.
 fn put_each(todo: &mut Vec<Counts>, perms: Vec<Perm>, count: Int, rows: u16) -> Result<(), SumFault>
     requires few { rows ≤ 64 }
     requires waiting { (p : List ℕ) → Among p perms.items

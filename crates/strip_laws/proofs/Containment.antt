@@ -1,8 +1,8 @@
 -- Containment of shapes by parts, by cells and as a test.
---     contains-tells, contains-from      the test and the parts
---     cells-from, cells-tell             the parts and the cells
---     cell                               a place between the parts of a row is a cell
---     Holds_below, Holds-..              the rows after the first ones, sizes, and how many rows are long
+--     `contains-tells`, `contains-from`  the test and the parts
+--     `cells-from`, `cells-tell`         the parts and the cells
+--     `cell`                             a place between the parts of a row is a cell
+--     `Holds_below`, `Holds-..`          the rows after the first ones, sizes, and the number of long rows
 use Rattle.std.proofs.Common.{◌≡◌, ◌⊎◌, ℕ, zero, suc, ◌+◌, ◌-◌, ◌<◌, ◌≤◌, true, cond, List, [], ◌∷◌, drop, get_or, leb, eqb, subst, refl, sym, inl, inr, arith, ◌&&◌, ap, ap₂, ◌∙◌}
 use Rattle.std.proofs.lemmas.Bool.{cases_lt, eq-eqb, eqb-true, leb-true, le-leb, lt-leb, and_parts, and_from}
 use Rattle.sym_model.specs.Partition.{part, size, ArePositive, Holds, IsCell}
@@ -79,7 +79,7 @@ contains_from_places (a ∷ outer) (b ∷ inner) h =
 pub cell : (outer inner : List ℕ) (row column : ℕ) → 1 ≤ row → part inner row < column → column ≤ part outer row → IsCell outer inner row column
 cell outer inner row column a b c = record { row_counts = a; outside = b; within = c }
 
--- ---- without the first rows
+-- ---- shapes without their first rows
 
 pub Holds_below : (outer inner : List ℕ) → Holds outer inner → Holds (drop 1 outer) (drop 1 inner)
 Holds_below outer inner h i =
@@ -96,7 +96,7 @@ Holds-size outer [] h = omega arith
 Holds-size outer (b ∷ inner) h =
     omega (arith, h 1, Holds-size (drop 1 outer) inner (Holds_below outer (b ∷ inner) h), size-first outer)
 
--- a shape that contains another of its size is that one
+-- a shape that contains another shape of its size is equal to it
 pub Holds-same_size : (outer inner : List ℕ) → ArePositive outer → ArePositive inner → Holds outer inner → size outer ≡ size inner → outer ≡ inner
 Holds-same_size [] [] p q h e = refl
 Holds-same_size [] (b ∷ inner) p q h e = absurd (omega (arith, q.0))
@@ -107,7 +107,7 @@ Holds-same_size (a ∷ outer) (b ∷ inner) p q h e =
     let f = h 1 in
     ap₂ ◌∷◌ (omega arith) (Holds-same_size outer inner p.1 q.1 below (omega arith))
 
--- it has no fewer long rows
+-- if outer contains inner, it has at least as many rows of length k or more, for k > 0
 pub Holds-count_from : (k : ℕ) (outer inner : List ℕ) → 0 < k → Holds outer inner → count_from k inner ≤ count_from k outer
 Holds-count_from k outer [] p h = omega arith
 Holds-count_from k [] (b ∷ inner) p h =

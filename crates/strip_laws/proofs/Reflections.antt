@@ -1,7 +1,7 @@
--- The bound in the definition of reflections is never met: each reflection lowers the sum of the squares.
---     squares_fall       that sum falls
---     enough             more steps than that sum all give one answer
---     reflect_again      so the reflection rule holds with no bound
+-- The bound in the definition of reflections is never reached: each reflection lowers the sum of the squares.
+--     `squares_fall`     a reflection lowers the sum of the squares
+--     enough             any two numbers of steps above that sum give the same result
+--     reflect_again      the reflection rule holds without a bound
 use Rattle.std.proofs.Common.{◌≡◌, ℕ, zero, suc, ◌+◌, ◌-◌, ◌*◌, ◌<◌, ◌≤◌, ◌==◌, nat_lt, nat_le, Bool, true, false, cond, List, [], ◌∷◌, length, get_or, sym, ◌∙◌, ap, refl, inl, inr, ◌⊎◌, arith, pos, Some, None}
 use Rattle.std.proofs.lemmas.Bool.{cases_Bool, cases_lt}
 use Rattle.std.proofs.lemmas.Bool.Decides.{nat_tests}
@@ -9,7 +9,7 @@ use Rattle.sym_model.specs.Partition.{part}
 use Rattle.sym_model.specs.BetaList.{has_equal_entries, put_falling, sorted_falling, sorting_sign}
 use Rattle.sym_model.specs.AlcoveReduction.{spread, squares, last_raised, reflected, with_sign, reflected_within, reflected_into_alcove}
 
--- ---- squares
+-- ---- sums of squares of entries
 
 squares_put : (a : ℕ) (b : List ℕ) → squares (put_falling a b) ≡ a * a + squares b
 squares_put a [] = refl
@@ -60,7 +60,7 @@ squares_fall n (a ∷ c ∷ b) h g =
     let s = closer a (last_of c b) n d (omega (arith, far)) (product_of_positives n d h (omega (arith, far))) in
     omega (arith, r, s)
 
--- ---- the bound
+-- ---- a number of steps above the sum of the squares of the entries is enough
 
 step_again : (steps n : ℕ) (b : List ℕ) → n < spread b → has_equal_entries (reflected n b) ≡ false
     → reflected_within (suc steps) n b ≡ with_sign (sorting_sign (reflected n b)) (reflected_within steps n (sorted_falling (reflected n b)))
@@ -84,7 +84,7 @@ step_equal steps n b h e =
 step_stays : (steps n : ℕ) (b : List ℕ) → spread b < n → reflected_within (suc steps) n b ≡ Some (b, pos 1)
 step_stays steps n b h = let p : nat_lt (spread b) n ≡ true = grind (arith, nat_tests) in rw p refl
 
--- more steps than the sum of the squares all give one answer
+-- if s and t are both greater than the sum of the squares, s steps give the same result as t steps
 pub enough : (s t n : ℕ) (b : List ℕ) → 1 ≤ n → squares b < s → squares b < t → reflected_within s n b ≡ reflected_within t n b
 enough zero t n b h p q = absurd (omega arith)
 enough (suc s) zero n b h p q = absurd (omega arith)
@@ -108,7 +108,7 @@ enough (suc s) (suc t) n b h p q =
         ∙ ap (with_sign (sorting_sign (reflected n b))) (later (below c))
         ∙ sym (step_again t n b c d)
 
--- ---- the rule without a bound
+-- ---- the rule of reflections without a bound
 
 pub reflect_stays : (n : ℕ) (b : List ℕ) → spread b < n → reflected_into_alcove n b ≡ Some (b, pos 1)
 reflect_stays n b h = step_stays (squares b) n b h

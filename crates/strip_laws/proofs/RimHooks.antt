@@ -1,7 +1,7 @@
 -- Rim hooks by their rows.
 --     hook_from_rows      rows that are chained make a rim hook
 --     hook_rows           each rim hook has such rows
---     height_of_rows      its height is the number of these rows
+--     height_of_rows      the height of a rim hook is the number of its rows
 use Rattle.std.proofs.Common.{◌≡◌, ℕ, zero, suc, ◌+◌, ◌-◌, ◌<◌, ◌≤◌, min, max, ◌⊎◌, List, [], ◌∷◌, ◌++◌, length, Bool, true, false, nat_lt, sym, subst, refl, inl, inr, arith, filter}
 use Rattle.std.proofs.lemmas.Bool.{cases_lt}
 use Rattle.std.proofs.lemmas.Bool.Decides.{nat_tests}
@@ -11,7 +11,7 @@ use Rattle.sym_model.specs.Strip.{AreNeighbours, ShareEdge, IsPath, IsConnected,
 use Rattle.sym_model.proofs.Parts.{past_end}
 use Rattle.strip_laws.proofs.Strips.{falls_part}
 
--- ---- paths
+-- ---- paths in a skew shape
 
 abbrev Linked : List ℕ → List ℕ → ℕ → ℕ → ℕ → ℕ → Type 0
 Linked outer inner i j k l = (path : List (ℕ × ℕ)) × IsPath outer inner i j path k l
@@ -40,7 +40,7 @@ path_back outer inner i j (d ∷ p) k l c h =
 linked_then : (outer inner : List ℕ) (i j k l m n : ℕ) → Linked outer inner i j k l → Linked outer inner k l m n → Linked outer inner i j m n
 linked_then outer inner i j k l m n p q = (p.0 ++ q.0, path_append outer inner i j p.0 k l q.0 m n p.1 q.1)
 
--- ---- rows to rim hook
+-- ---- if the rows are chained, the shape is a rim hook
 
 right_link : (outer inner : List ℕ) (d i j l : ℕ) → l ≡ j + d → IsCell outer inner i j → IsCell outer inner i l → Linked outer inner i j i l
 right_link outer inner zero i j l e a b = ([], (refl, omega arith))
@@ -135,9 +135,9 @@ hook_from_rows outer inner first last f h = record {
         let s = d.within in
         omega (arith, e, r, s)
 
--- ---- rim hook to rows
+-- ---- if the shape is a rim hook, its rows are chained
 
--- a path from a row at or above row r to a row below it crosses from row r to row r + 1
+-- if a path leads from a row at or above row r to a row below r, row r + 1 of outer is longer than row r of inner
 pub crosses : (outer inner : List ℕ) (r i j : ℕ) (path : List (ℕ × ℕ)) (k l : ℕ) → IsCell outer inner i j → IsPath outer inner i j path k l → i ≤ r → r < k
     → part inner r < part outer (r + 1)
 crosses outer inner r i j [] k l c h a b = let e = h.0 in absurd (omega arith)
@@ -170,7 +170,7 @@ square_free_rows outer inner f g t r h = by (cases_lt (part inner r + 1) (part o
         let d : IsCell outer inner (r + 1) (j + 1) = record { row_counts = omega arith; outside = omega (arith, q); within = omega (arith, m) } in
         absurd (t r j a b c d)
 
--- the row has cells
+-- row i of outer/inner has a cell
 abbrev HasCells : List ℕ → List ℕ → ℕ → Type 0
 HasCells outer inner i = part inner i < part outer i
 
@@ -249,9 +249,9 @@ hook_rows outer inner f g h =
             let y = square_free_rows outer inner f g h.thin i (omega arith) in
             omega (arith, x, y)
 
--- ---- height
+-- ---- the height of a rim hook
 
--- how many of the rows a + 1, .., a + k are among the rows first, .., last
+-- if, of the rows a + 1, .., a + k, the test passes exactly for those from `first` to `last`, the number of rows that pass is the number of these
 counted : (test : ℕ → Bool) (first last a k : ℕ) → ((i : ℕ) → 1 ≤ i → first ≤ i → i ≤ last → test i ≡ true) → ((i : ℕ) → 1 ≤ i → (i < first) ⊎ (last < i) → test i ≡ false)
     → first ≤ last + 1 → length (filter test (after a k)) ≡ (min last (a + k) + 1) - max first (a + 1)
 counted test first last a zero yes' no' o = omega arith

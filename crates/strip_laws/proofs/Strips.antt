@@ -1,13 +1,13 @@
 -- Horizontal and vertical strips by their rows.
---     falls_part              the parts of a falling list fall from each row to the next
---     horizontal_from_rows    a horizontal strip has outer part i + 1 at most inner part i
---     vertical_from_rows      a vertical strip has outer part i at most inner part i + 1
+--     `falls_part`            the parts of a decreasing list decrease from each row to the next
+--     horizontal_from_rows    in a horizontal strip outer part i + 1 is at most inner part i
+--     vertical_from_rows      in a vertical strip outer part i is at most inner part i plus 1
 use Rattle.std.proofs.Common.{◌≡◌, ℕ, zero, suc, ◌+◌, ◌-◌, ◌<◌, ◌≤◌, List, [], ◌∷◌, get_or, sym, ap, subst, refl, inl, inr, arith}
 use Rattle.std.proofs.lemmas.Bool.{cases_order, cases_lt}
 use Rattle.sym_model.specs.Partition.{Falls, part, Holds, IsCell}
 use Rattle.sym_model.specs.Strip.{IsHorizontalStrip, IsVerticalStrip}
 
--- ---- rows of falling lists
+-- ---- rows of weakly decreasing lists
 
 pub falls_get : (parts : List ℕ) → Falls parts → (k : ℕ) → get_or parts (suc k) 0 ≤ get_or parts k 0
 falls_get [] f k = omega arith
@@ -19,7 +19,7 @@ falls_get (a ∷ b ∷ parts) f (suc k) = falls_get (b ∷ parts) f.1 k
 part_at : (parts : List ℕ) (i k : ℕ) → i ≡ suc k → part parts i ≡ get_or parts k 0
 part_at parts i k e = let d : i - 1 ≡ k = omega arith in ap (λ n. get_or parts n 0) d
 
--- each row of a falling list is at least the next
+-- each row of a decreasing list is at least the next
 pub falls_part : (parts : List ℕ) → Falls parts → (i : ℕ) → 1 ≤ i → part parts (i + 1) ≤ part parts i
 falls_part parts f zero h = absurd (omega arith)
 falls_part parts f (suc k) h =
@@ -38,7 +38,7 @@ falls_steps parts f (suc d) i k h e =
 pub falls_far : (parts : List ℕ) → Falls parts → (i k : ℕ) → 1 ≤ i → i ≤ k → part parts k ≤ part parts i
 falls_far parts f i k h l = falls_steps parts f (k - i) i k h (omega arith)
 
--- ---- horizontal and vertical strips
+-- ---- horizontal and vertical strips by rows
 
 pub horizontal_from_rows : (outer inner : List ℕ) → Falls outer → Holds outer inner
     → ((i : ℕ) → 1 ≤ i → part outer (i + 1) ≤ part inner i) → IsHorizontalStrip outer inner

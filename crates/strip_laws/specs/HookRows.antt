@@ -1,9 +1,9 @@
--- Rim hooks by their rows: what the parts of two partitions say where outer/inner is a rim hook.
+-- Rim hooks by their rows: the conditions on the parts of two partitions for outer/inner to be a rim hook.
 use Rattle.std.specs.Prelude.{◌≡◌, ℕ, ◌+◌, ◌<◌, ◌≤◌, List}
 use Rattle.sym_model.specs.Partition.{part}
 
--- outer and inner differ in the rows first, .., last alone; there each outer part but the first is
--- the inner part of the row above plus 1, so that each row begins above the last cell of the next
+-- outer and inner differ exactly in the rows first, .., last; there each outer part except the first is the inner part
+-- of the row above plus 1, so that each row begins above the last cell of the next
 pub record IsHookRows (outer inner : List ℕ) (first last : ℕ) : Type 0 where
   pub counts : 1 ≤ first
   pub ordered : first ≤ last

@@ -4,8 +4,8 @@ ghost use Rattle.std.specs.Prelude.{◌≡◌, ℕ, ◌↔◌, true, List, []};
 ghost use Rattle.sym_model.specs.Partition.{Holds, IsCell};
 ghost use Rattle.sym_model.specs.Schur.{contains};
 
-/// The shape of inner lies inside that of outer where each of its cells is a cell of outer, and
-/// this is what the test says.
+/// The shape of `inner` is inside that of `outer` if and only if each of its cells is a cell of
+/// `outer`, and if and only if the test says so.
 pub fn containment_law()
     ensures cells { (outer inner : List ℕ)
         → (Holds outer inner ↔ ((row column : ℕ) → IsCell inner [] row column

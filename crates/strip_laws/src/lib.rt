@@ -1,12 +1,12 @@
-//! Laws of strips, rim hooks and reflections: what the conditions on cells say about rows and beta
-//! lists.
+//! Laws of strips, rim hooks and reflections: the conditions on cells as conditions on rows and
+//! beta lists.
 //!
 //! A law function has an empty body: its contract is the law.
 //!
 //! What is proved:
 //!
 //! `strip_law`: horizontal and vertical strips and rim hooks by rows. `containment_law`: one shape
-//! lies inside another exactly if its cells are cells of the other.
+//! is inside another if and only if its cells are cells of the other.
 #![tactic(auto)]
 
 mod containing;

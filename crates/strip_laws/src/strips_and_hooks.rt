@@ -5,12 +5,12 @@ ghost use Rattle.sym_model.specs.Partition.{Falls, Holds, part, size};
 ghost use Rattle.sym_model.specs.Strip.{IsHorizontalStrip, IsVerticalStrip, IsRimHook, height};
 ghost use Rattle.strip_laws.specs.HookRows.{IsHookRows};
 
-/// The conditions on cells as conditions on parts. A skew shape of falling lists is a horizontal
-/// strip where no part of the outer list is greater than the inner part of the row above, a
-/// vertical strip where each part is at most 1 greater than the inner one, and a rim hook where it
-/// lies in the rows first, .., last, chained together. Its height is then the number of these rows,
-/// and the number of its cells the height plus what the first outer part exceeds the last inner
-/// part, less 1.
+/// The conditions on cells as conditions on parts. A skew shape of decreasing lists is a horizontal
+/// strip if no part of the outer list is greater than the inner part of the row above, a vertical
+/// strip if each part is at most 1 greater than the inner one, and a rim hook if it has cells
+/// exactly in the rows first, .., last, and these are chained together. Its height is then the
+/// number of these rows, and the number of its cells is the height plus the difference of the first
+/// outer part and the last inner part, less 1.
 pub fn strip_law()
     ensures horizontal { (outer inner : List ℕ) → Falls outer → Falls inner → Holds outer inner
         → (IsHorizontalStrip outer inner

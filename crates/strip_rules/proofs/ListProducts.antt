@@ -1,6 +1,6 @@
 -- The products of the terms of a list, one after another, and their weights.
 --     AddsList-none, AddsList-next    one term after another
---     list_large                      where one is refused, the weight of the list is large
+--     list_large                      if one term is refused, the weight of the list is at least 2^127
 --     weight_within                   the weight of the products
 use Rattle.std.proofs.Common.{◌≡◌, ℕ, zero, suc, ◌+◌, ◌*◌, ◌/◌, ◌^◌, ◌<◌, ◌≤◌, max, List, [], ◌∷◌, ◌++◌, refl, sym, ap, ap₂, ◌∙◌, subst, inl, inr, arith, ℤ, ◌+ℤ◌, ◌*ℤ◌}
 use Rattle.std.specs.Prelude.{nat_eq, nat_abs}
@@ -31,7 +31,8 @@ use Rattle.linear_combinations.specs.Labels.{same_partition}
 use Rattle.linear_combinations.proofs.Gains.{all_pairs, next_among, over_append, mass_at_append, overflows_both, scaled_over}
 use Rattle.linear_combinations.proofs.LowestTerms.{lowest-is_reduced}
 use Rattle.linear_combinations.proofs.Totals.{term-among}
-use Rattle.linear_combinations.proofs.Masses.{mass_append, mass_scaled, mass_at_scaled, labels_append, labels_scaled, labels_gained}
+use Rattle.sym_model.proofs.WholeTerms.{labels_append, labels_scaled}
+use Rattle.linear_combinations.proofs.Masses.{mass_append, mass_scaled, mass_at_scaled, labels_gained}
 use Rattle.sparse_polys.specs.Combination.{terms_of}
 use Rattle.sparse_polys.specs.MonomialProducts.{greatest_size}
 use Rattle.sparse_polys.proofs.ListSteps.{over_pieces}
@@ -40,7 +41,7 @@ use Rattle.linear_combinations.proofs.Cleared.{AreCleared-nothing, Gains-none, G
 use Rattle.sparse_polys.proofs.ClearedSums.{mass_over, table_over}
 use Rattle.sparse_polys.proofs.Expansions.{divides_terms, least-denominators}
 use Rattle.sparse_polys.proofs.Rows.{greatest_size-among}
-use Rattle.whole_lists.specs.Tables.{IsFractionTable}
+use Rattle.sparse_polys.specs.Tables.{IsFractionTable}
 use Rattle.linear_combinations.specs.Cleared.{IsDenominator, GainsMultiple, OverflowsMultiple}
 use Rattle.linear_combinations.specs.Cleared.{numerators_over, GainsCleared}
 use Rattle.strip_rules.specs.Adding.{IsProduct}
@@ -49,9 +50,9 @@ use native.Mathlib.Nat.{mul-le-mul_left, pow-zero, le-div_iff_mul-le}
 use Rattle.linear_combinations.proofs.Weighed.{gains_mass}
 use lib.IntN.{+ℤ_idr}
 
--- ---- one term after another
+-- ---- the terms of a list, one after another
 
--- the sum has, times q, the products of f and the terms of the list so far
+-- q times `sum` has gained the products of f and the terms in `done`
 pub record AddsList (f : ℕ → Poly) (k q : ℕ) (list done sum : Terms (List ℕ)) : Type 0 where
   pub gained : WholeTerms
   pub gains : GainsCleared (pointwise nat_eq) is_label q [] gained sum
@@ -72,7 +73,7 @@ AddsList-none f k q list = record {
 
 module _ {R : Type 0} (value : R → Fraction) (f : ℕ → Poly) (k q : ℕ) (done : List (List ℕ × R)) (list cur : Terms (List ℕ)) (label : List ℕ) (v : R)
     (h : AddsList f k q list (terms_of value done) cur) (terms : WholeTerms) (p : IsProduct f k label terms) where
-  -- each label is gained at most as often as the coefficients so far and this one come to
+  -- each label ν is gained at most Σ|c|·q times, over the coefficients c of the terms so far and the next one
   once_next : (ν : List ℕ) → mass_at (pointwise nat_eq) ν (h.gained ++ gained_times (numerator_over q (value v)) terms) ≤ mass (numerators_over q (terms_of value done)) + nat_abs (numerator_over q (value v))
   once_next ν =
       let z = numerator_over q (value v) in
@@ -132,7 +133,7 @@ module _ {R : Type 0} (value : R → Fraction) (f : ℕ → Poly) (k q : ℕ) (d
             (omega arith, omega arith)));
       }
 
-  -- where one term is refused, the absolute values come to 2^127 or more
+  -- if the next term returns `Large`, the sum of the absolute values of the list over q is at least 2^127
   pub refused_large : (rest : List (List ℕ × R)) → terms_of value (done ++ (label, v) ∷ rest) ≡ list → IsDenominator q (value v) → q < 2 ^ 127
       → OverflowsMultiple (pointwise nat_eq) (value v) terms cur → 2 ^ 127 ≤ absolute_sum q list
   refused_large rest whole d small e =
@@ -144,13 +145,13 @@ module _ {R : Type 0} (value : R → Fraction) (f : ℕ → Poly) (k q : ℕ) (d
       let i = ap (λ l. mass (numerators_over q l)) whole ∙ mass_over q list in
       omega arith
 
--- ---- the whole list
+-- ---- the result for the whole list
 
 module _ {f : ℕ → Poly} {k q : ℕ} {list done sum : Terms (List ℕ)} (some : 0 < q) (a : AddsList f k q list done sum) where
   pub list_table : IsFractionTable sum
   list_table = table_gained q a.gained sum a.gains
 
-  -- q clears each term
+  -- q is a multiple of the denominator of each term of the sum
   pub list_divides : (t : List ℕ × Fraction) → Among t sum → t.1.1 ∣ q
   list_divides = divides_terms q sum list_table (λ ν p. a.gains.cleared ν)
 
@@ -177,7 +178,7 @@ module _ {f : ℕ → Poly} {k q : ℕ} {list done sum : Terms (List ℕ)} (some
       (λ u n. absurd n) (a.small cells lengths within) (t.0, numerator_over q t.1)
       (Among-map (λ (u : List ℕ × Fraction). (u.0, numerator_over q u.1)) t sum m)
 
--- the labels of entries and of the fractions that they stand for
+-- if the labels of the entries are within limits, so are those of the list of their values
 pub within_values : {R : Type 0} (value : R → Fraction) (cells lengths : ℕ) (entries : List (List ℕ × R)) → AreWithin cells lengths entries → AreWithin cells lengths (terms_of value entries)
 within_values {R} value cells lengths entries h t m =
     let u = Among_from_map (λ (p : List ℕ × R). (p.0, value p.1)) t entries m in
@@ -193,14 +194,14 @@ entry_term value entries is t m =
     let p = and_parts _ _ (term-among is_label value entries is.proper t m) in
     ((is_label-tells t.0 p.1).partition, lowest-is_reduced (value t.1) p.0)
 
--- the next pair of a loop is one of the table
+-- the next pair p of a loop is one of all pairs
 pub pair_here : {A : Type 0} (done rest left begun items all : List A) (p : A) → left ≡ p ∷ rest → done ++ left ≡ begun → begun ≡ items → items ≡ all → Among p all
 pair_here done rest left begun items all p steps so_far given is =
     subst (Among p) (all_pairs done rest left begun items all p steps so_far given is) (next_among done p rest)
 
--- ---- weights
+-- ---- weights of lists
 
--- where absolute values are large, the weight is
+-- if D is the common denominator, and D ≥ 2^127 or the absolute values over D add up to at least 2^127, the weight of the list is at least 2^127
 pub list_large : (terms : Terms (List ℕ)) → IsFractionTable terms → (common_denominator terms < 2 ^ 127 → 2 ^ 127 ≤ absolute_sum (common_denominator terms) terms) → 2 ^ 127 ≤ list_weight terms
 list_large terms is h = by (absolute_sum (common_denominator terms) terms) (common_denominator terms) (least-denominators terms is).positive h
   where
@@ -211,9 +212,9 @@ list_large terms is h = by (absolute_sum (common_denominator terms) terms) (comm
         let y = mul-le-mul_left (max 1 a) (let o : 1 ≤ d = omega arith in o) in
         elim (cases_lt d (2 ^ 127)) [ inl l ↦ (let g = h l in omega arith) | inr l ↦ omega arith ]
 
--- ---- least common denominators
+-- ---- the least common denominator divides each common denominator
 
--- the least common multiple divides each common multiple
+-- if d is a multiple of a and of b, the least common multiple of a and b divides d
 lcm-divides : (a b d : ℕ) → 0 < b → a ∣ d → b ∣ d → lcm a b ∣ d
 lcm-divides a b d some h k =
     let g = gcd a b in

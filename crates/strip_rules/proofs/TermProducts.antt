@@ -1,8 +1,8 @@
 -- One term times h_k, e_k or p_k, and a list of terms (specs/Adding).
 --     strips_value, hooks_value                 the sum over the shapes of a term is its product
---     horizontal_product, vertical_, hooks_     so the shapes with their signs are the product
+--     horizontal_product, vertical_, hooks_     the shapes of a term with their signs are its product
 --     list_value                                a list of products is the product of the list
---     expansion                                 a list with the sums of a polynomial stands for it
+--     expansion                                 a list with the sums of a polynomial is its expansion
 use Rattle.std.proofs.Common.{◌≡◌, ℕ, suc, ◌+◌, ◌-◌, ◌*◌, ◌^◌, ◌≤◌, Bool, true, false, cond, List, [], ◌∷◌, length, refl, sym, ap, ap₂, ◌∙◌, subst, inl, inr, arith, ℤ, pos, ◌+ℤ◌, ◌*ℤ◌, flat_map}
 use Rattle.std.specs.Prelude.{nat_eq, nat_abs}
 use Rattle.std.specs.Int.{◌∣◌}
@@ -32,23 +32,23 @@ use Rattle.product_laws.proofs.StripCounts.{horizontal_count, vertical_count, ho
 use Rattle.skew_shapes.specs.HorizontalStrips.{AreHorizontalStrips}
 use Rattle.skew_shapes.specs.VerticalStrips.{AreVerticalStrips}
 use Rattle.skew_shapes.specs.HookLists.{AreHooksAdded}
-use Rattle.whole_lists.specs.Tables.{IsFractionTable}
+use Rattle.sparse_polys.specs.Tables.{IsFractionTable}
 use Rattle.strip_rules.specs.Adding.{IsProduct}
 use Rattle.strip_rules.proofs.ShapeLists.{IsAround, rows_around, horizontal_list, vertical_list, hook_list, horizontal_around, vertical_around, hook_around}
 use Rattle.sym_model.proofs.Integers.{sign_size}
 use Rattle.linear_combinations.specs.Gains.{each_by}
 use native.Mathlib.Nat.{pow-suc, pow-zero}
 
--- ---- one term
+-- ---- the product of one term
 
-strips_value : (f : Poly) (n : ℕ) (parts : List ℕ) (list : List (List ℕ)) (φ : List ℕ → ℤ) → Same (times f (schur parts n)) (flat_map (λ ν. schur ν n) list)
+pub strips_value : (f : Poly) (n : ℕ) (parts : List ℕ) (list : List (List ℕ)) (φ : List ℕ → ℤ) → Same (times f (schur parts n)) (flat_map (λ ν. schur ν n) list)
     → total (λ ν. pos 1 *ℤ pair (schur ν n) φ) list ≡ pair (times f (schur parts n)) φ
 strips_value f n parts list φ h =
     total_ext (λ (ν : List ℕ). pos 1 *ℤ pair (schur ν n) φ) (λ (ν : List ℕ). pair (schur ν n) φ) (λ ν. one-product (pair (schur ν n) φ)) list
     ∙ sym (pair_each (λ (ν : List ℕ). schur ν n) list φ)
     ∙ sym (pair_determined (times f (schur parts n)) (flat_map (λ (ν : List ℕ). schur ν n) list) φ h)
 
-hooks_value : (k n : ℕ) (parts : List ℕ) (list : List (List ℕ)) (φ : List ℕ → ℤ) → 1 ≤ k → IsPartition parts → ListsEach (AddsRimHook k parts) list
+pub hooks_value : (k n : ℕ) (parts : List ℕ) (list : List (List ℕ)) (φ : List ℕ → ℤ) → 1 ≤ k → IsPartition parts → ListsEach (AddsRimHook k parts) list
     → total (λ ν. minus_one_to (height ν parts - 1) *ℤ pair (schur ν n) φ) list ≡ pair (times (power_sum_of k n) (schur parts n)) φ
 hooks_value k n parts list φ h p l =
     let sign : List ℕ → ℤ = λ ν. minus_one_to (height ν parts - 1) in
@@ -56,7 +56,7 @@ hooks_value k n parts list φ h p l =
     ∙ sym (pair_each (λ (ν : List ℕ). scale (sign ν) (schur ν n)) list φ)
     ∙ sym (pair_determined (times (power_sum_of k n) (schur parts n)) (flat_map (λ (ν : List ℕ). scale (sign ν) (schur ν n)) list) φ (rim_hooks n k parts list h p l))
 
--- there are at most that number of rim hooks
+-- at most (size + k)^k shapes come from adding a rim hook of k cells
 hook_count : (k : ℕ) (parts : List ℕ) (list : List (List ℕ)) → 1 ≤ k → IsPartition parts → ListsEach (AddsRimHook k parts) list → length list ≤ (size parts + k) ^ k
 hook_count k parts list h p l =
     let c = hooks_within k parts list p l in
@@ -67,7 +67,7 @@ hook_count k parts list h p l =
     first_power : (n : ℕ) → n ^ 1 ≡ n
     first_power n = let a = pow-suc n 0 in let b = pow-zero n in let c = ap (λ m. m * n) b in omega arith
 
--- ---- shapes with signs
+-- ---- the shapes of one term with their signs
 
 module _ (sign : List ℕ → ℤ) (unit : (ν : List ℕ) → nat_abs (sign ν) ≡ 1) where
   mass_signs : (shapes : List (List ℕ)) → mass (each_by sign shapes) ≡ length shapes
@@ -95,7 +95,7 @@ module _ (sign : List ℕ → ℤ) (unit : (ν : List ℕ) → nat_abs (sign ν)
           omega arith
       by false e r = omega arith
 
-  -- shapes with the sums of a product are the product
+  -- if shapes with signs have the sums of f·s_label, they are the product of f and s_label
   signs_product : (f : ℕ → Poly) (k : ℕ) (label : List ℕ) (shapes : List (List ℕ)) → IsPartition label
       → ((n : ℕ) (φ : List ℕ → ℤ) → total (λ ν. sign ν *ℤ pair (schur ν n) φ) shapes ≡ pair (times (f n) (schur label n)) φ)
       → length shapes ≤ (size label + k) ^ k → Once shapes → ((ν : List ℕ) → Among ν shapes → IsAround k label ν)
@@ -135,7 +135,7 @@ hooks_product k parts base list h p e hooks =
     (signs_product (λ ν. minus_one_to (height ν parts - 1)) (λ ν. sign_size (height ν parts - 1)) (power_sum_of k) k parts list p
     (λ n φ. hooks_value k n parts list φ h p l) (hook_count k parts list h p l) l.once (hook_around k parts list l))
 
--- ---- a list
+-- ---- f times the value of a list, from the products of f with the Schur polynomials of its labels
 
 pair_cleared : (n q : ℕ) (terms : Terms (List ℕ)) (φ : List ℕ → ℤ)
     → pair (cleared (λ ν. basis_polynomial Basis.schurs ν n) q terms) φ ≡ pair (over q terms) (λ ν. pair (schur ν n) φ)
@@ -157,7 +157,7 @@ list_value f n terms φ =
     pair_factor t.1 f (λ α. pair (schur t.0 n) (λ β. φ (join α β)))
     ∙ ap (λ z. t.1 *ℤ z) (sym (pair_times f (schur t.0 n) φ))) list)
 
--- ---- what a list stands for
+-- ---- expansions by the sums of a list
 
 pub expansion : (terms : Terms (List ℕ)) (d n : ℕ) (f : Poly) → IsFractionTable terms → ((t : List ℕ × Fraction) → Among t terms → t.1.1 ∣ d)
     → ((φ : List ℕ → ℤ) → pair (over d terms) (λ ν. pair (schur ν n) φ) ≡ pair f φ) → IsExpansionOf Basis.schurs terms n f d

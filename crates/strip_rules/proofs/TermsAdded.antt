@@ -25,7 +25,7 @@ use Rattle.linear_combinations.specs.Gains.{each_by}
 use Rattle.linear_combinations.proofs.Counted.{scaled_each_by-append}
 use Rattle.strip_rules.specs.Adding.{IsSigned}
 
--- ---- one shape after another
+-- ---- the shapes added, one after another
 
 module _ (c : Fraction) (sign : List ℕ → ℤ) (done : List (List ℕ)) (k : List ℕ)
     (old cur : Terms (List ℕ)) (a : GainsMultiple (pointwise nat_eq) is_label c
@@ -47,7 +47,7 @@ module _ (c : Fraction) (sign : List ℕ → ℤ) (done : List (List ℕ)) (k : 
       subst (λ l. OverflowsCleared (pointwise nat_eq) q old (scaled z (each_by sign l))) on
       (Overflows-next (λ xs. scaled z (each_by sign xs)) (scaled_each_by-append sign z) q done k old cur x rest (e q d small x.cleared))
 
--- ---- one term with a sign, in a table over any ring
+-- ---- one term with a sign added to a table over any ring
 
 module _ {R : Type 0} (value : R → Fraction) (zero : R) (none : value zero ≡ whole (pos 0))
     (c : Fraction) (s : ℤ) (k : List ℕ) (v : R) (entries : List (List ℕ × R))
@@ -67,7 +67,7 @@ module _ {R : Type 0} (value : R → Fraction) (zero : R) (none : value zero ≡
       Gains-entry value zero none q entries k v was d.positive (signed_divides q d) cleared sum
       sums after low also more (numerator_over q c *ℤ s) (is.value q)
 
-  -- a sum is refused for its size alone
+  -- a sum is refused only if it is too large
   pub Overflows-signed : (is_held : R → Type 0) (checked : R → R → Option R)
       → ((a b : R) → is_held a → is_held b → AnswersSum value a b (checked a b))
       → Entries.IsRefused is_held checked (Entries.coefficient (pointwise nat_eq) zero entries k) v
@@ -76,7 +76,7 @@ module _ {R : Type 0} (value : R → Fraction) (zero : R) (none : value zero ≡
       Overflows-entry value zero none q entries k v was d.positive (signed_divides q d) cleared
       is_held checked answers small refused (numerator_over q c *ℤ s) (is.value q)
 
--- a coefficient that is too large by itself
+-- if |c| is 2^127 or more over any common denominator, adding c at a label overflows
 pub Overflows-size : (c : Fraction) (s : ℤ) (k : List ℕ) (old : Terms (List ℕ)) → nat_abs s ≡ 1
     → ((q : ℕ) → IsDenominator q c → 2 ^ 127 ≤ magnitude q c)
     → OverflowsMultiple (pointwise nat_eq) c ((k, s) ∷ []) old

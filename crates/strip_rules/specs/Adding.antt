@@ -1,5 +1,4 @@
--- The lists of terms that are added for one term of a list in s: shapes with their signs, which are
--- a product.
+-- The lists of terms that are added for one term of a list in s: shapes with their signs, whose sum is a product.
 use Rattle.std.specs.Prelude.{◌≡◌, ℕ, ◌+◌, ◌^◌, ◌≤◌, ℤ, ◌*ℤ◌, nat_eq, List}
 use Rattle.std.specs.Cmp.Lexicographic.{pointwise}
 use Rattle.sym_model.specs.Partition.{size, rows}

@@ -1,15 +1,57 @@
-//! Pieri's two rules and the rule of Murnaghan and Nakayama: expansions in s, with coefficients in
-//! any ring, times h_k, e_k and p_k.
+//! Expansions times h_k, e_k and p_k: those in s by Pieri's two rules and the rule of Murnaghan and
+//! Nakayama, those in m by what a strip, or a cell more in some rows, makes of a label.
+//!
+//! A linear map that is given on labels takes four steps; here those of e_k.
+//!
+//! 1. A definition (`specs/`): the list of labels with whole numbers that one label stands for.
+//! Here it is the list of the partitions of k cells more, each with its coefficient, which is a
+//! count (`counted`).
+//! 2. A type with `impl Rule`: `takes` says which labels it takes, `image` is that list, and
+//! `add_image` adds c times it to a table by the adders of `Lin`. Each adder says by `Gains` what
+//! the table has gained, and by `Overflows` when it refuses.
+//! 3. The law of one label, here `column_product_law`, the product with a column.
+//! 4. The map of a list: an empty table and `add_by`, which adds the image of each term. The value
+//! of the result follows from the sums of `Gains` and from the law.
+//!
+//! The proofs need no lemma about lists and tables of their own: those on loops over a list are in
+//! `linear_combinations/proofs/Gains` (`places_gain`), those on labels with counts and on images
+//! under a rule in `Counted` there.
+//!
+//! A law function takes no argument, returns nothing and does nothing at run time: its contract is
+//! the law.
 //!
 //! What is proved:
 //!
-//! `add_row`, `add_column`, `add_hook`: expansions in s, with coefficients in any ring, times h_k,
-//! e_k and p_k in every number of variables, by Pieri's two rules and the rule of Murnaghan and
-//! Nakayama. The weight grows by a factor of at most (m + k)^k; too large only where the weight of
-//! the list is 2^127 or more. `times_family` is that one of the three which a family names.
+//! `add_row`, `add_column`, `add_hook`: the product with h_k, e_k and p_k in every number of
+//! variables, by Pieri's two rules and the rule of Murnaghan and Nakayama. The weight of the list
+//! grows by a factor of at most (m + k)^k, and `Large` is returned only if the weight of the list
+//! is 2^127 or more. `times_family` is the call of the three that a family names.
+//!
+//! `rows_product`, `columns_product`: the products of h_k and of e_k over the parts k of a partition
+//! of at most 20 cells, in s, in every number of variables: strips are moves of beads on beta sets,
+//! each a machine word.
+//!
+//! `times_elementary`, `times_complete`: the coefficients of the product with e_k and with h_k;
+//! `Large` is returned only if, with the absolute values of the coefficients, some coefficient of
+//! the product is 2^127 or more.
+//!
+//! `column_product_law`: the coefficients of m_μ·e_k, row by row. `row_product_law`: the
+//! coefficients of m_μ·h_k, part by part.
 #![tactic(auto)]
 
+mod bead_strips;
+mod columns;
+mod complete;
+mod counts;
+mod elementary;
+mod family_products;
 mod products;
+mod rows;
 mod shapes;
 
+pub use columns::column_product_law;
+pub use complete::times_complete;
+pub use elementary::times_elementary;
+pub use family_products::{columns_product, rows_product};
 pub use products::{add_column, add_hook, add_row, times_family};
+pub use rows::row_product_law;

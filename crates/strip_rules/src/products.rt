@@ -9,10 +9,10 @@ ghost use Rattle.sym_model.specs.WholeTerms.{WholeTerms};
 ghost use Rattle.coeff_rings.specs.Fractions.{InLowestTerms};
 ghost use Rattle.sparse_polys.specs.Combination.{terms_of};
 ghost use Rattle.sparse_polys.specs.MonomialProducts.{greatest_size};
-ghost use Rattle.whole_lists.specs.Families.{polynomial_of};
+ghost use Rattle.sparse_polys.specs.Families.{polynomial_of};
 ghost use Rattle.linear_combinations.specs.Cleared.{GainsMultiple, OverflowsMultiple};
 ghost use Rattle.strip_rules.specs.Adding.{IsProduct, IsTimes};
-ghost use Rattle.strip_rules.specs.Room.{AreWithin, HasRoom};
+ghost use Rattle.strip_rules.specs.Room.{AreWithin, HaveRoomForStrips};
 
 use crate::shapes::{add_shapes, add_signed_shapes};
 use calc_base::SumFault;
@@ -20,8 +20,8 @@ use coeff_rings::Ring;
 use linear_combinations::Lin;
 use partitions::Partition;
 use skew_shapes::{HooksAdded, with_horizontal_strip, with_vertical_strip};
+use sparse_polys::Family;
 use std::alloc::Global;
-use whole_lists::Family;
 
 /// Adds the product of a term and e_k, h_k or p_k.
 fn add_strips<R: Ring>(
@@ -55,9 +55,9 @@ fn add_strips<R: Ring>(
     }
 }
 
-/// An expansion in s times e_k, h_k or p_k, in every number of variables: `add_column`, `add_row`
-/// or `add_hook`, with the conditions, sizes, weight and refusal that they have. For p_k,
-/// k is at least 1.
+/// The product of an expansion in s and e_k, h_k or p_k, in every number of variables:
+/// `add_column`, `add_row` or `add_hook`, with their conditions, sizes, weight and refusal. For
+/// p_k, k is at least 1.
 pub fn times_family<R: Ring>(
     alloc: Global,
     list: &Lin<Partition, R>,
@@ -65,7 +65,7 @@ pub fn times_family<R: Ring>(
     k: u16,
 ) -> Result<Lin<Partition, R>, SumFault>
     requires positive { family ≡ Family.PowerSum → 1 ≤ k }
-    requires room { HasRoom k list.now }
+    requires room { HaveRoomForStrips k list.now }
     ensures value { IfOk result (λ product. IsTimes (polynomial_of family k)
         (terms_of R.value list.now) (terms_of R.value product)) }
     ensures labels { IfOk result (λ product. (cells lengths : ℕ) → AreWithin cells lengths list.now
@@ -83,19 +83,19 @@ pub fn times_family<R: Ring>(
     Ok(sum)
 }
 
-/// An expansion in s times h_k, in every number of variables, by Pieri's rule: s_λ becomes the sum
-/// of the s_ν for which ν/λ is a horizontal strip of k cells (Macdonald, I.5). Each label has at
-/// most 4,096 - k cells and at most 512 - k rows.
+/// The product of an expansion in s and h_k, in every number of variables, by Pieri's rule: s_λ
+/// becomes the sum of the s_ν for which ν/λ is a horizontal strip of k cells (Macdonald, I.5). Each
+/// label has at most 4,096 - k cells and at most 512 - k rows.
 ///
-/// The labels of the product have at most k cells and k rows more. With m the greatest size of a
-/// label, 0 for the empty list, its weight is at most that of the list times (m + k)^k. It is
-/// refused as `Large` only where the weight of the list is 2^127 or more.
+/// The labels of the product have at most k cells and k rows more. If m is the greatest size of a
+/// label, 0 for the empty list, its weight is at most that of the list times (m + k)^k. Returns
+/// `Large` only if the weight of the list is 2^127 or more.
 pub fn add_row<R: Ring>(
     alloc: Global,
     list: Lin<Partition, R>,
     k: u16,
 ) -> Result<Lin<Partition, R>, SumFault>
-    requires room { HasRoom k list }
+    requires room { HaveRoomForStrips k list }
     ensures value { IfOk result (λ product. IsTimes (complete_of k)
         (terms_of R.value list) (terms_of R.value product)) }
     ensures labels { IfOk result (λ product. (cells lengths : ℕ) → AreWithin cells lengths list
@@ -107,15 +107,15 @@ pub fn add_row<R: Ring>(
     times_family(alloc, &list, Family::Complete, k)
 }
 
-/// An expansion in s times e_k, in every number of variables, by Pieri's rule: s_λ becomes the sum
-/// of the s_ν for which ν/λ is a vertical strip of k cells (Macdonald, I.5). Conditions, sizes,
-/// weight and refusal are those of `add_row`.
+/// The product of an expansion in s and e_k, in every number of variables, by Pieri's rule: s_λ
+/// becomes the sum of the s_ν for which ν/λ is a vertical strip of k cells (Macdonald, I.5).
+/// Conditions, sizes, weight and refusal are those of `add_row`.
 pub fn add_column<R: Ring>(
     alloc: Global,
     list: Lin<Partition, R>,
     k: u16,
 ) -> Result<Lin<Partition, R>, SumFault>
-    requires room { HasRoom k list }
+    requires room { HaveRoomForStrips k list }
     ensures value { IfOk result (λ product. IsTimes (elementary_of k)
         (terms_of R.value list) (terms_of R.value product)) }
     ensures labels { IfOk result (λ product. (cells lengths : ℕ) → AreWithin cells lengths list
@@ -127,17 +127,17 @@ pub fn add_column<R: Ring>(
     times_family(alloc, &list, Family::Elementary, k)
 }
 
-/// An expansion in s times p_k, for k at least 1, in every number of variables, by the rule of
-/// Murnaghan and Nakayama: s_λ becomes the sum of (-1)^(height - 1)·s_ν over the ν for which ν/λ is
-/// a rim hook of k cells (Macdonald, I.3; the height is the number of rows of the rim hook).
-/// Conditions, sizes, weight and refusal are those of `add_row`.
+/// The product of an expansion in s and p_k, for k at least 1, in every number of variables, by the
+/// rule of Murnaghan and Nakayama: s_λ becomes the sum of (-1)^(height - 1)·s_ν over the ν for
+/// which ν/λ is a rim hook of k cells (Macdonald, I.3; the height is the number of rows of the rim
+/// hook). Conditions, sizes, weight and refusal are those of `add_row`.
 pub fn add_hook<R: Ring>(
     alloc: Global,
     list: Lin<Partition, R>,
     k: u16,
 ) -> Result<Lin<Partition, R>, SumFault>
     requires positive { 1 ≤ k }
-    requires room { HasRoom k list }
+    requires room { HaveRoomForStrips k list }
     ensures value { IfOk result (λ product. IsTimes (power_sum_of k)
         (terms_of R.value list) (terms_of R.value product)) }
     ensures labels { IfOk result (λ product. (cells lengths : ℕ) → AreWithin cells lengths list

@@ -43,7 +43,7 @@ pub(crate) fn add_shapes<R: Ring>(
     Ok(())
 }
 
-/// The coefficient with the sign of a rim hook of a height: it changes where the height is even.
+/// The coefficient with the sign of a rim hook of a height: it is negated if the height is even.
 fn signed<R: Ring>(c: R, height: u16) -> Result<R, Large>
     requires height { 1 ≤ height }
     requires lowest { InLowestTerms (R.value c) }
@@ -62,8 +62,7 @@ fn signed<R: Ring>(c: R, height: u16) -> Result<R, Large>
     Ok(negated)
 }
 
-/// Adds a coefficient with its sign at each of the partitions that rim hooks make and that are
-/// still to come.
+/// Adds a coefficient with its sign at each partition that the lister has not returned yet.
 pub(crate) fn add_signed_shapes<R: Ring>(
     alloc: Global,
     sum: &mut Lin<Partition, R>,

@@ -15,12 +15,12 @@ is_lt-tells Less h = refl
 is_lt-tells Equal h = cc
 is_lt-tells Greater h = cc
 
--- the label stands strictly before the label of each term
+-- the label is strictly before the label of each term
 abbrev pub StandsBefore : {Label : Type 0} → (Label → Label → Ordering) → Label → Terms Label → Type 0
 StandsBefore order label [] = Unit {0}
 StandsBefore order label (t ∷ terms) = (order label t.0 ≡ Less) × StandsBefore order label terms
 
--- each label stands strictly before all later ones
+-- each label is strictly before all later ones
 abbrev pub IsOrdered : {Label : Type 0} → (Label → Label → Ordering) → Terms Label → Type 0
 IsOrdered order [] = Unit {0}
 IsOrdered order (t ∷ terms) = StandsBefore order t.0 terms × IsOrdered order terms
@@ -34,7 +34,7 @@ stands_before-weaker order trans x y [] h k = tt
 stands_before-weaker order trans x y (t ∷ terms) h k =
     (trans x y t.0 h k.0, stands_before-weaker order trans x y terms h k.1)
 
--- the test on adjacent terms tells of all pairs
+-- a list that is ordered by the test on adjacent terms is ordered for all pairs of terms
 pub is_ordered-tells : {Label : Type 0} (order : Label → Label → Ordering) → IsTransitive order → (terms : Terms Label) → is_ordered order terms ≡ true → IsOrdered order terms
 is_ordered-tells order trans [] h = tt
 is_ordered-tells order trans (t ∷ []) h = (tt, tt)
@@ -44,7 +44,7 @@ is_ordered-tells order trans (t ∷ u ∷ terms) h =
     let rest = is_ordered-tells order trans (u ∷ terms) p.1 in
     ((e, stands_before-weaker order trans t.0 u.0 terms e rest.0), rest)
 
--- no label occurs twice
+-- if the labels of a list are ordered by a total order, no label occurs twice
 pub labels-once : {Label : Type 0} (order : Label → Label → Ordering) → IsTotalOrder order → (terms : Terms Label) → IsOrdered order terms → Once (map (λ (t : Label × Fraction). t.0) terms)
 labels-once order total [] h = tt
 labels-once {Label = Label} order total (t ∷ terms) h =

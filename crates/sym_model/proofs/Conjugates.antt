@@ -48,7 +48,7 @@ pub count_from-falls : (parts : List ℕ) (j k : ℕ) → j ≤ k → count_from
 count_from-falls [] j k h = omega arith
 count_from-falls (a ∷ parts) j k h = omega (arith, reaches_less a j k h, count_from-falls parts j k h)
 
--- ---- the sum of the columns
+-- ---- the size of the conjugate
 
 ones_until : (a s c : ℕ) → a ≤ s + c → size (map (λ j. cond (nat_le j a) 1 0) (after s c)) ≡ a - s
 ones_until a s zero h = omega arith
@@ -99,7 +99,7 @@ under_columns (a ∷ parts) f (suc r) = under_first a parts r f
 pub size-conjugate : (parts : List ℕ) → Falls parts → size (conjugate parts) ≡ size parts
 size-conjugate parts f = size-counts (columns parts) parts (under_columns parts f)
 
--- among numbers that are at most v, those of at least v are those that are v
+-- if no number is greater than v, the numbers that are at least v are those equal to v
 pub count_from-greatest : (v : ℕ) (numbers : List ℕ) → ((w : ℕ) → Among w numbers → w ≤ v) → count_from v numbers ≡ times_in v numbers
 count_from-greatest v [] h = refl
 count_from-greatest v (w ∷ numbers) h = ap₂ (λ (a b : ℕ). a + b) (by (cases_eq w v)) (count_from-greatest v numbers (λ u m. h u (inr m)))

@@ -21,7 +21,7 @@ pub times_in-append : (k : ℕ) (v w : List ℕ) → times_in k (v ++ w) ≡ tim
 times_in-append k [] w = omega arith
 times_in-append k (a ∷ v) w = omega (arith, times_in-append k v w)
 
--- the count of a letter in a list with one more letter at the end
+-- if c = k, a list v followed by c has the letter k once more than v
 pub times_in-last : (k c : ℕ) (v : List ℕ) → c ≡ k → times_in k (v ++ c ∷ []) ≡ times_in k v + 1
 times_in-last k c v e = omega (arith, times_in-append k v (c ∷ []), times_in-here k c [] e)
 

@@ -6,13 +6,13 @@ use Rattle.sym_model.specs.Polynomial.{same, join, resize, all_zero, fits_in}
 use Rattle.sym_model.specs.Partition.{size}
 use Rattle.sym_model.specs.Sum.{Among}
 
--- two tests that are true together are one test
+-- if each of two tests implies the other, they are equal
 pub tests_agree : (x y : Bool) → (x ≡ true → y ≡ true) → (y ≡ true → x ≡ true) → x ≡ y
 tests_agree true y f g = sym (f refl)
 tests_agree false true f g = g refl
 tests_agree false false f g = refl
 
--- ---- same
+-- ---- the test `same` for equal lists
 
 pub same_refl : (α : List ℕ) → same α α ≡ true
 same_refl [] = refl
@@ -40,7 +40,7 @@ same_or_not α β = elim (cases_Bool (same α β)) [ inl e ↦ inl (same_true α
 pub same_sym : (α β : List ℕ) → same α β ≡ same β α
 same_sym α β = tests_agree (same α β) (same β α) (λ e. same_from β α (sym (same_true α β e))) (λ e. same_from α β (sym (same_true β α e)))
 
--- ---- join
+-- ---- sums of exponent lists (`join`)
 
 pub join-nil : (α : List ℕ) → join α [] ≡ α
 join-nil [] = refl
@@ -65,7 +65,7 @@ length-join (a ∷ α) (b ∷ β) = let e = length-join α β in omega arith
 pub length-join_same : (n : ℕ) (α β : List ℕ) → length α ≡ n → length β ≡ n → length (join α β) ≡ n
 length-join_same n α β d e = omega (arith, length-join α β)
 
--- the exponents of 1 change nothing
+-- adding n ≤ length α zeros does not change the exponents α
 pub join_zeros : (n : ℕ) (α : List ℕ) → n ≤ length α → join (replicate n 0) α ≡ α
 join_zeros zero α h = refl
 join_zeros (suc n) [] h = absurd (omega arith)
@@ -81,13 +81,13 @@ join_cancel_left (a ∷ α) (b ∷ β) (c ∷ γ) l e =
     let t : join α β ≡ join α γ = cc in
     ap₂ ◌∷◌ (omega arith) (join_cancel_left α β γ (omega arith) t)
 
--- the degree of a product of monomials
+-- the degree of a product of monomials is the sum of their degrees
 pub size-join : (α β : List ℕ) → size (join α β) ≡ size α + size β
 size-join [] β = omega arith
 size-join (a ∷ α) [] = omega arith
 size-join (a ∷ α) (b ∷ β) = let h = size-join α β in omega arith
 
--- ---- resize, all_zero and fits_in
+-- ---- exponent lists resized to n places, and the tests `all_zero` and `fits_in`
 
 pub length-resize : (n : ℕ) (α : List ℕ) → length (resize n α) ≡ n
 length-resize zero α = refl

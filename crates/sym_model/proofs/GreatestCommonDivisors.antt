@@ -8,7 +8,7 @@ use Rattle.sym_model.specs.Canonical.{gcd_within, gcd}
 below_next : (a b k : ℕ) → suc b < suc k → a % suc b < k
 below_next a b k h = omega arith
 
--- steps that are not needed change nothing
+-- if k and m are both greater than b, k steps of Euclid's rule give the same as m steps
 gcd_within-enough : (k m a b : ℕ) → b < k → b < m → gcd_within k a b ≡ gcd_within m a b
 gcd_within-enough zero m a b h l = absurd (omega arith)
 gcd_within-enough (suc k) zero a b h l = absurd (omega arith)
@@ -16,7 +16,7 @@ gcd_within-enough (suc k) (suc m) a zero h l = refl
 gcd_within-enough (suc k) (suc m) a (suc b) h l =
     gcd_within-enough k m (suc b) (a % suc b) (below_next a b k h) (below_next a b m l)
 
--- one step of Euclid's rule
+-- gcd(a, b + 1) is gcd(b + 1, a mod (b + 1)), one step of Euclid's rule
 gcd-step_suc : (a b : ℕ) → gcd a (suc b) ≡ gcd (suc b) (a % suc b)
 gcd-step_suc a b =
     let r : a % suc b < suc b = omega arith in
@@ -36,7 +36,7 @@ IsGcd-within (suc k) a (suc b) h =
 pub IsGcd-gcd : (a b : ℕ) → IsGcd a b (gcd a b)
 IsGcd-gcd a b = IsGcd-within (b + 1) a b (omega arith)
 
--- the greatest common divisor is the only number with these properties
+-- if g has the properties of a greatest common divisor of a and b, it is gcd(a, b)
 pub gcd-only : (a b g : ℕ) → IsGcd a b g → gcd a b ≡ g
 gcd-only a b g h = same_from_IsGcd a b (gcd a b) g (IsGcd-gcd a b) h
 

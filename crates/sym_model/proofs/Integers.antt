@@ -54,7 +54,7 @@ abbrev pub sign_of : ℤ → ℤ
 sign_of (pos n) = pos 1
 sign_of (negsuc n) = negsuc 0
 
--- a positive factor can be cancelled
+-- if x·d = y·d for a positive d, then x = y
 pub product_cancel : (x y : ℤ) (d : ℕ) → 0 < d → x *ℤ pos d ≡ y *ℤ pos d → x ≡ y
 product_cancel x y d some e =
     let both : (up x + down y) * d ≡ (up y + down x) * d =

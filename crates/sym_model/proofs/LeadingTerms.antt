@@ -13,7 +13,7 @@ use Rattle.sym_model.proofs.Polynomials.{at_only, coefficient_pair, pair_agree, 
 use Rattle.sym_model.proofs.PolynomialLaws.{times-plus, times-negate}
 use lib.IntN.{*ℤ-zero, *ℤ_comm}
 
--- ---- the lexicographic order
+-- ---- the lexicographic order of exponent lists
 
 pub Above_irrefl : (α : List ℕ) → Above α α → ⊥
 Above_irrefl [] h = h
@@ -68,7 +68,7 @@ Above_from_join (a ∷ α) (d ∷ δ) (t ∷ τ) (b ∷ β) k l m h =
     by (inr (inl p)) (inr (inl q)) (inl h) rest = absurd (omega arith)
     by (inr (inl p)) (inr (inl q)) (inr h) rest = let e = h.0 in absurd (omega arith)
 
--- adding exponents keeps the order
+-- if α is above τ, then α + δ is above τ + δ
 pub Above-join : (α τ δ : List ℕ) → length α ≡ length τ → length δ ≡ length α → Above α τ → Above (join α δ) (join τ δ)
 Above-join [] τ δ k l h = absurd h
 Above-join (a ∷ α) [] δ k l h = absurd (omega arith)
@@ -76,7 +76,7 @@ Above-join (a ∷ α) (t ∷ τ) [] k l h = absurd (omega arith)
 Above-join (a ∷ α) (t ∷ τ) (d ∷ δ) k l (inl h) = inl (omega arith)
 Above-join (a ∷ α) (t ∷ τ) (d ∷ δ) k l (inr h) = inr (ap (λ x. x + d) h.0, Above-join α τ δ (omega arith) (omega arith) h.1)
 
--- if the sum is unchanged and the first summand is smaller, the second is greater
+-- if α + δ = τ + β and τ is above α, then δ is above β
 pub Above_rest : (α δ τ β : List ℕ) → length α ≡ length τ → length δ ≡ length β → length α ≡ length δ → Above τ α → join α δ ≡ join τ β → Above δ β
 Above_rest α δ τ β k l m h e =
     elim (Above_from_join τ δ τ β refl l (sym k ∙ m) (subst (λ γ. Above (join τ δ) γ) e (Above-join τ α δ (sym k) (sym m ∙ k) h))) [
@@ -86,11 +86,11 @@ Above_rest α δ τ β k l m h e =
 
 -- ---- coefficients of a product at and above the sum of two leading exponent lists
 
--- the coefficient of a product, by pairings
+-- the coefficient of a product is a pairing of f with a pairing of g
 coefficient_times : (f g : Poly) (γ : List ℕ) → coefficient (times f g) γ ≡ pair f (λ α. pair g (λ δ. at_only γ (join α δ)))
 coefficient_times f g γ = coefficient_pair (times f g) γ ∙ pair_times f g (at_only γ)
 
--- a pairing with a test at which g's coefficients are 0 wherever it asks is 0
+-- the pairing of g is 0 if g has the coefficient 0 at each δ such that α and δ add up to γ
 asks_nothing : (g : Poly) (α γ : List ℕ) → ((δ : List ℕ) → join α δ ≡ γ → coefficient g δ ≡ pos 0) → pair g (λ δ. at_only γ (join α δ)) ≡ pos 0
 asks_nothing g α γ h =
     pair_agree g (λ δ. at_only γ (join α δ)) (λ δ. pos 0) (λ δ. elim (cases_Bool (same (join α δ) γ)) [
@@ -164,14 +164,14 @@ none_above_times n f g τ β i j k l a b γ h =
       ]
     ]
 
--- ---- the greatest exponents of the terms
+-- ---- exponents that are greatest among those of the terms
 
--- no monomial is above the greatest exponents of the terms
+-- if no term of f has exponents above `top`, no monomial of f is above x^top
 pub none_above_terms : (f : Poly) (top : List ℕ) → ((t : Term) → Among t f → Above t.0 top → ⊥) → IsNoneAbove f top
 none_above_terms f top h α x =
     total_none (λ (t : Term). cond (same t.0 α) t.1 (pos 0)) f (λ t m. ap (λ b. cond b t.1 (pos 0)) (same_apart t.0 α (λ e. h t m (subst (λ γ. Above γ top) (sym e) x))))
 
--- a term whose exponents are greatest
+-- f has a term whose exponents are not below those of any other term
 abbrev Greatest : Poly → Type 0
 Greatest f = (s : Term) × Among s f × ((u : Term) → Among u f → Above u.0 s.0 → ⊥)
 
@@ -199,7 +199,7 @@ greatest t (v ∷ f) = by (greatest v f)
         choose (inr (inl x)) = (t, inl refl, rises x)
         choose (inr (inr x)) = (s, inr m, stays (λ h. Above_irrefl s.0 (Above_trans s.0 t.0 s.0 x h)))
 
--- ---- leading with 1 or -1
+-- ---- polynomials that lead with 1 or -1
 
 -- a first term with coefficient 1 or -1 leads, if all other terms are below it
 pub leads_first : (top : List ℕ) (c : ℤ) (f : Poly) → (c ≡ pos 1) ⊎ (c ≡ neg_ℤ (pos 1)) → ((t : Term) → Among t f → Above top t.0) → Leads ((top, c) ∷ f) top
@@ -235,12 +235,12 @@ leads_times n f g τ β i j p q =
     at : coefficient (times f g) (join τ β) ≡ coefficient f τ *ℤ coefficient g β
     at = coefficient_at_top n f g τ β i j (length_top n f τ i p) (length_top n g β j q) p.none_above q.none_above
 
--- a unit times a number is 0 only if the number is
+-- if c is 1 or -1, c·d is 0 only if d is 0
 unit_times : (c d : ℤ) → (c ≡ pos 1) ⊎ (c ≡ neg_ℤ (pos 1)) → c *ℤ d ≡ pos 0 → d ≡ pos 0
 unit_times c d (inl e) z = let k = one-product d in let h = ap (λ x. x *ℤ d) e in omega (arith, ints)
 unit_times c d (inr e) z = let k = one-product d in let m = negation-product (pos 1) d in let h = ap (λ x. x *ℤ d) e in omega (arith, ints)
 
--- without the terms at exponents that have the coefficient 0 it is the same polynomial
+-- if f has the coefficient 0 at β, f without the terms at β is the same polynomial
 same_others : (β : List ℕ) (f : Poly) → coefficient f β ≡ pos 0 → Same (others β f) f
 same_others β f z α = elim (same_or_not β α) [
   | inl e ↦ subst (λ γ. coefficient (others β f) γ ≡ coefficient f γ) e (others_there β f ∙ sym z)
@@ -281,11 +281,11 @@ nothing_by_length (suc k) n f (t ∷ d) τ h i j l z =
         same_others s.0 (t ∷ d) (unit_times (coefficient f τ) (coefficient (t ∷ d) s.0) l.unit_at_top
         (sym (coefficient_at_top n f (t ∷ d) τ s.0 i j (length_top n f τ i l) (j s r.1) l.none_above (none_above_terms (t ∷ d) s.0 r.2)) ∙ z (join τ s.0)))
 
--- a product with a factor that leads with 1 or -1 is 0 only if the other factor is
+-- if f leads with 1 or -1, f·g is 0 only if g is 0
 pub leading_nothing : (n : ℕ) (f g : Poly) (top : List ℕ) → In n f → In n g → Leads f top → Same (times f g) nothing → Same g nothing
 leading_nothing n f g top i j l z = nothing_by_length (length g) n f g top (omega arith) i j l z
 
--- a factor that leads with 1 or -1 cancels
+-- if f leads with 1 or -1 and f·g = f·h, then g = h
 pub leading_cancel : (n : ℕ) (f g h : Poly) (top : List ℕ) → In n f → In n g → In n h → Leads f top → Same (times f g) (times f h) → Same g h
 leading_cancel n f g h top i j k l z α =
     let d = leading_nothing n f (plus g (negate h)) top i (In_plus n g (negate h) j (In_negate n h k)) l difference α in

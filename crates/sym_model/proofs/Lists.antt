@@ -1,4 +1,4 @@
--- Lists: `each` and `select` of specs/Sum over appended lists, and the element at a place.
+-- Lists: `flat_map` and `filter` over appended lists, and the element at a place.
 use Rattle.std.proofs.Common.{◌<◌, List, Some, [], arith, get_or, length, refl, suc, zero, ℕ, ◌∷◌, ◌≡◌, ◌++◌, ap, append_assoc, sym, ◌∙◌, append-nil, drop, ap₂, inl, inr, map, Bool, cond, false, true, ◌+◌, filter, flat_map, ◌≤◌, nat_lt, take}
 use Rattle.std.specs.Prelude.{slice_get}
 use Rattle.std.proofs.Math.Seq.{drop-cons, split_at}
@@ -15,7 +15,7 @@ pub each-append : {A B : Type 0} (f : A → List B) (xs ys : List A) → flat_ma
 each-append f [] ys = refl
 each-append f (x ∷ xs) ys = ap (λ z. f x ++ z) (each-append f xs ys) ∙ sym (append_assoc (f x) (flat_map f xs) (flat_map f ys))
 
--- within a list the default does not matter
+-- at a place within the list, the default of `get_or` is not used
 pub get_or-any : (v : List ℕ) (i p q : ℕ) → i < length v → get_or v i p ≡ get_or v i q
 get_or-any [] i p q m = absurd (omega arith)
 get_or-any (y ∷ v) zero p q m = refl
@@ -77,7 +77,7 @@ drop-next word place h =
     let next : suc place ≡ place + 1 = omega arith in
     drop-cons word place 0 h ∙ ap (λ n. get_or word place 0 ∷ drop n word) next
 
--- at most all letters are smaller than a
+-- the number of letters of w that are smaller than a is at most the length of w
 pub smaller-within : (a : ℕ) (w : List ℕ) → smaller a w ≤ length w
 smaller-within a [] = omega arith
 smaller-within a (b ∷ w) = by (nat_lt b a) (smaller-within a w)

@@ -12,7 +12,7 @@ use Rattle.sym_model.proofs.Polynomials.{pair_monomials}
 use Rattle.sym_model.proofs.SortedParts.{size-sorted_parts, has_here, has_past}
 use lib.IntN.{+ℤ_idl, +ℤ_idr}
 
--- ---- sums with one term
+-- ---- sums in which one term counts
 
 pub total_down_from-only : (g : ℕ → ℤ) (c d : ℕ) → total (λ (a : ℕ). cond (eqb a c) (g a) (pos 0)) (down_from d) ≡ cond (leb c d) (g c) (pos 0)
 total_down_from-only g c zero = by (cases_eq 0 c)
@@ -41,7 +41,7 @@ total_down_from-only g c (suc d) = by (cases_eq (suc d) c) (cases_lt d c) (total
 abbrev pub is_exponent_list : ℕ → ℕ → List ℕ → Bool
 is_exponent_list n d γ = eqb (length γ) n && eqb (size γ) d
 
--- the sum over all exponent lists that are γ
+-- the sum of φ over the exponent lists equal to γ is φ(γ) if γ has n places and the sum d, and otherwise 0
 pub total_exponent_lists-only : (φ : List ℕ → ℤ) (γ : List ℕ) (n d : ℕ) → total (λ (α : List ℕ). cond (same α γ) (φ α) (pos 0)) (exponent_lists n d) ≡ cond (is_exponent_list n d γ) (φ γ) (pos 0)
 total_exponent_lists-only φ [] zero d = by (cases_eq d 0)
   where
@@ -103,9 +103,10 @@ total_exponent_lists-only φ (c ∷ γ) (suc n) d =
         and_from (leb c d) (is_exponent_list n (d - c) γ) (le-leb c d (omega arith))
         (and_from (eqb (length γ) n) (eqb (size γ) (d - c)) (eq-eqb (length γ) n (omega arith)) (eq-eqb (size γ) (d - c) (omega arith)))
 
--- ---- coefficients
+-- ---- the coefficients of sums of monomials
 
--- the coefficient of x^γ in the sum of the monomials of degree d in n variables that pass a test
+-- in the sum of the monomials of degree d in n variables that pass a test, x^γ has the coefficient 1 if γ has n places and the sum d and passes, and
+-- otherwise 0
 pub coefficient-monomials : (test : List ℕ → Bool) (n d : ℕ) (γ : List ℕ) → coefficient (monomials test n d) γ ≡ cond (is_exponent_list n d γ) (cond (test γ) (pos 1) (pos 0)) (pos 0)
 coefficient-monomials test n d γ =
     total_map (λ (t : Term). cond (same t.0 γ) t.1 (pos 0)) (λ (α : List ℕ). (α, pos 1)) (filter test (exponent_lists n d))
@@ -136,9 +137,9 @@ coefficient-monomial parts n γ =
     by true false d true e =
         absurd (true≢false (sym (eq-eqb (size γ) (size parts) (sym (size-sorted_parts γ) ∙ ap size (same_true (sorted_parts γ) parts e))) ∙ d))
 
--- ---- exponent lists
+-- ---- the members of `exponent_lists`
 
--- each of them has n places and the sum d
+-- each list of `exponent_lists n d` has n places and the sum d
 pub members_of-exponent_lists : (α : List ℕ) (n d : ℕ) → Among α (exponent_lists n d) → (length α ≡ n) × (size α ≡ d)
 members_of-exponent_lists α zero d m = by (cases_eq d 0) m
   where
@@ -168,14 +169,14 @@ In-monomials test n d t m =
     let s = Among_from_select test r.0 (exponent_lists n d) r.1 in
     ap (λ (u : Term). length u.0) r.2 ∙ (members_of-exponent_lists r.0 n d s.0).0
 
--- ---- power sums
+-- ---- power sums as sums over one place
 
 -- the exponent lists of n places with a in one place and 0 in the others
 abbrev pub one_place : ℕ → ℕ → List (List ℕ)
 one_place a zero = []
 one_place a (suc n) = (a ∷ replicate n 0) ∷ map (λ (α : List ℕ). 0 ∷ α) (one_place a n)
 
--- the only list with the sum 0 consists of zeros
+-- a sum over the exponent lists of n places with the sum 0 is its term at n zeros
 pub total_exponent_lists-zero : (φ : List ℕ → ℤ) (n : ℕ) → total φ (exponent_lists n 0) ≡ φ (replicate n 0)
 total_exponent_lists-zero φ zero = +ℤ_idr (φ [])
 total_exponent_lists-zero φ (suc n) =
@@ -184,7 +185,7 @@ total_exponent_lists-zero φ (suc n) =
     ∙ total_map φ (λ (α : List ℕ). 0 ∷ α) (exponent_lists n 0)
     ∙ total_exponent_lists-zero (λ α. φ (0 ∷ α)) n
 
--- a sum whose terms vanish but at 0
+-- a sum over d, .., 1, 0 whose terms at 1, .., d are 0 is its term at 0
 pub total_down_from-last : (g : ℕ → ℤ) (d : ℕ) → ((c : ℕ) → 0 < c → c ≤ d → g c ≡ pos 0) → total g (down_from d) ≡ g 0
 total_down_from-last g zero z = +ℤ_idr (g 0)
 total_down_from-last g (suc d) z =

@@ -11,13 +11,13 @@ use Rattle.std.proofs.lemmas.List.{take-append-drop}
 use Rattle.sym_model.specs.Sum.{total, sum_by, Among, Once, Within}
 use Rattle.sym_model.proofs.Sums.{without, Within-without, Within_tail}
 
--- ---- two functions
+-- ---- sums of two functions
 
 pub sum_by-ext : {A : Type 0} (f g : A → ℕ) → ((x : A) → f x ≡ g x) → (xs : List A) → sum_by f xs ≡ sum_by g xs
 sum_by-ext f g e [] = refl
 sum_by-ext f g e (x ∷ xs) = ap₂ ◌+◌ (e x) (sum_by-ext f g e xs)
 
--- it is enough that they agree on the elements
+-- two functions that agree on the elements of a list have the same sum
 pub sum_by-among : {A : Type 0} (f g : A → ℕ) (xs : List A) → ((x : A) → Among x xs → f x ≡ g x) → sum_by f xs ≡ sum_by g xs
 sum_by-among f g [] e = refl
 sum_by-among f g (x ∷ xs) e = ap₂ ◌+◌ (e x (inl refl)) (sum_by-among f g xs (λ y m. e y (inr m)))
@@ -29,7 +29,7 @@ sum_by-within f g (x ∷ xs) h =
     let b = sum_by-within f g xs (λ y m. h y (inr m)) in
     omega arith
 
--- ---- lists that are made of others
+-- ---- sums over lists that are made of others
 
 pub sum_by-append : {A : Type 0} (f : A → ℕ) (xs ys : List A) → sum_by f (xs ++ ys) ≡ sum_by f xs + sum_by f ys
 sum_by-append f [] ys = omega arith
@@ -43,7 +43,7 @@ pub sum_by-each : {A B : Type 0} (f : B → ℕ) (g : A → List B) (xs : List A
 sum_by-each f g [] = refl
 sum_by-each f g (x ∷ xs) = sum_by-append f (g x) (flat_map g xs) ∙ ap (λ s. sum_by f (g x) + s) (sum_by-each f g xs)
 
--- ---- one element
+-- ---- sums with one element of a list
 
 pub sum_by-at : {A : Type 0} (f : A → ℕ) (xs : List A) (i : ℕ) (x : A) → i < length xs → x ≡ get_or xs i x → f x ≤ sum_by f xs
 sum_by-at f [] i x h e = absurd (omega arith)
@@ -88,7 +88,7 @@ sum_by-none f (x ∷ xs) e =
 pub sum_by-zero : {A : Type 0} (xs : List A) → sum_by (λ (x : A). 0) xs ≡ 0
 sum_by-zero xs = sum_by-none (λ x. 0) xs (λ x m. refl)
 
--- if the sum of g is 0, so is the sum of f, if f is 0 at every element at which g is 0
+-- if f is 0 wherever g is 0, and the sum of g is 0, so is the sum of f
 pub sum_by-zeros : {A : Type 0} (f g : A → ℕ) (xs : List A) → ((x : A) → g x ≡ 0 → f x ≡ 0) → sum_by g xs ≡ 0 → sum_by f xs ≡ 0
 sum_by-zeros f g [] e h = refl
 sum_by-zeros f g (x ∷ xs) e h =
@@ -108,7 +108,7 @@ sum_by-most f (x ∷ xs) most h =
     let c : suc (length xs) * most ≡ length xs * most + most = omega arith in
     omega arith
 
--- ---- integers
+-- ---- sums as integers
 
 pub sum_by-total : {A : Type 0} (f : A → ℕ) (xs : List A) → pos (sum_by f xs) ≡ total (λ (x : A). pos (f x)) xs
 sum_by-total f [] = refl

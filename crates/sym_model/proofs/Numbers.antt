@@ -1,4 +1,4 @@
--- Natural numbers: powers, factorials, products, and their tests.
+-- Natural numbers: powers, factorials, products, and tests that compare them.
 use Rattle.std.proofs.Common.{arith, nat_le, suc, ℕ, ◌≡◌, ◌⊎◌, inl, inr, ◌^◌, pow-suc, zero, ◌≤◌, ◌<◌, ◌==◌, sym, cond, nat_lt, ap, true, false, ◌*◌, List, [], ◌∷◌}
 use Rattle.std.proofs.lemmas.Bool.Decides.{nat_tests}
 use Rattle.std.proofs.lemmas.Nat.{mul-le}
@@ -52,7 +52,7 @@ below_more k l (a ∷ w) le h = (omega (arith, h.0), below_more k l w le h.1)
 pub other_factor : (a b c d : ℕ) → a * b ≡ c * d → 0 < b → b ≤ d → c ≤ a
 other_factor a b c d e some h = le_of_mul-le-mul_right (let l = mul-le-mul_left c h in omega arith) some
 
--- a function that grows at each step grows over any number of steps
+-- if f(i) ≤ f(i + 1) for each i below n, then f(i) ≤ f(j) for i ≤ j ≤ n
 pub grows_from_steps : (f : ℕ → ℕ) (n : ℕ) → ((i : ℕ) → i < n → f i ≤ f (suc i)) → (i j : ℕ) → i ≤ j → j ≤ n → f i ≤ f j
 grows_from_steps f n step i zero h l = let z : i ≡ 0 = omega arith in omega (arith, ap f z)
 grows_from_steps f n step i (suc j) h l = by (cases_lt j i) (λ g. grows_from_steps f n step i j g (omega arith))

@@ -8,7 +8,7 @@ use Rattle.sym_model.proofs.Sums.{Among-map, Among_from_map, Among-each, Among_f
 use Rattle.sym_model.proofs.AfterLists.{length_after, once_after}
 use Rattle.sym_model.specs.RaisedPart.{without_one}
 
--- ---- every order is listed
+-- ---- every order of the entries is listed
 
 insertion_of : (x : ℕ) (w : List ℕ) (m : Among x w) → Among w (insertions x (without x w m))
 insertion_of x [] m = absurd m
@@ -19,7 +19,7 @@ insertion_of x (y ∷ w) (inl e) = at_front w
     at_front (z ∷ v) = inl (ap (λ a. a ∷ z ∷ v) (sym e))
 insertion_of x (y ∷ w) (inr m) = inr (Among-map (λ (zs : List ℕ). y ∷ zs) w (insertions x (without x w m)) (insertion_of x w m))
 
--- the list without x still has each of the others
+-- the list w without x still has each element of a list that x is not in
 within_rest : (x : ℕ) (w xs : List ℕ) (m : Among x w) → (Among x xs → ⊥) → Within xs w → Within xs (without x w m)
 within_rest x w xs m d h z n = elim (Among-without z x w m (h z n)) [ inl e ↦ absurd (d (subst (λ u. Among u xs) e n)) | inr r ↦ r ]
 
@@ -42,7 +42,7 @@ insertion_length x (y ∷ v) w (inr m) =
     let r = Among_from_map (λ (zs : List ℕ). y ∷ zs) w (insertions x v) m in
     ap length r.2 ∙ ap suc (insertion_length x v r.0 r.1)
 
--- the entries of an insertion: x and those of the list
+-- x and each element of v are among the entries of w, if w is v with x inserted
 insertion_has : (x : ℕ) (v w : List ℕ) (z : ℕ) → Among w (insertions x v) → (z ≡ x) ⊎ Among z v → Among z w
 insertion_has x [] w z (inl e) (inl d) = subst (Among z) (sym e) (inl d)
 insertion_has x [] w z (inl e) (inr d) = absurd d
@@ -71,7 +71,7 @@ order_has [] w m z n = absurd n
 order_has (x ∷ xs) w m z (inl e) = let r = Among_from_each (insertions x) w (orders xs) m in insertion_has x r.0 w z r.2 (inl e)
 order_has (x ∷ xs) w m z (inr n) = let r = Among_from_each (insertions x) w (orders xs) m in insertion_has x r.0 w z r.2 (inr (order_has xs r.0 r.1 z n))
 
--- the entries of an order are those of the list
+-- each entry of w is x or one of v, if w is v with x inserted
 insertion_from : (x : ℕ) (v w : List ℕ) (z : ℕ) → Among w (insertions x v) → Among z w → (z ≡ x) ⊎ Among z v
 insertion_from x [] w z (inl e) n = by (subst (Among z) e n)
   where
@@ -103,7 +103,7 @@ order_from (x ∷ xs) w z m n =
     by v a (inl d) later = inl d
     by v a (inr d) later = inr (later d)
 
--- ---- each order once
+-- ---- each order is listed once
 
 taken_insertion : (x : ℕ) (v w : List ℕ) → (Among x v → ⊥) → Among w (insertions x v) → without_one x w ≡ v
 taken_insertion x [] w n (inl e) = ap (without_one x) e ∙ (let t : (x == x) ≡ true = grind (arith, nat_tests) in ap (λ b. cond b [] (x ∷ [])) t)
@@ -136,7 +136,7 @@ orders_once (x ∷ xs) o =
     (λ v m. insertions_once x v (λ a. o.0 (order_from xs v x m a)))
     (λ v u w m n p q. sym (taken_insertion x v w (λ a. o.0 (order_from xs v x m a)) p) ∙ taken_insertion x u w (λ a. o.0 (order_from xs u x n a)) q)
 
--- ---- the places
+-- ---- each order of the places 1, .., n is listed once
 
 pub place_orders_once : (n : ℕ) → Once (orders (places n))
 place_orders_once n = orders_once (places n) (once_after 0 n)

@@ -16,11 +16,11 @@ use Rattle.sym_model.specs.Expansion.{Fraction}
 use Rattle.sym_model.specs.Canonical.{gcd, is_reduced, is_partition, is_label}
 use Rattle.sym_model.proofs.GreatestCommonDivisors.{IsGcd-gcd, gcd-only}
 
--- numbers compared the other way round
+-- the order of natural numbers, reversed
 abbrev falling : ℕ → ℕ → Ordering
 falling = flip_args nat_cmp
 
--- the lists padded with zeros to one length, compared number by number
+-- if xs and ys have at most n numbers, their decreasing lexicographic order compares them padded with zeros to n numbers
 falling_lexicographic-padded : (n : ℕ) (xs ys : List ℕ) → length xs ≤ n → length ys ≤ n → falling_lexicographic xs ys ≡ slice_cmp falling (resize n xs) (resize n ys)
 falling_lexicographic-padded zero [] [] h k = refl
 falling_lexicographic-padded zero [] (y ∷ ys) h k = absurd (omega arith)
@@ -57,11 +57,11 @@ falling_lexicographic-total = record { antisymm = antisymm; trans = trans; congr
         let n : ℕ = length x + (length y + length z) in
         falling_lexicographic-padded n x z (omega arith) (omega arith) ∙ (total.congr (resize n x) (resize n y) (resize n z) (sym (falling_lexicographic-padded n x y (omega arith) (omega arith)) ∙ h) ∙ sym (falling_lexicographic-padded n y z (omega arith) (omega arith)))
 
--- the printed order is a total order: turned round it gives the reverse, it is transitive, and what ties compares alike
+-- the printed order is a total order: it is antisymmetric and transitive, and lists that compare as equal compare alike with every other one
 pub printed_order-total : IsTotalOrder printed_order
 printed_order-total = then_total (on_total size (back_total nat_cmp_total)) falling_lexicographic-total
 
--- elements that are equal in two orders, one after the other, are equal in both
+-- if comparing by one order and then by another gives `Equal`, each of them gives `Equal`
 pub then-equal : (o p : Ordering) → ordering_then o p ≡ Equal → (o ≡ Equal) × (p ≡ Equal)
 then-equal Less p h = cc
 then-equal Equal p h = (refl, h)
@@ -70,7 +70,7 @@ then-equal Greater p h = cc
 pub nat_cmp-equal : (a b : ℕ) → nat_cmp a b ≡ Equal → a ≡ b
 nat_cmp-equal a b h = subst (λ o. MatchOrdering o (a < b) (a ≡ b) (b < a)) h (ranked a b (nat_cmp a b) refl)
 
--- lists of positive numbers that tie are equal
+-- if two lists of positive numbers compare as equal, they are equal
 pub falling_lexicographic-equal : (x y : List ℕ) → ArePositive x → ArePositive y → falling_lexicographic x y ≡ Equal → x ≡ y
 falling_lexicographic-equal [] [] h k e = refl
 falling_lexicographic-equal [] (b ∷ y) h k e =
@@ -81,7 +81,7 @@ falling_lexicographic-equal (a ∷ x) (b ∷ y) h k e =
     let p = then-equal (nat_cmp b a) (falling_lexicographic x y) e in
     ap (λ c. c ∷ x) (sym (nat_cmp-equal b a p.0)) ∙ ap (λ z. b ∷ z) (falling_lexicographic-equal x y h.1 k.1 p.1)
 
--- partitions that tie in the printed order are equal
+-- if two partitions compare as equal in the printed order, they are equal
 pub printed_order-equal : (x y : List ℕ) → ArePositive x → ArePositive y → printed_order x y ≡ Equal → x ≡ y
 printed_order-equal x y h k e =
     falling_lexicographic-equal x y h k (then-equal (nat_cmp (size y) (size x)) _ e).1

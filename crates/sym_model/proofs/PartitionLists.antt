@@ -13,7 +13,7 @@ use Rattle.sym_model.proofs.Sums.{Among-map, Among_from_map, Among-each, Among_f
 use Rattle.sym_model.proofs.Orders.{falling_lexicographic-total}
 use Rattle.sym_model.proofs.SortedParts.{rows_within_size, Falls_tail}
 
--- ---- the numbers from k down to 1
+-- ---- the list of the numbers from k down to 1
 
 pub down_to_one-tells : (k a : ℕ) → Among a (down_to_one k) → (0 < a) × (a ≤ k)
 down_to_one-tells zero a m = absurd m
@@ -25,7 +25,7 @@ Among-down_to_one zero a p h = absurd (omega arith)
 Among-down_to_one (suc k) a p h =
     ⊎_elim (λ e. inl e) (λ l. inr (Among-down_to_one k a p (omega arith))) (eq-or-lt_of_le {n = a} {m = suc k} h)
 
--- ---- exactly the partitions
+-- ---- the list has exactly the partitions of d
 
 -- the parts are decreasing and positive, their sum is d, and none is greater than most
 pub record IsWithin (d most : ℕ) (parts : List ℕ) : Type 0 where
@@ -92,7 +92,7 @@ columns_few : (parts : List ℕ) → columns parts ≤ size parts
 columns_few [] = omega arith
 columns_few (a ∷ parts) = omega arith
 
--- the list has the partitions of d, and nothing else
+-- each list of `partitions_of d` is a partition of d
 pub partitions_of-tells :
     (d : ℕ) (parts : List ℕ) → Among parts (partitions_of d) → IsPartition parts × (size parts ≡ d)
 partitions_of-tells d parts m =
@@ -109,7 +109,7 @@ Among-partitions_of d parts p s =
     } in
     Among-partitions_within d d d parts w (omega (arith, rows_within_size parts p.positive))
 
--- ---- in order
+-- ---- the list is in decreasing order
 
 pub FallsLexicographically-append :
     (xs ys : List (List ℕ)) → FallsLexicographically xs → FallsLexicographically ys
@@ -179,7 +179,7 @@ pub Once-partitions_of : (d : ℕ) → Once (partitions_of d)
 Once-partitions_of d =
     Once-FallsLexicographically (partitions_of d) (FallsLexicographically-partitions_within d d d)
 
--- ---- the bound on the rows makes no difference if it is at least d
+-- ---- in the list of the partitions of d, a bound on the number of rows that is at least d has no effect
 
 each-among :
     (f g : ℕ → List (List ℕ)) (xs : List ℕ) → ((a : ℕ) → Among a xs → f a ≡ g a) → flat_map f xs ≡ flat_map g xs

@@ -10,7 +10,7 @@ pub size-map_add : (f g : ℕ → ℕ) (xs : List ℕ) → size (map (λ j. f j 
 size-map_add f g [] = refl
 size-map_add f g (x ∷ xs) = omega (arith, size-map_add f g xs)
 
--- one more zero at the end is dropped too
+-- removing the zeros at the end of xs followed by a zero gives the same as for xs
 pub without_last_zeros-zero : (xs : List ℕ) → without_last_zeros (xs ++ 0 ∷ []) ≡ without_last_zeros xs
 without_last_zeros-zero [] = refl
 without_last_zeros-zero (x ∷ xs) = ap (in_front x) (without_last_zeros-zero xs)
@@ -46,12 +46,12 @@ positive-at [] k h l = absurd (omega arith)
 positive-at (a ∷ parts) zero h l = h.0
 positive-at (a ∷ parts) (suc k) h l = positive-at parts k h.1 (omega arith)
 
--- the first part, and those after it as a slice holds them
+-- a list with at least one part is its first part followed by the slice of the others
 pub split_first : (parts : List ℕ) → 1 ≤ length parts → get_or parts 0 0 ∷ take (length parts - 1) (drop 1 parts) ≡ parts
 split_first [] h = absurd (omega arith)
 split_first (k ∷ parts) h = ap (λ r. k ∷ r) (take_all (length (k ∷ parts) - 1) parts (omega arith))
 
--- dropping zeros changes no part
+-- leaving out zeros at the end of a list does not change its numbers
 pub get_or-in_front : (a n : ℕ) (l : List ℕ) → get_or (in_front a l) n 0 ≡ get_or (a ∷ l) n 0
 get_or-in_front zero zero [] = refl
 get_or-in_front zero (suc n) [] = refl
@@ -154,13 +154,13 @@ part-in_front zero [] = refl
 part-in_front zero (b ∷ parts) = refl
 part-in_front (suc a) parts = refl
 
--- a list without its last entry
+-- a decreasing list without its last entry is decreasing
 pub falls_front : (front : List ℕ) (last : ℕ) → Falls (front ++ last ∷ []) → Falls front
 falls_front [] last f = tt
 falls_front (a ∷ []) last f = tt
 falls_front (a ∷ b ∷ front) last f = (f.0, falls_front (b ∷ front) last f.1)
 
--- a list without its first entry
+-- a decreasing list without its first entry is decreasing
 pub falls_after : (parts : List ℕ) → Falls parts → Falls (drop 1 parts)
 falls_after [] f = tt
 falls_after (a ∷ []) f = tt

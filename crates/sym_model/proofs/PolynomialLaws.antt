@@ -6,7 +6,7 @@ use Rattle.sym_model.proofs.Exponents.{join_comm, join_assoc, join_zeros, resize
 use Rattle.sym_model.proofs.Polynomials.{pair_ext, pair_in, pair_add, pair_factor, pair_opposite, pair_zero, pair_exchange, pair_plus, pair_scale, pair_negate, pair_times, pair_one, pair_restrict, same_from_pair, Same_trans, pair_determined}
 use Rattle.std.specs.Prelude.{◌-ℤ◌}
 
--- ---- sums
+-- ---- sums of polynomials
 
 pub plus_comm : (f g : Poly) → Same (plus f g) (plus g f)
 plus_comm f g = same_from_pair (plus f g) (plus g f) (λ φ. omega (arith, ints, pair_plus f g φ, pair_plus g f φ))
@@ -14,7 +14,7 @@ plus_comm f g = same_from_pair (plus f g) (plus g f) (λ φ. omega (arith, ints,
 pub plus-negate : (f : Poly) → Same (plus f (negate f)) nothing
 plus-negate f = same_from_pair (plus f (negate f)) nothing (λ φ. omega (arith, ints, pair_plus f (negate f) φ, pair_negate f φ))
 
--- ---- products
+-- ---- products of polynomials
 
 pub times_comm : (f g : Poly) → Same (times f g) (times g f)
 times_comm f g =
@@ -76,9 +76,9 @@ times-negate f g =
     ∙ pair_opposite f (λ α. pair g (λ β. φ (join α β)))
     ∙ sym (pair_negate (times f g) φ ∙ ap neg_ℤ (pair_times f g φ)))
 
--- ---- restriction
+-- ---- restriction to fewer variables
 
--- the test function of a restriction
+-- the test function whose pairing with f is the pairing of φ with f restricted to n variables
 abbrev pub restricted_test : ℕ → (List ℕ → ℤ) → List ℕ → ℤ
 restricted_test n φ α = cond (fits_in n α) (φ (resize n α)) (pos 0)
 

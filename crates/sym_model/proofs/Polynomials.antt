@@ -14,7 +14,7 @@ use Rattle.sym_model.proofs.Exponents.{same_refl, same_true, same_apart, same_or
 use Rattle.std.specs.Prelude.{◌≤ℤ◌}
 use lib.IntN.{+ℤ_idl, *ℤ-zero, *ℤ_comm}
 
--- ---- pairing with changed test functions
+-- ---- pairings of one polynomial with changed test functions
 
 pub pair_ext : (f : Poly) (φ ψ : List ℕ → ℤ) → ((α : List ℕ) → φ α ≡ ψ α) → pair f φ ≡ pair f ψ
 pair_ext f φ ψ e = total_ext (λ (t : Term). t.1 *ℤ φ t.0) (λ (t : Term). t.1 *ℤ ψ t.0) (λ t. ap (λ n. t.1 *ℤ n) (e t.0)) f
@@ -41,7 +41,7 @@ pair_opposite f φ =
 pub pair_zero : (f : Poly) → pair f (λ α. pos 0) ≡ pos 0
 pair_zero f = total_none (λ (t : Term). t.1 *ℤ pos 0) f (λ t m. *ℤ-zero t.1)
 
--- a sum of test functions over a list
+-- the pairing with a sum of test functions is the sum of the pairings
 pub pair_total : {A : Type 0} (f : Poly) (φ : A → List ℕ → ℤ) (xs : List A) → pair f (λ α. total (λ (x : A). φ x α) xs) ≡ total (λ (x : A). pair f (φ x)) xs
 pair_total {A} f φ xs =
     total_ext (λ (t : Term). t.1 *ℤ total (λ (x : A). φ x t.0) xs) (λ (t : Term). total (λ (x : A). t.1 *ℤ φ x t.0) xs) (λ t. sym (total_scale t.1 (λ (x : A). φ x t.0) xs)) f
@@ -52,7 +52,7 @@ pair_exchange f g φ =
     pair_total {A = Term} f (λ (t : Term) (α : List ℕ). t.1 *ℤ φ α t.0) g
     ∙ total_ext (λ (t : Term). pair f (λ α. t.1 *ℤ φ α t.0)) (λ (t : Term). t.1 *ℤ pair f (λ α. φ α t.0)) (λ t. pair_factor t.1 f (λ α. φ α t.0)) g
 
--- ---- pairing of sums, multiples, products and restrictions
+-- ---- pairings of sums, multiples, products and restrictions
 
 pub pair_plus : (f g : Poly) (φ : List ℕ → ℤ) → pair (plus f g) φ ≡ pair f φ +ℤ pair g φ
 pair_plus f g φ = total_append (λ (t : Term). t.1 *ℤ φ t.0) f g
@@ -72,13 +72,13 @@ pair_negate f φ =
 pub pair_each : {A : Type 0} (h : A → Poly) (xs : List A) (φ : List ℕ → ℤ) → pair (flat_map h xs) φ ≡ total (λ (x : A). pair (h x) φ) xs
 pair_each h xs φ = total_each (λ (t : Term). t.1 *ℤ φ t.0) h xs
 
--- a sum of monomials
+-- the pairing of a sum of monomials is the sum of the values of the test function
 pub pair_monomials : (αs : List (List ℕ)) (φ : List ℕ → ℤ) → pair (map (λ (α : List ℕ). (α, pos 1)) αs) φ ≡ total φ αs
 pair_monomials αs φ =
     total_map (λ (t : Term). t.1 *ℤ φ t.0) (λ (α : List ℕ). (α, pos 1)) αs
     ∙ total_ext (λ (α : List ℕ). pos 1 *ℤ φ α) φ (λ α. one-product (φ α)) αs
 
--- a product with one term
+-- a product with one term is paired by adding its exponents and multiplying by its coefficient
 pub pair_shift : (s : Term) (g : Poly) (φ : List ℕ → ℤ) → pair (map (λ (t : Term). (join s.0 t.0, s.1 *ℤ t.1)) g) φ ≡ s.1 *ℤ pair g (λ β. φ (join s.0 β))
 pair_shift s g φ =
     total_map (λ (t : Term). t.1 *ℤ φ t.0) (λ (t : Term). (join s.0 t.0, s.1 *ℤ t.1)) g
@@ -110,7 +110,8 @@ pair_restrict n f φ =
     inside true c x = refl
     inside false c x = sym (*ℤ-zero c)
 
--- a product in variables of their own
+-- a product with one term in other variables is paired by adding its exponents in front and multiplying by its
+-- coefficient
 pair_behind : (s : Term) (g : Poly) (φ : List ℕ → ℤ) → pair (map (λ (t : Term). (s.0 ++ t.0, s.1 *ℤ t.1)) g) φ ≡ s.1 *ℤ pair g (λ β. φ (s.0 ++ β))
 pair_behind s g φ =
     total_map (λ (t : Term). t.1 *ℤ φ t.0) (λ (t : Term). (s.0 ++ t.0, s.1 *ℤ t.1)) g
@@ -138,7 +139,7 @@ coefficient_pair f α = total_ext (λ (t : Term). cond (same t.0 α) t.1 (pos 0)
 pub same_from_pair : (f g : Poly) → ((φ : List ℕ → ℤ) → pair f φ ≡ pair g φ) → Same f g
 same_from_pair f g e α = coefficient_pair f α ∙ e (at_only α) ∙ sym (coefficient_pair g α)
 
--- the terms at other exponents than α
+-- the terms of f at exponents other than α
 abbrev pub others : List ℕ → Poly → Poly
 others α f = filter (λ (t : Term). not (same t.0 α)) f
 
@@ -168,7 +169,7 @@ others_elsewhere α β f h =
     by t true e = ap (λ d. cond d t.1 (pos 0)) (sym (same_apart t.0 β (λ d. h (sym (same_true t.0 α e) ∙ d))))
     by t false e = refl
 
--- a pairing is what the terms at α give, and the pairing of the others
+-- the pairing of f is φ(α) times the coefficient at α, plus the pairing of the terms at other exponents
 pub pair_others : (α : List ℕ) (f : Poly) (φ : List ℕ → ℤ) → pair f φ ≡ φ α *ℤ coefficient f α +ℤ pair (others α f) φ
 pair_others α f φ =
     total_ext (λ (t : Term). t.1 *ℤ φ t.0) (λ (t : Term). φ α *ℤ here t +ℤ there t) (λ t. by t (same t.0 α) refl) f
@@ -185,7 +186,7 @@ pair_others α f φ =
     by t true e = let d = ap (λ γ. t.1 *ℤ φ γ) (same_true t.0 α e) in let k = *ℤ_comm t.1 (φ α) in omega (arith, ints)
     by t false e = let z = *ℤ-zero (φ α) in omega (arith, ints)
 
--- the coefficient at the first term's exponents
+-- the coefficient of f at the exponents of its first term is that term's coefficient plus the one in the other terms
 coefficient_first : (t : Term) (f : Poly) → coefficient (t ∷ f) t.0 ≡ t.1 +ℤ coefficient f t.0
 coefficient_first t f = ap (λ b. cond b t.1 (pos 0) +ℤ coefficient f t.0) (same_refl t.0)
 
@@ -197,7 +198,7 @@ pair_first t f φ =
     let k = *ℤ_comm t.1 (φ t.0) in
     omega (arith, ints)
 
--- f agrees with its first term and the terms at other exponents
+-- if φ and ψ agree wherever f, of at most n terms, has a coefficient that is not 0, their pairings with f are equal
 agree_by_length : (n : ℕ) (f : Poly) (φ ψ : List ℕ → ℤ) → length f ≤ n → ((α : List ℕ) → (coefficient f α ≡ pos 0) ⊎ (φ α ≡ ψ α)) → pair f φ ≡ pair f ψ
 agree_by_length n [] φ ψ l h = refl
 agree_by_length zero (t ∷ f) φ ψ l h = absurd (omega arith)
@@ -221,7 +222,7 @@ agree_by_length (suc n) (t ∷ f) φ ψ l h =
       ]
     ]
 
--- two test functions pair alike with f if they agree wherever f has a coefficient that is not 0
+-- if two test functions agree wherever f has a coefficient that is not 0, their pairings with f are equal
 pub pair_agree : (f : Poly) (φ ψ : List ℕ → ℤ) → ((α : List ℕ) → (coefficient f α ≡ pos 0) ⊎ (φ α ≡ ψ α)) → pair f φ ≡ pair f ψ
 pair_agree f φ ψ h = agree_by_length (length f) f φ ψ (omega arith) h
 
@@ -241,7 +242,7 @@ pair_determined f g φ e =
         let k = e α in
         coefficient_pair (f ++ negate g) α ∙ omega (arith, ints)
 
--- ---- one polynomial: an equivalence that sums, products and restrictions respect
+-- ---- equality of polynomials is an equivalence that sums and products respect
 
 pub Same_refl : (f : Poly) → Same f f
 Same_refl f α = refl
@@ -252,7 +253,7 @@ Same_sym f g e α = sym (e α)
 pub Same_trans : (f g h : Poly) → Same f g → Same g h → Same f h
 Same_trans f g h d e α = d α ∙ e α
 
--- equal formal sums are one polynomial
+-- if two formal sums are equal, they are the same polynomial
 pub same_of_equal : (f g : Poly) → f ≡ g → Same f g
 same_of_equal f g e α = ap (λ h. coefficient h α) e
 
@@ -281,7 +282,7 @@ restrict_respects n f g e =
     same_from_pair (restrict n f) (restrict n g) (λ φ.
     pair_restrict n f φ ∙ pair_determined f g (λ α. cond (fits_in n α) (φ (resize n α)) (pos 0)) e ∙ sym (pair_restrict n g φ))
 
--- ---- polynomials in n variables
+-- ---- polynomials in n variables, whose exponent lists have n places
 
 pub In_one : (n : ℕ) → In n (one n)
 In_one n t (inl e) = ap (λ (s : Term). length s.0) e ∙ length-replicate n 0
@@ -290,7 +291,7 @@ In_one n t (inr m) = absurd m
 pub In_plus : (n : ℕ) (f g : Poly) → In n f → In n g → In n (plus f g)
 In_plus n f g i j t m = elim (Among_from_append t f g m) [ inl l ↦ i t l | inr r ↦ j t r ]
 
--- a map of the terms that keeps the numbers of places
+-- a list of terms that have n places each is a polynomial in n variables
 pub In_map : {A : Type 0} (n : ℕ) (h : A → Term) (xs : List A) → ((x : A) → Among x xs → length (h x).0 ≡ n) → In n (map h xs)
 In_map n h xs i t m = let r = Among_from_map h t xs m in ap (λ (s : Term). length s.0) r.2 ∙ i r.0 r.1
 
@@ -325,7 +326,7 @@ coefficient_outside n f α i h =
     total_none (λ (t : Term). cond (same t.0 α) t.1 (pos 0)) f (λ t m.
     ap (λ b. cond b t.1 (pos 0)) (same_apart t.0 α (λ e. h (ap length (sym e) ∙ i t m))))
 
--- two polynomials in n variables are the same if their coefficients at lists of n places agree
+-- if f and g are polynomials in n variables with the same coefficients at lists of n places, they are the same polynomial
 pub same_in : (n : ℕ) (f g : Poly) → In n f → In n g → ((α : List ℕ) → length α ≡ n → coefficient f α ≡ coefficient g α) → Same f g
 same_in n f g i j e α =
     elim (cases_eq (length α) n) [

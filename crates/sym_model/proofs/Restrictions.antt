@@ -16,7 +16,7 @@ use Rattle.sym_model.proofs.PolynomialLaws.{restrict-times, restrict-one}
 use Rattle.sym_model.proofs.SortedParts.{sorted_parts-padded, rows-sorted_parts, has_past}
 use Rattle.sym_model.proofs.Monomials.{coefficient-monomials, coefficient-monomial, In-monomials}
 
--- ---- coefficients of a restriction
+-- ---- the coefficients of a restriction
 
 eqb-suc : (a b : ℕ) → eqb (suc a) (suc b) ≡ eqb a b
 eqb-suc a b =
@@ -24,7 +24,7 @@ eqb-suc a b =
     (λ t. let e = eqb-true (suc a) (suc b) t in eq-eqb a b (omega arith))
     (λ t. let e = eqb-true a b t in eq-eqb (suc a) (suc b) (omega arith))
 
--- a list of m zeros, as a test
+-- a list of m numbers is all zeros if and only if it is the list of m zeros
 all_zero-same : (m : ℕ) (β : List ℕ) → length β ≡ m → all_zero β ≡ same β (replicate m 0)
 all_zero-same zero [] l = refl
 all_zero-same zero (b ∷ β) l = absurd (omega arith)
@@ -37,7 +37,7 @@ and_middle true false z = refl
 and_middle false true z = refl
 and_middle false false z = refl
 
--- β of k + m places restricts to γ: it is γ with m zeros after it, and γ has k places
+-- if β has k + m places, it restricts to γ if and only if γ has k places and β is γ followed by m zeros
 restricts_to : (k m : ℕ) (β γ : List ℕ) → length β ≡ k + m → (fits_in k β && same (resize k β) γ) ≡ (eqb (length γ) k && same β (γ ++ replicate m 0))
 restricts_to zero m β [] l = and-true (all_zero β) ∙ all_zero-same m β (omega arith)
 restricts_to zero m β (c ∷ γ) l = and-false (all_zero β) ∙ rw (ne_eqb (suc (length γ)) 0 (λ e. omega arith)) refl
@@ -65,14 +65,14 @@ coefficient_restrict_padded k m f γ i =
     by true = sym (coefficient_pair f (γ ++ replicate m 0))
     by false = pair_zero f
 
--- ---- sums of monomials
+-- ---- sums of monomials restricted
 
 size-padded : (γ : List ℕ) (m : ℕ) → size (γ ++ replicate m 0) ≡ size γ
 size-padded [] zero = refl
 size-padded [] (suc m) = omega (arith, size-padded [] m)
 size-padded (c ∷ γ) m = ap (λ n. c + n) (size-padded γ m)
 
--- the test is the same with zeros at the end
+-- zeros at the end of an exponent list do not change the result of the test
 abbrev pub SeesNoZeros : (List ℕ → Bool) → Type 0
 SeesNoZeros test = (γ : List ℕ) (m : ℕ) → test (γ ++ replicate m 0) ≡ test γ
 
@@ -102,7 +102,7 @@ has-padded k h [] zero = refl
 has-padded k h [] (suc m) = has_past k 0 (replicate m 0) (λ e. omega arith) ∙ has-padded k h [] m
 has-padded k h (c ∷ γ) m = ap (λ t. eqb c k || t) (has-padded k h γ m)
 
--- ---- the bases
+-- ---- the bases restricted
 
 pub restrict-monomial : (parts : List ℕ) (k n : ℕ) → k ≤ n → Same (restrict k (monomial parts n)) (monomial parts k)
 restrict-monomial parts k n h = restrict-monomials (λ α. same (sorted_parts α) parts) k n (size parts) (λ γ m. ap (λ l. same l parts) (sorted_parts-padded γ m)) h
@@ -140,7 +140,7 @@ restrict-complete parts k n h = restrict-product_over complete_of parts k n (λ 
 pub restrict-power_sum : (parts : List ℕ) (k n : ℕ) → ArePositive parts → k ≤ n → Same (restrict k (power_sum parts n)) (power_sum parts k)
 restrict-power_sum parts k n p h = restrict-product_over power_sum_of parts k n (λ d m. restrict-power_sum_of d k n (positive_among d parts p m) h)
 
--- with fewer variables than parts no exponents sort to λ
+-- if there are fewer variables than parts, no exponents sort to λ, so m_λ is 0
 pub monomial_few_variables : (parts : List ℕ) (n : ℕ) → n < rows parts → Same (monomial parts n) nothing
 monomial_few_variables parts n h γ = coefficient-monomial parts n γ ∙ by (eqb (length γ) n) refl (same (sorted_parts γ) parts) refl
   where

@@ -5,7 +5,7 @@ use Rattle.std.proofs.lemmas.Int.{ints}
 use borrow.Author.Differences.{up, down, sum_is_lem, product_is, neg_is}
 use lib.IntN.{*ℤ_comm, zero-*ℤ, *ℤ-zero}
 
--- ---- products, sums and negations
+-- ---- products of sums and of negations
 
 pub distributes_left : (a b c : ℤ) → a *ℤ (b +ℤ c) ≡ a *ℤ b +ℤ a *ℤ c
 distributes_left a b c = omega (arith, ints, ap (λ n. up a * n) (sum_is_lem b c), ap (λ n. down a * n) (sum_is_lem b c))
@@ -43,14 +43,12 @@ product-one a = omega (arith, ints)
 pub one-product : (a : ℤ) → pos 1 *ℤ a ≡ a
 one-product a = *ℤ_comm (pos 1) a ∙ product-one a
 
--- a number times a count that is one more if a test holds
+-- if b is true, (1 + n)·z is z plus n·z, and otherwise the product is n·z
 pub counted-product : (b : Bool) (n : ℕ) (z : ℤ)
     → pos (cond b 1 0 + n) *ℤ z ≡ cond b z (pos 0) +ℤ pos n *ℤ z
 counted-product true n z =
     distributes_right (pos 1) (pos n) z ∙ ap (λ y. y +ℤ pos n *ℤ z) (one-product z)
 counted-product false n z = omega (arith, ints)
 
--- products written out over sums and negations, with their factors in one order
+-- the laws by which products are written out over sums and negations, with their factors in one order
 pub ruleset ring = (distributes_left, distributes_right, product_assoc, product-negation, negation-product, product_left_comm, *ℤ_comm, zero-*ℤ, *ℤ-zero, product-one, one-product)
-
--- ---- an integer as a difference of two naturals

@@ -15,13 +15,13 @@ use Rattle.std.proofs.lemmas.Bool.{cases_lt, le-leb, and_from}
 use Rattle.sym_model.specs.Tableau.{are_letters}
 use lib.IntN.{+ℤ_idl, *ℤ-zero}
 
--- ---- sums
+-- ---- sums of integers over a list
 
 pub total_ext : {A : Type 0} (f g : A → ℤ) → ((x : A) → f x ≡ g x) → (xs : List A) → total f xs ≡ total g xs
 total_ext f g e [] = refl
 total_ext f g e (x ∷ xs) = ap₂ ◌+ℤ◌ (e x) (total_ext f g e xs)
 
--- it is enough that the functions agree on the members
+-- two functions that agree on the members of a list have the same sum
 pub total_among : {A : Type 0} (f g : A → ℤ) (xs : List A) → ((x : A) → Among x xs → f x ≡ g x) → total f xs ≡ total g xs
 total_among f g [] e = refl
 total_among f g (x ∷ xs) e = ap₂ ◌+ℤ◌ (e x (inl refl)) (total_among f g xs (λ y m. e y (inr m)))
@@ -34,7 +34,7 @@ pub total_zero : {A : Type 0} (xs : List A) → total (λ (x : A). pos 0) xs ≡
 total_zero [] = refl
 total_zero (x ∷ xs) = +ℤ_idl (total (λ _. pos 0) xs) ∙ total_zero xs
 
--- a sum of which each term on a member is 0
+-- a sum is 0 if its term at each member is 0
 pub total_none : {A : Type 0} (f : A → ℤ) (xs : List A) → ((x : A) → Among x xs → f x ≡ pos 0) → total f xs ≡ pos 0
 total_none f xs e = total_among f (λ _. pos 0) xs e ∙ total_zero xs
 
@@ -80,12 +80,12 @@ pub total_exchange : {A B : Type 0} (f : A → B → ℤ) (xs : List A) (ys : Li
 total_exchange f [] ys = sym (total_zero ys)
 total_exchange {A} {B} f (x ∷ xs) ys = ap (λ n. total (λ (y : B). f x y) ys +ℤ n) (total_exchange f xs ys) ∙ sym (total_add (λ (y : B). f x y) (λ (y : B). total (λ (z : A). f z y) xs) ys)
 
--- a constant is counted once for each element
+-- the sum of a constant c over a list is c times its length
 pub total_constant : {A : Type 0} (c : ℤ) (xs : List A) → total (λ (x : A). c) xs ≡ c *ℤ pos (length xs)
 total_constant c [] = sym (*ℤ-zero c)
 total_constant c (x ∷ xs) = let e = total_constant c xs in let d = distributes_left c (pos 1) (pos (length xs)) in omega (arith, ints)
 
--- ---- membership
+-- ---- membership in lists
 
 pub Among-append_left : {A : Type 0} (x : A) (xs ys : List A) → Among x xs → Among x (xs ++ ys)
 Among-append_left x [] ys m = absurd m
@@ -145,7 +145,7 @@ Among_from_select {A} test x (y ∷ xs) m = by (test y) refl m (Among_from_selec
 pub Within_tail : {A : Type 0} (x : A) (xs ys : List A) → Within (x ∷ xs) ys → Within xs ys
 Within_tail x xs ys w z m = w z (inr m)
 
--- ---- lists without repeats
+-- ---- lists without repeats and their images
 
 pub Once-map : {A B : Type 0} (f : A → B) (xs : List A) → ((x y : A) → Among x xs → Among y xs → f x ≡ f y → x ≡ y) → Once xs → Once (map f xs)
 Once-map f [] inj o = tt
@@ -178,7 +178,7 @@ Once-each {A} {B} f (x ∷ xs) o p d =
     apart : (y : B) → Among y (f x) → Among y (flat_map f xs) → ⊥
     apart y m n = let r = Among_from_each f y xs n in o.0 (subst (λ z. Among z xs) (sym (d x r.0 y (inl refl) (inr r.1) m r.2)) r.1)
 
--- ---- a member taken out once
+-- ---- a list without one of its members
 
 abbrev pub without : {A : Type 0} (x : A) (xs : List A) → Among x xs → List A
 without x [] m = []
@@ -219,13 +219,13 @@ Once_without x [] m o = tt
 Once_without x (y ∷ xs) (inl e) o = o.1
 Once_without x (y ∷ xs) (inr m) o = (λ n. o.0 (Among_from_without y x xs m n), Once_without x xs m o.1)
 
--- ---- sums over lists with the same members
+-- ---- lists with the same members have the same sums
 
 -- the list without x still has each member of a list that x is not in
 pub Within-without : {A : Type 0} (x : A) (xs ys : List A) (m : Among x xs) → (Among x ys → ⊥) → Within ys xs → Within ys (without x xs m)
 Within-without x xs ys m d w z n = elim (Among-without z x xs m (w z n)) [ inl e ↦ absurd (d (subst (λ u. Among u ys) e n)) | inr r ↦ r ]
 
--- a list without repeats within another is no longer than it
+-- if ys is without repeats and within xs, it is not longer than xs
 pub length_within : {A : Type 0} (xs ys : List A) → Once ys → Within ys xs → length ys ≤ length xs
 length_within xs [] o w = omega arith
 length_within xs (y ∷ ys) o w =
@@ -234,7 +234,7 @@ length_within xs (y ∷ ys) o w =
     let r = length_within (without y xs m) ys o.1 (Within-without y xs ys m o.0 (Within_tail y ys xs w)) in
     omega arith
 
--- a list without repeats within another of the same length has its sums
+-- if ys is without repeats, within xs and of its length, both have the same sum of f
 pub total_within : {A : Type 0} (f : A → ℤ) (xs ys : List A) → Once ys → Within ys xs → length ys ≡ length xs → total f ys ≡ total f xs
 total_within f [] [] o w l = refl
 total_within f (x ∷ xs) [] o w l = absurd (omega arith)
@@ -245,14 +245,14 @@ total_within f xs (y ∷ ys) o w l =
     let r = total_within f (without y xs m) ys o.1 (Within-without y xs ys m o.0 (Within_tail y ys xs w)) k in
     ap (λ n. f y +ℤ n) r ∙ sym (total-without f y xs m)
 
--- two lists without repeats with the same members have the same sums
+-- if two lists are without repeats and have the same members, they have the same sums
 pub total_same_members : {A : Type 0} (f : A → ℤ) (xs ys : List A) → Once xs → Once ys → Within xs ys → Within ys xs → total f xs ≡ total f ys
 total_same_members f xs ys o p v w =
     let a = length_within xs ys p w in
     let b = length_within ys xs o v in
     total_within f ys xs o v (omega arith)
 
--- a list without repeats within another one has its sums, if all else there counts 0
+-- if xs and ys are without repeats, xs is within ys, and f is 0 at each member of ys that is not in xs, both have the same sum of f
 pub total_part : {A : Type 0} (f : A → ℤ) (xs ys : List A) → Once xs → Once ys → Within xs ys → ((y : A) → Among y ys → (Among y xs → ⊥) → f y ≡ pos 0) → total f xs ≡ total f ys
 total_part f [] ys o p w none = sym (total_none f ys (λ y m. none y m (λ n. n)))
 total_part {A} f (x ∷ xs) ys o p w none =
@@ -265,7 +265,7 @@ total_part {A} f (x ∷ xs) ys o p w none =
     other y n d (inl e) = Once-without x ys (w x (inl refl)) p (subst (λ u. Among u (without x ys (w x (inl refl)))) e n)
     other y n d (inr k) = d k
 
--- a one-to-one map of a list into itself
+-- a one-to-one map of a list into itself does not change the sum
 pub total_reindex : {A : Type 0} (f : A → ℤ) (h : A → A) (xs : List A) → Once xs → ((x : A) → Among x xs → Among (h x) xs)
     → ((x y : A) → Among x xs → Among y xs → h x ≡ h y → x ≡ y) → total (λ (x : A). f (h x)) xs ≡ total f xs
 total_reindex {A} f h xs o into inj = sym (total_map f h xs) ∙ total_within f xs (map h xs) (Once-map h xs inj o) within (length-map xs h)
@@ -273,7 +273,7 @@ total_reindex {A} f h xs o into inj = sym (total_map f h xs) ∙ total_within f 
     within : Within (map h xs) xs
     within z m = let r = Among_from_map h z xs m in subst (λ u. Among u xs) (sym r.2) (into r.0 r.1)
 
--- a map from one list to another, undone by a map back
+-- a bijection between two lists does not change the sum
 pub total_bijection : {A B : Type 0} (f : B → ℤ) (h : A → B) (k : B → A) (xs : List A) (ys : List B) → Once xs → Once ys
     → ((x : A) → Among x xs → Among (h x) ys) → ((y : B) → Among y ys → Among (k y) xs)
     → ((x : A) → Among x xs → k (h x) ≡ x) → ((y : B) → Among y ys → h (k y) ≡ y) → total (λ (x : A). f (h x)) xs ≡ total f ys
@@ -298,7 +298,7 @@ total_cancel {A} f h xs o into twice turn =
     let c = total_neg f xs in
     omega (arith, ints)
 
--- a sum in which only one member counts
+-- a sum whose terms are 0 at all members but a is its term at a
 pub total_only : {A : Type 0} (f : A → ℤ) (a : A) (xs : List A) → Once xs → Among a xs → ((x : A) → Among x xs → (x ≡ a → ⊥) → f x ≡ pos 0) → total f xs ≡ f a
 total_only {A} f a xs o m zero_at =
     let e = total-without f a xs m in
@@ -308,7 +308,7 @@ total_only {A} f a xs o m zero_at =
     others : (x : A) → Among x (without a xs m) → f x ≡ pos 0
     others x n = zero_at x (Among_from_without x a xs m n) (λ e. Once-without a xs m o (subst (λ u. Among u (without a xs m)) e n))
 
--- a test that does not depend on the summed elements
+-- a test that does not depend on the element can be taken out of the sum
 pub total_cond : {A : Type 0} (b : Bool) (f : A → ℤ) (xs : List A) → total (λ (x : A). cond b (f x) (pos 0)) xs ≡ cond b (total f xs) (pos 0)
 total_cond true f xs = refl
 total_cond false f xs = total_zero xs
@@ -318,7 +318,7 @@ Among-get_or [] i w h e = absurd (omega arith)
 Among-get_or (x ∷ todo) zero w h e = inl e
 Among-get_or (x ∷ todo) (suc i) w h e = inr (Among-get_or todo i w (omega arith) e)
 
--- a count as a sum
+-- the number of elements that pass a test is the sum of 1 over these elements
 pub length-select : {A : Type 0} (test : A → Bool) (xs : List A) → pos (length (filter test xs)) ≡ total (λ (x : A). cond (test x) (pos 1) (pos 0)) xs
 length-select test [] = refl
 length-select {A} test (x ∷ xs) = by (test x) (length-select test xs)
@@ -328,7 +328,7 @@ length-select {A} test (x ∷ xs) = by (test x) (length-select test xs)
     by true e = omega (arith, ints)
     by false e = omega (arith, ints)
 
--- sums of numbers that are not negative
+-- a sum of numbers that are not negative is not negative
 pub total_not_negative : {A : Type 0} (f : A → ℤ) (xs : List A) → ((x : A) → pos 0 ≤ℤ f x) → pos 0 ≤ℤ total f xs
 total_not_negative f [] h = omega (arith, ints)
 total_not_negative f (x ∷ xs) h = let r = total_not_negative f xs h in let k = h x in omega (arith, ints)

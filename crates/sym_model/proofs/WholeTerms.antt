@@ -1,15 +1,15 @@
--- Lists of terms with whole coefficients (specs/WholeTerms): what they stand for depends on the summed coefficient of
--- each label alone. Labels of any type are distinguished by a key, a list of numbers from which the label can be had back.
-use Rattle.std.proofs.Common.{◌≡◌, ℕ, List, [], ◌∷◌, ◌++◌, ◌+◌, sym, ◌∙◌, ap, ap₂, subst, refl, arith, ℤ, pos, ◌*ℤ◌}
-use Rattle.sym_model.specs.Sum.{total}
+-- Lists of terms with whole coefficients (specs/WholeTerms): the value of a list depends only on the summed coefficient
+-- of each label. Labels of any type are distinguished by a key, a list of numbers that determines the label.
+use Rattle.std.proofs.Common.{◌≡◌, ℕ, List, [], ◌∷◌, ◌++◌, ◌+◌, map, sym, ◌∙◌, ap, ap₂, subst, refl, inl, inr, arith, ℤ, pos, ◌*ℤ◌}
+use Rattle.sym_model.specs.Sum.{total, Among}
 use Rattle.sym_model.specs.Polynomial.{Poly, coefficient, Same, pair, plus, scale}
 use Rattle.sym_model.specs.Expansion.{Terms, Basis, basis_polynomial, denominators, cleared, value_by, value, Represents}
-use Rattle.sym_model.specs.WholeTerms.{WholeTermsOf, WholeTerms, absolute_total, combined, as_fractions, AreWhole, numerators}
+use Rattle.sym_model.specs.WholeTerms.{WholeTermsOf, WholeTerms, absolute_total, combined, as_fractions, AreWhole, numerators, HaveLabels}
 use Rattle.sym_model.proofs.Ring.{product-one}
 use Rattle.sym_model.proofs.Sums.{total_ext}
 use Rattle.sym_model.proofs.Polynomials.{at_only, coefficient_pair, pair_each, pair_scale, pair_determined, scale_respects}
 
--- the pairing of a combination
+-- the pairing of a combination is the sum of the pairings of its polynomials
 pub pair_of_combined : {Label : Type 0} (polynomial : Label → Poly) (terms : WholeTermsOf Label) (φ : List ℕ → ℤ) → pair (combined polynomial terms) φ ≡ total (λ (t : Label × ℤ). t.1 *ℤ pair (polynomial t.0) φ) terms
 pair_of_combined {Label = Label} polynomial terms φ =
     pair_each (λ (t : Label × ℤ). scale t.1 (polynomial t.0)) terms φ
@@ -27,9 +27,25 @@ coefficient_of_combined {Label = Label} polynomial terms α =
 pub coefficient-combined : (polynomial : List ℕ → Poly) (terms : WholeTerms) (α : List ℕ) → coefficient (combined polynomial terms) α ≡ pair terms (λ label. coefficient (polynomial label) α)
 coefficient-combined polynomial terms α = coefficient_of_combined polynomial terms α
 
--- ---- collecting
+-- ---- properties of all labels of a list
 
--- collecting equal labels, leaving out terms with 0 and reordering do not change the sums
+module _ {Label : Type 0} (P : Label → Type 0) where
+  pub labels_append : (xs ys : WholeTermsOf Label) → HaveLabels P xs → HaveLabels P ys → HaveLabels P (xs ++ ys)
+  labels_append [] ys h k t m = k t m
+  labels_append (x ∷ xs) ys h k t (inl e) = h t (inl e)
+  labels_append (x ∷ xs) ys h k t (inr m) = labels_append xs ys (λ u n. h u (inr n)) k t m
+
+  pub labels_map : {A : Type 0} (f : A → Label × ℤ) (xs : List A) → ((x : A) → Among x xs → P (f x).0) → HaveLabels P (map f xs)
+  labels_map f [] h t m = absurd m
+  labels_map f (x ∷ xs) h t (inl e) = subst P (sym (ap (λ (u : Label × ℤ). u.0) e)) (h x (inl refl))
+  labels_map f (x ∷ xs) h t (inr m) = labels_map f xs (λ y n. h y (inr n)) t m
+
+  pub labels_scaled : (c : ℤ) (xs : WholeTermsOf Label) → HaveLabels P xs → HaveLabels P (scale c xs)
+  labels_scaled c xs h = labels_map (λ (t : Label × ℤ). (t.0, c *ℤ t.1)) xs h
+
+-- ---- collecting terms does not change the polynomial
+
+-- if two lists have the same summed coefficients, their combinations are the same polynomial
 pub combined_respects : (polynomial : List ℕ → Poly) (terms others : WholeTerms) → Same terms others → Same (combined polynomial terms) (combined polynomial others)
 combined_respects polynomial terms others e α =
     coefficient-combined polynomial terms α ∙ pair_determined terms others (λ label. coefficient (polynomial label) α) e ∙ sym (coefficient-combined polynomial others α)
@@ -62,7 +78,7 @@ value_by-whole polynomial terms w = ap (λ l. value_by polynomial l) (sym (as_fr
 pub value_of_whole : (basis : Basis) (terms : Terms (List ℕ)) (n : ℕ) → AreWhole terms → value basis terms n ≡ combined (λ label. basis_polynomial basis label n) (numerators terms)
 value_of_whole basis terms n w = value_by-whole (λ label. basis_polynomial basis label n) terms w
 
--- a list with denominators 1 is the polynomial that its combination is
+-- if a list has only denominators 1, it represents each polynomial that is its combination
 pub represents-whole : {Label : Type 0} (polynomial : Label → Poly) (terms : Terms Label) (f : Poly) → AreWhole terms → Same (combined polynomial (numerators terms)) f → Represents polynomial terms f 1
 represents-whole polynomial terms f w e = record {
   positive = omega (arith, denominators_of_whole terms w);

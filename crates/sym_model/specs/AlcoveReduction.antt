@@ -21,12 +21,12 @@ last_raised n [] = []
 last_raised n (a ∷ []) = (a + n) ∷ []
 last_raised n (a ∷ c ∷ b) = a ∷ last_raised n (c ∷ b)
 
--- the reflection of a list: its first entry less n, its last entry plus n
+-- the reflection of a list: n is subtracted from its first entry and added to its last entry
 abbrev pub reflected : ℕ → List ℕ → List ℕ
 reflected n [] = []
 reflected n (a ∷ b) = (a - n) ∷ last_raised n b
 
--- an answer with its sign multiplied by t
+-- a result with its sign multiplied by t; None stays None
 abbrev pub with_sign : ℤ → Option (List ℕ × ℤ) → Option (List ℕ × ℤ)
 with_sign t None = None
 with_sign t (Some answer) = Some (answer.0, t *ℤ answer.1)
@@ -43,12 +43,12 @@ reflected_within (suc steps) n b =
     cond (nat_lt (spread b) n) (Some (b, pos 1))
     (cond ((spread b == n) || has_equal_entries next) None later)
 
--- the same without a bound: each reflection lowers the sum of the squares,
--- so one step more than that sum is enough
+-- reflecting without a bound on the steps: each reflection lowers the sum of the squares, so one step more than that
+-- sum is enough
 abbrev pub reflected_into_alcove : ℕ → List ℕ → Option (List ℕ × ℤ)
 reflected_into_alcove n b = reflected_within (suc (squares b)) n b
 
--- an answer with the partition of its beta list
+-- a result whose list, a beta list, is replaced by its partition
 abbrev pub as_partition : Option (List ℕ × ℤ) → Option (List ℕ × ℤ)
 as_partition None = None
 as_partition (Some answer) = Some (from_beta answer.0, answer.1)

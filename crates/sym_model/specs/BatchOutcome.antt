@@ -11,11 +11,11 @@ use Rattle.sym_model.specs.RefusalText.{offence_line}
 use Rattle.sym_model.specs.Ending.{Ending, done, some_refused}
 use Rattle.sym_model.specs.Outcome.{ending_of, Answers, ComesOf, IsLineOutcome}
 
--- the block of a line with how it ended
+-- a block of a batch: the text that a line writes, and the ending of its command
 abbrev pub Block : Type 0
 Block = List ℕ × Ending
 
--- the blocks of the lines, one for each that is not passed over
+-- these are the blocks of the lines: one for each line that is not skipped
 abbrev pub AreBlocks : List Entry → List BatchLine → List Block → Type 0
 AreBlocks entries [] [] = Unit {0}
 AreBlocks entries (passed_over ∷ lines) blocks = AreBlocks entries lines blocks
@@ -44,29 +44,29 @@ are_done (b ∷ blocks) = is_done b.1 && are_done blocks
 abbrev pub batch_ending : List Block → Ending
 batch_ending blocks = cond (are_done blocks) done some_refused
 
--- the text is that of a batch over an input, with this ending
+-- the text is the output of a batch over this input, and the batch ends like this
 pub record RunsInput (entries : List Entry) (input text : List ℕ) (ending : Ending) : Type 0 where
   pub blocks : List Block
   pub are_blocks : AreBlocks entries (map batch_line (lines_of input)) blocks
   pub joined : text ≡ batch_text blocks
   pub ends : ending ≡ batch_ending blocks
 
--- the text sums up the blocks of the lines that are made from the seed
+-- the text is the summary of the blocks of the lines that are made from the seed
 pub record RunsWorkload (entries : List Entry) (lines seed : ℕ) (text : List ℕ) : Type 0 where
   pub blocks : List Block
   pub are_blocks : AreBlocks entries (map batch_line (work_lines lines seed)) blocks
   pub summed : text ≡ summary_text (map (λ (b : Block). b.0) blocks)
 
--- the outcome of a command whose words have no error, if these are the entries of the commands that
--- lines of a batch and of the workload can be
+-- the outcome of a command whose words have no error. The entries are those of the commands that a line of a batch or
+-- of the workload may be.
 abbrev pub AnswersWith : List Entry → List ℕ → Command → List ℕ → Ending → Type 0
 AnswersWith entries input batch text ending = RunsInput entries input text ending
 AnswersWith entries input (work lines seed) text ending =
     RunsWorkload entries lines seed text × (ending ≡ done)
 AnswersWith entries input command text ending = Answers command text ending
 
--- the outcomes of words over an input, by the commands of the command line and those of a line of a
--- batch
+-- the outcome of words over an input: `entries` are the commands of the command line, and `line_entries` those of a
+-- line of a batch
 abbrev pub IsOutcomeOf : List Entry → List Entry → List (List ℕ) → List ℕ → List ℕ → Ending → Type 0
 IsOutcomeOf entries line_entries words input text ending =
     ComesOf (AnswersWith line_entries input) entries words text ending

@@ -11,7 +11,7 @@ abbrev pub AreBelow : ℕ → List ℕ → Type 0
 AreBelow bound [] = Unit {0}
 AreBelow bound (a ∷ numbers) = (a < bound) × AreBelow bound numbers
 
--- each number is at least the bound
+-- each number of the list is at least the bound
 abbrev pub AreAtLeast : ℕ → List ℕ → Type 0
 AreAtLeast bound [] = Unit {0}
 AreAtLeast bound (a ∷ numbers) = (bound ≤ a) × AreAtLeast bound numbers

@@ -14,7 +14,8 @@ pub data Command : Type 0 where
   -- coef outer left right
   coef : List ℕ → List ℕ → List ℕ → Command
   coprod : List ℕ → Command
-  -- tab outer inner after: the lattice tableaux, from after the one that has this column reading
+  -- tab outer inner after: the lattice tableaux of outer/inner; if a column reading is given, only those after the
+  -- tableau with this reading
   tab : List ℕ → List ℕ → Option (List ℕ) → Command
   -- quantum rows columns factors
   quantum : ℕ → ℕ → List (List ℕ) → Command

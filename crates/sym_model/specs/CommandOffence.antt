@@ -51,17 +51,17 @@ when test kind = cond test (kind ∷ []) []
 abbrev pub Rule : Type 0
 Rule = List ℕ → ℕ → List OffenceKind
 
--- the errors by a rule of a list of numbers that begins at the word, given the numbers before them
+-- the errors that a rule finds in a list of numbers, the first of which is word k; `before` are the numbers before it, the nearest first
 abbrev pub offences_after : Rule → List ℕ → ℕ → List ℕ → List Offence
 offences_after rule before k [] = []
 offences_after rule before k (a ∷ numbers) =
     map (λ kind. (k, 0, kind)) (rule before a) ++ offences_after rule (a ∷ before) (k + 1) numbers
 
--- the errors by a rule of a list of numbers that begins at the word
+-- the errors that a rule finds in a list of numbers, the first of which is word k
 abbrev pub offences_by : Rule → ℕ → List ℕ → List Offence
 offences_by rule k numbers = offences_after rule [] k numbers
 
--- the previous number of the list
+-- the previous number of the list, given those before it, the nearest first
 abbrev pub left_of : List ℕ → Option ℕ
 left_of [] = None
 left_of (a ∷ before) = Some a
@@ -116,20 +116,20 @@ greatest_seed = 65536
 abbrev pub is_outside : ℕ → ℕ → Bool
 is_outside limit a = (a == 0) || nat_lt limit a
 
--- a number of rows, columns or a level
+-- the errors of a number of rows or columns, or of a level: 0, a number over 64
 abbrev pub rows_rule : Rule
 rows_rule before a = when (is_wide a) literal ++ when (is_outside most_rows a) range
 
--- a number of lines
+-- the errors of a number of lines: 0, a number over 10,000
 abbrev pub lines_rule : Rule
 lines_rule before a = when (is_wide a) literal ++ when (is_outside most_lines a) range
 
--- the errors of a seed
+-- the error of a seed: a number over 65,536
 abbrev pub seed_rule : Rule
 seed_rule before a = when (is_wide a) literal ++ when (nat_lt greatest_seed a) range
 
--- a number of a partition: the 65th, the one at which the sum so far first passes 512, one greater
--- than the number before it
+-- the errors of a number of a partition: it is the 65th number, the sum of the numbers up to it is the first to exceed
+-- 512, or it is greater than the number before it
 abbrev pub part_rule : Rule
 part_rule before a =
     when (is_wide a) literal
@@ -139,35 +139,34 @@ part_rule before a =
     range
     ++ when (rises (left_of before) a) shape
 
--- the errors of a number of a permutation of `count` letters: the number after the `most` that may
--- be written is out of range, and so is a number over `most`; 0, a number over the number of
--- letters, and one that occurs before it make no permutation
+-- the errors of a number of a permutation of `count` letters. It is out of range if it is over `most`, or if it is the
+-- first number after `most` others. It is invalid if it is 0, is over the number of letters, or occurs before it.
 abbrev pub permutation_rule_within : ℕ → ℕ → Rule
 permutation_rule_within most count before a =
     when (is_wide a) literal
     ++ when (nat_lt most a || (length before == most)) range
     ++ when (is_outside count a || stands_in a before) shape
 
--- the errors of a letter of a word: 0, a number over 65,535, the 257th letter
+-- the errors of a letter of a word: it is 0, is over 65,535, or is the 257th letter
 abbrev pub letter_rule : Rule
 letter_rule before a =
     when (is_wide a) literal ++ when
     (is_outside greatest_letter a || (length before == most_letters)) range
 
--- the errors of an entry of a tableau: 0, a number over 65,535
+-- the errors of an entry of a tableau: it is 0 or over 65,535
 abbrev pub entry_rule : Rule
 entry_rule before a = when (is_wide a) literal ++ when (is_outside greatest_letter a) range
 
--- a number of an inner partition that is greater than the outer part of the same row
+-- the error of a number of an inner partition: it is greater than the outer part of the same row
 abbrev pub inside_rule : List ℕ → Rule
 inside_rule outer before a = when (nat_lt (part outer (length before + 1)) a) shape
 
--- a partition at the word
+-- the errors of a partition whose first number is word k
 abbrev pub part_offences : ℕ → List ℕ → List Offence
 part_offences k numbers = offences_by part_rule k numbers
 
--- partitions after a number of others, with a word between them, the first of which begins at the
--- word: those of each, and the word in front of the ninth
+-- the errors of the factors of a product after `count` others: the errors of each factor, and the word in front of the
+-- ninth factor. The first of them begins at word k, and there is one word between each two.
 abbrev pub factor_offences : ℕ → ℕ → List (List ℕ) → List Offence
 factor_offences count k [] = []
 factor_offences count k (numbers ∷ factors) =
@@ -175,12 +174,12 @@ factor_offences count k (numbers ∷ factors) =
     ++ part_offences k numbers
     ++ factor_offences (count + 1) (k + length numbers + 1) factors
 
--- a permutation at the word, of which at most `most` letters may be written
+-- the errors of a permutation that begins at word k and may have at most `most` letters
 abbrev pub permutation_offences_within : ℕ → ℕ → List ℕ → List Offence
 permutation_offences_within most k letters =
     offences_by (permutation_rule_within most (length letters)) k letters
 
--- a permutation at the word
+-- the errors of a permutation that begins at word k
 abbrev pub permutation_offences : ℕ → List ℕ → List Offence
 permutation_offences k letters = permutation_offences_within most_permuted k letters
 
@@ -188,11 +187,11 @@ permutation_offences k letters = permutation_offences_within most_permuted k let
 abbrev pub PlacedRow : Type 0
 PlacedRow = ℕ × List ℕ
 
--- the entries of each row by a rule
+-- the errors that the rule finds in the rows, in each row by itself
 abbrev pub row_offences : Rule → List PlacedRow → List Offence
 row_offences rule rows = flat_map (λ (row : PlacedRow). offences_by rule row.0 row.1) rows
 
--- the 257th number of a tableau, with `count` numbers in the rows before
+-- the error of the rows of a tableau after `count` other numbers: the 257th number of the tableau
 abbrev pub count_offences : ℕ → List PlacedRow → List Offence
 count_offences count [] = []
 count_offences count (row ∷ rows) =
@@ -213,8 +212,8 @@ stays (Some b) a = nat_le a b
 abbrev pub entry_above : List ℕ → ℕ → ℕ → Option ℕ
 entry_above upper c j = cond (nat_le c j) (slice_get upper (j - c)) None
 
--- the rows of a tableau whose rows begin at these columns, below a row that begins at column c: a
--- number smaller than its left neighbour, or not greater than the entry above it
+-- the errors of the rows of a tableau below the row `upper`, which begins at column c: a number that is smaller than
+-- its left neighbour, or not greater than the entry above it. The rows begin at the columns `inner`.
 abbrev pub order_offences : ℕ → List ℕ → List ℕ → List PlacedRow → List Offence
 order_offences c upper inner [] = []
 order_offences c upper inner (row ∷ rows) =
@@ -226,14 +225,14 @@ order_offences c upper inner (row ∷ rows) =
     row.1
     ++ order_offences (part inner 1) row.1 (drop 1 inner) rows
 
--- the rows below a row: a number that makes its row longer than the row above
+-- the errors of the rows below the row `upper`: a number that makes its row longer than the row above
 abbrev pub length_offences : List ℕ → List PlacedRow → List Offence
 length_offences upper [] = []
 length_offences upper (row ∷ rows) =
     offences_by (λ before a. when (nat_le (length upper) (length before)) shape) row.0 row.1
     ++ length_offences row.1 rows
 
--- a row without cells that is not the whole tableau
+-- the errors of the rows of a tableau: a row without cells, if it is not the only row
 abbrev pub empty_row_offences : List PlacedRow → List Offence
 empty_row_offences [] = []
 empty_row_offences (row ∷ []) = []
@@ -241,9 +240,8 @@ empty_row_offences (row ∷ next ∷ rows) =
     flat_map (λ (r : PlacedRow). cond (length r.1 == 0) ((r.0, 0, shape) ∷ []) [])
     (row ∷ next ∷ rows)
 
--- the rows of a tableau of `count` cells that is to be standard, below a row and after these
--- entries: a number that exceeds the number of cells, is not greater than its left neighbour or the
--- entry above, or occurs earlier in it
+-- the errors of the rows of a standard tableau of `count` cells, below the row `upper` and after the entries `earlier`:
+-- a number that exceeds `count`, is not greater than its left neighbour or the entry above it, or occurs earlier
 abbrev pub standard_offences : ℕ → List ℕ → List ℕ → List PlacedRow → List Offence
 standard_offences count earlier upper [] = []
 standard_offences count earlier upper (row ∷ rows) =
@@ -261,23 +259,22 @@ standard_offences count earlier upper (row ∷ rows) =
 abbrev pub entries : List PlacedRow → List (List ℕ)
 entries rows = map (λ (row : PlacedRow). row.1) rows
 
--- the rows of a tableau of the shape outer/inner: a single `.` is the tableau without rows if the
--- shape has no rows
+-- the rows of a tableau of the shape outer/inner: if the shape has no rows, a single `.` is the tableau without rows
 abbrev pub rows_in : List ℕ → List (List ℕ) → List (List ℕ)
 rows_in [] ([] ∷ []) = []
 rows_in outer rows = rows
 
--- the errors of a word, at their place in the command
+-- the errors in word k of the command, of which each has its byte and kind
 abbrev pub offences_in_word : ℕ → List WordOffence → List Offence
 offences_in_word k found = map (λ o. (k, o.0, o.1)) found
 
--- an expression at the word, expanded into the target
+-- the errors of an expression at word k that is expanded into the target
 abbrev pub expression_offences : ℕ → Basis → Phrase → List Offence
 expression_offences k target phrase = offences_in_word k (offences target phrase)
 
--- the errors of the two expressions of a plethysm, the first of them at this word: those of each;
--- and the length of the second, if the first has no error and the product of the two degrees
--- exceeds the limit
+-- the errors of the two expressions of a plethysm, the first of them at word k: those of each expression, and one more
+-- if the first has no error and the product of the two degrees exceeds the limit. The byte of that error is the length
+-- of the second expression.
 abbrev pub plethysm_offences : ℕ → Phrase → Phrase → List Offence
 plethysm_offences k outer inner =
     let first = offences_in_word k (offences_within plethysm_degree_limit outer) in

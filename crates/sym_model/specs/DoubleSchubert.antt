@@ -14,7 +14,7 @@ abbrev pub product_of : ℕ → List Poly → Poly
 product_of n [] = one n
 product_of n (f ∷ fs) = times f (product_of n fs)
 
--- x_i - y_j, in m variables x and m variables y
+-- the polynomial x_i - y_j, in m variables x and m variables y
 abbrev pub difference_in : ℕ → ℕ → ℕ → Poly
 difference_in i j m =
     plus (beside (variable_in i m) (one m)) (negate (beside (one m) (variable_in j m)))

@@ -13,12 +13,12 @@ pub record Entry : Type 0 where
   pub says : Written form → Command
   pub offends : Written form → List Offence
 
--- the words are of the entry's form, and say the command
+-- the words have the form of the entry, and the entry spells this command with them
 pub record SpellsBy (e : Entry) (words : List (List ℕ)) (command : Command) : Type 0 where
   pub has : Has e.form words
   pub says_it : command ≡ e.says has.written
 
--- the words spell the command
+-- the words spell the command by one of the entries
 abbrev pub SpellsCommand : List Entry → List (List ℕ) → Command → Type 0
 SpellsCommand entries words command = SomeOf (λ e. SpellsBy e words command) entries
 

@@ -17,8 +17,8 @@ pub data Tree : Type 0 where
   difference : Tree → Tree → Tree
   product : Tree → Tree → Tree
 
--- the degree: 0 of a number, the size of an atom's partition, the greater one of a sum,
--- the sum of those of a product
+-- the degree: 0 for a number or a fraction, the size of the partition for an atom, the degree of the operand for a
+-- negation, the greater of the two degrees for a sum or a difference, and their sum for a product
 abbrev pub degree : Tree → ℕ
 degree (number a) = 0
 degree (fraction a b) = 0
@@ -28,8 +28,7 @@ degree (sum e f) = max (degree e) (degree f)
 degree (difference e f) = max (degree e) (degree f)
 degree (product e f) = degree e + degree f
 
--- the nesting: 1 of a number, a fraction or an atom,
--- and one more than the greatest of the parts of the others
+-- the nesting: 1 for a number, a fraction or an atom, and otherwise 1 more than the greatest nesting of an operand
 abbrev pub nesting : Tree → ℕ
 nesting (number a) = 1
 nesting (fraction a b) = 1
@@ -43,7 +42,8 @@ nesting (product e f) = max (nesting e) (nesting f) + 1
 abbrev pub lcm : ℕ → ℕ → ℕ
 lcm a b = a / gcd a b * b
 
--- D, a number that all coefficients times it are whole: the denominators, joined as the parts are
+-- D, a common denominator of all coefficients: the least common multiple of the two for a sum or a difference, and
+-- their product for a product
 abbrev pub denominator : Tree → ℕ
 denominator (number a) = 1
 denominator (fraction a b) = b
@@ -53,7 +53,7 @@ denominator (sum e f) = lcm (denominator e) (denominator f)
 denominator (difference e f) = lcm (denominator e) (denominator f)
 denominator (product e f) = denominator e * denominator f
 
--- V, the polynomial in n variables that is D times what the expression denotes
+-- V, the polynomial in n variables that is D times the value of the expression
 abbrev pub cleared_value : Tree → ℕ → Poly
 cleared_value (number a) n = scale (pos a) (one n)
 cleared_value (fraction a b) n = scale (pos a) (one n)

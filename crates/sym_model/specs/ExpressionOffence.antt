@@ -51,7 +51,7 @@ entry_marks byte count before (word ∷ words) =
     (byte, entry count before (decimal_value word))
     ∷ entry_marks (byte + length word + 1) (count + 1) (Some (decimal_value word)) words
 
--- the marks of a phrase that begins at the byte, with `depth` parentheses open, in their order
+-- the marks of a phrase that begins at the byte, from left to right; `depth` parentheses are open in front of it
 abbrev pub marks : ℕ → ℕ → Phrase → List (ℕ × Mark)
 marks depth byte (numeral digits) = (byte, value (decimal_value digits)) ∷ []
 marks depth byte (ratio num den) =
@@ -67,7 +67,7 @@ marks depth byte (operation operator left right) =
 abbrev pub WordOffence : Type 0
 WordOffence = ℕ × OffenceKind
 
--- the error of the kind at a mark, if it is one
+-- the error of the kind at a mark, or no error
 abbrev pub offence_at : OffenceKind → ℕ × Mark → List WordOffence
 offence_at kind m = cond (is_offence m.1 kind) ((m.0, kind) ∷ []) []
 

@@ -40,14 +40,14 @@ Written (sequence f g) = Written f × Written g
 Written (either f g) = Written f ⊎ Written g
 Written (many f) = List (Written f)
 
--- the word
+-- the word of the class that this value denotes
 abbrev pub word_of : (c : Class) → WrittenWord c → List ℕ
 word_of (exact text) x = text
 word_of number digits = digits
 word_of (target bases) basis = letter basis
 word_of formula phrase = spelling phrase
 
--- the words
+-- the words of the form that this value denotes
 abbrev pub words_of : (f : Form) → Written f → List (List ℕ)
 words_of empty x = []
 words_of (word c) x = word_of c x ∷ []
@@ -66,14 +66,14 @@ abbrev pub EachOf : {A : Type 0} → (A → Type 0) → List A → Type 0
 EachOf P [] = Unit {0}
 EachOf P (x ∷ xs) = P x × EachOf P xs
 
--- a word of the class may be this
+-- the value denotes a word of the class
 abbrev pub MayBe : (c : Class) → WrittenWord c → Type 0
 MayBe (exact text) x = Unit {0}
 MayBe number digits = IsNumberWord digits
 MayBe (target bases) basis = SomeOf (λ b. basis ≡ b) bases
 MayBe formula phrase = Is expression phrase
 
--- words of the form may be these
+-- the value denotes words of the form
 abbrev pub May : (f : Form) → Written f → Type 0
 May empty x = Unit {0}
 May (word c) x = MayBe c x
@@ -82,17 +82,17 @@ May (either f g) (inl x) = May f x
 May (either f g) (inr x) = May g x
 May (many f) xs = EachOf (May f) xs
 
--- the words are of the form
+-- the words have the form
 pub record Has (f : Form) (words : List (List ℕ)) : Type 0 where
   pub written : Written f
   pub allowed : May f written
   pub spelled : words ≡ words_of f written
 
--- the words are a prefix of words of the form
+-- the words are a prefix of words that have the form
 abbrev pub Begins : Form → List (List ℕ) → Type 0
 Begins f words = (rest : List (List ℕ)) × Has f (words ++ rest)
 
--- words of the form can go on after these words with an expression
+-- after these words, words of the form can go on with an expression
 abbrev pub Awaits : Form → List (List ℕ) → Type 0
 Awaits empty words = ⊥
 Awaits (word formula) words = words ≡ []
@@ -132,7 +132,7 @@ fits reads number text = is_number_word text
 fits reads (target bases) text = is_letter_of bases text
 fits reads formula text = reads text
 
--- whether the empty list of words is of the form
+-- whether the empty list of words has the form
 abbrev pub is_skippable : Form → Bool
 is_skippable empty = true
 is_skippable (word c) = false
@@ -140,8 +140,8 @@ is_skippable (sequence f g) = is_skippable f && is_skippable g
 is_skippable (either f g) = is_skippable f || is_skippable g
 is_skippable (many f) = true
 
--- the forms of what may follow the word in words of the form that begin with it: the partial
--- derivatives (Antimirov)
+-- the forms of the words that can follow the word, if the word and they together have the form: the partial derivatives
+-- (Antimirov)
 abbrev pub derivatives : (List ℕ → Bool) → Form → List ℕ → List Form
 derivatives reads empty text = []
 derivatives reads (word c) text = cond (fits reads c text) (empty ∷ []) []
@@ -151,7 +151,7 @@ derivatives reads (sequence f g) text =
 derivatives reads (either f g) text = derivatives reads f text ++ derivatives reads g text
 derivatives reads (many f) text = map (λ h. sequence h (many f)) (derivatives reads f text)
 
--- the same for words of one of these forms
+-- the forms of the words that can follow the word, if the word and they together have one of the given forms
 abbrev pub after_word : (List ℕ → Bool) → List Form → List ℕ → List Form
 after_word reads forms text = flat_map (λ f. derivatives reads f text) forms
 
@@ -160,27 +160,27 @@ abbrev pub one_more : List Form → ℕ → ℕ
 one_more [] n = 0
 one_more (f ∷ forms) n = n + 1
 
--- the number of words that can be taken before the rest begins words of none of these forms
+-- the number of words in the longest prefix with which words of one of these forms can begin
 abbrev pub taken : (List ℕ → Bool) → List Form → List (List ℕ) → ℕ
 taken reads forms [] = 0
 taken reads forms (text ∷ words) =
     one_more (after_word reads forms text) (taken reads (after_word reads forms text) words)
 
--- whether no word is of one of these forms
+-- whether the empty list of words has one of these forms
 abbrev pub has_skippable : List Form → Bool
 has_skippable [] = false
 has_skippable (f ∷ forms) = is_skippable f || has_skippable forms
 
--- the forms of what may follow the words
+-- the forms of the words that can follow these words, if all of them together have one of the given forms
 abbrev pub after_words : (List ℕ → Bool) → List Form → List (List ℕ) → List Form
 after_words reads forms [] = forms
 after_words reads forms (text ∷ words) = after_words reads (after_word reads forms text) words
 
--- whether the words are of the form
+-- whether the words have the form
 abbrev pub are_words_of : (List ℕ → Bool) → Form → List (List ℕ) → Bool
 are_words_of reads f words = has_skippable (after_words reads (f ∷ []) words)
 
--- whether the next word may be an expression
+-- whether words of the form can begin with an expression
 abbrev pub awaits_next : Form → Bool
 awaits_next (word formula) = true
 awaits_next (sequence f g) = awaits_next f || (is_skippable f && awaits_next g)
@@ -188,12 +188,12 @@ awaits_next (either f g) = awaits_next f || awaits_next g
 awaits_next (many f) = awaits_next f
 awaits_next f = false
 
--- whether the next word may be an expression, in words of one of these forms
+-- whether words of one of these forms can begin with an expression
 abbrev pub some_awaits_next : List Form → Bool
 some_awaits_next [] = false
 some_awaits_next (f ∷ forms) = awaits_next f || some_awaits_next forms
 
--- the test decides which words are expressions
+-- the test `reads` decides which words are expressions
 pub record TellsExpressions (reads : List ℕ → Bool) : Type 0 where
   pub sound : (text : List ℕ) → reads text ≡ true → (phrase : Phrase) × SpellsPhrase text phrase
   pub complete : (text : List ℕ) (phrase : Phrase) → SpellsPhrase text phrase → reads text ≡ true
@@ -203,7 +203,7 @@ abbrev pub has_words : Class → Bool
 has_words (target []) = false
 has_words c = true
 
--- whether some words are of the form, and of each form in it
+-- whether some words have the form, and some words have each form in it
 abbrev pub can_be : Form → Bool
 can_be empty = true
 can_be (word c) = has_words c

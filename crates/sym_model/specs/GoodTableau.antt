@@ -55,8 +55,7 @@ abbrev pub good_tableaux : ℕ → List ℕ → List ℕ → List ℕ → List (
 good_tableaux k start outer inner =
     cond (nat_le (rows start) k) (filter (is_good k start outer inner) (tableaux k outer inner)) []
 
--- their column readings in increasing lexicographic order: the words with letters from 1 to k that
--- are the column reading of a good tableau
+-- the column readings of the good tableaux of outer/inner with entries from 1 to k, in increasing lexicographic order
 abbrev pub good_readings : ℕ → List ℕ → List ℕ → List ℕ → List (List ℕ)
 good_readings k start outer inner =
     let readings = map (column_reading outer inner) (good_tableaux k start outer inner) in

@@ -37,7 +37,7 @@ abbrev pub two_partitions : ℕ → List (List ℕ) → List (List ℕ) → List
 two_partitions k left right =
     part_offences k (numbers left) ++ part_offences (k + length left + 1) (numbers right)
 
--- the number of words that the row limit and the word for the one-line form take
+-- the number of words of the options `-r K` and `-m`
 abbrev pub option_words : Written (optional rows_words) → Written (optional form_words) → ℕ
 option_words limit form =
     length (words_of (optional rows_words) limit) + length (words_of (optional form_words) form)
@@ -134,20 +134,20 @@ tab_words =
     in_turn (the (codes "tab") ∷ partition_words ∷ the (codes "/") ∷ partition_words
     ∷ optional from_words ∷ [])
 
--- the column reading of the tableau after which the list begins
+-- the column reading of the tableau after `-from`, if there is one
 abbrev pub last_reading : List ℕ → List ℕ → Written (optional from_words) → Option (List ℕ)
 last_reading outer inner (inl nothing) = None
 last_reading outer inner (inr (name, tableau)) =
     Some (column_reading outer inner (rows_in outer (tableau_rows tableau)))
 
--- an error at the word `-from`, if the tableau after it is not in the list
+-- the error at the word `-from`: the tableau after it is not in the list
 abbrev pub not_listed : ℕ → List ℕ → List ℕ → Written (optional from_words) → List Offence
 not_listed k outer inner (inl nothing) = []
 not_listed k outer inner (inr (name, tableau)) =
     cond (is_lattice_tableau outer inner (rows_in outer (tableau_rows tableau))) []
     ((k, 0, shape) ∷ [])
 
--- the entries of the tableau after the word `-from`
+-- the errors of the entries of the tableau after `-from`
 abbrev pub from_entries : ℕ → Written (optional from_words) → List Offence
 from_entries k (inl nothing) = []
 from_entries k (inr (name, tableau)) = row_offences entry_rule (placed_rows (k + 1) tableau)
@@ -301,7 +301,7 @@ unrsk_words = in_turn (the (codes "unrsk") ∷ tableau_words ∷ the (codes "-")
 abbrev pub filled_offences : List PlacedRow → List Offence
 filled_offences rows = row_offences entry_rule rows ++ count_offences 0 rows
 
--- the errors of the first tableau
+-- the errors of the rows of the first tableau of `unrsk`
 abbrev pub insertion_offences : List PlacedRow → List Offence
 insertion_offences [] = []
 insertion_offences (row ∷ rows) =

@@ -62,8 +62,7 @@ with_end i k [] = (k ∷ []) ∷ []
 with_end zero k (row ∷ rows) = (row ++ k ∷ []) ∷ rows
 with_end (suc i) k (row ∷ rows) = row ∷ with_end i k rows
 
--- the tableau of a chain of shapes up to shape n: number k is in the cell by which shape k exceeds
--- the shape before it
+-- the tableau of a chain of shapes up to shape n: the number k is in the cell of shape k that shape k - 1 does not have
 abbrev pub tableau_of_chain : (ℕ → List ℕ) → ℕ → List (List ℕ)
 tableau_of_chain shape zero = []
 tableau_of_chain shape (suc k) =

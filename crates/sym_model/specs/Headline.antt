@@ -1,4 +1,4 @@
--- The headline of a command: what its text says when it is read back.
+-- The headline of a command: its text, read back, is the list of terms that the command asks for.
 use Rattle.std.specs.Prelude.{◌≡◌, ℕ, List, Some}
 use Rattle.sym_model.specs.Expansion.{Terms}
 use Rattle.sym_model.specs.Kind.{Kind, Label, label_rules}
@@ -8,8 +8,8 @@ use Rattle.sym_model.specs.Answer.{answer}
 use Rattle.sym_model.specs.Command.{Command}
 use Rattle.sym_model.specs.Target.{Meets}
 
--- the text, read back in the form that the command asks for, is a canonical list of terms, and that
--- list is what the command names
+-- the text, read back in the printed form of the command, is a canonical list of terms, and this list is the answer to
+-- the command
 pub record ReadsBack (command : Command) (text : List ℕ) : Type 0 where
   pub kind : Kind
   pub terms : Terms (Label kind)

@@ -30,8 +30,8 @@ with_step k (row ∷ p) [] = (k ∷ []) ∷ []
 with_step k (row ∷ p) (steps ∷ q) =
     cond (nat_lt (length steps) (length row)) ((steps ++ k ∷ []) ∷ q) (steps ∷ with_step k p q)
 
--- the tableaux p and q after the letters of a word are inserted into p one by one, from step k on;
--- q says at which step each cell came
+-- the tableaux p and q after the letters of a word are inserted into p one by one; the steps are numbered from k on,
+-- and q has in each new cell the number of its step
 abbrev pub inserted_from : ℕ → List ℕ → List (List ℕ) → List (List ℕ)
     → List (List ℕ) × List (List ℕ)
 inserted_from k [] p q = (p, q)

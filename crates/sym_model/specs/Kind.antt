@@ -1,4 +1,4 @@
--- The kinds of answers, and what a block of each has to know of the labels of its lines.
+-- The kinds of answers, and the rules by which a block prints and reads the labels of each kind.
 use Rattle.std.specs.Prelude.{◌≡◌, ℕ, Bool, true, false, List, [], ◌∷◌, ◌++◌, codes, decimal}
 use Rattle.std.specs.declared.cmp.Ordering.{Ordering}
 use Rattle.std.specs.declared.cmp.Ordering.TheVariants.{Equal}
@@ -57,7 +57,7 @@ after_one (first ∷ text) = text
 abbrev pub list_text : List ℕ → List ℕ
 list_text numbers = codes "  " ++ label_text numbers
 
--- the list after two spaces
+-- the list that a text has after its first two bytes, as (2,1) in `  (2,1)`
 abbrev pub list_of : List ℕ → List ℕ
 list_of text = label_of (after_two text)
 
@@ -65,7 +65,7 @@ list_of text = label_of (after_two text)
 abbrev pub pair_text : List ℕ × List ℕ → List ℕ
 pair_text pair = codes "  " ++ (label_text pair.0 ++ (codes " " ++ label_text pair.1))
 
--- the two lists on both sides of the first space (the byte 32) after two spaces
+-- the two lists of a text that are separated by the first space (the byte 32) after its first two bytes
 abbrev pub pair_of : List ℕ → List ℕ × List ℕ
 pair_of text =
     let cut = cut_at 32 (after_two text) in

@@ -61,7 +61,6 @@ pub mod Target
 pub mod ReductionSteps
 pub mod OneLine
 pub mod PrintedForm
-pub mod LargeAnswer
 pub mod ListWeight
 pub mod Plethysm
 pub mod RefusalText

@@ -28,7 +28,7 @@ abbrev pub unsigned_text : Basis → List ℕ × Fraction → List ℕ
 unsigned_text basis t =
     cond (is_unit t.1) [] (fraction_text (without_sign t.1) ++ codes "*") ++ atom_text basis t.0
 
--- whether a whole number is negative
+-- whether the integer is negative
 abbrev pub is_negative : ℤ → Bool
 is_negative (pos n) = false
 is_negative (negsuc n) = true
@@ -48,7 +48,7 @@ one_line basis (t ∷ terms) =
     cond (is_negative t.1.0) (codes "-") []
     ++ (unsigned_text basis t ++ (later_text basis terms ++ codes "\n"))
 
--- ---- read back
+-- ---- one-line forms read back as lists of terms
 
 -- whether the byte is `+` or `-` (43 and 45)
 abbrev pub is_sign : ℕ → Bool
@@ -81,7 +81,7 @@ term_of_cut (coefficient, star ∷ atom) = (numbers_in_atom atom, fraction_of co
 abbrev pub unsigned_term : List ℕ → List ℕ × Fraction
 unsigned_term text = term_of_cut (cut_at 42 text)
 
--- the term with the other sign
+-- the term with the sign of its coefficient changed
 abbrev pub negated : List ℕ × Fraction → List ℕ × Fraction
 negated t = (t.0, (neg_ℤ t.1.0, t.1.1))
 

@@ -15,8 +15,7 @@ use Rattle.sym_model.specs.Entry.{Entry, SpellsWithoutOffence, HasFirstOffence}
 use Rattle.sym_model.specs.SyntaxPlace.{IsSyntaxPlace}
 use Rattle.sym_model.specs.Answer.{Answer, IsPrintable}
 use Rattle.sym_model.specs.PrintedForm.{printed_form, answer_text_in}
-use Rattle.sym_model.specs.Target.{Meets}
-use Rattle.sym_model.specs.LargeAnswer.{HasPastCoefficient, IsHeavy}
+use Rattle.sym_model.specs.Target.{Meets, HasPastCoefficient, IsHeavy}
 use Rattle.sym_model.specs.Ending.{Ending, done, syntax, range, past}
 use Rattle.sym_model.specs.RefusalText.{refusal_line, offence_line, large_line}
 
@@ -45,7 +44,7 @@ pub record IsOffending (entries : List Entry) (words : List (List ℕ)) (text : 
 
 -- ---- commands that name an expansion
 
--- the text is an answer that is what the command names, in the form that the command asks for
+-- the text is the printed form of an answer, and this is the answer to the command
 pub record PrintsAnswer (command : Command) (text : List ℕ) : Type 0 where
   pub answer : Answer
   pub printable : IsPrintable answer
@@ -56,13 +55,13 @@ pub record PrintsAnswer (command : Command) (text : List ℕ) : Type 0 where
 abbrev pub MustBeLarge : Command → Type 0
 MustBeLarge command = HasPastCoefficient command
 
--- the answer may be refused as too large: a coefficient of its definition exceeds 2^127 - 1, or its
--- weight does
+-- the answer may be refused as too large: a coefficient of its definition exceeds 2^127 - 1, or a weight of the command
+-- does
 abbrev pub MayBeLarge : Command → Type 0
 MayBeLarge command = HasPastCoefficient command ⊎ IsHeavy command
 
--- either the answer to the command is written, and it need not be refused, or it is refused, and it
--- may be
+-- either the text is the answer to the command, and the answer need not be refused; or the text is the line of an
+-- answer that is too large, and the answer may be refused
 abbrev pub Expands : Command → List ℕ → Ending → Type 0
 Expands command text ending =
     ((MustBeLarge command → ⊥) × PrintsAnswer command text × (ending ≡ done))
@@ -75,22 +74,21 @@ abbrev pub readings_after : List ℕ → List ℕ → Option (List ℕ) → List
 readings_after outer inner None = lattice_readings outer inner
 readings_after outer inner (Some last) = later_than last (lattice_readings outer inner)
 
--- the text is the word that insertion takes to the pair of tableaux
+-- the text is the line of a word whose pair of tableaux is p and q
 pub record PrintsWord (p q : List (List ℕ)) (text : List ℕ) : Type 0 where
   pub word : List ℕ
   pub inserts : insertion_pair word ≡ (p, q)
   pub printed : text ≡ word_line word
 
--- the text is a straight tableau that slides reach from the filling
+-- the text is the line of a straight tableau that slides reach from the filling
 pub record PrintsRectified (filling : SkewFilling) (text : List ℕ) : Type 0 where
   pub straight : SkewFilling
   pub reached : IsReached filling straight
   pub printed : text ≡ tableau_line straight.rows
 
--- ---- outcomes
+-- ---- the outcomes of commands and of words
 
--- the outcome of a command whose words have no error; false for the commands that run other
--- commands
+-- the outcome of a command whose words have no error; false for the commands that run other commands
 abbrev pub Answers : Command → List ℕ → Ending → Type 0
 Answers (tab outer inner last) text ending =
     (text ≡ readings_text outer inner (readings_after outer inner last)) × (ending ≡ done)
@@ -104,8 +102,8 @@ Answers batch text ending = ⊥
 Answers (work lines seed) text ending = ⊥
 Answers command text ending = Expands command text ending
 
--- the outcome of the words, by the outcome of the commands: the refusal of the words, or the
--- outcome of the command that they spell without an error
+-- the outcome of the words, given the outcome of each command: the refusal of the words, or the outcome of the command
+-- that they spell without an error
 abbrev pub ComesOf : (Command → List ℕ → Ending → Type 0) → List Entry → List (List ℕ) → List ℕ
     → Ending → Type 0
 ComesOf answers entries words text ending =
@@ -114,6 +112,6 @@ ComesOf answers entries words text ending =
     ⊎ ((command : Command) × SpellsWithoutOffence entries words command
     × answers command text ending)
 
--- the outcomes of words that run no other commands, such as those of a line of a batch
+-- the outcome of words that run no other commands, as the words of a line of a batch
 abbrev pub IsLineOutcome : List Entry → List (List ℕ) → List ℕ → Ending → Type 0
 IsLineOutcome entries words text ending = ComesOf Answers entries words text ending

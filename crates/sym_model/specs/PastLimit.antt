@@ -13,7 +13,7 @@ use Rattle.sym_model.specs.Schubert as polynomials
 use Rattle.sym_model.specs.Stanley.{stanley_in}
 use Rattle.sym_model.specs.Products.{schur_product}
 
--- ---- coefficients
+-- ---- coefficients that exceed 2^127 - 1
 
 -- whether a whole number exceeds 2^127 - 1
 abbrev pub is_past : ℤ → Bool
@@ -32,8 +32,7 @@ pub record IsSchurCoefficientOf (f : Poly) (n : ℕ) (c : ℤ) : Type 0 where
   pub within : rows parts ≤ n
   pub is : c ≡ schur_coefficient n parts f
 
--- the number of variables in which an expansion is looked at: the number that is given, or one that
--- is enough for all labels
+-- the number of variables of an expansion: the given number, or else one that is enough for all labels
 abbrev pub variables_or : Option ℕ → ℕ → ℕ
 variables_or None enough = enough
 variables_or (Some k) enough = k
@@ -50,8 +49,8 @@ IsCoefficientOfSkew variables outer inner c =
     let n = variables_or variables (rows outer) in
     IsSchurCoefficientOf (skew_schur outer inner n) n c
 
--- c is a coefficient of the coproduct of s_shape: the Schur coefficient of s_(shape/part), for some
--- part of the shape, in as many variables as the shape has rows
+-- c is a coefficient of the coproduct of s_shape: a Schur coefficient of s_(shape/part), for some part inside the
+-- shape; the number of variables is the number of rows of the shape
 pub record IsCoproductCoefficient (shape : List ℕ) (c : ℤ) : Type 0 where
   pub part : List ℕ
   pub partition : IsPartition part
@@ -62,11 +61,11 @@ pub record IsCoproductCoefficient (shape : List ℕ) (c : ℤ) : Type 0 where
 abbrev pub IsCoefficientOfSchubert : List ℕ → ℤ → Type 0
 IsCoefficientOfSchubert w c = (exponents : List ℕ) × (c ≡ coefficient (polynomials.schubert w) exponents)
 
--- c is a coefficient of the Stanley polynomial of w in Schur polynomials of that many variables
+-- c is a coefficient of the Stanley polynomial of w in Schur polynomials of this number of variables
 abbrev pub IsCoefficientOfStanley : ℕ → List ℕ → ℤ → Type 0
 IsCoefficientOfStanley variables w c = IsSchurCoefficientOf (stanley_in w variables) variables c
 
--- ---- weights
+-- ---- weights of 2^127 or more
 
 -- some natural number with the property is 2^127 or more
 abbrev pub HasHeavy : (ℕ → Type 0) → Type 0

@@ -44,7 +44,7 @@ pub record IsKept (w : List ℕ) : Type 0 where
   pub some : 0 < length w
   pub unfixed : kept w ≡ w
 
--- v and w are inverse permutations: each takes what the other takes a place to back to that place
+-- v and w are inverse permutations: if w has the letter a at place i, then v has the letter i at place a
 pub record AreInverse (v w : List ℕ) : Type 0 where
   pub as_long : length v ≡ length w
   pub back : (i : ℕ) → 1 ≤ i → i ≤ length w → letter v (letter w i) ≡ i
@@ -101,7 +101,7 @@ exchanged i w = swapped i (i + 1) w
 abbrev pub times_swap : ℕ → ℕ → List ℕ → List ℕ
 times_swap i j w = kept (swapped i j (with_fixed j w))
 
--- those of the permutations that have exactly one inversion more than w
+-- the permutations among vs that have exactly one inversion more than w
 abbrev pub covers_among : List ℕ → List (List ℕ) → List (List ℕ)
 covers_among w vs = filter (λ v. inversions v == inversions w + 1) vs
 

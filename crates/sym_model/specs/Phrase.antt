@@ -85,7 +85,7 @@ spelling (brackets inner) = codes "(" ++ (spelling inner ++ codes ")")
 spelling (minus_first inner) = codes "-" ++ spelling inner
 spelling (operation operator left right) = spelling left ++ (sign operator ++ spelling right)
 
--- the expression that an operator makes of two
+-- the sum, difference or product of the expressions e and f, by the operator
 abbrev pub join_trees : Operator → Tree → Tree → Tree
 join_trees plus e f = sum e f
 join_trees minus e f = difference e f

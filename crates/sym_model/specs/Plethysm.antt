@@ -35,8 +35,8 @@ abbrev pub repeated_monomials : ℕ → ℕ → Poly → List (List ℕ)
 repeated_monomials d n g =
     flat_map (λ α. replicate (nat_abs (coefficient g α)) α) (exponent_lists_within n d)
 
--- f[g]: f in as many variables as g has repeated monomials, each variable replaced by one of them;
--- g is in n variables and of degree at most d
+-- f[g]: f in one variable for each repeated monomial of g, with that monomial in its place; g is in n variables and of
+-- degree at most d
 abbrev pub plethysm : (ℕ → Poly) → ℕ → ℕ → Poly → Poly
 plethysm f d n g =
     let γs = repeated_monomials d n g in

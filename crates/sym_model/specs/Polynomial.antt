@@ -55,9 +55,9 @@ join (a ∷ α) (b ∷ β) = (a + b) ∷ join α β
 abbrev pub plus : Poly → Poly → Poly
 plus f g = f ++ g
 
--- the polynomial times a whole number
-abbrev pub scale : ℤ → Poly → Poly
-scale c f = map (λ (t : Term). (t.0, c *ℤ t.1)) f
+-- a formal sum times a whole number
+abbrev pub scale : {Label : Type 0} → ℤ → List (Label × ℤ) → List (Label × ℤ)
+scale {Label = Label} c f = map (λ (t : Label × ℤ). (t.0, c *ℤ t.1)) f
 
 -- the polynomial with the sign of each coefficient turned
 abbrev pub negate : Poly → Poly
@@ -67,9 +67,9 @@ negate f = map (λ (t : Term). (t.0, neg_ℤ t.1)) f
 abbrev pub times : Poly → Poly → Poly
 times f g = flat_map (λ (s : Term). map (λ (t : Term). (join s.0 t.0, s.1 *ℤ t.1)) g) f
 
--- the sum over the terms of coefficient times the value of a test function at the exponents
-abbrev pub pair : Poly → (List ℕ → ℤ) → ℤ
-pair f φ = total (λ (t : Term). t.1 *ℤ φ t.0) f
+-- the sum over the terms of coefficient times the value of a test function at the label
+abbrev pub pair : {Label : Type 0} → List (Label × ℤ) → (Label → ℤ) → ℤ
+pair {Label = Label} f φ = total (λ (t : Label × ℤ). t.1 *ℤ φ t.0) f
 
 -- the exponent list cut or padded with zeros to n places
 abbrev pub resize : ℕ → List ℕ → List ℕ

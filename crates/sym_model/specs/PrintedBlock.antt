@@ -54,7 +54,7 @@ accepted rules text terms =
 abbrev pub read_by : {Label : Type 0} → LabelRules Label → List ℕ → Option (Terms Label)
 read_by rules text = accepted rules text (terms_of rules text)
 
--- ---- the same for expansions, whose labels are partitions and whose coefficients may be fractions
+-- ---- blocks of expansions, whose labels are partitions and whose coefficients may be fractions
 
 -- the line of a term of an expansion
 abbrev pub line_text : List ℕ × Fraction → List ℕ

@@ -15,7 +15,7 @@ use Rattle.sym_model.specs.Expansion.{schurs, Fraction, Terms, Represents, IsExp
 use Rattle.sym_model.specs.Expansion.{pair_polynomial}
 use Rattle.sym_model.specs.WholeTerms.{WholeTerms}
 
--- ---- Schur polynomials
+-- ---- products of Schur polynomials
 
 -- the product of the Schur polynomials of the factors in n variables; 1 if there is no factor
 abbrev pub schur_product : List (List ℕ) → ℕ → Poly
@@ -35,8 +35,8 @@ abbrev pub IsProductCoefficientOf : List ℕ → List ℕ → List ℕ → ℤ �
 IsProductCoefficientOf outer left right c =
     c ≡ schur_coefficient (rows outer) outer (schur_product (left ∷ right ∷ []) (rows outer))
 
--- the list of pairs is the coproduct of s_shape: its polynomial in n and k variables of their own is
--- s_shape in n + k variables
+-- the list of pairs is the coproduct of s_shape: its polynomial in n variables, and k other variables, is s_shape in n
+-- + k variables
 abbrev pub IsCoproductOf : List ℕ → Terms (List ℕ × List ℕ) → Type 0
 IsCoproductOf shape terms =
     (n k : ℕ) → Represents (pair_polynomial n k) terms (schur shape (n + k)) 1
@@ -53,7 +53,7 @@ classical_product k factors =
     (map (λ parts. (parts, schur_coefficient k parts (schur_product factors k)))
     (filter (λ parts. nat_le (rows parts) k) (partitions_of (size (map size factors)))))
 
--- ---- Schubert polynomials
+-- ---- products of Schubert polynomials
 
 -- the list of exponents is the Schubert polynomial of w, in every number of variables
 abbrev pub IsSchubertPolynomialOf : List ℕ → Terms (List ℕ) → Type 0

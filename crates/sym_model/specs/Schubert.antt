@@ -7,14 +7,14 @@ use Rattle.sym_model.specs.BetaList.{rising_pairs}
 use Rattle.sym_model.specs.Permutation.{first_ascent, exchanged}
 use Rattle.sym_model.specs.DividedDifference.{x_to, divided_difference}
 
--- the polynomial of a list w, given the polynomial g of the list without an ascent: if i is the
--- first ascent of w, it is ∂_i of the polynomial of w·s_i; at most `fuel` steps are taken
+-- divided differences of g along first ascents: if i is the first ascent of w, it is ∂_i of the same polynomial of
+-- w·s_i; if w has no ascent, it is g. At most `fuel` divided differences are taken.
 abbrev pub descended : Poly → ℕ → List ℕ → Poly
 descended g zero w = g
 descended g (suc fuel) w =
     option_map_or (λ i. divided_difference i (descended g fuel (exchanged i w))) (first_ascent w) g
 
--- the same with enough steps: each step removes one pair of letters in increasing order
+-- the divided differences of g along all first ascents of w: each step removes one pair of letters in increasing order
 abbrev pub schubert_over : Poly → List ℕ → Poly
 schubert_over g w = descended g (rising_pairs w) w
 

@@ -16,8 +16,8 @@ row_lengths [] inner = []
 row_lengths (a ∷ outer) [] = a ∷ row_lengths outer []
 row_lengths (a ∷ outer) (b ∷ inner) = (a - b) ∷ row_lengths outer inner
 
--- a filling has a word for each row, one letter for each cell;
--- these are all fillings with letters from 1 to n
+-- all fillings of rows with the given lengths: a word for each row, with a letter from 1 to n for
+-- each cell
 abbrev pub fillings_of : ℕ → List ℕ → List (List (List ℕ))
 fillings_of n [] = [] ∷ []
 fillings_of n (k ∷ lengths) =

@@ -9,9 +9,13 @@ use Rattle.sym_model.specs.BetaList.{from_beta, has_equal_entries, sorted_fallin
 abbrev pub shifted : List ℕ → List ℕ
 shifted α = join α (staircase (length α))
 
--- None if α + ρ has two equal entries, as s_α is then 0; otherwise the sign of sorting α + ρ, and
--- the partition sorted(α + ρ) - ρ
+-- None if the list α + ρ has two equal entries, as s_α is then 0; otherwise the sign of sorting it,
+-- and the partition sorted(α + ρ) - ρ
+abbrev pub straight : List ℕ → Option (ℤ × List ℕ)
+straight entries =
+    cond (has_equal_entries entries) None
+    (Some (sorting_sign entries, from_beta (sorted_falling entries)))
+
+-- the sign and the partition of α, or None
 abbrev pub straightened : List ℕ → Option (ℤ × List ℕ)
-straightened α =
-    cond (has_equal_entries (shifted α)) None
-    (Some (sorting_sign (shifted α), from_beta (sorted_falling (shifted α))))
+straightened α = straight (shifted α)

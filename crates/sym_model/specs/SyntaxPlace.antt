@@ -18,8 +18,7 @@ IsSyntaxByte entries words word byte =
     × IsLongestPrefix BeginsExpression (slice_index_or words word []) byte)
     ⊎ ((IsExpressionWord entries words word → ⊥) × (byte ≡ 0))
 
--- the words spell no command, and this is the place of the first error: the word after the longest
--- prefix that begins a command
+-- the words spell no command, and `word` and `byte` are the place of the first error: the word after the longest prefix that begins a command
 pub record IsSyntaxPlace (entries : List Entry) (words : List (List ℕ))
     (word byte : ℕ) : Type 0 where
   pub no_command : (command : Command) → SpellsCommand entries words command → ⊥

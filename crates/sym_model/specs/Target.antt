@@ -1,4 +1,6 @@
--- The answer to each command, by the polynomials that the command names.
+-- The answer to each command, defined by polynomials.
+-- When the answer to a command is too large for numbers of 128 bits: by the coefficients that its
+-- definition gives, or by a weight that bounds all that is computed.
 use Rattle.std.specs.Prelude.{ℕ, ◌+◌, Some}
 use Rattle.sym_model.specs.Schur.{skew_schur}
 use Rattle.sym_model.specs.Stanley.{stanley_in}
@@ -14,8 +16,15 @@ use Rattle.sym_model.specs.Kind.{polynomial, shifts}
 use Rattle.sym_model.specs.Answer.{Answer, answer, number_in}
 use Rattle.sym_model.specs.Command.{Command, mult, skew, coef, coprod, quantum, fusion, schubert}
 use Rattle.sym_model.specs.Command.{schubmult, expand, plethysm, dschubmult, stanley}
+use Rattle.std.specs.Prelude.{◌≡◌, ℤ}
+use Rattle.sym_model.specs.Weight as expressions
+use Rattle.sym_model.specs.Plethysm.{plethysm_weight}
+use Rattle.sym_model.specs.PastLimit.{HasPast, HasHeavy, IsCoefficientOfProduct, IsCoefficientOfSkew}
+use Rattle.sym_model.specs.PastLimit.{IsCoproductCoefficient, IsCoefficientOfSchubert}
+use Rattle.sym_model.specs.PastLimit.{IsCoefficientOfStanley, pair_weight, double_weight}
+use Rattle.sym_model.specs.ReductionSteps.{IsQuantumWeight, IsFusionWeight}
 
--- the answer is what the command names; false for a command that names no expansion
+-- the answer is the answer to the command; false for a command that asks for no expansion
 abbrev pub Meets : Command → Answer → Type 0
 Meets (mult variables one_line factors) (answer product terms) =
     ExpandsInSchurs variables (schur_product factors) terms
@@ -44,3 +53,41 @@ Meets (dschubmult u v) (answer shifts terms) = IsDoubleProductOf u v terms
 Meets (stanley variables w) (answer product terms) =
     ExpandsInSchurs (Some variables) (stanley_in w) terms
 Meets _ _ = ⊥
+
+-- c is a coefficient of the answer to the command, if the command has coefficients by definition
+abbrev pub IsDefinedCoefficient : Command → ℤ → Type 0
+IsDefinedCoefficient (mult variables one_line factors) c =
+    IsCoefficientOfProduct variables factors c
+IsDefinedCoefficient (skew variables one_line outer inner) c =
+    IsCoefficientOfSkew variables outer inner c
+IsDefinedCoefficient (coef outer left right) c = IsProductCoefficientOf outer left right c
+IsDefinedCoefficient (coprod shape) c = IsCoproductCoefficient shape c
+IsDefinedCoefficient (schubert w) c = IsCoefficientOfSchubert w c
+IsDefinedCoefficient (stanley variables w) c = IsCoefficientOfStanley variables w c
+IsDefinedCoefficient _ c = ⊥
+
+-- some coefficient of the answer to the command exceeds 2^127 - 1
+abbrev pub HasPastCoefficient : Command → Type 0
+HasPastCoefficient command = HasPast (IsDefinedCoefficient command)
+
+-- a weight of a command, if it has one. Each step weight of a quantum or fusion product is a weight, and the greatest
+-- of them is called the weight of the command.
+abbrev pub HasWeight : Command → ℕ → Type 0
+HasWeight (quantum k columns factors) weight = IsQuantumWeight k (k + columns) factors weight
+HasWeight (fusion k level factors) weight = IsFusionWeight k (k + level) factors weight
+HasWeight (schubmult u v) weight = weight ≡ pair_weight u v
+HasWeight (expand target one_line e) weight = weight ≡ expressions.weight target e
+HasWeight (plethysm target outer inner) weight =
+    weight
+    ≡ plethysm_weight
+    (expressions.numerator outer)
+    (denominator outer)
+    (degree outer)
+    (expressions.numerator inner)
+    (degree inner)
+HasWeight (dschubmult u v) weight = weight ≡ double_weight u v
+HasWeight _ weight = ⊥
+
+-- a weight of the command is 2^127 or more
+abbrev pub IsHeavy : Command → Type 0
+IsHeavy command = HasHeavy (HasWeight command)

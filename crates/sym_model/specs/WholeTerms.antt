@@ -1,7 +1,8 @@
--- Lists of terms with whole coefficients, and the polynomial of such a list.
-use Rattle.std.specs.Prelude.{◌≡◌, ℕ, ◌+◌, ℤ, pos, ◌≤ℤ◌, nat_abs, ◌==◌, Bool, ◌&&◌, cond, List, [], ◌∷◌}
+-- Lists of terms with integer coefficients, and the polynomial of such a list.
+use Rattle.std.specs.Prelude.{◌≡◌, ℕ, ◌+◌, ◌*◌, ℤ, pos, ◌≤ℤ◌, nat_abs, ◌==◌, Bool, ◌&&◌, cond}
+use Rattle.std.specs.Prelude.{List, [], ◌∷◌}
 use Rattle.std.specs.Prelude.{map, flat_map}
-use Rattle.sym_model.specs.Sum.{total, Among}
+use Rattle.sym_model.specs.Sum.{total, sum_by, Among}
 use Rattle.sym_model.specs.Polynomial.{Poly, same, scale}
 use Rattle.sym_model.specs.Expansion.{Terms, Fraction}
 
@@ -9,13 +10,12 @@ use Rattle.sym_model.specs.Expansion.{Terms, Fraction}
 abbrev pub WholeTermsOf : Type 0 → Type 0
 WholeTermsOf Label = List (Label × ℤ)
 
--- the same with partitions as labels. `coefficient terms label` is the sum of the coefficients of a
--- label; two lists are `Same` if these sums agree at every label, so collecting, zeros and order
--- make no difference.
+-- lists of partitions with whole coefficients. `coefficient terms label` is the sum of the coefficients of a label; two
+-- lists are `Same` if these sums agree at every label, so collecting, zeros and order make no difference.
 abbrev pub WholeTerms : Type 0
 WholeTerms = WholeTermsOf (List ℕ)
 
--- the sum of the coefficients of a label, by a test of whether two labels are the same
+-- the coefficient of a label: the sum of the coefficients of all terms whose label passes the test
 abbrev pub coefficient_by : {Label : Type 0} → (Label → Label → Bool) → WholeTermsOf Label → Label
     → ℤ
 coefficient_by {Label = Label} test terms label =
@@ -38,7 +38,7 @@ combined {Label = Label} polynomial terms =
 abbrev pub as_fractions : {Label : Type 0} → WholeTermsOf Label → Terms Label
 as_fractions {Label = Label} terms = map (λ (t : Label × ℤ). (t.0, (t.1, 1))) terms
 
--- each coefficient has the denominator 1
+-- each coefficient of the list has the denominator 1
 abbrev pub AreWhole : {Label : Type 0} → Terms Label → Type 0
 AreWhole [] = Unit {0}
 AreWhole (t ∷ terms) = (t.1.1 ≡ 1) × AreWhole terms
@@ -52,14 +52,17 @@ abbrev pub absolute_total : {Label : Type 0} → WholeTermsOf Label → ℕ
 absolute_total [] = 0
 absolute_total (t ∷ terms) = nat_abs t.1 + absolute_total terms
 
--- no coefficient is negative
+-- the sum of the absolute values of all coefficients, each times the weight of its label
+abbrev pub weighed : {Label : Type 0} → (Label → ℕ) → WholeTermsOf Label → ℕ
+weighed {Label = Label} weight terms = sum_by (λ (t : Label × ℤ). nat_abs t.1 * weight t.0) terms
+
+-- no coefficient of the list is negative
 abbrev pub AreCounts : {Label : Type 0} → WholeTermsOf Label → Type 0
 AreCounts {Label = Label} terms = (t : Label × ℤ) → Among t terms → pos 0 ≤ℤ t.1
 
--- each label has the property
-abbrev pub EachLabel : {Label : Type 0} → (Label → Type 0) → WholeTermsOf Label → Type 0
-EachLabel P [] = Unit {0}
-EachLabel P (t ∷ terms) = P t.0 × EachLabel P terms
+-- each label of the list has the property P
+abbrev pub HaveLabels : {Label : Type 0} → (Label → Type 0) → WholeTermsOf Label → Type 0
+HaveLabels {Label = Label} P terms = (t : Label × ℤ) → Among t terms → P t.0
 
 -- the labels, one for each term
 abbrev pub labels : {Label : Type 0} → WholeTermsOf Label → List Label

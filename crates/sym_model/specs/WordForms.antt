@@ -1,4 +1,4 @@
--- The forms of the parts that commands are made of, and what their words say.
+-- The forms of the parts of commands, and the values that their words denote.
 use Rattle.std.specs.Prelude.{ℕ, ◌+◌, Bool, true, false, cond, List, [], ◌∷◌, map, length, codes}
 use Rattle.std.specs.Prelude.{Option, Some, None}
 use Rattle.std.proofs.Common.{zero, suc, inl, inr}
@@ -9,17 +9,17 @@ use Rattle.sym_model.specs.Form.{Form, empty, word, sequence, either, many, exac
 use Rattle.sym_model.specs.Form.{words_of, taken, are_words_of}
 use Rattle.sym_model.specs.CommandOffence.{Offence, offences_by, rows_rule, PlacedRow, entries}
 
--- exactly this word
+-- the form that only the word `text` has
 abbrev pub the : List ℕ → Form
 the text = word (exact text)
 
--- one form after another
+-- the form of words of these forms, one after another
 abbrev pub in_turn : List Form → Form
 in_turn [] = empty
 in_turn (f ∷ []) = f
 in_turn (f ∷ g ∷ forms) = sequence f (in_turn (g ∷ forms))
 
--- the form, or no word
+-- the form of no word, or of words that have the form f
 abbrev pub optional : Form → Form
 optional f = either empty f
 
@@ -59,75 +59,75 @@ tableau_words = sequence row_words (many (sequence (the (codes "/")) row_words))
 abbrev pub from_words : Form
 from_words = sequence (the (codes "-from")) tableau_words
 
--- the numbers of number words
+-- the numbers that number words denote
 abbrev pub numbers : List (List ℕ) → List ℕ
 numbers digits = map decimal_value digits
 
--- the partition of number words
+-- the partition that number words denote, without zeros at the end
 abbrev pub partition : List (List ℕ) → List ℕ
 partition digits = without_last_zeros (numbers digits)
 
--- the written numbers of each factor
+-- the numbers of each factor, as they are written
 abbrev pub factor_numbers : Written factors_words → List (List ℕ)
 factor_numbers (first, (second, others)) =
     numbers first ∷ numbers second.1 ∷ map (λ (next : Written next_words). numbers next.1) others
 
--- the factors
+-- the factors, without zeros at the end
 abbrev pub factors : Written factors_words → List (List ℕ)
 factors x = map without_last_zeros (factor_numbers x)
 
--- whether the word for the one-line form is there
+-- whether the word `-m` is there
 abbrev pub is_one_line : Written (optional form_words) → Bool
 is_one_line (inl x) = false
 is_one_line (inr x) = true
 
--- the written letters of a permutation
+-- the letters of a permutation, as they are written
 abbrev pub letters : Written permutation_words → List ℕ
 letters x = numbers (x.0 ∷ x.1)
 
--- the number of rows, if it is given
+-- the number after `-r`, if it is given
 abbrev pub row_limit : Written (optional rows_words) → Option ℕ
 row_limit (inl x) = None
 row_limit (inr x) = Some (decimal_value x.1)
 
--- the errors of a number of rows
+-- the errors of the number after `-r`, if that is word k
 abbrev pub row_limit_offences : ℕ → Written (optional rows_words) → List Offence
 row_limit_offences k (inl x) = []
 row_limit_offences k (inr x) = offences_by rows_rule (k + 1) (decimal_value x.1 ∷ [])
 
--- the entries of a row
+-- the entries of a row; none for `.`
 abbrev pub row_entries : Written row_words → List ℕ
 row_entries (inl x) = []
 row_entries (inr x) = letters x
 
--- the rows that begin at the word, with a word between them
+-- the rows, of which the first begins at word k, with one word between each two
 abbrev pub placed : ℕ → List (Written row_words) → List PlacedRow
 placed k [] = []
 placed k (x ∷ xs) = (k, row_entries x) ∷ placed (k + length (words_of row_words x) + 1) xs
 
--- the rows of a tableau that begins at the word
+-- the rows of a tableau that begins at word k, each with its first word
 abbrev pub placed_rows : ℕ → Written tableau_words → List PlacedRow
 placed_rows k x = placed k (x.0 ∷ map (λ (y : Unit {0} × Written row_words). y.1) x.1)
 
--- the rows of a tableau
+-- the rows of a tableau, without their words
 abbrev pub tableau_rows : Written tableau_words → List (List ℕ)
 tableau_rows x = entries (placed_rows 0 x)
 
--- a row of this number of entries
+-- the form of a row with n entries
 abbrev pub row_of : ℕ → Form
 row_of zero = the (codes ".")
 row_of (suc zero) = word number
 row_of (suc (suc n)) = sequence (word number) (row_of (suc n))
 
--- a tableau with rows of these lengths
+-- the form of a tableau with rows of these lengths
 abbrev pub tableau_of : List ℕ → Form
 tableau_of [] = the (codes ".")
 tableau_of (n ∷ []) = row_of n
 tableau_of (n ∷ m ∷ lengths) =
     sequence (row_of n) (sequence (the (codes "/")) (tableau_of (m ∷ lengths)))
 
--- the errors of the words of a last tableau, from word k on: the first word at which they cannot go
--- on to rows of these lengths, or the number of all words if they end too early
+-- the error of the words of a last tableau, from word k on, if they do not have rows of these lengths: the first word
+-- at which they leave that form, or the place after the last word if they end too early
 abbrev pub shape_offences : ℕ → List ℕ → List (List ℕ) → List Offence
 shape_offences k lengths words =
     cond

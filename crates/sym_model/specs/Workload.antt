@@ -34,11 +34,11 @@ partition_drawn t x =
 abbrev pub code_drawn : ℕ → List ℕ
 code_drawn x = drawn 1 4 x ∷ drawn 2 3 x ∷ drawn 3 2 x ∷ 0 ∷ []
 
--- a command of one partition or permutation after another, with a word between them
+-- the words of a command with two lists of numbers: its name, the first list, a word between them, and the second list
 abbrev pub between : List ℕ → List ℕ → List ℕ → List ℕ → List (List ℕ)
 between name first sign second = name ∷ map decimal first ++ (sign ∷ map decimal second)
 
--- the words of a line, by the state after the draw that picks its kind, and that draw modulo 5
+-- the words of a line of a kind, for the state x after the draw, modulo 5, that gives the kind
 abbrev pub words_drawn : ℕ → ℕ → List (List ℕ)
 words_drawn zero x =
     between (codes "mult") (partition_drawn 3 x) (codes "-") (partition_drawn 3 (after_draws 3 x))
@@ -52,7 +52,7 @@ words_drawn kind x =
     codes "expand" ∷ codes "p" ∷ (codes "m[" ++ (numbers_text (partition_drawn 3 x) ++ codes "]"))
     ∷ []
 
--- the number of draws that a line of that kind makes after the first one
+-- the number of draws that a line of the kind makes after its first draw
 abbrev pub draws_of : ℕ → ℕ
 draws_of zero = 6
 draws_of (suc zero) = 6
@@ -68,7 +68,7 @@ line_words x = words_drawn (drawn 1 5 x) (draw x)
 abbrev pub work_line : ℕ → List ℕ
 work_line x = separated (codes " ") (line_words x)
 
--- the state after that line
+-- the state after the line that begins at the state x
 abbrev pub after_line : ℕ → ℕ
 after_line x = after_draws (suc (draws_of (drawn 1 5 x))) x
 
@@ -77,7 +77,7 @@ abbrev pub work_lines : ℕ → ℕ → List (List ℕ)
 work_lines zero x = []
 work_lines (suc n) x = work_line x ∷ work_lines n (after_line x)
 
--- the number of terms of a block: one a line; the line 0 has none
+-- the number of terms of a block: one for each line; the line `0` has none
 abbrev pub terms_in : List ℕ → ℕ
 terms_in block = cond (same block (codes "0\n")) 0 (times_in 10 block)
 

@@ -6,10 +6,12 @@ ghost use Rattle.sym_model.specs.Polynomial.{Term, Poly, Same, In, nothing, join
 ghost use Rattle.sym_model.specs.Polynomial.{times};
 ghost use Rattle.sym_model.specs.Leading.{Above, Leads};
 
-/// In n variables a polynomial whose greatest monomial, in the lexicographic order of exponent
-/// lists, has the coefficient 1 or -1 is no zero divisor, and cancels from products. The greatest
-/// monomial of a product of two such polynomials is the product of theirs. A polynomial whose
-/// first term has the coefficient 1 or -1 and is above all its other terms is led by it.
+/// Let f be a polynomial in n variables whose greatest monomial, in the lexicographic order of
+/// exponent lists, has the coefficient 1 or -1. Then f cancels from products with polynomials in n
+/// variables, and f·g is 0 only if g is 0. The greatest monomial of a product of two such
+/// polynomials is the product of their greatest monomials. If the first term of a polynomial has
+/// the coefficient 1 or -1 and its monomial is above those of all other terms, then it is the
+/// greatest monomial.
 ///
 /// Example: x₁ - x₂ leads with x₁, so from (x₁ - x₂)·g = (x₁ - x₂)·h follows g = h.
 pub fn leading_cancel_law()

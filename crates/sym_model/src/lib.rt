@@ -1,5 +1,5 @@
-//! The definitions that everything rests on, in `specs/`, one idea a file, over plain lists and
-//! whole numbers; lemmas about them, in `proofs/`; and the laws that need no other crate.
+//! The definitions of the project, in `specs/`, one idea a file, over plain lists and whole
+//! numbers; lemmas about them, in `proofs/`; and the laws that need no other crate.
 //!
 //! A law function has an empty body: its contract is the law.
 //!

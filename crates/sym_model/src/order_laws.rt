@@ -1,4 +1,4 @@
-//! The orders of the places are listed whole.
+//! The list of the orders of the places is complete, and has no repeats.
 
 ghost use Rattle.std.specs.Prelude.{◌≡◌, ℕ, ◌↔◌, List, length};
 ghost use Rattle.sym_model.specs.Sum.{Among, Once, Within};

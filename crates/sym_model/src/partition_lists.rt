@@ -1,11 +1,12 @@
-//! The list of the partitions of a number.
+//! The list of the partitions of a number is complete, ordered, and without repeats.
 
 ghost use Rattle.std.specs.Prelude.{◌≡◌, ◌↔◌, ℕ, List, [], ◌∷◌};
 ghost use Rattle.sym_model.specs.Sum.{Among, Once};
 ghost use Rattle.sym_model.specs.Partition.{IsPartition, size};
 ghost use Rattle.sym_model.specs.PartitionList.{partitions_of, FallsLexicographically};
 
-/// The list of the partitions of d has exactly these, each once, in decreasing lexicographic order.
+/// The list `partitions_of d` contains the partitions of d and nothing else, each once, in
+/// decreasing lexicographic order.
 pub fn partitions_of_law()
     ensures exactly { (d : ℕ) (parts : List ℕ) → Among parts (partitions_of d)
         ↔ (IsPartition parts × (size parts ≡ d)) }

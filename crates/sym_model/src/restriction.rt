@@ -1,13 +1,14 @@
-//! The polynomials of a label in different numbers of variables belong together.
+//! The polynomials of a label in different numbers of variables, related by restriction.
 
 ghost use Rattle.std.specs.Prelude.{◌≡◌, ℕ, ◌<◌, ◌≤◌, List};
 ghost use Rattle.sym_model.specs.Polynomial.{Same, nothing, restrict};
 ghost use Rattle.sym_model.specs.Partition.{ArePositive, rows};
 ghost use Rattle.sym_model.specs.Bases.{monomial, elementary, complete, power_sum};
 
-/// Restricting m, e, h or p of a label from n to k ≤ n variables gives that of k variables, and a
-/// monomial symmetric polynomial with more parts than variables is 0. The parts of a power sum are
-/// positive; the others may be any list of numbers.
+/// The polynomial m, e, h or p of a label in n variables, restricted to k ≤ n variables, is the
+/// polynomial of the label in k variables. A monomial symmetric polynomial with more parts than
+/// variables is 0. The parts of a power sum must be positive; the other labels may be any lists of
+/// numbers.
 pub fn restriction_law()
     ensures monomial { (parts : List ℕ) (k n : ℕ) → k ≤ n
         → Same (restrict k (monomial parts n)) (monomial parts k) }

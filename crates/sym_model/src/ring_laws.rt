@@ -1,4 +1,4 @@
-//! Polynomials form a ring, and restricting the variables respects it.
+//! Polynomials form a commutative ring, and restriction to fewer variables respects its operations.
 
 ghost use Rattle.std.specs.Prelude.{◌≡◌, ℕ, ℤ, ◌+ℤ◌, ◌*ℤ◌};
 ghost use Rattle.sym_model.specs.Polynomial.{Poly, Same, In, nothing, one, plus, scale, negate};

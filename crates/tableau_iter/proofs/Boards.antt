@@ -1,4 +1,4 @@
--- What a board holds, when it is made and after a letter is put on or taken off.
+-- The state of a board when it is made, and after a letter is written or removed.
 use Rattle.std.proofs.Common.{◌≡◌, ℕ, ◌+◌, ◌-◌, ◌<◌, ◌≤◌, min, ◌==◌, Bool, true, false, ◌&&◌, cond, List, [], ◌∷◌, ◌++◌, length, take, get_or, ◌∙◌, ap, ap₂, sym, refl, subst, inl, inr, arith}
 use Rattle.std.proofs.Math.ListN.{set}
 use Rattle.std.proofs.lemmas.Bool.{and_parts, cases_eq, eq-eqb, ne_eqb}
@@ -41,7 +41,7 @@ board k outer inner near start sums word n l small fits few count =
       few = omega arith;
     }
 
--- one letter more raises its number
+-- a letter that is written raises its sum by 1
 pub sums-put :
     (start sums v : List ℕ) (k a : ℕ) → rows start ≤ k → 1 ≤ a → a ≤ k → sums ≡ join start (content k v)
     → set sums (a - 1) (get_or sums (a - 1) 0 + 1) ≡ join start (content k (v ++ a ∷ []))
@@ -73,7 +73,7 @@ sums-put start sums v k a few low high e =
           )
     ])
 
--- one letter less lowers it
+-- a letter that is removed lowers its sum by 1
 pub sums-take :
     (start sums v : List ℕ) (k a : ℕ) → rows start ≤ k → 1 ≤ a → a ≤ k → sums ≡ join start (content k (v ++ a ∷ []))
     → (1 ≤ get_or sums (a - 1) 0) × (set sums (a - 1) (get_or sums (a - 1) 0 - 1) ≡ join start (content k v))
@@ -112,7 +112,7 @@ sums-take start sums v k a few low high e =
 sum-small : (start v : List ℕ) (k i : ℕ) → rows start ≤ k → i < k → get_or (join start (content k v)) i 0 ≤ size start + length v
 sum-small start v k i few h = omega (arith, sum-at start v k i few h, get_or-le-size start i, times_in-most (i + 1) v)
 
--- ---- a place of a board
+-- ---- the bounds of a letter at a place of a board
 
 pub ceiling-most : (right most word : List ℕ) (place : ℕ) → ceiling_at right most word place ≤ get_or most place 0
 ceiling-most right most word place = by (get_or right place 0 == 0)
@@ -149,7 +149,7 @@ letter-within rule counts start near sums word place a b h e =
     let low = told.0 in
     (omega arith, told.1)
 
--- ---- a letter is put on
+-- ---- a letter written to a board
 
 pub put-tells :
     (rule : Rule) (counts start : List ℕ) (near : Neighbours) (sums word : List ℕ) (place a : ℕ) → IsBoard near start sums word → place < length word
@@ -182,7 +182,7 @@ put-tells rule counts start near sums word place a b h r e =
       },
     )
 
--- ---- a letter is taken off
+-- ---- a letter removed from a board
 
 pub take-tells :
     (rule : Rule) (counts start : List ℕ) (near : Neighbours) (sums word : List ℕ) (place : ℕ) → IsBoard near start sums word → place < length word
@@ -212,9 +212,9 @@ take-tells rule counts start near sums word place b h r =
       },
     )
 
--- ---- the same, as the code reads and writes a place
+-- ---- letters written and removed, in the form in which the code reads and writes a place
 
--- the number n of a letter, and what the code reads there
+-- if the letter a fits and is written at the place, and the sum at its number is increased by 1, the board is ready at the next place
 pub put-read :
     (rule : Rule) (counts start : List ℕ) (near : Neighbours) (sums word : List ℕ) (place a n v : ℕ) (p : Position)
     → position_of rule counts start near sums word ≡ p → IsBoard near start sums word → place < length p.word
@@ -235,7 +235,7 @@ put-read rule counts start near sums word place a n v p is b h r e same read =
           (subst (λ m. IsReady (place + 1) (position_of rule counts start near (set sums (a - 1) (m + 1)) (set word place a))) (sym value) told.3),
     )
 
--- the letter a at a place, as the number n, and what the code reads at its number
+-- if the letter at the place is removed, and the sum at its number is lowered by 1, the board is ready at the place
 pub take-read :
     (rule : Rule) (counts start : List ℕ) (near : Neighbours) (sums word : List ℕ) (place a n : ℕ) (p : Position)
     → position_of rule counts start near sums word ≡ p → IsBoard near start sums word → place < length p.word
@@ -260,7 +260,7 @@ take-read rule counts start near sums word place a n p is b h r letter same =
           ),
     )
 
--- a place, as the code reads the parts of the board
+-- if the arguments are the parts of the board, `least` and `most` bound the letter at a place that is ready
 pub place-read :
     (rule : Rule) (counts start : List ℕ) (near : Neighbours) (sums word : List ℕ) (place least most : ℕ) (p : Position)
     → position_of rule counts start near sums word ≡ p → IsBoard near start sums word → place < length p.word → IsReady place p

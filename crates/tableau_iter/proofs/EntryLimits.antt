@@ -14,7 +14,7 @@ use Rattle.tableau_iter.proofs.Orders.{filling_of-reading, length-reading}
 use Rattle.tableau_iter.proofs.Membership.{listed_tells}
 use Rattle.sym_model.proofs.Tableaux.{word_tells}
 
--- a filling is that of its reading
+-- if the rows of a filling have the lengths of outer/inner, the filling with its column reading is the filling itself
 pub filling_back : (outer inner : List ℕ) (rows : List (List ℕ)) → Falls outer → map length rows ≡ row_lengths outer inner
     → filling_of outer inner (column_reading outer inner rows) ≡ rows
 filling_back outer inner rows f l =

@@ -47,7 +47,7 @@ all_fit-from fits front (a ∷ w) h =
     (all_fit-from fits (front ++ a ∷ []) w
     (λ p l. ap (λ l. fits l (get_or w p 0)) (append_assoc front (a ∷ []) (take p w)) ∙ h (suc p) (omega arith)))
 
--- ---- a letter between its floor and its ceiling, seen from the front
+-- ---- a letter is greater than its floor and at most its ceiling, which depend on the letters before it
 
 front-length : (w : List ℕ) (p : ℕ) → p < length w → length (take p w) ≡ p
 front-length w p h = omega (arith, length-take p w)
@@ -92,9 +92,9 @@ front-stands near w p h a r e =
     let high = leb-true (get_or w p 0) (ceiling_at near.right near.most (take p w) (length (take p w))) parts.1 in
     (omega (arith, low, floor-front near.above w p h a), omega (arith, high, ceiling-front near.right near.most w p h r))
 
--- ---- the three tests
+-- ---- the three tests of words
 
--- what is known of a shape, its neighbours and a word in it
+-- outer/inner is a skew shape with these neighbours, and lines and ranks are the rows and columns of its cells in reading order
 pub record Around (k : ℕ) (outer inner lines ranks : List ℕ) (near : Neighbours) : Type 0 where
   pub outside : Falls outer
   pub inside : Falls inner
@@ -109,7 +109,7 @@ back k outer inner lines ranks near p a h =
     let count = lines-length outer inner lines ranks a.cells in
     ((a.near_cells.above.each p (omega arith)).within, (a.near_cells.right.each p (omega arith)).within)
 
--- a tableau whose letters the rule allows
+-- if w is the reading of a tableau whose letters the rule allows, its letters fit
 fits-from :
     (rule : Rule) (counts start : List ℕ) (k : ℕ) (outer inner lines ranks : List ℕ) (near : Neighbours) (w : List ℕ)
     → Around k outer inner lines ranks near → length w ≡ length (reading_cells outer inner) → AreLetters k w → is_tableau (filled_with outer inner w) ≡ true
@@ -199,7 +199,7 @@ content-fits counts k outer inner lines ranks near w a few all m =
     let letter = within-at k w p word.1 h in
     (letter.0, letter.1, told.1 p h))))
 
--- ---- the lists
+-- ---- the lists of readings
 
 pub good_readings-fits :
     (counts start : List ℕ) (k : ℕ) (outer inner lines ranks : List ℕ) (near : Neighbours) → Around k outer inner lines ranks near
@@ -240,7 +240,7 @@ content_readings-fits counts outer inner lines ranks near a all =
     ap (λ b. b && same (content (length counts) w) counts) (tableau-listed k outer inner w a.outside a.holds m)
     ∙ content-fits counts k outer inner lines ranks near w a refl all m))
 
--- where the content has another size than the shape
+-- if the numbers of a content do not add up to the number of cells, no tableau has this content
 pub no_content :
     (counts outer inner : List ℕ) → (size counts ≡ length (cells outer inner) → ⊥) → readings_with_content counts outer inner ≡ []
 no_content counts outer inner n =

@@ -1,4 +1,4 @@
--- Steps of a walk over the words of a shape: the letters up to a place stay, and what comes after them changes.
+-- Steps of a walk over the words of a shape: the letters before a place stay, and the later ones change.
 use Rattle.std.proofs.Common.{◌≡◌, ℕ, suc, ◌+◌, ◌-◌, ◌<◌, ◌≤◌, Bool, true, false, List, [], ◌∷◌, ◌++◌, length, take, drop, get_or, ◌∙◌, ap, ap₂, sym, refl, subst, inl, inr, arith}
 use Rattle.std.proofs.lemmas.Bool.{cases_lt}
 use Rattle.std.proofs.lemmas.List.{length-drop, length-take, take_more, take-take, take_all, get_or-take}
@@ -47,7 +47,7 @@ later-equal :
 later-equal t u k m f g v w a b c d =
     ap (λ t. later t k f v) a ∙ ap (λ k. later u k f v) b ∙ ap₂ (λ f v. later u m f v) c d
 
--- what begins here begins in other words
+-- if a list begins at position q, and p has the same setting and the same letters, it begins at p
 begins-as :
     (place : ℕ) (p q : Position) (list : List (List ℕ)) (front w : List ℕ) → Begins place q list
     → passes q ≡ passes p → q.setting.letters ≡ p.setting.letters → take place q.word ≡ front → drop place q.word ≡ w
@@ -61,7 +61,7 @@ begins-from :
 begins-from place p q list front w e t k f d =
     e ∙ sym (ap₂ (λ x xs. x ∷ xs) d (later-equal (passes q) (passes p) q.setting.letters p.setting.letters (take place q.word) front (drop place q.word) w t k f d))
 
--- the letter at a place
+-- if the first letters of a word are `front` and a, then a is the letter at the next place
 letter_at : (word front : List ℕ) (place a : ℕ) → place < length word → length front ≡ place → take (place + 1) word ≡ front ++ a ∷ [] → get_or word place 0 ≡ a
 letter_at word front place a h l e =
     let next : place < place + 1 = omega arith in
@@ -72,9 +72,9 @@ letter_at word front place a h l e =
     seam [] y = refl
     seam (x ∷ xs) y = seam xs y
 
--- ---- a letter is tried
+-- ---- a letter tried at a place
 
--- the letters between two that were tried do not fit
+-- no letter b with tried < b < letter fits at the place
 skipped :
     (old : Position) (place tried letter : ℕ) (list : List (List ℕ)) → tried < letter → letter ≤ old.setting.letters
     → ((b : ℕ) → tried < b → b < letter → (fits_in old.setting) (take place old.word) b ≡ false)
@@ -138,7 +138,7 @@ tried-none old b put place tried letter list h m l skip s sp e none is =
     ∙ none)
     ∙ ap (continued (passes old) old.setting.letters (length old.word - (place + 1)) (take place old.word)) (sym up)
 
--- no letter is left that fits
+-- if no letter greater than `tried` fits at the place, no word continues with a greater letter
 pub tried-all :
     (old : Position) (place tried : ℕ) (list : List (List ℕ))
     → ((c : ℕ) → tried < c → c ≤ old.setting.letters → (fits_in old.setting) (take place old.word) c ≡ false)
@@ -152,7 +152,7 @@ tried-all old place tried list skip is = elim (cases_lt tried old.setting.letter
       ∙ continued-none (passes old) old.setting.letters (length old.word - (place + 1)) (take place old.word) old.setting.letters (omega arith)
 ]
 
--- ---- at the end of the word
+-- ---- the end of a word
 
 pub end-found :
     (old new : Position) (place : ℕ) → place ≡ length old.word → new ≡ old → passes old old.word ≡ true
@@ -180,7 +180,7 @@ more-letters old place h =
     ap (λ n. completions (passes old) old.setting.letters n (take place old.word)) count
     ∙ completions-first (passes old) old.setting.letters (length old.word - (place + 1)) (take place old.word)
 
--- ---- the next word
+-- ---- the word after the current one
 
 pub next-end :
     (old : Position) (place : ℕ) → place ≡ length old.word → later (passes old) old.setting.letters (take place old.word) (drop place old.word) ≡ []
@@ -192,7 +192,7 @@ next-end old place e =
     no_more [] e = refl
     no_more (x ∷ xs) e = absurd (omega arith)
 
--- the front with the letter at the place
+-- the first letters up to a place, with the letter there, are the first letters up to the next place
 longer_front : (word : List ℕ) (place : ℕ) → place < length word → take (place + 1) word ≡ take place word ++ get_or word place 0 ∷ []
 longer_front word place h = take_more word place 0 h
 
@@ -219,7 +219,7 @@ next-inside old new place h s found =
     (ap (later (passes old) old.setting.letters front) (drop-next old.word place h) ∙ later-same (passes old) old.setting.letters front v w a long inner)
     same (letters-same (place + 1) old new s) less.front (drop-next new.word place within ∙ ap (λ b. b ∷ w) letter)
 
--- where nothing comes next after the letter at the place
+-- if no later word has the same letters up to the place, then the later words have a greater letter there
 pub next-outside :
     (old b : Position) (place : ℕ) → place < length old.word → IsSameUpTo (place + 1) old b
     → later (passes old) old.setting.letters (take (place + 1) old.word) (drop (place + 1) old.word) ≡ []
@@ -236,7 +236,7 @@ next-outside old b place h s none =
     ∙ sym (continued-same (passes b) (passes old) b.setting.letters old.setting.letters (length b.word - (place + 1)) (length v) a (take place b.word) front
     (passes-same (place + 1) old b s) (letters-same (place + 1) old b s) (sym long) less.front)
 
--- the same where the letter at the place was taken off
+-- if the letter at a place is removed, the words after it that have the same letters before the place are unchanged
 pub next-taken :
     (old b taken : Position) (place letter : ℕ) → place < length old.word → IsSameUpTo (place + 1) old b → IsSameUpTo (place + 1) b taken
     → letter ≡ get_or b.word place 0
@@ -250,7 +250,7 @@ next-taken old b taken place letter h s u is none =
     next-outside old taken place h (IsSameUpTo-then (place + 1) old b taken s u) none
     ∙ ap (continued (passes taken) taken.setting.letters (length taken.word - (place + 1)) (take place taken.word)) (sym same)
 
--- ---- facts for one answer
+-- ---- facts from the result of one call
 
 pub from_true : (b : Bool) (P : Type 0) → OnTrue b P → b ≡ true → P
 from_true true P h e = h

@@ -19,7 +19,7 @@ use Rattle.tableau_laws.proofs.GoodReadings.{is_among-from, is_among-tells}
 use Rattle.tableau_iter.proofs.Orders.{Among-reading, length-reading, reading-whole, filling_of-reading}
 use Rattle.sym_model.specs.Bounded.{AreLetters}
 
--- ---- letters from 1 to n
+-- ---- rows whose letters are from 1 to n
 
 abbrev pub RowsWithin : ℕ → List (List ℕ) → Type 0
 RowsWithin n [] = Unit {0}
@@ -53,7 +53,7 @@ filling_from n (k ∷ lengths) (row ∷ T) l h =
     Among-each (λ row. map (λ rest. row ∷ rest) (fillings_of n lengths)) row (row ∷ T) (words n k) (word_from n k row first h.0)
     (Among-map (λ rest. row ∷ rest) T (fillings_of n lengths) (filling_from n lengths T others h.1))
 
--- ---- the letters of the filling of a word
+-- ---- the letters of the filling of a word are from 1 to n
 
 letter_within : (n i j : ℕ) (cells : List (ℕ × ℕ)) (w : List ℕ) → length w ≡ length cells → AreLetters n w → Among (i, j) cells → (1 ≤ letter_of_cell i j cells w) × (letter_of_cell i j cells w ≤ n)
 letter_within n i j [] w l h m = absurd m
@@ -104,7 +104,7 @@ length-at [] i = refl
 length-at (row ∷ rows) zero = refl
 length-at (row ∷ rows) (suc i) = length-at rows i
 
--- what stands in a cell of a filling
+-- the letter in the cell (row, column) of a filling T with the inner partition
 abbrev pub letter_of : List ℕ → List (List ℕ) → ℕ → ℕ → ℕ
 letter_of inner T row column = get_or (get_or T (row - 1) []) (column - (part inner row + 1)) 0
 
@@ -129,7 +129,7 @@ rows-by_cells outer inner T l =
     let place : j ≡ part inner (0 + i + 1) + j + 1 - (part inner (0 + i + 1) + 1) = omega arith in
     ap₂ (λ r k. get_or (get_or T r []) k 0) this place))
 
--- ---- the words of the list
+-- ---- the words of the list of readings
 
 letters_positive : (n : ℕ) (w : List ℕ) → AreLetters n w → are_letters w ≡ true
 letters_positive n [] h = refl
@@ -143,7 +143,7 @@ pub select-among : (test other : List ℕ → Bool) (xs : List (List ℕ)) → (
 select-among test other [] h = refl
 select-among test other (x ∷ xs) h = ap₂ (λ b l. cond b (x ∷ l) l) (h x (inl refl)) (select-among test other xs (λ y m. h y (inr m)))
 
--- a word among the readings of the tableaux that pass a test
+-- w is among the readings of the tableaux that pass the test if and only if its filling is a tableau and passes it
 selected-listed :
     (k : ℕ) (test : List (List ℕ) → Bool) (outer inner w : List ℕ) → Falls outer → contains outer inner ≡ true
     → Among w (words k (length (cells outer inner)))

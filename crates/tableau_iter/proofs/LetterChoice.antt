@@ -11,7 +11,8 @@ use Rattle.tableau_iter.specs.declared.rule.Rule.{Rule}
 use Rattle.tableau_iter.specs.Positions.{Position, Setting, fits_in}
 use Rattle.tableau_iter.proofs.FittingWords.{ceiling-front, floor-front}
 
--- what is known at a place
+-- the place is one of the word, its neighbours are earlier places, the sums are start plus the content of the letters before it, and `least` and
+-- `most` are its bounds
 pub record IsPlace (s : Setting) (word sums : List ℕ) (place least most : ℕ) : Type 0 where
   pub within : place < length word
   pub above_back : get_or s.near.above place 0 ≤ place
@@ -80,7 +81,7 @@ none-fits s word sums place least most tried p n b h l = elim (cases_lt least b)
   ]
 ]
 
--- a letter that fits is one of the letters
+-- if b fits at the place, it is greater than `least` and at most the number of letters
 pub fitting_letter :
     (s : Setting) (word sums : List ℕ) (place least most b : ℕ) → IsPlace s word sums place least most → fits_in s (take place word) b ≡ true
     → (least < b) × (b ≤ s.letters)
@@ -93,7 +94,7 @@ fitting_letter s word sums place least most b p e =
     let high = leb-true b most parts.1 in
     (low, omega arith)
 
--- what the search for the next letter gives, said of the letters that fit
+-- if `found` is the first letter from `from` on that the rule allows, at most `most`, it is the next letter that fits
 pub next-letter :
     (p : Position) (sums : List ℕ) (place least most tried from : ℕ) (found : Option ℕ) (rule : Rule) (counts : List ℕ) → IsPlace p.setting p.word sums place least most
     → p.setting.rule ≡ rule → p.setting.counts ≡ counts → from ≡ max tried least

@@ -1,4 +1,4 @@
--- Words with no more of each letter than there shall be, letter by letter.
+-- Words in which no letter occurs more often than its limit, letter by letter.
 use Rattle.std.proofs.Common.{◌≡◌, ℕ, zero, suc, ◌+◌, ◌-◌, ◌<◌, ◌≤◌, true, ◌==◌, cond, List, [], ◌∷◌, ◌++◌, length, take, drop, get_or, ◌∙◌, ap, ap₂, sym, refl, inl, inr, arith}
 use Rattle.std.proofs.lemmas.Bool.{cases_eq, eq-eqb, ne_eqb, lt-ltb, ltb-true}
 use Rattle.std.proofs.lemmas.List.{length-map, take_more, take_all, take-append-drop}
@@ -14,10 +14,9 @@ use Rattle.tableau_iter.specs.declared.rule.Rule.TheVariants.{Limited}
 use Rattle.tableau_iter.proofs.FrontContents.{sum-at, times_in-one}
 use Rattle.sym_model.specs.Bounded.{AreLetters}
 
--- ---- the content of a word has as many letters as the word
+-- ---- the numbers of a content add up to the length of the word
 
--- ---- numbers that are not greater, and add up to the same, are the same
-
+-- if no number of xs is greater than that of ys at the same place, the sum of xs is at most that of ys
 size-less : (xs ys : List ℕ) → length xs ≡ length ys → ((i : ℕ) → i < length xs → get_or xs i 0 ≤ get_or ys i 0) → size xs ≤ size ys
 size-less [] [] l h = omega arith
 size-less [] (y ∷ ys) l h = omega arith
@@ -35,7 +34,7 @@ same-size (x ∷ xs) (y ∷ ys) l h s =
     let rest = size-less xs ys (omega arith) (λ i m. h (suc i) (omega arith)) in
     ap₂ ◌∷◌ (omega arith) (same-size xs ys (omega arith) (λ i m. h (suc i) (omega arith)) (omega arith))
 
--- ---- letter by letter
+-- ---- numbers of occurrences, letter by letter
 
 content-at : (k i : ℕ) (w : List ℕ) → i < k → get_or (content k w) i 0 ≡ times_in (i + 1) w
 content-at k i w h =

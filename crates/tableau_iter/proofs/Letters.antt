@@ -12,7 +12,7 @@ use Rattle.tableau_iter.proofs.FrontContents.{length-sums, sum-at}
 use Rattle.tableau_iter.proofs.Walking.{all_fit-one}
 use Rattle.tableau_iter.specs.LatticeWords.{is_allowed, may_follow, is_lattice_word}
 
--- no letter yet
+-- the counts of all letters in the empty word are 0
 zeros : (a k : ℕ) → map (λ j. times_in j []) (after a k) ≡ replicate k 0
 zeros a zero = refl
 zeros a (suc k) = ap (λ xs. 0 ∷ xs) (zeros (a + 1) k)
@@ -20,7 +20,7 @@ zeros a (suc k) = ap (λ xs. 0 ∷ xs) (zeros (a + 1) k)
 pub content_nothing : (k : ℕ) → replicate k 0 ≡ content k []
 content_nothing k = sym (zeros 0 k)
 
--- the counts say whether a letter may follow
+-- the counts decide whether a letter may follow
 counts_say : (k : ℕ) (counts now v : List ℕ) (a : ℕ) → now ≡ counts → counts ≡ content k v → is_allowed (length now) now a ≡ may_follow k v a
 counts_say k counts now v a n e =
     ap (λ xs. is_allowed (length xs) xs a) (n ∙ e) ∙ ap (λ m. is_allowed m (content k v) a) (length-sums [] v k (omega arith))
@@ -35,7 +35,7 @@ refused k w counts now p h n e f =
     never (is_lattice_word k w)
     (λ t. true≢false (sym (all_fit-at (may_follow k) [] w p t h) ∙ sym (counts_say k counts now (take p w) (get_or w p 0) n e) ∙ f))
 
--- a letter that may follow
+-- the letter at place p of w is one from 1 to k, its count is below the length of w, and the counts are those of the letters before it
 pub record IsNext (k : ℕ) (w counts : List ℕ) (p : ℕ) : Type 0 where
   pub low : 1 ≤ get_or w p 0
   pub high : get_or w p 0 ≤ k

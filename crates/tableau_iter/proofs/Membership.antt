@@ -1,4 +1,4 @@
--- Which fillings are in the list of the lattice tableaux.
+-- The fillings in the list of the lattice tableaux.
 use Rattle.std.proofs.Common.{◌≡◌, ℕ, suc, ◌<◌, ◌≤◌, Bool, true, false, ◌&&◌, cond, nat_le, List, [], ◌∷◌, map, length, take, get_or, ◌∙◌, ap, ap₂, sym, refl, arith, filter}
 use Rattle.std.proofs.lemmas.Bool.{and_parts, le-leb, leb-true, true≢false, false_from_ne_true}
 use Rattle.sym_model.specs.Sum.{Among}
@@ -24,7 +24,7 @@ use Rattle.tableau_iter.specs.LatticeWords.{is_lattice_word, may_follow}
 use Rattle.sym_model.specs.Bounded.{AreLetters}
 use Rattle.sym_model.proofs.Tableaux.{word_tells}
 
--- a word is in the list where it is a word over the letters and the reading of a good tableau
+-- if w is among the lattice readings, it is a word in letters from 1 to the number of rows and the column reading of a good tableau
 pub listed_tells : (outer inner w : List ℕ) → is_among w (lattice_readings outer inner) ≡ true
     → Among w (words (length outer) (length (cells outer inner))) × (is_among w (map (column_reading outer inner) (good_tableaux (length outer) [] outer inner)) ≡ true)
 listed_tells outer inner w h =
@@ -38,7 +38,7 @@ listed_from outer inner w m h =
     (Among-select (λ v. is_among v (map (column_reading outer inner) (good_tableaux (length outer) [] outer inner))) w
     (words (length outer) (length (cells outer inner))) m h)
 
--- where the inner shape is not contained in the outer one there is none
+-- if the outer shape does not contain the inner one, no word is listed
 pub none_outside : (outer inner w : List ℕ) → contains outer inner ≡ false → is_among w (lattice_readings outer inner) ≡ false
 none_outside outer inner w n =
     false_from_ne_true (is_among w (lattice_readings outer inner))
@@ -61,13 +61,13 @@ none_outside outer inner w n =
         n
         ∙ empty (nat_le 0 (length outer))
 
--- what is told of the list by the filling
+-- w is listed if and only if its filling is a tableau, and is good
 listed_is : (outer inner w : List ℕ) → Falls outer → contains outer inner ≡ true → Among w (words (length outer) (length (cells outer inner)))
     → is_among w (map (column_reading outer inner) (good_tableaux (length outer) [] outer inner))
     ≡ (is_tableau (filled_with outer inner w) && is_good (length outer) [] outer inner (filling_of outer inner w))
 listed_is outer inner w f c m = good-listed (length outer) [] outer inner w f c (omega arith) m
 
--- no filling that is no tableau
+-- a filling that is not a tableau is not listed
 pub none_disordered : (outer inner w : List ℕ) → Falls outer → contains outer inner ≡ true → is_tableau (filled_with outer inner w) ≡ false
     → is_among w (lattice_readings outer inner) ≡ false
 none_disordered outer inner w f c n =
@@ -101,7 +101,7 @@ lattice_good outer inner w l e =
     (λ n h. falls_at-from (length outer) [] w n (omega arith) (λ i. omega arith)
     (λ p q. let t = letter_at (length outer) w p e q in (t.1, t.2)) h)
 
--- a tableau is in the list exactly where its reading is a lattice word
+-- a tableau is listed if and only if its column reading is a lattice word
 pub lattice_listed : (outer inner w : List ℕ) → Falls outer → Falls inner → contains outer inner ≡ true → length w ≡ length (cells outer inner)
     → is_tableau (filled_with outer inner w) ≡ true → is_lattice_word (length outer) w ≡ is_among w (lattice_readings outer inner)
 lattice_listed outer inner w f g c l t =

@@ -17,7 +17,7 @@ use Rattle.skew_shapes.proofs.CellRows.{map_after-at, row_of-rows_by, cell_row}
 use Rattle.skew_shapes.proofs.RowOrder.{tests-rows}
 use Rattle.tableau_iter.proofs.Orders.{Once-reading, letters-front, reading_cell}
 
--- ---- tests at a place
+-- ---- tests of consecutive numbers, one by one
 
 pub every_after-at : (test : ℕ → Bool) (a k i : ℕ) → every test (after a k) ≡ true → i < k → test (a + i + 1) ≡ true
 every_after-at test a zero i e h = absurd (omega arith)
@@ -40,7 +40,7 @@ row_rises-at (a ∷ []) k e h = absurd (omega arith)
 row_rises-at (a ∷ b ∷ w) zero e h = leb-true a b (and_parts (leb a b) (row_rises (b ∷ w)) e).0
 row_rises-at (a ∷ b ∷ w) (suc k) e h = row_rises-at (b ∷ w) k (and_parts (leb a b) (row_rises (b ∷ w)) e).1 (omega arith)
 
--- ---- neighbours in a tableau
+-- ---- neighbouring cells in a tableau
 
 row_passes-at :
     (f : ℕ → ℕ → ℕ) (outer inner : List ℕ) (i : ℕ) → (are_letters (letters_of (rows_by f outer inner)) && semistandard inner (rows_by f outer inner)) ≡ true
@@ -120,7 +120,7 @@ right-at_least f outer inner i j e c d =
       at-row_by f outer inner i (j + 1) (suc k) out' in'' (omega arith),
     )
 
--- ---- the letters of the word
+-- ---- the letters of a word by the places of their cells
 
 pub get-map : (g : ℕ × ℕ → ℕ) (xs : List (ℕ × ℕ)) (q : ℕ) (d : ℕ × ℕ) → q < length xs → get_or (map g xs) q 0 ≡ g (get_or xs q d)
 get-map g [] q d h = absurd (omega arith)
@@ -164,7 +164,7 @@ is_cell outer inner q i j h e =
     reading_cell outer inner (i, j)
     (subst (λ (c : ℕ × ℕ). Among c (reading_cells outer inner)) e (Among-get (reading_cells outer inner) q (i, j) h))
 
--- ---- letters that can't stand so
+-- ---- letters that cannot be neighbours
 
 pub no_above :
     (outer inner w : List ℕ) (q p i j : ℕ) → Falls inner → length w ≡ length (reading_cells outer inner) → q < length w → p < length w

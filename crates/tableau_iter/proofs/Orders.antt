@@ -15,7 +15,7 @@ use Rattle.skew_shapes.proofs.CellReadings.{each-cells, reading-rows_by}
 use Rattle.skew_shapes.proofs.CellRows.{cell_row, rows_by-ext}
 use Rattle.skew_shapes.proofs.KeptRows.{is_cell-tells}
 
--- ---- the cells of the reading
+-- ---- the cells in reading order: each cell of outer/inner is among them, once, and nothing else is
 
 pub Among-reversed : (x : ℕ) (xs : List ℕ) → Among x xs → Among x (reverse xs)
 Among-reversed x [] m = elim m [ ]
@@ -86,7 +86,7 @@ Once-reading outer inner =
     (λ x y p q e. ap (λ (c : ℕ × ℕ). c.0) e) (Once-select (reaches outer inner j) (after 0 (rows outer)) (once_after 0 (rows outer))))
     (λ x z c m n p q. sym (column_cell outer inner x c p).1 ∙ (column_cell outer inner z c q).1)
 
--- ---- the cells row by row
+-- ---- the cells listed row by row
 
 pub row_cell : (outer inner : List ℕ) (c : ℕ × ℕ) → Among c (cells outer inner) → IsCell outer inner c.0 c.1
 row_cell outer inner c m =
@@ -123,7 +123,7 @@ Once-cells outer inner =
         let inside = Among_from_map {B = ℕ × ℕ} (λ j. (i, j)) c (after (part inner i) (part outer i - part inner i)) m in
         ap (λ (d : ℕ × ℕ). d.0) inside.2
 
--- both lists have the same cells
+-- each cell of outer/inner is read once, so the length of the reading is the number of cells
 pub length-reading : (outer inner : List ℕ) → Falls outer → length (reading_cells outer inner) ≡ length (cells outer inner)
 length-reading outer inner f =
     let less = length_within (cells outer inner) (reading_cells outer inner) (Once-reading outer inner)
@@ -132,7 +132,7 @@ length-reading outer inner f =
     (λ c m. Among-reading outer inner c.0 c.1 f (row_cell outer inner c m)) in
     omega (arith, less, more)
 
--- ---- the letters of a word in cells that each stand once
+-- ---- the letters of a word in cells that are listed once
 
 other_cell : (c d : ℕ × ℕ) → (d ≡ c → ⊥) → ((c.0 == d.0) && (c.1 == d.1)) ≡ false
 other_cell c d n = elim (cases_eq c.0 d.0) [
@@ -154,7 +154,7 @@ Among-front x [] ys m = elim m [ ]
 Among-front x (y ∷ xs) ys (inl e) = inl e
 Among-front x (y ∷ xs) ys (inr m) = inr (Among-front x xs ys m)
 
--- they are the word, as far as the cells go
+-- if the letters of w are written into the listed cells, the letters of the first cells are the first letters of w
 pub letters-front :
     (front back : List (ℕ × ℕ)) (w : List ℕ) → Once (front ++ back) → length front ≤ length w
     → map (λ (c : ℕ × ℕ). letter_of_cell c.0 c.1 (front ++ back) w) front ≡ take (length front) w
@@ -168,7 +168,7 @@ letters-front (c ∷ front) back (a ∷ w) o h =
     (other_cell c d (λ e. o.0 (subst (λ x. Among x (front ++ back)) e (Among-front d front back m)))))
     ∙ letters-front front back w o.1 (omega arith))
 
--- the letters of cells that were read from them
+-- if the word has f(i, j) for each listed cell (i, j), the letter of the cell c is f of c
 pub letter-read : (f : ℕ → ℕ → ℕ) (cells : List (ℕ × ℕ)) (c : ℕ × ℕ) → Among c cells → letter_of_cell c.0 c.1 cells (map (λ (d : ℕ × ℕ). f d.0 d.1) cells) ≡ f c.0 c.1
 letter-read f [] c m = elim m [ ]
 letter-read f (d ∷ cells) c m = elim (cases_eq d.0 c.0) [
@@ -188,7 +188,7 @@ letter-read f (d ∷ cells) c m = elim (cases_eq d.0 c.0) [
     later n (inr k) r =
         ap (λ b. cond b (f d.0 d.1) (letter_of_cell c.0 c.1 cells (map (λ (d : ℕ × ℕ). f d.0 d.1) cells))) (other_cell d c n) ∙ r k
 
--- ---- the reading as prefixes of the word
+-- ---- the reading of some columns is a prefix of the word
 
 pub reading_split :
     (outer inner : List ℕ) (j : ℕ) → j ≤ columns outer
@@ -201,7 +201,7 @@ reading_split outer inner j h =
     ∙ ap (flat_map (column_cells outer inner)) (reverse-append (after 0 j) (after j (columns outer - j)))
     ∙ each-append (column_cells outer inner) (reverse (after j (columns outer - j))) (reverse (after 0 j))
 
--- the filling of a word
+-- in the filling of a word, the reading of the columns right of column j is a prefix of the word
 pub reading-prefix :
     (outer inner w : List ℕ) (j : ℕ) → j ≤ columns outer → length w ≡ length (reading_cells outer inner)
     → reading_right_of j outer inner (filling_of outer inner w) ≡ take (length (cells_right_of outer inner j)) w
@@ -226,7 +226,7 @@ reading-whole outer inner w l =
     ∙ letters-front cells [] w (subst (λ (cells : List (ℕ × ℕ)). Once cells) (sym all) (Once-reading outer inner)) few
     ∙ take_all (length cells) w (omega arith)
 
--- the filling of the column reading of a filling
+-- a filling is the filling of its column reading
 pub filling_of-reading :
     (f : ℕ → ℕ → ℕ) (outer inner : List ℕ) → Falls outer
     → filling_of outer inner (column_reading outer inner (rows_by f outer inner)) ≡ rows_by f outer inner

@@ -1,4 +1,4 @@
--- Where a cell stands in the column reading: what is read before it, and what after it.
+-- The place of a cell in the column reading, with the cells before and after it.
 use Rattle.std.proofs.Common.{◌≡◌, ℕ, zero, suc, ◌+◌, ◌-◌, ◌<◌, ◌≤◌, true, cond, leb, ltb, List, [], ◌∷◌, ◌++◌, map, length, get_or, reverse, ◌∙◌, ap, sym, refl, subst, inl, inr, arith, append_assoc, length-append, filter, flat_map}
 use Rattle.std.proofs.lemmas.Bool.{and_from, lt-ltb, le-leb}
 use Rattle.std.proofs.lemmas.List.{map-append, get_or_append_left}
@@ -14,7 +14,7 @@ use Rattle.skew_shapes.proofs.CellRows.{cell_row}
 use Rattle.tableau_iter.proofs.Orders.{Among-reversed, Once-reading, columns_far, reading_split}
 use Rattle.tableau_iter.proofs.Neighbours.{Among-get}
 
--- ---- places in a list with no cell twice
+-- ---- the place of a cell in a list without repeats
 
 pub place_among : (c : ℕ × ℕ) (cells : List (ℕ × ℕ)) → Among c cells → (q : ℕ) × (q < length cells) × ((d : ℕ × ℕ) → get_or cells q d ≡ c)
 place_among c [] m = absurd m
@@ -50,9 +50,9 @@ place_behind front rest p c o h e =
     seam [] = refl
     seam (x ∷ xs) = seam xs
 
--- ---- the reading around a cell
+-- ---- the cells read before and after a cell
 
--- what is read before the cells of column j below row r
+-- the cells that are read before the cells of column j below row r: those of the columns right of j, and those of column j in the rows 1 to r
 abbrev pub front_of : List ℕ → List ℕ → ℕ → ℕ → List (ℕ × ℕ)
 front_of outer inner j r = cells_right_of outer inner j ++ cells_above outer inner j r
 
@@ -86,7 +86,7 @@ below-cell outer inner r j c =
     ap (λ n. map {B = ℕ × ℕ} (λ row. (row, j)) (filter (reaches outer inner j) (after r n))) more
     ∙ ap (λ b. map {B = ℕ × ℕ} (λ row. (row, j)) (cond b ((r + 1) ∷ rest) rest)) (cell_reaches outer inner (r + 1) j c)
 
--- all up to column j
+-- the cells of the columns from j on are the cells read before (r + 1, j), followed by those of column j below row r
 pub right-split :
     (outer inner : List ℕ) (r j : ℕ) → Falls outer → IsCell outer inner (r + 1) j
     → cells_right_of outer inner (j - 1) ≡ front_of outer inner j r ++ cells_below outer inner j r
@@ -135,7 +135,7 @@ earlier outer inner r j p q d f c h l e g m =
     (subst (λ (l : List (ℕ × ℕ)). q < length l) around l) (subst (λ (l : List (ℕ × ℕ)). get_or l q d ≡ d) around g) in
     omega (arith, here, there)
 
--- the cell above is read before
+-- the cell above another one is read before it
 pub above_before :
     (outer inner : List ℕ) (r j p q : ℕ) → Falls outer → IsCell outer inner (r + 1) j → IsCell outer inner (r + 1 + 1) j
     → p < length (reading_cells outer inner) → q < length (reading_cells outer inner)
@@ -146,7 +146,7 @@ above_before outer inner r j p q f above c h l g e =
     (subst (λ (l : List (ℕ × ℕ)). Among (r + 1, j) l) (sym (above-reached outer inner j r (cell_reaches outer inner (r + 1) j above)))
     (Among-append_right (r + 1, j) (cells_above outer inner j r) ((r + 1, j) ∷ []) (inl refl))))
 
--- the cell on the right is read before
+-- the cell on the right of another one is read before it
 pub right_before :
     (outer inner : List ℕ) (r j p q : ℕ) → Falls outer → IsCell outer inner (r + 1) j → IsCell outer inner (r + 1) (j + 1)
     → p < length (reading_cells outer inner) → q < length (reading_cells outer inner)

@@ -1,4 +1,4 @@
--- What comes after a word in the list of the words that pass a test.
+-- The words after a given word in the list of the words that pass a test.
 use Rattle.std.proofs.Common.{◌≡◌, ◌⊎◌, ℕ, zero, suc, ◌+◌, ◌-◌, ◌<◌, ◌≤◌, Bool, true, false, ◌&&◌, cond, List, [], ◌∷◌, ◌++◌, map, length, ◌∙◌, ap, ap₂, sym, refl, inl, inr, arith, append_assoc}
 use Rattle.std.proofs.lemmas.Bool.{eq-eqb, ne_eqb}
 use Rattle.sym_model.specs.Sum.{Among}
@@ -15,7 +15,7 @@ use Rattle.tableau_iter.proofs.Walking.{completions-first, continued-next}
 use Rattle.sym_model.specs.Bounded.{AreLetters}
 use Rattle.sym_model.proofs.Tableaux.{word_tells}
 
--- ---- whether a word is in the list
+-- ---- whether a word is in a list
 
 pub not_among-completions :
     (test : List ℕ → Bool) (k n : ℕ) (w : List ℕ) → ((length w ≡ n) × AreLetters k w → ⊥) → is_among w (completions test k n []) ≡ false
@@ -27,7 +27,7 @@ not_among-completions test k n w h =
     never true f = absurd (f refl)
     never false f = refl
 
--- ---- what comes after a word
+-- ---- the words after a given word in a list
 
 later_than-append : (w : List ℕ) (xs ys : List (List ℕ)) → Among w xs → later_than w (xs ++ ys) ≡ later_than w xs ++ ys
 later_than-append w [] ys m = absurd m
@@ -81,7 +81,7 @@ later_than-continued test k n front a (suc gap) b v e h m =
     ∙ later_than-other (a + 1) b v (completions test k n (front ++ (a + 1) ∷ [])) (continued test k n front (a + 1)) apart
     ∙ later_than-continued test k n front (a + 1) gap b v (omega arith) h m
 
--- the words after one of the list, where the list is walked through
+-- the words of the list after w, one of them, are those that `later` gives
 pub later_than-completions :
     (test : List ℕ → Bool) (k n : ℕ) (front w : List ℕ) → Among w (completions test k n front)
     → later_than w (completions test k n front) ≡ later test k front w

@@ -1,4 +1,4 @@
--- What a new board lists, and what comes after a word of the list.
+-- The list of a new board, and the words after one of the list.
 use Rattle.std.proofs.Common.{◌≡◌, ℕ, ◌≤◌, Bool, true, false, List, [], ◌++◌, map, length, take, get_or, ◌∙◌, ap, ap₂, sym, refl, arith}
 use Rattle.std.proofs.lemmas.Bool.{and_parts, true≢false}
 use Rattle.sym_model.specs.Sum.{Among}
@@ -34,7 +34,7 @@ around k outer inner near s n = record {
   near_cells = n.near_cells;
 }
 
--- the list of a new board
+-- the words that pass in a new board are the readings of the tableaux of its rule
 new-list :
     (rule : Rule) (counts start : List ℕ) (k : ℕ) (outer inner : List ℕ) (p : Position) → IsNewBoard rule counts start k outer inner p
     → completions (passes p) p.setting.letters (length p.word) []
@@ -64,9 +64,9 @@ content-list counts outer inner p b all =
     new-list Limited counts [] (length counts) outer inner p b
     ∙ content_readings-fits counts outer inner b.near_in.lines b.near_in.ranks p.setting.near (around (length counts) outer inner p.setting.near b.shape b.near_in) all
 
--- ---- a word of the list
+-- ---- words in the list of a new board
 
--- its letters are within the letters
+-- each letter of a word that passes is from 1 to the number of letters
 fitting-within :
     (rule : Rule) (counts start : List ℕ) (k : ℕ) (outer inner w : List ℕ) (p : Position) → IsNewBoard rule counts start k outer inner p
     → length w ≡ length p.word → passes p w ≡ true → AreLetters p.setting.letters w
@@ -126,13 +126,13 @@ resumed-fails counts start k outer inner w p b falls few e =
     never true f = absurd (f refl)
     never false f = refl
 
--- a word of another length is not in the list
+-- if w is not as long as the shape has cells, w is not in the list
 pub wrong-length :
     (start : List ℕ) (k : ℕ) (outer inner w : List ℕ) → (length w ≡ length (cells outer inner) → ⊥) → is_among w (good_readings k start outer inner) ≡ false
 wrong-length start k outer inner w n =
     not_among-completions (λ v. is_among v (map (column_reading outer inner) (good_tableaux k start outer inner))) k (length (cells outer inner)) w (λ h. n h.0)
 
--- the same where the word stands in the board
+-- if w, a word of the list, is in the board, the words that are left are those after w in the list
 pub resumed-rest :
     (counts start : List ℕ) (k : ℕ) (outer inner w : List ℕ) (p q : Position) → IsNewBoard Falling counts start k outer inner p → Falls start → rows start ≤ k
     → length w ≡ length p.word → passes p w ≡ true → IsSameUpTo 0 p q → q.word ≡ w

@@ -1,4 +1,4 @@
--- Start plus the content of the fronts of a word.
+-- Start plus the content of the prefixes of a word.
 use Rattle.std.proofs.Common.{◌≡◌, ℕ, zero, suc, ◌+◌, ◌-◌, ◌<◌, ◌≤◌, Bool, ◌&&◌, List, [], ◌∷◌, map, length, get_or, reverse, ◌∙◌, ap, ap₂, sym, refl, arith, length-append, take, flat_map}
 use Rattle.sym_model.specs.Partition.{columns, rows, after}
 use Rattle.sym_model.specs.Polynomial.{join}
@@ -35,14 +35,14 @@ sums-join sums start word k l h e =
     e i m ∙ ap₂ (λ n j. get_or start n 0 + times_in j word) place letter)
     ∙ sym (join_after start (λ j. times_in j word) 0 k h)
 
--- ---- the ends of the columns
+-- ---- places where columns end
 
--- no number is greater than the length
+-- no number of the list is greater than n
 abbrev pub AreWithinLength : List ℕ → ℕ → Type 0
 AreWithinLength [] n = Unit {0}
 AreWithinLength (a ∷ numbers) n = (a ≤ n) × AreWithinLength numbers n
 
--- whether start plus the content of a front of the word falls
+-- whether start plus the content of the first `end` letters is weakly decreasing
 abbrev pub falls_at : ℕ → List ℕ → List ℕ → ℕ → Bool
 falls_at k start word end = is_falling (join start (content k (take end word)))
 
@@ -62,7 +62,7 @@ ends-within outer inner word l =
     omega (arith, l, ap (λ (cells : List (ℕ × ℕ)). length cells) split, length-append (cells_right_of outer inner j) rest) in
     (below 0 (omega arith), within_map g 0 (columns outer) (length word) below)
 
--- ---- the fronts that end at columns
+-- ---- the prefixes of a word that end with a column
 
 every-after : (f g : ℕ → Bool) (a k : ℕ) → ((j : ℕ) → j ≤ a + k → f j ≡ g j) → every f (after a k) ≡ every g (after a k)
 every-after f g a zero h = refl

@@ -1,4 +1,4 @@
--- The words that are the column readings of tableaux, by what stands at each place.
+-- The words that are the column readings of tableaux, by the letter at each place.
 use Rattle.std.proofs.Common.{◌≡◌, ℕ, zero, suc, ◌+◌, ◌-◌, ◌<◌, ◌≤◌, min, Bool, true, false, ◌&&◌, ◌==◌, cond, nat_lt, List, [], ◌∷◌, map, length, drop, get_or, ◌∙◌, ap, ap₂, sym, refl, subst, inl, inr, arith}
 use Rattle.std.proofs.Math.Dec.{eqb-suc-zero}
 use Rattle.std.proofs.lemmas.Bool.{cases_lt, le-leb, lt-ltb, ltb-true}
@@ -32,7 +32,7 @@ pub lines-length : (outer inner lines ranks : List ℕ) → AreCells outer inner
 lines-length outer inner lines ranks c =
     ap length c.lines_are ∙ length-map {A = ℕ × ℕ} {B = ℕ} (reading_cells outer inner) (λ (c : ℕ × ℕ). c.0)
 
--- ---- what stands at each place of a tableau
+-- ---- the letter at each place of the reading of a tableau is within its bounds
 
 floors :
     (k : ℕ) (outer inner w lines ranks : List ℕ) (near : Neighbours) (p : ℕ) → Falls inner → length w ≡ length (reading_cells outer inner)
@@ -89,7 +89,7 @@ rights k outer inner w lines ranks near p l cells n good h most =
         ] in
         subst (λ b. get_or w p 0 ≤ cond b (get_or near.most p 0) (min (get_or near.most p 0) (get_or w (suc q - 1) 0))) (sym (eqb-suc-zero q)) (omega (arith, less, most))
 
--- a letter leaves letters for the cells below
+-- the letter d cells below a letter of a tableau is greater than it by at least d
 chain :
     (above w : List ℕ) (p count d : ℕ) → ((q : ℕ) → q < length w → floor_at above w q < get_or w q 0)
     → ((d : ℕ) → d < count → (p + d + 1 < length above) × (get_or above (p + d + 1) 0 ≡ p + d + 1)) → length above ≡ length w → d ≤ count
@@ -126,7 +126,7 @@ mosts k w lines ranks near p n l within f h =
         let all = chain near.above w p (suc count) (suc count) f run (omega arith) (omega arith) in
         omega (arith, value, all, (within-at k w (p + suc count) within inside).1)
 
--- the letter at a place is greater than the one above, and not greater than the one on the right and than the greatest
+-- the letter at place p is greater than the one above, and at most the one on its right and the greatest letter for the place
 abbrev pub Stands : Neighbours → List ℕ → ℕ → Type 0
 Stands near w p = (floor_at near.above w p < get_or w p 0) × (get_or w p 0 ≤ ceiling_at near.right near.most w p)
 
@@ -140,7 +140,7 @@ stands-tableau k outer inner w lines ranks near p falls l cells n within good h 
     λ q m. floors k outer inner w lines ranks near q falls l cells n within good m in
     (f p h, rights k outer inner w lines ranks near p l cells n good h (mosts k w lines ranks near p n (omega arith) within f h))
 
--- ---- where all places are so, the word is that of a tableau
+-- ---- words whose letters fit at each place are readings of tableaux
 
 letters-from : (g : ℕ → ℕ) (a m : ℕ) → ((j : ℕ) → a < j → j ≤ a + m → 1 ≤ g j) → are_letters (map g (after a m)) ≡ true
 letters-from g a zero h = refl
@@ -180,7 +180,7 @@ every-from test a zero h = refl
 every-from test a (suc k) h =
     ap₂ (λ x y. x && y) (h (a + 1) (omega arith) (omega arith)) (every-from test (a + 1) k (λ j l r. h j (omega arith) (omega arith)))
 
--- letters of cells that rise in rows and columns
+-- f is positive on the cells, weakly increasing along the rows and strictly increasing down the columns
 pub record Rise (f : ℕ → ℕ → ℕ) (outer inner : List ℕ) : Type 0 where
   pub positive : (i j : ℕ) → IsCell outer inner i j → 1 ≤ f i j
   pub right : (r j : ℕ) → IsCell outer inner (r + 1) j → IsCell outer inner (r + 1) (j + 1) → f (r + 1) j ≤ f (r + 1) (j + 1)
@@ -242,7 +242,7 @@ rise-tableau f outer inner rise falls =
     let before : i ≡ i - 1 + 1 = omega arith in
     ap (row_passes inner T) before ∙ passes-row f outer inner (i - 1) rise falls (omega arith))
 
--- rows and columns of the cell at a place
+-- if the cell at q in the order of reading is (i, j), `lines` has i and `ranks` has j at q
 line-of :
     (outer inner lines ranks : List ℕ) (q i j : ℕ) → AreCells outer inner lines ranks → q < length (reading_cells outer inner)
     → get_or (reading_cells outer inner) q (i, j) ≡ (i, j) → (get_or lines q 0 ≡ i) × (get_or ranks q 0 ≡ j)

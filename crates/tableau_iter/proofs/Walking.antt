@@ -15,7 +15,7 @@ select-select f g (x ∷ xs) = by (f x) (select-select f g xs)
     by true e = ap (λ l. cond (g x) (x ∷ l) l) e
     by false e = e
 
--- the first letter runs over all
+-- the words of n + 1 letters with which the prefix passes are those with a first letter greater than 0
 pub completions-first :
     (test : List ℕ → Bool) (k n : ℕ) (front : List ℕ) → completions test k (suc n) front ≡ continued test k n front 0
 completions-first test k n front =
@@ -30,7 +30,7 @@ completions-first test k n front =
     (λ w. ap test (sym (append_assoc front (a ∷ []) w)))))
     ∙ ap (λ m. flat_map (λ b. map (λ w. b ∷ w) (completions test k n (front ++ b ∷ []))) (after 0 m)) all
 
--- one letter after the other
+-- for a < k, the words with a first letter greater than a are those with a + 1, followed by those with a greater one
 pub continued-next :
     (test : List ℕ → Bool) (k n : ℕ) (front : List ℕ) (a : ℕ) → a < k
     → continued test k n front a
@@ -44,7 +44,7 @@ continued-none test k n front a h =
     let count : k - a ≡ 0 = omega arith in
     ap (λ m. flat_map (λ b. map (λ w. b ∷ w) (completions test k n (front ++ b ∷ []))) (after a m)) count
 
--- where the first letter a + 1 can be continued
+-- if w is the first word after the prefix and a + 1, the words with a first letter greater than a begin with a + 1 followed by w
 pub continued-found :
     (test : List ℕ → Bool) (k n : ℕ) (front w : List ℕ) (a : ℕ) → a < k → length w ≡ n
     → completions test k n (front ++ (a + 1) ∷ []) ≡ w ∷ later test k (front ++ (a + 1) ∷ []) w
@@ -55,7 +55,7 @@ continued-found test k n front w a h l e =
     ∙ ap (λ xs. map (λ w. (a + 1) ∷ w) xs ++ continued test k n front (a + 1)) e
     ∙ ap (λ m. ((a + 1) ∷ w) ∷ (map (λ w. (a + 1) ∷ w) (later test k (front ++ (a + 1) ∷ []) w) ++ continued test k m front (a + 1))) (sym l)
 
--- where it can't
+-- if no word continues the prefix and a + 1, the words with a first letter greater than a are those with one greater than a + 1
 pub continued-passed :
     (test : List ℕ → Bool) (k n : ℕ) (front : List ℕ) (a : ℕ) → a < k → completions test k n (front ++ (a + 1) ∷ []) ≡ []
     → continued test k n front a ≡ continued test k n front (a + 1)
@@ -81,12 +81,12 @@ pub later-none : (test : List ℕ → Bool) (k : ℕ) (front : List ℕ) → lat
 unfolding later
 later-none test k front = refl
 
--- no letter is left
+-- the empty word is the only one of no letters, so it is the only completion of a prefix that passes
 pub completions-end :
     (test : List ℕ → Bool) (k : ℕ) (front : List ℕ) → test front ≡ true → completions test k 0 front ≡ [] ∷ []
 completions-end test k front e = ap (λ b. cond b ([] ∷ []) []) (ap test (append-nil front) ∙ e)
 
--- ---- letters that do not fit
+-- ---- words with a letter that does not fit
 
 pub all_fit-append :
     (fits : List ℕ → ℕ → Bool) (front v w : List ℕ) → all_fit fits front (v ++ w) ≡ (all_fit fits front v && all_fit fits (front ++ v) w)

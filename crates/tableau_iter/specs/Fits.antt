@@ -1,5 +1,5 @@
--- Which letters may come after a front of a column reading: by the cells above, on the right and
--- below, and by the content of the front.
+-- The letters that can follow a prefix of a column reading: by the neighbours of the cell above, on the right and
+-- below, and by the content of the prefix.
 use Rattle.std.specs.Prelude.{◌≡◌, ℕ, ◌+◌, ◌-◌, ◌<◌, ◌≤◌, ◌==◌, nat_lt, nat_le, min, Bool, true}
 use Rattle.std.specs.Prelude.{◌&&◌, ◌||◌, cond, slice_index, List, [], ◌∷◌, ◌++◌, map, length}
 use Rattle.sym_model.specs.Polynomial.{join}
@@ -13,44 +13,44 @@ abbrev pub all_fit : (List ℕ → ℕ → Bool) → List ℕ → List ℕ → B
 all_fit fits front [] = true
 all_fit fits front (a ∷ w) = fits front a && all_fit fits (front ++ a ∷ []) w
 
--- for each place of the reading: one more than the place of the cell above and of the cell on the
--- right, 0 where there is none; and the greatest letter that leaves letters for the cells below
+-- for each place of the reading: one more than the place of the cell above, and of the cell on the right, 0 if there is
+-- none; and the greatest letter that leaves letters for the cells below
 pub record Neighbours : Type 0 where
   pub above : List ℕ
   pub right : List ℕ
   pub most : List ℕ
 
--- the letter above, which has to be smaller
+-- the letter in the cell above, which must be smaller; 0 if there is none
 abbrev pub floor_at : List ℕ → List ℕ → ℕ → ℕ
 floor_at above word p =
     cond (slice_index above p == 0) 0 (slice_index word (slice_index above p - 1))
 
--- the least of the greatest letter and of the letter on the right, which may not be smaller
+-- the greatest letter for the place, or the letter on the right if that is smaller
 abbrev pub ceiling_at : List ℕ → List ℕ → List ℕ → ℕ → ℕ
 ceiling_at right most word p =
     cond (slice_index right p == 0) (slice_index most p)
     (min (slice_index most p) (slice_index word (slice_index right p - 1)))
 
--- whether the letter at the end of a front is between these
+-- whether the letter after a prefix is within these two bounds
 abbrev pub stands_right : Neighbours → List ℕ → ℕ → Bool
 stands_right near front a =
     nat_lt (floor_at near.above front (length front)) a
     && nat_le a (ceiling_at near.right near.most front (length front))
 
--- whether the rule allows one more of a letter where these are the numbers of the letters
+-- whether the rule allows one more letter a, given the number of each letter in `sums`
 abbrev pub allows : Rule → List ℕ → List ℕ → ℕ → Bool
 allows Free counts sums a = true
 allows Falling counts sums a =
     (a == 1) || nat_lt (slice_index sums (a - 1)) (slice_index sums (a - 2))
 allows Limited counts sums a = nat_lt (slice_index sums (a - 1)) (slice_index counts (a - 1))
 
--- both, where the numbers are start plus the content of the front, in letters from 1 to k
+-- whether a can follow the prefix: the bounds hold, and the rule allows a for start plus the content of the prefix, in
+-- letters from 1 to k
 abbrev pub fits_by : Rule → List ℕ → List ℕ → ℕ → Neighbours → List ℕ → ℕ → Bool
 fits_by rule counts start k near front a =
     stands_right near front a && allows rule counts (join start (content k front)) a
 
--- one more than the earlier place whose cell is that number of rows above and of columns right;
--- 0 where there is none
+-- `found` is one more than the earlier place whose cell is `down` rows above and `left` columns right; it is 0 if there is none
 pub record IsNeighbour (lines ranks : List ℕ) (place down left found : ℕ) : Type 0 where
   pub within : found ≤ place
   pub line : 0 < found → slice_index lines (found - 1) + down ≡ slice_index lines place
@@ -58,24 +58,24 @@ pub record IsNeighbour (lines ranks : List ℕ) (place down left found : ℕ) : 
   pub none : found ≡ 0 → (q : ℕ) → q < place → slice_index lines q + down ≡ slice_index lines place
       → slice_index ranks q ≡ slice_index ranks place + left → ⊥
 
--- these for all places
+-- for each place of the cells, `found` has the place of the neighbour as `IsNeighbour` defines it
 pub record AreNeighbours (lines ranks : List ℕ) (down left : ℕ) (found : List ℕ) : Type 0 where
   pub places : length found ≡ length lines
   pub each : (p : ℕ) → p < length lines → IsNeighbour lines ranks p down left (slice_index found p)
 
--- the next `count` places are below this one, each below the one before it
+-- each of the next `count` places has the cell below that of the place before it
 abbrev pub IsRun : List ℕ → ℕ → ℕ → Type 0
 IsRun above place count =
     (d : ℕ) → d < count → (place + d + 1 < length above)
     × (slice_index above (place + d + 1) ≡ place + d + 1)
 
--- the greatest of k letters that leaves letters for some cells below
+-- `most` is k less the number of places after `place` whose cells are each below the one before, so that letters are left for these cells
 pub record IsGreatest (k : ℕ) (above : List ℕ) (place most : ℕ) : Type 0 where
   pub count : ℕ
   pub value : most ≡ k - count
   pub run : IsRun above place count
 
--- the neighbours in a list of cells, given by their rows and columns
+-- `near` has the neighbours of the cells whose rows are `lines` and whose columns are `ranks`
 pub record AreNear (k : ℕ) (lines ranks : List ℕ) (near : Neighbours) : Type 0 where
   pub above : AreNeighbours lines ranks 1 0 near.above
   pub right : AreNeighbours lines ranks 0 1 near.right

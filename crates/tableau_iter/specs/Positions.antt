@@ -11,8 +11,8 @@ use Rattle.tableau_iter.specs.declared.rule.Rule.{Rule}
 use Rattle.tableau_iter.specs.Fits.{Neighbours, AreCells, AreNear, all_fit, fits_by}
 use Rattle.tableau_iter.specs.Walks.{later}
 
--- what says which letters fit after a front: the rule and its numbers, the start,
--- the number of letters, the neighbours
+-- the data that decide which letters fit after a prefix: the rule and its numbers, the start, the number of letters,
+-- and the neighbours
 pub record Setting : Type 0 where
   pub rule : Rule
   pub counts : List ℕ
@@ -23,35 +23,34 @@ pub record Setting : Type 0 where
 abbrev pub fits_in : Setting → List ℕ → ℕ → Bool
 fits_in s = fits_by s.rule s.counts s.start s.letters s.near
 
--- a word in a setting, and start plus the content of a front of it
+-- a word in a setting, and start plus the content of a prefix of it
 pub record Position : Type 0 where
   pub setting : Setting
   pub word : List ℕ
   pub sums : List ℕ
 
--- whether all letters of a word fit
+-- whether all letters of w fit in the setting of the position
 abbrev pub passes : Position → List ℕ → Bool
 passes p w = all_fit (fits_in p.setting) [] w
 
--- the letters up to the place fit, and the numbers are start plus their content
+-- the letters before the place fit, and the sums are start plus their content
 pub record IsReady (place : ℕ) (p : Position) : Type 0 where
   pub fits : passes p (take place p.word) ≡ true
   pub sums : p.sums ≡ join p.setting.start (content p.setting.letters (take place p.word))
 
--- two positions have one setting, words of one length, and one front up to the place
+-- two positions have the same setting, words of the same length, and the same letters before the place
 pub record IsSameUpTo (place : ℕ) (old new : Position) : Type 0 where
   pub setting : new.setting ≡ old.setting
   pub length : length new.word ≡ length old.word
   pub front : take place new.word ≡ take place old.word
 
--- the words after the front of a position, from the place on,
--- are listed as this one and then what comes after it
+-- the list is the rest of the word from the place on, and then the later words with the same letters before the place
 abbrev pub Begins : ℕ → Position → List (List ℕ) → Type 0
 Begins place p list =
     list ≡ drop place p.word ∷ later (passes p) p.setting.letters (take place p.word)
     (drop place p.word)
 
--- what a board holds
+-- the parts of a board have the sizes that its word asks for, and each neighbour is at an earlier place
 pub record IsBoard (near : Neighbours) (start sums word : List ℕ) : Type 0 where
   pub above : length near.above ≡ length word
   pub right : length near.right ≡ length word
@@ -74,14 +73,14 @@ abbrev pub position_of : Rule → List ℕ → List ℕ → Neighbours → List 
 position_of rule counts start near sums word =
     record { setting = setting_of rule counts start (length sums) near; word = word; sums = sums }
 
--- these are the neighbours in the shape, with that number of letters
+-- `near` has the neighbours of the cells of outer/inner, for k letters
 pub record IsNearIn (k : ℕ) (outer inner : List ℕ) (near : Neighbours) : Type 0 where
   pub lines : List ℕ
   pub ranks : List ℕ
   pub cells : AreCells outer inner lines ranks
   pub near_cells : AreNear k lines ranks near
 
--- a board for a shape with no letter in it
+-- the position is a board for outer/inner whose word has no letter yet
 pub record IsNewBoard (rule : Rule) (counts start : List ℕ) (k : ℕ) (outer inner : List ℕ)
     (p : Position) : Type 0 where
   pub shape : IsSkew outer inner

@@ -1,20 +1,20 @@
--- Words that pass a test, listed one after the other in rising lexicographic order: those that
--- continue a front, and what comes after a word.
+-- The words that pass a test, in increasing lexicographic order: those that continue a prefix, and those after a given
+-- word.
 use Rattle.std.specs.Prelude.{ℕ, ◌-◌, Bool, List, [], ◌∷◌, ◌++◌, map, length, filter, flat_map}
 use Rattle.sym_model.specs.Partition.{after}
 use Rattle.sym_model.specs.Schur.{words}
 
--- the words of n letters from 1 to k after a front with which it passes the test
+-- the words of n letters from 1 to k with which the prefix passes the test
 abbrev pub completions : (List ℕ → Bool) → ℕ → ℕ → List ℕ → List (List ℕ)
 completions test k n front = filter (λ w. test (front ++ w)) (words k n)
 
--- those of n + 1 letters whose first letter is greater than a
+-- the words of n + 1 letters with which the prefix passes, with a first letter greater than a
 abbrev pub continued : (List ℕ → Bool) → ℕ → ℕ → List ℕ → ℕ → List (List ℕ)
 continued test k n front a =
     flat_map (λ b. map (λ w. b ∷ w) (completions test k n (front ++ b ∷ []))) (after a (k - a))
 
--- those of the same length that come after this one: first those with the same first letter, then
--- those with a greater one
+-- the words of the same length after the given one: first those with the same first letter, then those with a greater
+-- one
 unfoldable pub later : (List ℕ → Bool) → ℕ → List ℕ → List ℕ → List (List ℕ)
 later test k front [] = []
 later test k front (a ∷ w) =

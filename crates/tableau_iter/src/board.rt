@@ -16,8 +16,8 @@ use skew_shapes::Skew;
 use std::alloc::{AllocError, Global};
 use std::marker::Model;
 
-/// For each place of the column reading one more than the place of the cell above and of the cell
-/// on the right, 0 where there is none; and the greatest letter that leaves letters for the cells
+/// For each place of the column reading, one more than the place of the cell above and of the cell
+/// on the right, 0 if there is none; and the greatest letter that leaves letters for the cells
 /// below.
 #[derive(Drop)]
 struct Near {
@@ -27,7 +27,7 @@ struct Near {
 }
 
 /// A word with a letter for each cell of a skew shape, in the order of the column reading, that is
-/// changed letter by letter; and start plus the content of its front up to a place.
+/// changed letter by letter; and start plus the content of a prefix of it.
 #[derive(Drop)]
 pub(crate) struct Board {
     rule: Rule,
@@ -52,7 +52,7 @@ impl Model for Board {
 }
 
 impl Board {
-    /// A word of zeros in the cells of the shape, none of them a letter.
+    /// A board for the shape whose word has no letter yet, only zeros.
     pub(crate) fn new(
         alloc: Global,
         shape: &Skew,
@@ -91,14 +91,14 @@ impl Board {
         self.word.len()
     }
 
-    /// The word.
+    /// The word in the cells, of which a prefix has been written.
     pub(crate) fn word(&self) -> &[u16]
         ensures { result.now ≡ self.now.word }
     {
         &self.word
     }
 
-    /// Start plus the content of a front of the word.
+    /// Start plus the content of a prefix of the word.
     pub(crate) fn sums(&self) -> &[u16]
         ensures { result.now ≡ self.now.sums }
     {
@@ -134,7 +134,7 @@ impl Board {
         allows(self.rule, &self.counts, &self.sums, letter)
     }
 
-    /// Puts a letter that fits at a place.
+    /// Writes a letter that fits at a place.
     pub(crate) fn put(&mut self, place: usize, letter: u16)
         requires place { place < length self.old.word }
         requires ready { IsReady place self.old }
@@ -147,7 +147,7 @@ impl Board {
         self.sums[usize::from(letter) - 1] += 1;
     }
 
-    /// Takes the letter at a place off.
+    /// Removes the letter at a place, and returns it.
     pub(crate) fn take_off(&mut self, place: usize) -> u16
         requires place { place < length self.old.word }
         requires ready { IsReady (place + 1) self.old }
@@ -174,7 +174,7 @@ fn near_cells(alloc: Global, shape: &Skew, letters: u16) -> Result<Near, AllocEr
     Ok(Near { above, right, most })
 }
 
-/// The start with a place for each letter.
+/// The start, with zeros up to one number for each letter.
 fn start_sums(alloc: Global, start: &[u16], letters: u16) -> Result<Vec<u16>, AllocError>
     requires { rows start.now ≤ letters }
     ensures { IfOk result (λ sums. sums.items ≡ join start.now (content letters [])) }

@@ -67,7 +67,7 @@ fn push_column(
     Ok(())
 }
 
-/// One of two numbers.
+/// `first` if `is_first` is true, otherwise `second`.
 fn chosen(is_first: bool, first: u16, second: u16) -> u16
     ensures { result ≡ cond is_first first second }
 {

@@ -1,4 +1,4 @@
-//! Why a list is not gone on with.
+//! Errors of continuing a list.
 ghost use Rattle.std.specs.Prelude.{◌≡◌};
 ghost use Rattle.tableau_iter.specs.declared.fault.ResumeFault.TheVariants.{NoMemory as no_memory};
 
@@ -6,13 +6,13 @@ use calc_base::NoMemory;
 use std::alloc::AllocError;
 use thiserror::Error;
 
-/// Why a list of tableaux is not gone on with after a word.
+/// The reason why a list of tableaux cannot be continued after a word.
 #[derive(Clone, Copy, Debug, PartialEq, Eq, Hash, Error)]
 pub enum ResumeFault {
     /// The word is not in the list.
     #[error("the word is not in the list")]
     NotInList,
-    /// Memory was refused.
+    /// Memory ran out.
     #[error("out of memory")]
     NoMemory,
 }

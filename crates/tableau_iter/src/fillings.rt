@@ -13,7 +13,7 @@ use std::alloc::Global;
 use std::marker::Model;
 
 /// The semistandard tableaux of a skew shape, all or those of one content, by their column readings
-/// in rising lexicographic order, each once: a `Lister` that works in place. Rows are weakly
+/// in increasing lexicographic order, each once: a `Lister` that works in place. Rows are weakly
 /// increasing, columns strictly (Fulton).
 #[derive(Drop)]
 pub struct Fillings {
@@ -29,9 +29,8 @@ impl Model for Fillings {
 }
 
 impl Fillings {
-    /// The semistandard tableaux of `shape` with entries from 1 to `n`,
-    /// none of them current. `n` is at most 4,096.
-    /// It fails for out of memory alone.
+    /// The semistandard tableaux of `shape` with entries from 1 to `n`, none of them current. `n`
+    /// is at most 4,096. Fails only if memory runs out.
     pub fn all(alloc: Global, shape: &Skew, n: u16) -> Result<Fillings, NoMemory>
         requires { n ≤ 4096 }
         ensures rest { IfOk result (λ f. ⟦<Fillings as Lister>⟧.rest f
@@ -44,9 +43,9 @@ impl Fillings {
         })
     }
 
-    /// The semistandard tableaux of `shape` with exactly this content, none of them current: as
-    /// many of each entry from 1 on as its numbers say, of which there are at most 4,096. It fails
-    /// for out of memory alone.
+    /// The semistandard tableaux of `shape` in which each entry i from 1 on occurs `content[i - 1]`
+    /// times, none of them current; `content` has at most 4,096 numbers. Fails only if memory runs
+    /// out.
     pub fn with_content(alloc: Global, shape: &Skew, content: &[u16]) -> Result<Fillings, NoMemory>
         requires { length content.now ≤ 4096 }
         ensures rest { IfOk result (λ f. ⟦<Fillings as Lister>⟧.rest f

@@ -22,9 +22,9 @@ use std::alloc::Global;
 use std::marker::Model;
 
 /// The good tableaux of a skew shape for a start, with entries from 1 to a number of rows, by their
-/// column readings in rising lexicographic order, each once: a `Lister` that works in place. Good
-/// is what Stembridge calls so: start plus the content of the columns from any one to the rightmost
-/// is a partition.
+/// column readings in increasing lexicographic order, each once: a `Lister` that works in place. A
+/// tableau is good (Stembridge) if, for each column, start plus the content of that column and
+/// those right of it is a partition.
 #[derive(Drop)]
 pub struct Lattice {
     walker: Walker,
@@ -39,10 +39,9 @@ impl Model for Lattice {
 }
 
 impl Lattice {
-    /// The good tableaux of `shape` for `start` with entries from 1 to `rows`,
-    /// none of them current.
-    /// `start` has at most `rows` rows, there are at most 512, and `start` and the shape have at
-    /// most 4,096 cells together. Its only error is out of memory.
+    /// The good tableaux of `shape` for `start` with entries from 1 to `rows`, none of them
+    /// current. `start` has at most `rows` rows, `rows` is at most 512, and `start` and the shape
+    /// have at most 4,096 cells together. Fails only if memory runs out.
     pub fn new(
         alloc: Global,
         shape: &Skew,
@@ -64,11 +63,10 @@ impl Lattice {
         })
     }
 
-    /// The good tableaux after the one with this column reading, none of them current;
-    /// the conditions are those of
-    /// `new`. It is refused as `NotInList` where no tableau of the list has that reading, unless
-    /// memory was refused before.
-    /// The tableaux before it are not walked through.
+    /// The good tableaux after the one with this column reading, none of them current; the
+    /// conditions are those of `new`. Fails with `NotInList` if no tableau of the list has that
+    /// reading, and with `NoMemory` only if memory runs out. The tableaux before it are not walked
+    /// through.
     pub fn resume(
         alloc: Global,
         shape: &Skew,
@@ -101,7 +99,7 @@ impl Lattice {
         })
     }
 
-    /// The start plus the content of the current tableau: a number for each entry from 1 on.
+    /// Start plus the content of the current tableau: a number for each entry from 1 on.
     pub fn content(&self) -> &[u16]
         requires { IsSome self.now.item }
         ensures { IfSome self.now.item

@@ -1,4 +1,4 @@
-//! Whether rows of numbers are a lattice tableau.
+//! A test of whether rows of numbers are a lattice tableau.
 ghost use Rattle.std.specs.Prelude.{◌≡◌, true, false, length, map, IfOk, MatchOption};
 ghost use Rattle.sym_model.specs.TableauList.{is_lattice_tableau};
 ghost use Rattle.sym_model.specs.GoodTableau.{column_reading, is_among, lattice_readings};
@@ -14,7 +14,7 @@ use partitions::Partition;
 use skew_shapes::{Skew, Tableau, TableauFault};
 use std::alloc::Global;
 
-/// Whether rows have as many numbers as those of a shape have cells.
+/// Whether the rows of numbers have the lengths of the rows of outer/inner.
 fn have_lengths(outer: &[u16], inner: &[u16], rows: &[Vec<u16>]) -> bool
     ensures { result ≡ same (map length (map (λ r. r.items) rows.now))
         (row_lengths outer.now inner.now) }
@@ -58,10 +58,10 @@ fn is_listed(alloc: Global, shape: Skew, reading: &[u16]) -> Result<bool, NoMemo
     is_lattice(alloc, letters, reading)
 }
 
-/// The column reading of the rows where they are a lattice tableau of `outer` over `inner`: rows of
-/// that shape that are semistandard, with entries from 1 to the number of rows of `outer`, and such
-/// that the content of the columns from any one to the rightmost is a partition. None where they
-/// are not. It fails for out of memory alone.
+/// The column reading of the rows if they are a lattice tableau of shape outer/inner, and otherwise
+/// `None`: the rows must have that shape and be semistandard, with entries from 1 to the number of
+/// rows of `outer`, and for each column the content of that column and those right of it must be a
+/// partition. Fails only if memory runs out.
 pub fn lattice_reading(
     alloc: Global,
     outer: &Partition,

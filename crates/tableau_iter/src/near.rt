@@ -74,7 +74,7 @@ pub(crate) fn greatest_letters(
     Ok(most)
 }
 
-/// How many of the next places are each below the one before it.
+/// The number of places that follow one after another with cells each below the one before.
 fn cells_below(above: &[u16], place: usize) -> u16
     requires place { place < length above.now }
     requires few { length above.now ≤ 4096 }
@@ -90,7 +90,7 @@ fn cells_below(above: &[u16], place: usize) -> u16
     count
 }
 
-/// The letter above the one at a place, 0 where there is none.
+/// The letter above the one at a place; 0 if there is none.
 pub(crate) fn floor(above: &[u16], word: &[u16], place: usize) -> u16
     requires place { place < length above.now }
     requires back { slice_index above.now place ≤ length word.now }
@@ -100,8 +100,7 @@ pub(crate) fn floor(above: &[u16], word: &[u16], place: usize) -> u16
     if found == 0 { 0 } else { word[found - 1] }
 }
 
-/// The least of the letter on the right of a place, where there is one,
-/// and of the greatest letter that may stand there.
+/// The greatest letter for a place, or the letter on its right if that is smaller.
 pub(crate) fn ceiling(right: &[u16], most: &[u16], word: &[u16], place: usize) -> u16
     requires place { place < length right.now }
     requires most { place < length most.now }

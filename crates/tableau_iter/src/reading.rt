@@ -10,7 +10,7 @@ ghost use Rattle.tableau_iter.specs.ReadRows.{letter_in_rows};
 use calc_base::NoMemory;
 use std::alloc::{AllocError, Global};
 
-/// The part at this place, counted from 0; 0 past the last.
+/// The part at this place, counted from 0; 0 after the last.
 pub(crate) fn part_at(parts: &[u16], place: usize) -> u16
     ensures { result ≡ part parts.now (place + 1) }
 {
@@ -25,14 +25,14 @@ fn has_cell(outer: &[u16], inner: &[u16], row: usize, column: u16) -> bool
     inner.get(row).copied().unwrap_or(0) < column && column <= outer[row]
 }
 
-/// The number at a place; 0 past the last.
+/// The number at a place; 0 after the last.
 fn number_at(numbers: &[u16], place: usize) -> u16
     ensures { result ≡ slice_index numbers.now place }
 {
     numbers.get(place).copied().unwrap_or(0)
 }
 
-/// The number of rows in the cell of this row, counted from 0, and this column.
+/// The number in the cell of this row, counted from 0, and this column.
 fn cell(rows: &[Vec<u16>], inner: &[u16], row: usize, column: u16) -> u16
     requires { row < length rows.now }
     ensures { result ≡ letter_in_rows inner.now (map (λ r. r.items) rows.now) (row + 1) column }
@@ -44,7 +44,7 @@ fn cell(rows: &[Vec<u16>], inner: &[u16], row: usize, column: u16) -> u16
     )
 }
 
-/// Puts the numbers of a column at the end of a list, from top to bottom.
+/// Appends the numbers of a column to a list, from top to bottom.
 fn push_column(
     letters: &mut Vec<u16>,
     rows: &[Vec<u16>],
@@ -67,7 +67,7 @@ fn push_column(
     Ok(())
 }
 
-/// Puts the numbers of rows at the end of a list, in the order of the column reading.
+/// Appends the numbers of rows to a list, in the order of the column reading.
 fn push_columns(
     letters: &mut Vec<u16>,
     rows: &[Vec<u16>],
@@ -88,9 +88,9 @@ fn push_columns(
     Ok(())
 }
 
-/// The column reading of a filling by its rows: the numbers of the columns from the rightmost to
-/// the leftmost, each from top to bottom. The rows have as many numbers as those of the shape have
-/// cells.
+/// The column reading of a filling, given by its rows: the numbers of the columns from the
+/// rightmost to the leftmost, each from top to bottom. The rows must have the lengths of the rows
+/// of outer/inner. Fails only if memory runs out.
 pub fn reading_of_rows(
     alloc: Global,
     outer: &[u16],

@@ -1,10 +1,10 @@
-//! What a letter has to do with the letters before it.
+//! The rule for a letter that depends on the letters before it.
 ghost use Rattle.std.specs.Prelude.{◌≡◌, ℕ, ◌<◌, ◌≤◌, false, length, MatchOption};
 ghost use Rattle.tableau_iter.specs.Fits.{allows};
 ghost use Rattle.tableau_iter.specs.NextLetters.{IsNextLetter};
 
-/// A letter may occur anywhere; or start plus content has to be a partition with it; or each letter
-/// has a number of times that it may occur.
+/// A letter may occur anywhere; or start plus content must be a partition with it; or each letter
+/// has a greatest number of occurrences.
 #[derive(Clone, Copy)]
 pub(crate) enum Rule {
     Free,
@@ -12,8 +12,8 @@ pub(crate) enum Rule {
     Limited,
 }
 
-/// Whether the rule allows one more of a letter where `sums` are the numbers of the letters and
-/// `counts` the greatest ones that may come of them.
+/// Whether the rule allows one more `letter`: `sums` has the number of each letter, and `counts`
+/// the greatest number for the rule `Limited`.
 pub(crate) fn allows(rule: Rule, counts: &[u16], sums: &[u16], letter: u16) -> bool
     requires low { 1 ≤ letter }
     requires high { letter ≤ length sums.now }

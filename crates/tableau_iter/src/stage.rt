@@ -1,7 +1,7 @@
-//! How far a lister has come.
+//! The stage of a lister of words.
 
-/// Whether the words are still to come, one is current, one was passed before the first step, or
-/// the last one was passed.
+/// Whether no word has been listed, one is current, one was passed before the first step, or the
+/// last one was passed.
 #[derive(Clone, Copy)]
 pub(crate) enum Stage {
     New,

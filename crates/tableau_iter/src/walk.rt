@@ -1,4 +1,4 @@
-//! The words whose letters all fit, one after the other: each found in place of the one before it.
+//! The words whose letters all fit, one after the other: each is written over the one before.
 ghost use Rattle.std.specs.Prelude.{◌≡◌, ◌+◌, ◌-◌, ◌<◌, ◌≤◌, true, false, [], length, take, drop};
 ghost use Rattle.std.specs.Bool.{OnTrue, OnFalse};
 ghost use Rattle.tableau_iter.specs.Positions.{Begins, IsReady, IsSameUpTo, passes};
@@ -6,7 +6,7 @@ ghost use Rattle.tableau_iter.specs.Walks.{completions, continued, later};
 
 use crate::board::Board;
 
-/// Finds the first word with these letters up to the place; false where there is none.
+/// Finds the first word with the current letters before the place; false if there is none.
 #[cycle(walk)]
 pub(crate) fn first(board: &mut Board, place: usize) -> bool
     requires place { place ≤ length board.old.word }
@@ -27,8 +27,8 @@ pub(crate) fn first(board: &mut Board, place: usize) -> bool
     first_after(board, place, 0)
 }
 
-/// Finds the first word with these letters up to the place and a greater letter than `least` there;
-/// false where there is none.
+/// Finds the first word with the current letters before the place and a letter greater than `least`
+/// there; false if there is none.
 #[cycle(walk)]
 fn first_after(board: &mut Board, place: usize, least: u16) -> bool
     requires few { length board.old.word ≤ 4096 }
@@ -56,8 +56,7 @@ fn first_after(board: &mut Board, place: usize, least: u16) -> bool
     false
 }
 
-/// Finds the word that comes next among those with these letters up to the place;
-/// false where this is the last one.
+/// Finds the next word with the current letters before the place; false if this is the last one.
 pub(crate) fn next(board: &mut Board, place: usize) -> bool
     requires place { place ≤ length board.old.word }
     requires ready { IsReady (length board.old.word) board.old }
@@ -81,7 +80,7 @@ pub(crate) fn next(board: &mut Board, place: usize) -> bool
     first_after(board, place, letter)
 }
 
-/// Puts the letters of a word one by one; false where one does not fit.
+/// Writes the letters of a word one by one; false if one of them does not fit.
 pub(crate) fn put_all(board: &mut Board, word: &[u16]) -> bool
     requires word { length word.now ≡ length board.old.word }
     requires ready { IsReady 0 board.old }

@@ -14,7 +14,7 @@ use crate::walk::{first, next};
 use calc_base::Lister;
 use std::marker::Model;
 
-/// A board, and how far the lister of the words whose letters all fit in it has come.
+/// A board, and the stage of the lister of the words whose letters all fit in it.
 #[derive(Drop)]
 pub(crate) struct Walker {
     board: Board,
@@ -75,7 +75,7 @@ impl Lister for Walker {
     }
 }
 
-/// Puts the word that comes next in place of this one; false where none is left.
+/// Replaces the word with the next one; false if there is none.
 fn step(board: &mut Board, stage: Stage) -> bool
     requires { IsReadyAt stage board.old }
     ensures found { OnTrue result

@@ -1,12 +1,11 @@
-//! Lattice words.
+//! The test whether a word is a lattice word.
 ghost use Rattle.std.specs.Prelude.{◌≡◌, ◌≤◌, length, IfOk};
 ghost use Rattle.tableau_iter.specs.LatticeWords.{is_allowed, is_lattice_word};
 
 use calc_base::NoMemory;
 use std::alloc::Global;
 
-/// Whether a letter has a place among the counts,
-/// and is 1 or is counted less often than the letter one smaller.
+/// Whether a letter has a count, and is 1 or is counted less often than the letter one smaller.
 fn may_follow(counts: &[u16], letter: u16) -> bool
     ensures { result ≡ is_allowed (length counts.now) counts.now letter }
 {

@@ -15,7 +15,7 @@ use Rattle.tableau_laws.proofs.Contents.{content_same}
 use Rattle.sym_model.proofs.AfterLists.{after_among}
 use Rattle.sym_model.proofs.Contents.{times_in-append}
 
--- ---- letters that are not zeros
+-- ---- letters other than zeros
 
 pub filled-append : (v w : List ℕ) → filled (v ++ w) ≡ filled v ++ filled w
 filled-append [] w = refl
@@ -28,9 +28,9 @@ filled-append (a ∷ v) w = by (nat_lt 0 a) (filled-append v w)
 filled_letter : (a : ℕ) (w : List ℕ) → 0 < a → filled (a ∷ w) ≡ a ∷ filled w
 filled_letter a w h = ap (λ b. cond b (a ∷ filled w) (filled w)) (lt-ltb 0 a h)
 
--- ---- one letter of a row
+-- ---- one letter of a row of a filling
 
--- the letter at place i as a word; nothing past the end
+-- the letter at place i as a word; the empty word after the end
 abbrev at_place : ℕ → List ℕ → List ℕ
 at_place i w = take 1 (drop i w)
 
@@ -53,9 +53,9 @@ letter_in-padded (suc c) (suc i) row h =
     same_test (inl e) = let l = ltb-true c (suc i) e in lt-ltb (suc c) (suc (suc i)) (omega arith) ∙ sym e
     same_test (inr e) = let l = ltb-false c (suc i) e in le-ltb (suc c) (suc (suc i)) (omega arith) ∙ sym e
 
--- ---- one column
+-- ---- column i + 1 of a filling is line i of its padded rows transposed, without zeros
 
--- the line at place i; an empty one past the end
+-- the line at place i; the empty one after the end
 abbrev pub line_at : ℕ → List (List ℕ) → List ℕ
 line_at i lines = get_or lines i []
 
@@ -79,13 +79,14 @@ column-padded inner (row ∷ rows) i h =
     ∙ sym (filled-append (at_place i (replicate (part inner 1) 0 ++ row)) (line_at i (transposed (padded (drop 1 inner) rows))))
     ∙ ap filled (sym (line_at-put i (replicate (part inner 1) 0 ++ row) (transposed (padded (drop 1 inner) rows))))
 
--- ---- the columns right of one
+-- ---- the columns right of a given one
 
 each_append : (f : ℕ → List ℕ) (xs ys : List ℕ) → flat_map f (xs ++ ys) ≡ flat_map f xs ++ flat_map f ys
 each_append f [] ys = refl
 each_append f (x ∷ xs) ys = ap (λ l. f x ++ l) (each_append f xs ys) ∙ sym (append_assoc (f x) (flat_map f xs) (flat_map f ys))
 
--- the columns j + 1 to j + k, from the last to the first
+-- if f(i + 1) are the letters of line i, counted from 0, the columns j + k, .., j + 1, read one after another, are the reading of the lines after the
+-- first j
 columns_between : (f : ℕ → List ℕ) (lines : List (List ℕ)) (j k : ℕ) → ((i : ℕ) → f (suc i) ≡ filled (line_at i lines)) → j + k ≡ length lines
     → flat_map f (reverse (after j k)) ≡ reading_of (drop j lines)
 columns_between f lines j zero e l = ap reading_of (sym (past j lines (omega arith)))
@@ -112,7 +113,7 @@ pub column_reading-padded : (outer inner : List ℕ) (rows : List (List ℕ)) �
     → column_reading outer inner rows ≡ reading_of (transposed (padded inner rows))
 column_reading-padded outer inner rows p l = reading-padded 0 outer inner rows p l (omega arith)
 
--- ---- contents of readings
+-- ---- the contents of readings
 
 pub times_in-filled : (k : ℕ) (w : List ℕ) → 0 < k → times_in k (filled w) ≡ times_in k w
 times_in-filled k [] h = refl
@@ -133,7 +134,7 @@ times_in-reading k (c ∷ lines) h =
 pub content-reading : (n : ℕ) (lines : List (List ℕ)) → content n (reading_of lines) ≡ content n (letters_of lines)
 content-reading n lines = content_same n (reading_of lines) (letters_of lines) (λ k h. times_in-reading k lines h)
 
--- ---- good at every column
+-- ---- tableaux that are good at every column
 
 every_among : (f g : ℕ → Bool) (xs : List ℕ) → ((x : ℕ) → Among x xs → f x ≡ g x) → every f xs ≡ every g xs
 every_among f g [] e = refl
@@ -145,7 +146,7 @@ every_later f a (suc k) =
     let e : suc a + 1 ≡ suc (a + 1) = omega arith in
     ap (λ i. f i && every f (after i k)) e ∙ ap (λ p. f (suc (a + 1)) && p) (every_later f (a + 1) k)
 
--- at every column, the columns being those that are left after j are dropped
+-- the sums reached are weakly decreasing for each number j of columns left out at the left, if and only if `is_good_by_columns` is true
 good_drops : (n : ℕ) (start : List ℕ) (lines : List (List ℕ))
     → every (λ j. is_falling (sum_reached n start (drop j lines))) (0 ∷ after 0 (length lines)) ≡ is_good_by_columns n start lines
 good_drops n start [] = by (is_falling (sum_reached n start []))

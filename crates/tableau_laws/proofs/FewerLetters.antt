@@ -1,4 +1,4 @@
--- Fillings with letters up to n in which only letters up to k stand are the fillings with letters up to k; so Schur
+-- Fillings with letters up to n in which no letter is greater than k are the fillings with letters up to k; so Schur
 -- polynomials in n variables restricted to k variables are those in k variables.
 use Rattle.std.proofs.Common.{◌≡◌, ℕ, zero, suc, ◌+◌, ◌-◌, ◌<◌, ◌≤◌, ◌⊎◌, ◌==◌, Bool, true, false, cond, ◌&&◌, List, [], ◌∷◌, ◌++◌, map, nat_le, sym, ◌∙◌, ap, ap₂, refl, inl, inr, arith, ℤ, pos, ◌+ℤ◌, ◌*ℤ◌, filter}
 use Rattle.std.proofs.lemmas.Bool.{and_parts, and_from, leb-true, le-leb, eqb-true, eq-eqb, ne_eqb, cases_eq, cases_lt, cases_Bool}
@@ -33,7 +33,7 @@ up_to-append k (a ∷ v) w = ap (λ b. nat_le a k && b) (up_to-append k v w) ∙
     regroup true q r = refl
     regroup false q r = refl
 
--- ---- letters, words, fillings
+-- ---- letters, words and fillings with letters up to k
 
 total_letters : (k n : ℕ) (p : Bool) (g : ℕ → ℤ) → k ≤ n → total (λ (x : ℕ). cond (nat_le x k) (g x) (pos 0)) (letters_at n p) ≡ total g (letters_at k p)
 total_letters k n true g h =
@@ -69,7 +69,7 @@ total_up_to k n (line ∷ pattern) g h =
     ∙ total_words k n line (λ (w : List ℕ). total (λ (rest : List (List ℕ)). g (w ∷ rest)) (fillings_over k pattern)) h
     ∙ sym (fillings_sum k line pattern g)
 
--- ---- the contents tell
+-- ---- the content shows whether the letters are up to k
 
 resize_map : (f : ℕ → ℕ) (a k n : ℕ) → k ≤ n → resize k (map f (after a n)) ≡ map f (after a k)
 resize_map f a zero n h = refl
@@ -148,7 +148,7 @@ filling_within n [] (w ∷ rows) f = absurd f
 filling_within n (line ∷ pattern) [] f = absurd f
 filling_within n (line ∷ pattern) (w ∷ rows) f = within_append n w (letters_of rows) (word_within n line w f.0) (filling_within n pattern rows f.1)
 
--- ---- Schur polynomials
+-- ---- Schur polynomials in k variables
 
 pub pair-skew_schur : (n : ℕ) (outer inner : List ℕ) (χ : List ℕ → ℤ) → pair (skew_schur outer inner n) χ ≡ total (λ (T : List (List ℕ)). χ (content n (letters_of T))) (tableaux n outer inner)
 pair-skew_schur n outer inner χ =

@@ -21,7 +21,7 @@ use Rattle.tableau_laws.proofs.Contents.{content-padded, content-transposed}
 use Rattle.tableau_laws.proofs.PatternFillings.{Once-fronts, Fits, AllFit, MayStand, word_from, words_once, filling_tells, filling_lengths}
 use Rattle.sym_model.proofs.AfterLists.{length_after}
 
--- ---- membership by the test
+-- ---- membership in a list, by the test
 
 pub is_among-tells : (w : List ℕ) (ws : List (List ℕ)) → is_among w ws ≡ true → Among w ws
 is_among-tells w [] e = absurd (cc)
@@ -34,7 +34,7 @@ is_among-from w (v ∷ ws) (inr m) = or_right (same w v) (is_among w ws) (is_amo
 
 -- ---- the reading determines the columns
 
--- how many cells a line has
+-- the number of cells of a line of a pattern
 cells_in : List Bool → ℕ
 cells_in [] = 0
 cells_in (true ∷ line) = suc (cells_in line)
@@ -115,7 +115,7 @@ reading_determines n (line ∷ lines) (c ∷ cs) (d ∷ ds) f g e =
     let r = split_append (reading_of cs) (filled c) (reading_of ds) (filled d) (a ∙ sym b) e in
     ap₂ ◌∷◌ (filled_determines n line c d f.0 g.0 r.1) (reading_determines n lines cs ds f.1 g.1 r.0)
 
--- ---- the number of cells
+-- ---- the number of cells of lines
 
 cells_first : (p : Bool) (line : List Bool) → cells_in (p ∷ line) ≡ cond p 1 0 + cells_in line
 unfolding cells_in
@@ -246,7 +246,7 @@ transposed_fits n [] (r ∷ R) f = absurd f
 transposed_fits n (line ∷ pattern) [] f = absurd f
 transposed_fits n (line ∷ pattern) (r ∷ R) f = put_fits n line (transposed pattern) r (transposed R) f.0 (transposed_fits n pattern R f.1)
 
--- ---- what a filling of a skew shape gives
+-- ---- the properties of a filling of a skew shape
 
 record IsFillingOf (n : ℕ) (outer inner : List ℕ) (T : List (List ℕ)) : Type 0 where
   positive : ArePositiveRows T
@@ -269,13 +269,13 @@ filling_gives n outer inner T falls holds m =
     let l = filling_lengths n (pattern_of outer inner) (padded inner T) f ∙ pattern_lengths outer inner holds in
     record { positive = filling_positive n (row_lengths outer inner) T m; fits = f; lengths = l; columns = number_of_columns outer (padded inner T) falls l }
 
--- ---- the good tableaux by their columns
+-- ---- good tableaux by their padded columns
 
 both_tests : (a b : Bool) (x : ℤ) → cond a (cond b x (pos 0)) (pos 0) ≡ cond (a && b) x (pos 0)
 both_tests true b x = refl
 both_tests false b x = refl
 
--- a number for each good tableau given by its padded columns, 0 for other fillings
+-- h of the padded columns, if they are a good tableau; otherwise 0
 abbrev pub of_good : ℕ → List ℕ → (List (List ℕ) → ℤ) → List (List ℕ) → ℤ
 of_good n start h cs = cond (are_tableau_columns cs && is_good_by_columns n start cs) (h cs) (pos 0)
 
@@ -369,7 +369,7 @@ total_good_readings n start outer inner g falls inner_falls holds =
     ∙ total_good_tableaux n start outer inner (λ (T : List (List ℕ)). g (column_reading outer inner T)) (λ (cs : List (List ℕ)). g (reading_of cs)) falls inner_falls holds
     (λ T m. let t = filling_gives n outer inner T falls holds m in ap g (column_reading-padded outer inner T t.positive t.columns))
 
--- ---- the sum reached with a good tableau falls
+-- ---- the sum reached with a good tableau is decreasing
 
 content_of_reading : (n : ℕ) (outer inner : List ℕ) (T : List (List ℕ)) → IsFillingOf n outer inner T → content n (column_reading outer inner T) ≡ content n (letters_of T)
 content_of_reading n outer inner T t =
@@ -390,7 +390,7 @@ good_falls n start outer inner T falls m = by (nat_le (rows start) n) m
         ap (λ κ. is_falling (join start κ)) (sym (content_of_reading n outer inner T (filling_gives n outer inner T falls s.1.1 s.0))) ∙ p.0
     by false a = absurd a
 
--- sums over the good readings are sums over the good tableaux
+-- a sum of f over the contents of the good readings is that over the contents of the good tableaux
 pub total_good_contents : (n : ℕ) (start outer inner : List ℕ) (f : List ℕ → ℤ) → Falls outer → contains outer inner ≡ true
     → total (λ w. f (content n w)) (good_readings n start outer inner) ≡ total (λ (T : List (List ℕ)). f (content n (letters_of T))) (good_tableaux n start outer inner)
 total_good_contents n start outer inner f falls holds =

@@ -1,18 +1,18 @@
--- A grid by its rows is a grid by its columns.
+-- If no row is longer than the one above, the rows are a grid if and only if the columns are, with both tests exchanged.
 use Rattle.std.proofs.Common.{◌≡◌, ℕ, ◌≤◌, Bool, true, ◌&&◌, List, [], ◌∷◌, map, length, sym, ◌∙◌, ap, ap₂, refl, arith}
 use Rattle.sym_model.specs.Partition.{Falls}
 use Rattle.tableau_laws.specs.PaddedRows.{put_row, transposed}
 use Rattle.tableau_laws.specs.Grid.{may_precede, is_chain, pass_by_place, first_line, is_grid}
 
--- ---- rows on columns
+-- ---- a row on top of columns
 
--- no column is empty
+-- no column of the list is empty
 AreNonempty : List (List ℕ) → Type 0
 AreNonempty [] = Unit {0}
 AreNonempty ([] ∷ columns) = ⊥
 AreNonempty ((x ∷ c) ∷ columns) = AreNonempty columns
 
--- the first letters of the columns
+-- the first letters of the columns, one for each
 heads : List (List ℕ) → List ℕ
 heads [] = []
 heads ([] ∷ columns) = []
@@ -48,7 +48,7 @@ pub pass-nothing : (test : ℕ → ℕ → Bool) (w : List ℕ) → pass_by_plac
 pass-nothing test [] = refl
 pass-nothing test (a ∷ w) = refl
 
--- the first column beside the next one
+-- a row on top of columns passes the test at the first two columns if its first letters and the first columns do
 pass-first : (test : ℕ → ℕ → Bool) (x : ℕ) (c row : List ℕ) (columns : List (List ℕ)) → length columns ≤ length row
     → pass_by_place test (x ∷ c) (first_line (put_row row columns)) ≡ (may_precede test x row && pass_by_place test c (first_line columns))
 pass-first test x c [] [] h = sym (pass-nothing test c)
@@ -73,7 +73,7 @@ grid-put along between (x ∷ row) ((y ∷ c) ∷ columns) h n =
     ap₂ (λ (p q : Bool). (between x y && is_chain between (y ∷ c)) && (p && q)) first e
     ∙ regroup (between x y) (is_chain between (y ∷ c)) (may_precede along x row) (pass_by_place along (y ∷ c) (first_line columns)) (is_chain along row) (pass_by_place between row (heads columns)) (is_grid between along columns)
 
--- ---- all rows
+-- ---- all rows of a grid
 
 pub length-transposed : {A : Type 0} (rows : List (List A)) → Falls (map length rows) → (row : List A) → Falls (map length (row ∷ rows)) → length (transposed rows) ≤ length row
 length-transposed [] f row g = omega arith

@@ -1,4 +1,4 @@
--- The padded rows of a filling are a semistandard tableau where the filling is one.
+-- The padded rows of a filling are a semistandard tableau if and only if the filling is one.
 use Rattle.std.proofs.Common.{◌≡◌, ℕ, zero, suc, ◌+◌, ◌-◌, ◌<◌, ◌≤◌, Bool, true, ◌&&◌, List, [], ◌∷◌, ◌++◌, drop, replicate, nat_le, nat_lt, sym, ◌∙◌, ap, ap₂, subst, refl, arith}
 use Rattle.std.proofs.lemmas.Bool.{le-leb, lt-ltb}
 use Rattle.std.proofs.Math.Bool.{and-true, and_assoc}
@@ -9,7 +9,7 @@ use Rattle.tableau_laws.proofs.Grids.{pass-nothing}
 use Rattle.tableau_laws.specs.Grid.{is_chain, pass_by_place, may_stand_above, is_padded_tableau}
 use Rattle.sym_model.proofs.Parts.{falls_after}
 
--- ---- rows
+-- ---- the test of a padded row
 
 zero_first : (w : List ℕ) → is_chain nat_le (0 ∷ w) ≡ is_chain nat_le w
 zero_first [] = refl
@@ -24,7 +24,7 @@ chain_row [] = refl
 chain_row (a ∷ []) = refl
 chain_row (a ∷ b ∷ w) = ap (λ p. nat_le a b && p) (chain_row (b ∷ w))
 
--- ---- two rows
+-- ---- the test of two padded rows
 
 above_zero : (b : ℕ) → may_stand_above 0 b ≡ true
 above_zero b = lt-ltb 0 (b + 1) (omega arith)
@@ -32,7 +32,7 @@ above_zero b = lt-ltb 0 (b + 1) (omega arith)
 above_letter : (a b : ℕ) → 0 < a → may_stand_above a b ≡ nat_lt a b
 above_letter a b h = let e : b + (1 - a) ≡ b = omega arith in ap (nat_lt a) e
 
--- the rows themselves
+-- for two rows that begin in the same column, the test place by place is the test of their columns
 pass_rows : (upper lower : List ℕ) → ArePositive upper → pass_by_place may_stand_above upper lower ≡ columns_rise upper lower
 pass_rows [] lower h = refl
 pass_rows (a ∷ upper) [] h = refl
@@ -42,7 +42,8 @@ pub columns_rise-nothing : (upper : List ℕ) → columns_rise upper [] ≡ true
 columns_rise-nothing [] = refl
 columns_rise-nothing (a ∷ upper) = refl
 
--- the upper row begins d places further right
+-- if the upper row begins d places further right, its padded row passes the test with the lower row if and only if it has strictly increasing columns
+-- with the lower row without its first d letters
 pass_shifted : (d : ℕ) (upper lower : List ℕ) → ArePositive upper → pass_by_place may_stand_above (replicate d 0 ++ upper) lower ≡ columns_rise upper (drop d lower)
 pass_shifted zero upper lower h = pass_rows upper lower h
 pass_shifted (suc d) upper [] h = sym (columns_rise-nothing upper)
@@ -64,9 +65,9 @@ pass_padded b c upper lower h p =
     ∙ pass_zeros c (replicate (b - c) 0 ++ upper) lower
     ∙ pass_shifted (b - c) upper lower p
 
--- ---- all rows
+-- ---- the test of all padded rows
 
--- each row has positive letters
+-- each row of the filling has positive letters
 abbrev pub ArePositiveRows : List (List ℕ) → Type 0
 ArePositiveRows [] = Unit {0}
 ArePositiveRows (row ∷ rows) = ArePositive row × ArePositiveRows rows

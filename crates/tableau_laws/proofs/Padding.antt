@@ -6,7 +6,7 @@ use Rattle.sym_model.specs.Schur.{words, row_lengths, fillings_of}
 use Rattle.sym_model.proofs.Lists.{map-map}
 use Rattle.tableau_laws.specs.PaddedRows.{words_over, fillings_over, line_of, pattern_of, padded}
 
--- ---- each and map
+-- ---- `flat_map` and `map` of equal functions and of composed lists
 
 pub each_ext : {A B : Type 0} (f g : A → List B) → ((x : A) → f x ≡ g x) → (xs : List A) → flat_map f xs ≡ flat_map g xs
 each_ext f g e [] = refl
@@ -24,7 +24,7 @@ map_same : {A : Type 0} (xs : List A) → xs ≡ map (λ (x : A). x) xs
 map_same [] = refl
 map_same (x ∷ xs) = ap (λ l. x ∷ l) (map_same xs)
 
--- ---- a line
+-- ---- the words over a line of cells
 
 pub words_over-cells : (n k : ℕ) → words_over n (replicate k true) ≡ words n k
 words_over-cells n zero = refl
@@ -40,7 +40,7 @@ words_over-outside n (suc b) line =
 pub words_over-line : (n b k : ℕ) → words_over n (line_of b k) ≡ map (λ (w : List ℕ). replicate b 0 ++ w) (words n k)
 words_over-line n b k = words_over-outside n b (replicate k true) ∙ ap (map (λ (w : List ℕ). replicate b 0 ++ w)) (words_over-cells n k)
 
--- ---- the rows
+-- ---- the padded rows of a filling
 
 padded_row : (n k : ℕ) (inner : List ℕ) (rests padded_rests : List (List (List ℕ))) → map (padded (drop 1 inner)) rests ≡ padded_rests
     → map (padded inner) (flat_map (λ (row : List ℕ). map (λ (rest : List (List ℕ)). row ∷ rest) rests) (words n k))

@@ -1,4 +1,4 @@
--- Which words and fillings are listed for a pattern, and that each is listed once.
+-- The words and fillings that are listed for a pattern; each is listed once.
 use Rattle.std.proofs.Common.{◌≡◌, ℕ, suc, ◌<◌, ◌≤◌, Bool, true, false, List, [], ◌∷◌, map, length, sym, ap, ap₂, subst, refl, inl, inr, arith, flat_map}
 use Rattle.sym_model.specs.Sum.{Among, Once}
 use Rattle.sym_model.proofs.Sums.{Among-map, Among_from_map, Among-each, Among_from_each, Once-map, Once-each}
@@ -7,7 +7,7 @@ use Rattle.sym_model.proofs.AfterLists.{after_among, among_after, once_after}
 
 -- ---- lists of a first element and a rest
 
--- each of the firsts in front of each of the rests
+-- the lists with one of `firsts` in front of one of `rests`
 abbrev pub fronts : {A : Type 0} → List A → List (List A) → List (List A)
 fronts {A} firsts rests = flat_map (λ (x : A). map (λ (ys : List A). x ∷ ys) rests) firsts
 
@@ -36,14 +36,14 @@ Once-fronts {A} firsts rests o p =
         let e : w ≡ z ∷ s.0 = s.2 in
         cc
 
--- ---- words
+-- ---- the words over a line
 
--- a letter that may stand at a place: from 1 to n in a cell, 0 outside
+-- a is a letter for a place: one from 1 to n if the place is a cell, and 0 outside the shape
 abbrev pub MayStand : ℕ → Bool → ℕ → Type 0
 MayStand n true a = (0 < a) × (a ≤ n)
 MayStand n false a = a ≡ 0
 
--- a word with a letter for each place of a line
+-- w has a letter for each place of the line
 abbrev pub Fits : ℕ → List Bool → List ℕ → Type 0
 Fits n [] [] = Unit {0}
 Fits n [] (a ∷ w) = ⊥
@@ -86,9 +86,9 @@ fits_length n [] (a ∷ w) f = absurd f
 fits_length n (p ∷ line) [] f = absurd f
 fits_length n (p ∷ line) (a ∷ w) f = ap suc (fits_length n line w f.1)
 
--- ---- fillings
+-- ---- the fillings over a pattern
 
--- a filling with a word for each line of a pattern
+-- the filling has a word for each line of the pattern
 abbrev pub AllFit : ℕ → List (List Bool) → List (List ℕ) → Type 0
 AllFit n [] [] = Unit {0}
 AllFit n [] (w ∷ ws) = ⊥

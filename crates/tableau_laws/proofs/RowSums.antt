@@ -32,7 +32,7 @@ filling_positive n (k ∷ lengths) rows m =
     let r = Among_from_fronts rows (words n k) (fillings_of n lengths) m in
     subst ArePositiveRows (sym r.4) (word_positive n k r.0 r.2, filling_positive n lengths r.1 r.3)
 
--- ---- what a tableau is
+-- ---- members of the list of tableaux are fillings that pass the tests
 
 pub tableau_tells : (n : ℕ) (outer inner : List ℕ) (T : List (List ℕ)) → Among T (tableaux n outer inner)
     → Among T (fillings_of n (row_lengths outer inner)) × ((semistandard inner T ≡ true) × (contains outer inner ≡ true))
@@ -43,9 +43,9 @@ tableau_tells n outer inner T m = by (contains outer inner) refl m
     by true e a = let r = Among_from_select (semistandard inner) T (fillings_of n (row_lengths outer inner)) a in (r.0, (r.1, e))
     by false e a = absurd a
 
--- ---- rows
+-- ---- sums over padded rows
 
--- a number for each padded tableau, 0 for other fillings
+-- g of the padded rows, if they are a tableau; otherwise 0
 abbrev pub of_tableaux : (List (List ℕ) → ℤ) → List (List ℕ) → ℤ
 of_tableaux g rows = cond (is_padded_tableau rows) (g rows) (pos 0)
 
@@ -85,13 +85,13 @@ pattern_lengths (a ∷ outer) inner h =
     let r = contains_rest a outer inner h in
     ap₂ ◌∷◌ (length_line a (part inner 1) r.0) (pattern_lengths outer (drop 1 inner) r.1)
 
--- ---- columns
+-- ---- sums over padded columns
 
--- a number for each tableau given by its padded columns, 0 for other fillings
+-- h of the padded columns, if they are a tableau; otherwise 0
 abbrev pub of_columns : (List (List ℕ) → ℤ) → List (List ℕ) → ℤ
 of_columns h columns = cond (are_tableau_columns columns) (h columns) (pos 0)
 
--- rows that fit a pattern whose lines fall in length
+-- if the lines of a pattern have weakly decreasing lengths, a sum over its fillings by rows is that over its fillings by columns
 pub total_rows : (n : ℕ) (pattern : List (List Bool)) (h : List (List ℕ) → ℤ) → Falls (map length pattern)
     → total (of_tableaux (λ (rows : List (List ℕ)). h (transposed rows))) (fillings_over n pattern) ≡ total (of_columns h) (fillings_over n (transposed pattern))
 total_rows n pattern h falls =
@@ -100,7 +100,7 @@ total_rows n pattern h falls =
     (grid-transposed _ _ rows (subst Falls (sym (filling_lengths n pattern rows (filling_tells n pattern rows m))) falls)))
     ∙ transposed-sum n pattern (of_columns h)
 
--- the tableaux of a skew shape by their columns
+-- a sum over the tableaux of a skew shape is a sum over their padded columns
 pub total_columns : (n : ℕ) (outer inner : List ℕ) (f h : List (List ℕ) → ℤ) → Falls outer → Falls inner → contains outer inner ≡ true
     → ((rows : List (List ℕ)) → Among rows (fillings_of n (row_lengths outer inner)) → f rows ≡ h (transposed (padded inner rows)))
     → total f (tableaux n outer inner) ≡ total (of_columns h) (fillings_over n (transposed (pattern_of outer inner)))

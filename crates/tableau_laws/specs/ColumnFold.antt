@@ -1,5 +1,5 @@
--- Tableaux built column by column from the rightmost on: a further column looks only at the sum
--- reached, start plus the content so far, and at the column to its right.
+-- Tableaux built column by column from the rightmost one on: the condition on a further column depends only on the sum
+-- reached, start plus the content so far, and on the column to its right.
 use Rattle.std.specs.Prelude.{ℕ, nat_le, nat_lt, Bool, ◌&&◌, cond, ℤ, pos, List, [], ◌∷◌, ◌++◌}
 use Rattle.std.specs.Prelude.{filter}
 use Rattle.sym_model.specs.Sum.{total}
@@ -14,7 +14,7 @@ use Rattle.tableau_laws.specs.Grid.{is_chain, pass_by_place, may_stand_above}
 abbrev pub filled : List ℕ → List ℕ
 filled w = filter (λ a. nat_lt 0 a) w
 
--- the column reading by the padded columns, which are listed from the leftmost on
+-- the column reading of the padded columns, which are listed from the leftmost one on
 abbrev pub reading_of : List (List ℕ) → List ℕ
 reading_of [] = []
 reading_of (c ∷ columns) = reading_of columns ++ filled c
@@ -23,37 +23,36 @@ reading_of (c ∷ columns) = reading_of columns ++ filled c
 abbrev pub sum_reached : ℕ → List ℕ → List (List ℕ) → List ℕ
 sum_reached n start columns = join start (content n (letters_of columns))
 
--- whether start plus the content of the columns from each one on falls, and start alone
+-- whether start, and start plus the content of the columns from each one on, are weakly decreasing
 abbrev pub is_good_by_columns : ℕ → List ℕ → List (List ℕ) → Bool
 is_good_by_columns n start [] = is_falling (sum_reached n start [])
 is_good_by_columns n start (c ∷ columns) =
     is_falling (sum_reached n start (c ∷ columns)) && is_good_by_columns n start columns
 
--- whether a column may stand left of the column right, where ν is the sum reached: its letters
--- rise, none is greater than its right neighbour, and the sum with it falls
+-- whether c can be the column left of `right`, with ν the sum reached: its letters are strictly increasing, none is
+-- greater than its right neighbour, and ν plus its content is weakly decreasing
 abbrev pub may_be_next : ℕ → List ℕ → List ℕ → List ℕ → Bool
 may_be_next n ν right c =
     is_chain may_stand_above c
     && (pass_by_place nat_le c right && is_falling (join ν (content n c)))
 
--- the sum over the columns of a line that may be next of f of the sum that is then reached and the
--- column
+-- the sum, over the columns of a line that can be next, of f of the sum then reached and the column
 abbrev pub next_columns : ℕ → List Bool → (List ℕ → List ℕ → ℤ) → List ℕ → List ℕ → ℤ
 next_columns n line f ν right =
     total (λ c. cond (may_be_next n ν right c) (f (join ν (content n c)) c) (pos 0))
     (words_over n line)
 
--- the sum over all ways to add columns of these lines, listed from the leftmost on and added from
--- the rightmost on, of f of the sum that is reached at the end and the last column added
+-- the sum, over all ways to add columns of these lines, of f of the last sum reached and the last column; the lines are
+-- listed from the leftmost one on, and columns are added from the rightmost one on
 abbrev pub over_columns : ℕ → List (List Bool) → (List ℕ → List ℕ → ℤ) → List ℕ → List ℕ → ℤ
 over_columns n [] f ν right = f ν right
 over_columns n (line ∷ lines) f ν right = over_columns n lines (next_columns n line f) ν right
 
--- the lines of the columns of outer/inner, from the leftmost on: a cell or a place outside for each
--- row that reaches the column
+-- the lines of the columns of outer/inner, from the leftmost one on, with a cell or a place outside for each row that
+-- reaches the column
 abbrev pub column_lines : List ℕ → List ℕ → List (List Bool)
 column_lines outer inner = transposed (pattern_of outer inner)
 
--- 1 where the sum reached, without the zeros at its end, is this partition; 0 elsewhere
+-- 1 if the sum reached is this partition, without the zeros at its end; otherwise 0
 abbrev pub is_sum : List ℕ → List ℕ → List ℕ → ℤ
 is_sum parts ν right = cond (same (without_last_zeros ν) parts) (pos 1) (pos 0)

@@ -1,8 +1,8 @@
--- Grids of letters in which neighbours in a row and neighbours in a column stand in a relation:
--- semistandard tableaux are those with ≤ along the rows and < down the columns.
+-- Grids of letters in which neighbours in a row satisfy one relation and neighbours in a column another: semistandard
+-- tableaux are those with ≤ along the rows and < down the columns.
 use Rattle.std.specs.Prelude.{ℕ, ◌+◌, ◌-◌, nat_le, nat_lt, Bool, true, ◌&&◌, List, [], ◌∷◌}
 
--- whether a letter may stand before the first letter of a word
+-- whether a letter can precede a word: it passes the test with the first letter
 abbrev pub may_precede : (ℕ → ℕ → Bool) → ℕ → List ℕ → Bool
 may_precede test a [] = true
 may_precede test a (b ∷ w) = test a b
@@ -18,7 +18,7 @@ pass_by_place test [] w = true
 pass_by_place test (a ∷ v) [] = true
 pass_by_place test (a ∷ v) (b ∷ w) = test a b && pass_by_place test v w
 
--- the first line, which is empty where there is none
+-- the first line; the empty one if there is none
 abbrev pub first_line : List (List ℕ) → List ℕ
 first_line [] = []
 first_line (line ∷ lines) = line
@@ -31,8 +31,8 @@ is_grid along between (line ∷ lines) =
     is_chain along line && (pass_by_place between line (first_line lines)
     && is_grid along between lines)
 
--- whether a letter may stand above another: a zero, which stands outside the shape, above any, and
--- a letter above a greater one
+-- whether a letter can be above another: a zero, which is outside the shape, above any, and a letter above a greater
+-- one
 abbrev pub may_stand_above : ℕ → ℕ → Bool
 may_stand_above a b = nat_lt a (b + (1 - a))
 

@@ -4,8 +4,7 @@ use Rattle.std.specs.Prelude.{ℕ, ◌-◌, Bool, true, false, List, [], ◌∷�
 use Rattle.std.specs.Prelude.{flat_map}
 use Rattle.sym_model.specs.Partition.{part, after}
 
--- a row on top of columns: each entry in front of the column at its place,
--- a missing column being empty
+-- a row on top of columns: each entry in front of the column at its place, or as a column by itself if there is none
 abbrev pub put_row : {A : Type 0} → List A → List (List A) → List (List A)
 put_row [] columns = columns
 put_row (x ∷ row) [] = (x ∷ []) ∷ put_row row []
@@ -16,7 +15,7 @@ abbrev pub transposed : {A : Type 0} → List (List A) → List (List A)
 transposed [] = []
 transposed (row ∷ rows) = put_row row (transposed rows)
 
--- the letters that may stand at a place: those from 1 to n in a cell, and 0 outside
+-- the letters for a place: those from 1 to n in a cell, and 0 outside
 abbrev pub letters_at : ℕ → Bool → List ℕ
 letters_at n true = after 0 n
 letters_at n false = 0 ∷ []

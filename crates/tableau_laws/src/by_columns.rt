@@ -8,9 +8,10 @@ ghost use Rattle.sym_model.specs.Schur.{contains, content};
 ghost use Rattle.sym_model.specs.GoodTableau.{good_readings, product_count, skew_count};
 ghost use Rattle.tableau_laws.specs.ColumnFold.{next_columns, over_columns, column_lines, is_sum};
 
-/// The good tableaux of a skew shape counted column by column from the rightmost on, where a
-/// further column looks only at the sum reached and at its right neighbours: sums over the good
-/// readings of what start plus the content is, and so the counts of products and of skews.
+/// The good tableaux of a skew shape are counted column by column from the rightmost one on; the
+/// condition on a further column depends only on the sum reached and on its right neighbours. The
+/// law is about sums, over the good readings, of a function of start plus the content, and so about
+/// the counts of products and of skew shapes.
 ///
 /// Example: two of the good tableaux of the shape (2,1) for the start (2,1) reach the sum (3,2,1).
 pub fn column_counting_law()

@@ -1,4 +1,4 @@
--- What is known of an answer's list, in other words.
+-- Lists that represent one polynomial: their sums, and other lists with the same coefficients.
 use Rattle.std.proofs.Common.{◌≡◌, Bool, true, pos, List, ℕ, ℤ, ◌*ℤ◌, sym, ap, ◌∙◌}
 use Rattle.std.specs.Cmp.{IsEquivalence}
 use Rattle.coeff_rings.specs.Fractions.{whole}
@@ -7,19 +7,24 @@ use Rattle.sym_model.specs.Expansion.{Terms, Represents, denominators, value_by}
 use Rattle.sym_model.specs.WholeTerms.{WholeTermsOf, as_fractions}
 use Rattle.sym_model.proofs.Polynomials.{Same_trans, scale_respects, pair_scale, pair_determined}
 use Rattle.sym_model.proofs.Ring.{one-product}
+use Rattle.sym_model.proofs.Sums.{total_ext}
 use Rattle.sym_model.proofs.WholeTerms.{pair_of_combined, denominators-as_fractions, value_by-as_fractions}
 use Rattle.linear_combinations.specs.Entries.{IsCombination, HasSameCoefficients}
 use Rattle.linear_combinations.specs.Gains.{over}
 use Rattle.linear_combinations.proofs.Masses.{over_same, represents_sums}
 
--- a list of the one polynomial is one of the other, where they are the same
+-- if f and g are the same polynomial, each list that represents f represents g
 pub represents_as : {L : Type 0} (polynomial : L → Poly) (terms : Terms L) (f g : Poly) → Same f g → Represents polynomial terms f 1 → Represents polynomial terms g 1
 represents_as polynomial terms f g e h = record {
   positive = h.positive;
   equal = Same_trans (scale (pos 1) (value_by polynomial terms)) (scale (pos (denominators terms)) f) (scale (pos (denominators terms)) g) h.equal (scale_respects (pos (denominators terms)) f g e);
 }
 
--- the sums of a list of a polynomial
+-- if f and g agree on all labels, the sums of a list with f and with g are equal
+pub sums_as : {L : Type 0} (f g : L → ℤ) → ((x : L) → f x ≡ g x) → (list : WholeTermsOf L) → over f list ≡ over g list
+sums_as {L} f g e list = total_ext (λ (t : L × ℤ). t.1 *ℤ f t.0) (λ (t : L × ℤ). t.1 *ℤ g t.0) (λ t. ap (λ z. t.1 *ℤ z) (e t.0)) list
+
+-- if a list represents f, the sum of a linear map over its terms is the value of the map at f
 pub sums_represented : {L : Type 0} (polynomial : L → Poly) (terms : WholeTermsOf L) (f : Poly) → Represents polynomial (as_fractions terms) f 1
     → (φ : List ℕ → ℤ) → over (λ x. pair (polynomial x) φ) terms ≡ pair f φ
 sums_represented polynomial terms f h φ =
@@ -31,7 +36,7 @@ sums_represented polynomial terms f h φ =
     ∙ ap (λ d. pos d *ℤ pair f φ) (denominators-as_fractions terms)
     ∙ one-product (pair f φ)
 
--- a list with the same coefficients is one of the same polynomial
+-- if a table represents a polynomial, so does each table with the same coefficients
 pub represents_same : {L : Type 0} {eq : L → L → Bool} (laws : IsEquivalence eq) (same : (x y : L) → eq x y ≡ true → x ≡ y) {is_label : L → Bool}
     (first second : WholeTermsOf L) → IsCombination eq is_label whole first → IsCombination eq is_label whole second → HasSameCoefficients eq (pos 0) first second
     → (polynomial : L → Poly) (f : Poly) → Represents polynomial (as_fractions first) f 1 → Represents polynomial (as_fractions second) f 1

@@ -1,4 +1,4 @@
--- The covers of a permutation at a place: how many there are, and how many letters they have.
+-- The covers of a permutation at a place: their number, and the number of their letters.
 use Rattle.std.proofs.Common.{◌≡◌, ℕ, suc, ◌+◌, ◌-◌, ◌<◌, ◌≤◌, ◌==◌, max, Bool, true, false, cond, List, [], ◌∷◌, map, length, refl, sym, ap, subst, arith, length-append, filter}
 use Rattle.sym_model.specs.Sum.{Among}
 use Rattle.sym_model.specs.Partition.{after}

@@ -1,4 +1,4 @@
--- The letters round the last descent.
+-- The letters at the last descent and next to it.
 use Rattle.std.proofs.Common.{◌≡◌, ℕ, suc, ◌+◌, ◌-◌, ◌<◌, ◌≤◌, List, length, get_or, ap, ◌∙◌, arith, Some}
 use Rattle.sym_model.specs.Permutation.{IsOneLine, letter, last_descent}
 use Rattle.sym_model.proofs.Lists.{get_or-any}

@@ -1,7 +1,7 @@
 -- Lists that are added to those that wait (specs/Waiting).
 --     joined, joined_overflow                  one list at one permutation
---     joins_none, joins_both, overflows_both   one thing after another
---     joins_swapped, overflows_swapped         in either order
+--     joins_none, joins_both, overflows_both   nothing added, two lists added one after the other
+--     joins_swapped, overflows_swapped         two lists added in the other order
 --     each_append, each_value, each_growth     one list at each of some permutations
 use Rattle.std.proofs.Common.{◌≡◌, ℕ, ◌+◌, ◌<◌, ◌≤◌, Bool, true, List, [], ◌∷◌, ◌++◌, length, get_or, set, refl, sym, ap, ◌∙◌, subst, inl, inr, arith, ℤ, ◌+ℤ◌}
 use Rattle.std.specs.Cmp.{IsEquivalence}
@@ -25,11 +25,11 @@ use Rattle.linear_combinations.specs.Gains.{weighed}
 use Rattle.linear_combinations.proofs.Weighed.{weighed_zero, weighed_add, gains_weighed, overflow_weighed}
 use lib.IntN.{+ℤ_idr}
 
--- the permutation with another list
+-- the entry with the permutation of w and the list `factor`
 abbrev pub entry : {L : Type 0} → WithList L → WholeTermsOf L → WithList L
 entry w factor = record { perm = w.perm; factor = factor }
 
--- ---- one list at one permutation
+-- ---- one list added at one permutation
 
 module _ {L : Type 0} (old mid : List (WithList L)) (perm : List ℕ) (none : WholeTermsOf L) (empty : none ≡ []) (gain : MayGain old (record { perm = perm; factor = none }) mid)
     (at : ℕ) (w : WithList L) (inside : at < length mid) (is : w ≡ get_or mid at w) (same : w.perm ≡ perm) (order : AreInOrder old → AreInOrder mid) (factor gained : WholeTermsOf L) where
@@ -86,7 +86,7 @@ module _ {L : Type 0} (old mid : List (WithList L)) (perm : List ℕ) (none : Wh
           omega arith;
     }
 
--- ---- one thing after another
+-- ---- two lists added one after the other
 
 module _ {L : Type 0} where
   pub joins_none : (old : List (WithList L)) → Joins old [] old
@@ -139,7 +139,7 @@ module _ {L : Type 0} where
         omega arith;
   }
 
-  -- what is added may be added in another order
+  -- if `new` is `old` with the lists g and then h joined, it is `old` with h and then g joined
   pub joins_swapped : (old g h new : List (WithList L)) → Joins old (g ++ h) new → Joins old (h ++ g) new
   joins_swapped old g h new a = record {
     value = λ φ.
@@ -171,13 +171,13 @@ module _ {L : Type 0} where
         omega arith;
   }
 
-  -- ---- one list at each of some permutations
+  -- ---- one list added at each of some permutations
 
   pub each_append : (list : WholeTermsOf L) (xs ys : List (List ℕ)) → each_waits list (xs ++ ys) ≡ each_waits list xs ++ each_waits list ys
   each_append list [] ys = refl
   each_append list (x ∷ xs) ys = ap (λ (l : List (WithList L)). (record { perm = x; factor = list }) ∷ l) (each_append list xs ys)
 
-  -- the last one apart
+  -- if xs is `rest` followed by x, the entries of xs are those of `rest` followed by that of x
   pub each_popped : (list : WholeTermsOf L) (xs rest : List (List ℕ)) (x : List ℕ) → xs ≡ rest ++ x ∷ []
       → each_waits list rest ++ (record { perm = x; factor = list }) ∷ [] ≡ each_waits list xs
   each_popped list xs rest x e = sym (each_append list rest (x ∷ [])) ∙ ap (each_waits list) (sym e)

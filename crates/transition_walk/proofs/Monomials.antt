@@ -19,7 +19,7 @@ use Rattle.schubert_laws.proofs.Ranks.{rank_lower}
 use Rattle.schubert_laws.proofs.Members.{short_transition, short_cover, place_within}
 use lib.IntN.{+ℤ_idr}
 
--- the exponents of the variable x_r
+-- the exponents of the monomial x_r
 abbrev pub unit : ℕ → List ℕ
 unit r = replicate (r - 1) 0 ++ (1 ∷ [])
 
@@ -48,7 +48,7 @@ pair_variable n r f φ =
     ∙ pair_restrict n (variable r) (λ α. pair f (λ β. φ (join α β)))
     ∙ pair_x_to (unit r) (λ α. cond (fits_in n α) (pair f (λ β. φ (join (resize n α) β))) (pos 0))
 
--- a polynomial is the sum of one or more monomials
+-- f is the sum of one or more monomials
 pub record HasMonomials (f : Poly) : Type 0 where
   pub first : List ℕ
   pub others : List (List ℕ)
@@ -109,7 +109,7 @@ monomials_below n (suc k) w short below = monomials_by n k w (λ v s l. monomial
 pub schubert_monomials : (n : ℕ) (w : List ℕ) → IsShort n w → HasMonomials (schubert_in w n)
 schubert_monomials n w short = monomials_below n (suc (rank (suc n) w)) w short (omega arith)
 
--- a polynomial in n variables is left as it is by leaving out the others
+-- if f is a polynomial in n variables, its restriction to n variables has the pairings of f
 pub restrict_pair : (n : ℕ) (f : Poly) (φ : List ℕ → ℤ) → In n f → pair (restrict n f) φ ≡ pair f φ
 restrict_pair n f φ i =
     pair_restrict n f φ

@@ -1,5 +1,5 @@
--- The weights by which the work of the transition rule falls.
---     weights_less    that number of lower permutations weigh less than the one that they come of
+-- The weights of permutations, which decrease with each step of the transition rule.
+--     weights_less    at most 255 lower permutations together weigh less than the permutation they replace
 use Rattle.std.proofs.Common.{◌≡◌, ℕ, zero, suc, ◌+◌, ◌-◌, ◌*◌, ◌^◌, ◌<◌, ◌≤◌, List, ap, ◌∙◌, arith}
 use Rattle.transition_walk.specs.Transitions.{rank, weight}
 use native.Mathlib.Nat.{mul-le-mul_left, pow-suc}
@@ -20,7 +20,7 @@ pow_more (suc k) a =
 pub pow_below : (a b : ℕ) → a < b → 256 ^ a ≤ 256 ^ (b - 1)
 pow_below a b h = let m = pow_more (b - 1 - a) a in let e : a + (b - 1 - a) ≡ b - 1 = omega arith in let p = ap (λ n. 256 ^ n) e in omega arith
 
--- at most 255 of the weights below one do not come up to it
+-- r times 256^(b - 1) is less than 256^b, for r from 1 to 255
 pub weights_less : (b r : ℕ) → 0 < b → 1 ≤ r → r ≤ 255 → (r - 1) * 256 ^ (b - 1) + 256 ^ (b - 1) < 256 ^ b
 weights_less b r h first last =
     let m : ℕ = 256 ^ (b - 1) in

@@ -1,4 +1,5 @@
--- Lists whose keys are strictly sorted by a total order: what a binary search finds, and what stays sorted.
+-- Lists whose keys are strictly sorted by a total order: the result of a binary search, and changes that keep them
+-- sorted.
 use Rattle.std.proofs.Common.{◌≡◌, ℕ, zero, suc, ◌<◌, ◌≤◌, List, [], ◌∷◌, ◌++◌, map, length, get_or, set, refl, sym, ap, ◌∙◌, subst, inl, inr, arith}
 use Rattle.std.specs.Cmp.{IsTotalOrder, alike_right, tied_itself}
 use Rattle.std.specs.List.{AllByRecursion, insert}
@@ -10,9 +11,9 @@ use Rattle.std.proofs.lemmas.Bool.{cases_lt}
 use Rattle.std.proofs.lemmas.Map.Keys.{sorted_head, sorted_tail}
 use Rattle.sym_model.specs.Sum.{Among}
 
--- ---- what does not depend on the order
+-- ---- changes that need no order
 
--- another element with the same key leaves the keys
+-- if an element is replaced by one with the same key, the list of keys is unchanged
 pub keys_set : {X K : Type 0} (key : X → K) (xs : List X) (i : ℕ) (x y : X) → i < length xs → x ≡ get_or xs i x → key y ≡ key x → map key (set xs i y) ≡ map key xs
 keys_set key [] i x y h e k = absurd (omega arith)
 keys_set key (z ∷ xs) zero x y h e k = ap (λ j. j ∷ map key xs) (k ∙ ap key e)
@@ -31,7 +32,7 @@ keys_append : {X K : Type 0} (key : X → K) (xs ys : List X) → map key (xs ++
 keys_append key [] ys = refl
 keys_append key (x ∷ xs) ys = ap (λ l. key x ∷ l) (keys_append key xs ys)
 
--- the elements in front of others are sorted
+-- the first elements of a sorted list are sorted
 pub sorted_rest : {X K : Type 0} (key : X → K) (R : K → K → Ordering) (all xs ys : List X) → all ≡ xs ++ ys → IsStrictlySortedBy R (map key all) → IsStrictlySortedBy R (map key xs)
 sorted_rest key R all xs ys e s = sorted_front R (map key xs) (map key ys) (subst (IsStrictlySortedBy R) (ap (map key) e ∙ keys_append key xs ys) s)
 
@@ -39,7 +40,7 @@ pub sorted_one : {X K : Type 0} (key : X → K) (R : K → K → Ordering) (all 
 unfolding IsStrictlySortedBy
 sorted_one key R all x e = subst (λ l. IsStrictlySortedBy R (map key l)) (sym e) (tt, tt)
 
--- ---- what is found, and where another element goes
+-- ---- the place that a search finds, and inserting an element there
 
 module _ {X K : Type 0} (key : X → K) (R : K → K → Ordering) (o : IsTotalOrder R) where
   head_below : (k : K) (xs : List X) (j : ℕ) (d : X) → AllByRecursion (λ l. R k l ≡ Less) (map key xs) → j < length xs → R k (key (get_or xs j d)) ≡ Less
@@ -66,7 +67,7 @@ module _ {X K : Type 0} (key : X → K) (R : K → K → Ordering) (o : IsTotalO
       by Equal e = let p = ap ordering_index (sym (alike_right o b k a e) ∙ h) in omega arith
       by Greater e = let p = ap ordering_index e in let q = index_most (R a k) in omega arith
 
-  -- the comparisons with a key rise along the list, as a binary search asks
+  -- the comparisons with a key are non-decreasing along the list, as a binary search requires
   pub comparisons_rise : (xs : List X) (k : K) → IsStrictlySortedBy R (map key xs) → IsNonDecreasingBy (λ x. ordering_index (R (key x) k)) xs
   comparisons_rise xs k s i j d h l = elim (cases_lt i j) [
     | inl f ↦ index_rises (key (get_or xs i d)) (key (get_or xs j d)) k (below xs i j d s f l)
@@ -78,7 +79,7 @@ module _ {X K : Type 0} (key : X → K) (R : K → K → Ordering) (o : IsTotalO
   absent_where (x ∷ xs) k h (inl e) = h 0 x (omega arith) (ap (λ l. R l k) (sym e) ∙ tied_itself o k)
   absent_where (x ∷ xs) k h (inr m) = absent_where xs k (λ j d l. h (suc j) d (omega arith)) m
 
-  -- a key that has a gap is not one of the keys
+  -- a key for which there is a gap is not one of the keys
   pub absent : (xs : List X) (k : K) (at : ℕ) → IsPartitionPoint (λ x. R (key x) k ≡ Less) (λ x. R (key x) k ≡ Greater) xs at → Among k (map key xs) → ⊥
   absent xs k at p = absent_where xs k (λ j d l e. elim (cases_lt j at) [ inl f ↦ let q = p.0 j d (omega arith) f in cc | inr f ↦ let q = p.1 j d f l in cc ])
 
@@ -92,7 +93,7 @@ module _ {X K : Type 0} (key : X → K) (R : K → K → Ordering) (o : IsTotalO
   all_insert k (y ∷ xs) zero x a h = (h, a)
   all_insert k (y ∷ xs) (suc at) x a h = (a.0, all_insert k xs at x a.1 h)
 
-  -- an element that is put into the gap for its key leaves the list sorted
+  -- an element inserted into the gap for its key leaves the list sorted
   pub sorted_insert : (xs : List X) (at : ℕ) (x : X) → at ≤ length xs → IsPartitionPoint (λ y. R (key y) (key x) ≡ Less) (λ y. R (key y) (key x) ≡ Greater) xs at
       → IsStrictlySortedBy R (map key xs) → IsStrictlySortedBy R (map key (insert xs at x))
   unfolding IsStrictlySortedBy

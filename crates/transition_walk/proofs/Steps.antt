@@ -1,8 +1,8 @@
--- What the transition rule puts in the place of a permutation that waits (specs/Waiting).
---     step_value        the products add up to that of the permutation
---     step_growth       their shares come to no more than its share
+-- The lists by which the transition rule replaces a waiting permutation w (specs/Waiting).
+--     step_value        their products add up to that of w
+--     step_growth       their shares add up to at most the share of w
 --     step_waiting      they keep the bounds
---     step_load         and are lower
+--     step_load         their loads add up to less than that of w
 use Rattle.std.proofs.Common.{◌≡◌, ℕ, ◌+◌, ◌-◌, ◌*◌, ◌^◌, ◌<◌, ◌≤◌, Bool, true, List, [], ◌∷◌, ◌++◌, length, sym, ap, ◌∙◌, subst, inl, inr, arith, ℤ, ◌+ℤ◌, ◌*ℤ◌}
 use Rattle.std.proofs.lemmas.Int.{ints}
 use Rattle.std.proofs.lemmas.Bool.{and_parts}
@@ -35,15 +35,15 @@ use Rattle.linear_combinations.specs.Gains.{weighed}
 use Rattle.linear_combinations.proofs.Weighed.{weighed_add, weighed_replaced, weighed_within}
 use lib.IntN.{+ℤ_idr}
 
--- each label of a table is one of its type
+-- the label of each term of a table passes the test of its type
 pub are_labels : {L : Type 0} {eq : L → L → Bool} {is_label : L → Bool} (list : WholeTermsOf L) → IsCombination eq is_label whole list → HaveLabels (λ label. is_label label ≡ true) list
 are_labels {L} {eq} {is_label} list is t m = (and_parts _ (is_label t.0) (term-among is_label whole list is.proper t m)).1
 
--- the empty list
+-- if a list is empty, all of its labels have the property P
 pub no_labels : {L : Type 0} (P : L → Type 0) (list : WholeTermsOf L) → list ≡ [] → HaveLabels P list
 no_labels {L} P list empty = subst (λ (l : WholeTermsOf L). HaveLabels P l) (sym empty) (λ t m. absurd m)
 
--- a sum over a table of sums
+-- the sum over a table of f + Σ g x is the sum for f and the sums for the g x
 over_sum : {L : Type 0} (f : L → ℤ) (g : List ℕ → L → ℤ) (xs : List (List ℕ)) (terms : WholeTermsOf L)
     → over (λ e. f e +ℤ total (λ (x : List ℕ). g x e) xs) terms ≡ over f terms +ℤ total (λ (x : List ℕ). over (g x) terms) xs
 over_sum {L} f g xs terms =
@@ -70,13 +70,13 @@ module _ {L : Type 0} (image : List ℕ → L → WholeTermsOf L) (r s : ℕ) (w
       let f = +ℤ_idr (over (φ (times_swap r s w.perm)) (replaced (image (times_swap r s w.perm)) w.factor)) in
       omega (arith, ints)
 
-  -- ---- bounds
+  -- ---- bounds of the permutations that replace w
 
   module _ (extent : L → ℕ) (n top : ℕ) (is : IsWaiting extent n top w) (one_line : IsOneLine w.perm) (t : IsTransition w.perm r s) where
     short : IsShort n w.perm
     short = record { one_line = one_line; few = is.few }
 
-    -- what is known of the permutation that is lower
+    -- w·t_rs has one inversion less than w, at most n letters, and 1 ≤ r < n
     record IsLowered : Type 0 where
       lower : IsShort n (times_swap r s w.perm)
       inverted : inversions w.perm ≡ inversions (times_swap r s w.perm) + 1
@@ -95,7 +95,7 @@ module _ {L : Type 0} (image : List ℕ → L → WholeTermsOf L) (r s : ℕ) (w
           place = omega arith;
         }
 
-    -- those that are put in its place have at most n letters
+    -- if w has at most n letters, so has each permutation that replaces w
     pub step_short : (x : WithList L) → Among x (stepped image r s w) → IsShort n x.perm
     step_short x m = elim (Among_from_append x (each_waits w.factor (covers_down r (times_swap r s w.perm))) ((record { perm = times_swap r s w.perm; factor = replaced (image (times_swap r s w.perm)) w.factor }) ∷ []) m) [
       | inl l ↦
@@ -171,7 +171,7 @@ module _ {L : Type 0} (image : List ℕ → L → WholeTermsOf L) (r s : ℕ) (w
         ]
       ]
 
--- the permutations that the rule makes weigh less than the one that they come of
+-- the permutations that replace w together weigh less than w does
 pub covers_weigh_less : (n r s : ℕ) (w : List ℕ) → n ≤ 255 → IsShort n w → IsTransition w r s → sum_by weight (covers_down r (times_swap r s w)) + weight (times_swap r s w) < weight w
 covers_weigh_less n r s w small short t =
     let o = short.one_line in
@@ -205,7 +205,7 @@ step_load {L} image r s w short t =
     let c = covers_weigh_less 255 r s w.perm (omega arith) short t in
     omega arith
 
--- what is put in its place, as it is computed
+-- if the arguments are the covers and the factor that the code computes, the lists that replace w are these
 pub stepped_as : {L T : Type 0} (image : T → L → WholeTermsOf L) (made : List ℕ → T) (r s : ℕ) (w : WithList L) (down : List (List ℕ)) (lower : List ℕ) (factor : T)
     → lower ≡ times_swap r s w.perm → down ≡ covers_down r lower → factor ≡ made lower
     → each_waits w.factor down ++ (record { perm = lower; factor = replaced (image factor) w.factor }) ∷ [] ≡ stepped (λ v. image (made v)) r s w

@@ -1,4 +1,4 @@
--- Lists of permutations that wait: what one entry more, or another factor of an entry, changes (specs/Todo).
+-- Lists of waiting permutations with one entry inserted, or with the factor of an entry replaced (specs/Todo).
 use Rattle.std.proofs.Common.{◌≡◌, ◌⊎◌, ℕ, zero, suc, ◌+◌, ◌<◌, ◌≤◌, List, [], ◌∷◌, ◌++◌, length, get_or, set, take, drop, refl, sym, ap, ◌∙◌, subst, inl, inr, arith, ℤ, pos, ◌+ℤ◌}
 use Rattle.std.specs.List.{insert}
 use Rattle.std.proofs.lemmas.Int.{ints}
@@ -9,7 +9,7 @@ use Rattle.transition_walk.specs.declared.todo.Waiting.{Waiting}
 use Rattle.transition_walk.specs.Transitions.{weight}
 use Rattle.transition_walk.specs.Todo.{load, HasPermutation, MayGain}
 
--- ---- one entry more
+-- ---- one entry inserted into a list
 
 pub total_insert : {A : Type 0} (f : A → ℤ) (todo : List A) (i : ℕ) (w : A) → total f (insert todo i w) ≡ total f todo +ℤ f w
 total_insert f todo i w =
@@ -38,7 +38,7 @@ among_insert todo i w x m = elim (Among_from_append x (take i todo) (w ∷ drop 
   ]
 ]
 
--- the entry put in stands at its index
+-- the entry at the index of an insertion is the inserted one
 pub inserted_at : {A : Type 0} (todo : List A) (i : ℕ) (w x : A) → i ≤ length todo → x ≡ get_or (insert todo i w) i x → x ≡ w
 inserted_at [] zero w x h e = e
 inserted_at [] (suc i) w x h e = absurd (omega arith)
@@ -51,7 +51,7 @@ length_insert [] (suc i) w h = absurd (omega arith)
 length_insert (y ∷ todo) zero w h = omega arith
 length_insert (y ∷ todo) (suc i) w h = let r = length_insert todo i w (omega arith) in omega arith
 
--- one that may be there in advance
+-- if f(w) is 0, a list that may have gained w has the same sum of f
 
 pub total_gain : {A : Type 0} (f : A → ℤ) (old new : List A) (w : A) → MayGain old w new → f w ≡ pos 0 → total f new ≡ total f old
 total_gain f old new w (inl e) z = ap (total f) e
@@ -65,7 +65,7 @@ pub among_gain : {A : Type 0} (P : A → Type 0) (old new : List A) (w : A) → 
 among_gain P old new w (inl e) here all x m = all x (subst (Among x) e m)
 among_gain P old new w (inr (i, e)) here all x m = elim (among_insert old i w x (subst (Among x) e m)) [ inl s ↦ subst P (sym s) here | inr k ↦ all x k ]
 
--- the entry at an index has the permutation
+-- if w is inserted at the index, the entry there has the permutation of w
 
 pub has_inserted : {F : Type 0} (todo new : List (Waiting F)) (at : ℕ) (w : Waiting F) → at ≤ length todo → new ≡ insert todo at w → (at < length new) × HasPermutation w.perm new at
 has_inserted {F} todo new at w h e =
@@ -75,7 +75,7 @@ has_inserted {F} todo new at w h e =
       λ x is. ap (λ (y : Waiting F). y.perm) (inserted_at todo at w x h (is ∙ ap (λ (xs : List (Waiting F)). get_or xs at x) e)),
     )
 
--- ---- another entry in the place of one
+-- ---- an entry of a list replaced by another
 
 pub total_set : {A : Type 0} (f : A → ℤ) (todo : List A) (i : ℕ) (w v : A) → i < length todo → w ≡ get_or todo i w
     → total f (set todo i v) +ℤ f w ≡ total f todo +ℤ f v

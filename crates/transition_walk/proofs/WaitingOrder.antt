@@ -1,4 +1,4 @@
--- The order of what waits: it is total, and what ties in it is the same.
+-- The order of the waiting list: it is total, and permutations that compare as equal are the same.
 use Rattle.std.proofs.Common.{◌≡◌, ℕ, ◌<◌, ◌≤◌, List, [], ◌∷◌, ◌++◌, length, get_or, set, sym, ap, ◌∙◌, subst}
 use Rattle.std.specs.Prelude.{Result, Ok, Err, MatchResult, IfErr}
 use Rattle.std.specs.Cmp.{IsTotalOrder, nat_cmp_total, on_total, back_total, then_total}
@@ -24,7 +24,7 @@ waiting_order-equal v w e =
     let t = then-equal (nat_cmp (inversions v) (inversions w)) (slice_cmp nat_cmp w v) e in
     sym (same_partition w v (texts_ties w v ∙ ap is_eq t.1))
 
--- what a binary search by this order finds
+-- if a binary search by this order finds the place r, it is that of the permutation if the result is `Ok`, and a gap for it if `Err`
 
 pub found_place : {F : Type 0} (todo : List (Waiting F)) (perm : List ℕ) (r : Result ℕ ℕ) → IsSearchInRange r (length todo)
     → IsBinarySearchResult (λ (w : Waiting F). waiting_order w.perm perm) todo r
@@ -42,7 +42,7 @@ pub found_absent : {F : Type 0} (todo : List (Waiting F)) (perm : List ℕ) (r :
 found_absent todo perm (Ok at) gap = tt
 found_absent {F} todo perm (Err at) gap = λ order m. absent (λ (w : Waiting F). w.perm) waiting_order waiting_order-total todo perm at (gap order) m
 
--- what keeps the order
+-- inserting at the gap, replacing a factor and removing the last entry keep the order
 
 pub order_insert : {F : Type 0} (todo seen new : List (Waiting F)) (at : ℕ) (w : Waiting F) → seen ≡ todo → at ≤ length seen → (AreInOrder seen → IsGapFor w.perm seen at)
     → new ≡ insert todo at w → AreInOrder todo → AreInOrder new

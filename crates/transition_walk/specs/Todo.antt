@@ -1,5 +1,4 @@
--- A list of permutations that wait for the transition rule, each with a factor,
--- in the order that the rule lowers.
+-- A list of permutations that wait for the transition rule, each with a factor, in the order that the rule lowers.
 use Rattle.std.specs.Prelude.{◌≡◌, ◌⊎◌, ℕ, ◌+◌, List, [], ◌∷◌, map, slice_index_or}
 use Rattle.std.specs.Cmp.Lexicographic.{slice_cmp}
 use Rattle.std.specs.List.{insert}
@@ -20,12 +19,11 @@ load (w ∷ todo) = weight w.perm + load todo
 abbrev pub HasPermutation : {F : Type 0} → List ℕ → List (Waiting F) → ℕ → Type 0
 HasPermutation {F} perm todo at = (w : Waiting F) → w ≡ slice_index_or todo at w → w.perm ≡ perm
 
--- the list is as it was, or has the element more
+-- the list is the old one, or the old one with the element inserted at some place
 abbrev pub MayGain : {A : Type 0} → List A → A → List A → Type 0
 MayGain old x new = (new ≡ old) ⊎ ((at : ℕ) × (new ≡ insert old at x))
 
--- the order of what waits, which the transition rule lowers:
--- by inversions and then by falling order of the letters
+-- the order of the waiting list, which the transition rule lowers: by inversions, then decreasing by letters
 abbrev pub waiting_order : List ℕ → List ℕ → Ordering
 waiting_order v w = ordering_then (nat_cmp (inversions v) (inversions w)) (slice_cmp nat_cmp w v)
 
@@ -33,7 +31,7 @@ waiting_order v w = ordering_then (nat_cmp (inversions v) (inversions w)) (slice
 abbrev pub permutations : {F : Type 0} → List (Waiting F) → List (List ℕ)
 permutations {F} todo = map (λ (w : Waiting F). w.perm) todo
 
--- each permutation comes before those after it in this order, so that no two are the same
+-- the permutations are strictly increasing in this order, so no two are the same
 abbrev pub AreInOrder : {F : Type 0} → List (Waiting F) → Type 0
 AreInOrder todo = IsStrictlySortedBy waiting_order (permutations todo)
 

@@ -1,5 +1,5 @@
--- Permutations that wait for the transition rule, each with the list that its Schubert polynomial
--- is multiplied by: what is added to them.
+-- Permutations that wait for the transition rule, each with the list by which its Schubert polynomial is multiplied,
+-- and terms added to these lists.
 use Rattle.std.specs.Prelude.{◌≡◌, ℕ, ◌+◌, ◌^◌, ◌≤◌, ℤ, ◌+ℤ◌, List, [], ◌∷◌, ◌++◌}
 use Rattle.std.specs.Prelude.{length}
 use Rattle.sym_model.specs.Permutation.{times_swap, covers_down}
@@ -11,7 +11,7 @@ use Rattle.sym_model.specs.Sum.{sum_by}
 use Rattle.linear_combinations.specs.Gains.{weighed}
 use Rattle.transition_walk.specs.Todo.{load, AreInOrder}
 
--- a permutation with the list that its Schubert polynomial is multiplied by
+-- a permutation with the list by which its Schubert polynomial is multiplied
 abbrev pub WithList : Type 0 → Type 0
 WithList L = Waiting (WholeTermsOf L)
 
@@ -20,12 +20,12 @@ WithList L = Waiting (WholeTermsOf L)
 abbrev pub value_of : {L : Type 0} → (List ℕ → L → ℤ) → List (WithList L) → ℤ
 value_of {L} φ todo = total (λ (w : WithList L). over (φ w.perm) w.factor) todo
 
--- what all lists weigh, where each label has its share of the permutation that it waits with
+-- the sum over all terms that wait of |coefficient| · share of the label at its permutation
 abbrev pub growth : {L : Type 0} → (List ℕ → L → ℕ) → List (WithList L) → ℕ
 growth {L} share todo = sum_by (λ (w : WithList L). weighed (share w.perm) w.factor) todo
 
--- a permutation of at most n letters; with its inversions n and the extents of its labels come to
--- at most `top`
+-- a permutation of at most n letters; its inversions plus n, and plus the extent of each of its labels, are at most
+-- `top`
 pub record IsWaiting {L : Type 0} (extent : L → ℕ) (n top : ℕ) (w : WithList L) : Type 0 where
   pub few : length w.perm ≤ n
   pub inside : n + inversions w.perm ≤ top
@@ -34,13 +34,13 @@ pub record IsWaiting {L : Type 0} (extent : L → ℕ) (n top : ℕ) (w : WithLi
 abbrev pub AreWaiting : {L : Type 0} → (L → ℕ) → ℕ → ℕ → List (WithList L) → Type 0
 AreWaiting {L} extent n top todo = (w : WithList L) → Among w todo → IsWaiting extent n top w
 
--- each of some permutations with the same list
+-- each permutation of a list, with the same list of terms
 abbrev pub each_waits : {L : Type 0} → WholeTermsOf L → List (List ℕ) → List (WithList L)
 each_waits list [] = []
 each_waits list (x ∷ xs) = (record { perm = x; factor = list }) ∷ each_waits list xs
 
--- what the transition rule puts in the place of w: the covers v·t_ir with the list, and v = w·t_rs
--- with what a factor makes of it
+-- the lists that replace w: the covers v·t_ir with its list, and v = w·t_rs with the image of its list under the
+-- factor
 abbrev pub stepped : {L : Type 0} → (List ℕ → L → WholeTermsOf L) → ℕ → ℕ → WithList L
     → List (WithList L)
 stepped image r s w = each_waits w.factor (covers_down r (times_swap r s w.perm))
@@ -49,8 +49,8 @@ stepped image r s w = each_waits w.factor (covers_down r (times_swap r s w.perm)
       factor = replaced (image (times_swap r s w.perm)) w.factor;
     }) ∷ []
 
--- VALUE: the new list is the old one and what is added,
--- where lists that wait with one permutation are summed up
+-- VALUE: new is old and more, with the lists at one permutation added up: it has the sum of their values, at most the
+-- sum of their shares, their bounds, the order of old, and at most the sum of their loads
 pub record Joins {L : Type 0} (old more new : List (WithList L)) : Type 0 where
   pub value : (φ : List ℕ → L → ℤ) → value_of φ new ≡ value_of φ old +ℤ value_of φ more
   pub grows : (share : List ℕ → L → ℕ) → growth share new ≤ growth share old + growth share more
@@ -59,8 +59,8 @@ pub record Joins {L : Type 0} (old more new : List (WithList L)) : Type 0 where
   pub ordered : AreInOrder old → AreInOrder new
   pub loaded : load new ≤ load old + load more
 
--- OVERFLOW: at a label that waits with a permutation to which something is added, all comes to
--- 2^127 or more: so it does for any shares of which this label has one
+-- OVERFLOW: at a label of some permutation in more, old and more together are at least 2^127: it is so for every
+-- share that is at least 1 at this label
 pub record WaitingOverflows {L : Type 0} (old more : List (WithList L)) : Type 0 where
   pub entry : WithList L
   pub added : Among entry more

@@ -1,14 +1,13 @@
 //! The product of a Schubert polynomial and a label.
-ghost use Rattle.std.specs.Prelude.{◌≡◌, ℕ, ◌+◌, ◌^◌, ◌≤◌, ℤ, pos, [], ◌∷◌, FitsSigned, List};
-ghost use Rattle.std.specs.Prelude.{length, max, IfOk, IsErrOf};
+ghost use Rattle.std.specs.Prelude.{◌≡◌, ℕ, ◌^◌, ◌≤◌, ℤ, pos, FitsSigned, List, IfOk, IsErrOf};
 ghost use Rattle.std.specs.Int.{w128};
 ghost use Rattle.coeff_rings.specs.Fractions.{whole};
 ghost use Rattle.linear_combinations.specs.Entries.{AreHeld, IsCombination};
-ghost use Rattle.sym_model.specs.PlaceOrders.{inversions};
+ghost use Rattle.sym_model.specs.Polynomial.{pair};
 ghost use Rattle.perm_codes.specs.Limits.{IsWithinLimits};
 ghost use Rattle.linear_combinations.specs.Gains.{over};
-ghost use Rattle.transition_walk.specs.Growth.{limit_of, top_of, IsShare, IsSingle, SharesOverflow};
-ghost use Rattle.linear_combinations.specs.Gains.{weighed};
+ghost use Rattle.transition_walk.specs.Growth.{IsSingle, KeepsShares, OverflowsFrom, StaysWithin};
+ghost use Rattle.transition_walk.specs.Growth.{limit_of};
 
 use crate::factor::Factor;
 use crate::todo::Waiting;
@@ -21,34 +20,30 @@ use std::alloc::Global;
 
 /// The product of the Schubert polynomial of a permutation w and a label, as a list of labels.
 ///
-/// With m the greater of the letters of w and the extent of the label, and l the inversions of w,
-/// m + l is at most
-/// `most` + 1. It is refused as `Large` only where the value of the Schubert polynomial at 1 in
-/// each variable, times the power l of m + l + `extra`, is 2^127 or more; and only where at some
-/// label all that waits with some permutation comes to 2^127 or more (`SharesOverflow`).
+/// With m the greater of the number of letters of w and the extent of the label, and l the number
+/// of inversions of w, m + l is at most `most` + 1. Returns `Large` only if the value of the
+/// Schubert polynomial at 1 in each variable, times the power l of m + l + `extra`, is 2^127 or
+/// more; and only if the terms at some label, of all that waits with some permutation, add up to
+/// 2^127 or more (`SharesOverflow`).
 ///
-/// What waits is a permutation with a list that its Schubert polynomial is multiplied by. The
-/// transition rule puts lower permutations in the place of the greatest one,
-/// until the identity is left.
+/// The waiting lists are permutations, each with a list by which its Schubert polynomial is
+/// multiplied. The transition rule replaces the greatest permutation by lower ones, until only the
+/// identity is left.
 pub fn product_of<L: Label, F: Factor<L>>(
     alloc: Global,
     w: &Perm,
     label: &L,
 ) -> Result<Lin<L, Int>, SumFault>
-    requires { IsWithinLimits w.now
-        → max (length w.now) (F.extent label.now) + inversions w.now ≤ F.most + 1 }
+    requires { IsWithinLimits w.now → StaysWithin F.extent F.most w.now label.now }
     ensures limits { IsWithinLimits w.now }
     ensures value { IfOk result (λ sum. (n : ℕ) (φ : List ℕ → ℤ)
-        → over (F.product n φ (1 ∷ [])) sum ≡ F.product n φ w.now label.now) }
+        → over (λ x. pair (F.polynomial n x) φ) sum ≡ F.product n φ w.now label.now) }
     ensures table { IfOk result (IsCombination L.eq L.is_label whole) }
     ensures held { IfOk result (AreHeld L.eq (pos 0) (FitsSigned w128)) }
-    ensures shares { IfOk result (λ sum. (share : List ℕ → L → ℕ)
-        → IsShare (λ r v. F.image (F.made r v)) F.extent (length w.now)
-        (top_of w.now (F.extent label.now)) share
-        → weighed (share (1 ∷ [])) sum ≤ share w.now label.now) }
+    ensures shares { IfOk result
+        (KeepsShares (λ r v. F.image (F.made r v)) F.extent w.now label.now) }
     ensures overflow { IsErrOf result SumFault.Large
-        → SharesOverflow (λ r v. F.image (F.made r v)) F.extent
-        (length w.now) (top_of w.now (F.extent label.now)) (λ share. share w.now label.now) }
+        → OverflowsFrom (λ r v. F.image (F.made r v)) F.extent w.now label.now }
     ensures large { IsErrOf result SumFault.Large
         → 2 ^ 127 ≤ limit_of w.now (F.extent label.now) F.extra }
 {
@@ -64,7 +59,7 @@ pub fn product_of<L: Label, F: Factor<L>>(
     Ok(sum)
 }
 
-/// A label as a list.
+/// The list whose only term is a label, with coefficient 1.
 fn single<L: Label>(alloc: Global, label: &L) -> Result<Lin<L, Int>, SumFault>
     ensures sums { IfOk result (λ list. (φ : L → ℤ) → over φ list ≡ φ label.now) }
     ensures few { IfOk result (λ list. IsSingle label.now list) }

@@ -1,4 +1,4 @@
-//! What is still to do: permutations that wait for the transition rule.
+//! The permutations that wait for the transition rule.
 ghost use Rattle.std.specs.Prelude.{◌≡◌, ◌<◌, ◌≤◌, length, MatchResult, IfOk, IfErr, OnOk};
 ghost use Rattle.sym_model.specs.Sum.{Among};
 ghost use Rattle.transition_walk.specs.Todo.{waiting_order, permutations, AreInOrder};
@@ -8,18 +8,17 @@ use calc_base::NoMemory;
 use perm_codes::Perm;
 use std::cmp::Ordering;
 
-/// A permutation whose Schubert polynomial is still to be expanded,
-/// and the factor that it is multiplied by.
+/// A permutation whose Schubert polynomial is still to be expanded, and the factor by which it is
+/// multiplied.
 #[derive(Drop)]
 pub struct Waiting<F> {
     /// The permutation.
     pub perm: Perm,
-    /// The factor.
+    /// The factor by which its Schubert polynomial is multiplied.
     pub factor: F,
 }
 
-/// An order that the transition rule lowers: by inversions and then by falling order of the
-/// letters.
+/// An order that the transition rule lowers: by inversions, then decreasing by letters.
 fn compare(first: &Perm, second: &Perm) -> Ordering
     ensures { result ≡ waiting_order first.now second.now }
 {
@@ -29,8 +28,8 @@ fn compare(first: &Perm, second: &Perm) -> Ordering
         .then(second.letters().cmp(first.letters()))
 }
 
-/// The place of a permutation in the list, or the place where it is to be put in. It is an `Err`
-/// exactly where the permutation is not there, if the list is in order.
+/// The place of a permutation in the list as `Ok`, or the place where it would be inserted as
+/// `Err`. In a list in order, it is `Err` if and only if the permutation is not there.
 fn place_of<F>(todo: &[Waiting<F>], perm: &Perm) -> Result<usize, usize>
     ensures place { MatchResult result
         (λ at. (at < length todo.now) × HasPermutation perm.now todo.now at)
@@ -42,8 +41,8 @@ fn place_of<F>(todo: &[Waiting<F>], perm: &Perm) -> Result<usize, usize>
     todo.binary_search_by(|waiting| compare(&waiting.perm, perm))
 }
 
-/// The index of a permutation in the list, which is put in with the factor where it is not there. A
-/// list in order, in which no permutation stands twice, stays so.
+/// The index of a permutation in the list; if it is not there, it is inserted with the factor. A
+/// list in order, in which no permutation occurs twice, remains in order.
 pub(crate) fn entry_at<F: Drop>(
     todo: &mut Vec<Waiting<F>>,
     perm: Perm,

@@ -1,4 +1,4 @@
-//! The transition rule on what waits.
+//! The transition rule on the waiting lists.
 ghost use Rattle.std.specs.Prelude.{ℕ, ◌<◌, ◌≤◌, ◌∷◌, ◌++◌, [], pos, FitsSigned, List, length};
 ghost use Rattle.std.specs.Prelude.{OnOk, IsErrOf};
 ghost use Rattle.std.specs.Int.{w128};
@@ -21,7 +21,7 @@ use perm_codes::Perm;
 use std::alloc::Global;
 use std::mem;
 
-/// Adds a list that is given away: the shorter of the two is added to the longer one.
+/// Adds a list that is not needed afterwards: the shorter of the two is added to the longer one.
 fn add_given<L: Label>(sum: &mut Lin<L, Int>, list: Lin<L, Int>) -> Result<(), SumFault>
     ensures gains { OnOk result (Gains sum.old list sum.new) }
     ensures table { OnOk result (IsCombination L.eq L.is_label whole sum.new) }
@@ -53,7 +53,7 @@ fn add_waiting<L: Label>(
     waiting.factor.add_terms(list)
 }
 
-/// Adds a list that is given away to the one that waits with a permutation.
+/// Adds a list that is not needed afterwards to the one that waits with a permutation.
 fn give_waiting<L: Label>(
     alloc: Global,
     todo: &mut Vec<Waiting<Lin<L, Int>>>,
@@ -93,7 +93,7 @@ fn add_waiting_by<L: Label, F: Rule<L, L>>(
     waiting.factor.add_by(factor, list)
 }
 
-/// Adds a list to those that wait with each of some permutations.
+/// Adds a list to the one that waits with each of `covers`.
 fn add_to_each<L: Label>(
     alloc: Global,
     todo: &mut Vec<Waiting<Lin<L, Int>>>,
@@ -111,8 +111,7 @@ fn add_to_each<L: Label>(
     Ok(())
 }
 
-/// Adds a list to those that wait with each of some permutations and with a last one, to which it
-/// is given away.
+/// Adds a list to the one that waits with each of `covers` and with `last`, which takes it over.
 fn give_to_last<L: Label>(
     alloc: Global,
     todo: &mut Vec<Waiting<Lin<L, Int>>>,
@@ -130,7 +129,7 @@ fn give_to_last<L: Label>(
     give_waiting(alloc, todo, last, list)
 }
 
-/// Adds a list that is given away to those that wait with each of some permutations.
+/// Adds a list that is not needed afterwards to the one that waits with each of `covers`.
 fn add_covers<L: Label>(
     alloc: Global,
     todo: &mut Vec<Waiting<Lin<L, Int>>>,
@@ -149,7 +148,7 @@ fn add_covers<L: Label>(
     }
 }
 
-/// Puts in the place of a permutation that waits those that the transition rule makes of it.
+/// Replaces a waiting permutation by those of the transition rule at the places r and s.
 fn expand<L: Label, F: Factor<L>>(
     alloc: Global,
     todo: &mut Vec<Waiting<Lin<L, Int>>>,
@@ -175,8 +174,8 @@ fn expand<L: Label, F: Factor<L>>(
     add_covers(alloc, todo, covers, list)
 }
 
-/// Puts in the place of a permutation that waits those that the transition rule makes of it; the
-/// list that waits with the identity is added to the sum.
+/// Replaces a waiting permutation by those of the transition rule; if it is the identity, its list
+/// is added to the sum.
 pub(crate) fn work_off<L: Label, F: Factor<L>>(
     alloc: Global,
     todo: &mut Vec<Waiting<Lin<L, Int>>>,

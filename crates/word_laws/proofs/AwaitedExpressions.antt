@@ -1,4 +1,4 @@
--- Where an expression is awaited in words of a form, by the derivatives.
+-- The places in words of a form at which an expression can be next, by the derivatives.
 use Rattle.std.proofs.Common.{◌≡◌, ℕ, Bool, true, false, ◌&&◌, cond, List, [], ◌∷◌, ◌++◌, map, append_assoc, refl, sym, ap, ◌∙◌, subst, ◌⊎◌, inl, inr}
 use Rattle.std.proofs.lemmas.Bool.{and_parts, and_from, or_cases, or_left, or_right}
 use Rattle.sym_model.specs.Sum.{Among}
@@ -8,7 +8,7 @@ use Rattle.word_laws.proofs.Derivatives.{sequence_parts, has_more, has_none, ski
 use Rattle.word_laws.proofs.LongestPrefixes.{some_in, some_out}
 use Rattle.word_laws.specs.Words.{Words}
 
--- ---- next
+-- ---- an expression as the first word of a form
 
 pub next_sound : (f : Form) → awaits_next f ≡ true → Awaits f []
 next_sound empty h = cc
@@ -54,9 +54,9 @@ next_complete (either f g) (inl h) = or_left (awaits_next f) (awaits_next g) (ne
 next_complete (either f g) (inr h) = or_right (awaits_next f) (awaits_next g) (next_complete g h)
 next_complete (many f) h = let p = no_append h.0 h.1 h.2 in next_complete f (subst (Awaits f) p.1 h.4)
 
--- ---- after a word
+-- ---- an expression after one word of a form
 
--- a derivative in whose words an expression is awaited after these
+-- a derivative by the word `text` for which an expression can follow the words ws
 pub record AwaitsAfter (reads : List ℕ → Bool) (f : Form) (text : List ℕ) (ws : Words) : Type 0 where
   pub next : Form
   pub among : Among next (derivatives reads f text)
@@ -190,7 +190,7 @@ awaits_before reads tells (many f) h text ws m a =
       w.4.4,
     )
 
--- ---- after several words
+-- ---- an expression after several words of a form
 
 abbrev pub AwaitsOne : List Form → Words → Type 0
 AwaitsOne forms ws = SomeOf (λ f. Awaits f ws) forms
@@ -208,7 +208,7 @@ nothing_complete [] h = absurd h
 nothing_complete (f ∷ forms) (inl h) = or_left (awaits_next f) (some_awaits_next forms) (next_complete f h)
 nothing_complete (f ∷ forms) (inr h) = or_right (awaits_next f) (some_awaits_next forms) (nothing_complete forms h)
 
--- an expression is awaited after the words where it may stand next after their derivatives
+-- if one of the derivatives of the forms by the words can begin with an expression, an expression can follow the words
 pub awaits_sound : (reads : List ℕ → Bool) → TellsExpressions reads → (forms : List Form) (ws : Words)
     → some_awaits_next (after_words reads forms ws) ≡ true → AwaitsOne forms ws
 awaits_sound reads tells forms [] h = nothing_sound forms h

@@ -22,7 +22,7 @@ pub has_words : (basis : Basis) (bases : List Basis) → EachOf (λ (e : Entry).
 has_words basis bases =
     let can : CanBe (forms_of (entries_of (basis ∷ bases))) = search parts 64 in each_has (entries_of (basis ∷ bases)) can
 
--- the target and the expression of an expand
+-- the target of an `expand`; m for any other command
 abbrev target_of : Command → Basis
 target_of (expand target form e) = target
 target_of _ = monomials
@@ -31,7 +31,7 @@ abbrev expression_of : Command → Tree
 expression_of (expand target form e) = e
 expression_of _ = number 0
 
--- what the words of the entry say where they have no error: an expression within the degree of its target, if any
+-- if words of the entry have no error, the expression that they spell has at most the greatest degree for its target
 abbrev Within : Entry → Type 0
 Within e = (x : Written e.form) → first_offence (e.offends x) ≡ None → degree (expression_of (e.says x)) ≤ degree_limit (target_of (e.says x))
 

@@ -1,4 +1,4 @@
--- The parts of commands at the front of words, and where words first fail in their place.
+-- The parts of commands at the front of words, and the places where other words first fail.
 use Rattle.std.proofs.Common.{◌≡◌, ℕ, true, List, [], ◌∷◌, ◌++◌, length, refl, sym, ap, ◌∙◌, subst, arith, inl, inr, flat_map}
 use Rattle.std.specs.Prelude.{codes}
 use Rattle.sym_model.specs.Expansion.{Basis, monomials, elementaries, completes, power_sums, schurs}
@@ -36,7 +36,7 @@ unlike_nothing words = unlike_kind (λ t. ⊥) [] words (λ t o. o.among) (nothi
     nothing [] = tt
     nothing (t ∷ ws) = λ n. n
 
--- a word of a class is of a kind of which each that is written is
+-- if P holds of each word that a class allows, it holds of each word of the class
 of_class : (c : Class) (P : List ℕ → Type 0) → ((x : WrittenWord c) → MayBe c x → P (word_of c x)) → (t : List ℕ) → OfOne (c ∷ []) t → P t
 of_class c P h t o = elim (o.among) as (λ m. P t) [
   | inl e ↦ subst P (sym o.spelled) (subst (λ k. (x : WrittenWord k) → MayBe k x → P (word_of k x)) (sym e) h o.written o.allowed)
@@ -50,7 +50,7 @@ pub unlike_text : (text : List ℕ) (words : Words) → BeginsOtherwise (λ t. t
 unlike_text text words b =
     unlike_kind (λ t. t ≡ text) (exact text ∷ []) words (of_class (exact text) (λ t. t ≡ text) (λ x m. refl)) b
 
--- number words as what is written of them
+-- if each of the words is a number, the form of a number allows it
 pub may_be : (ns : Words) → EachOf IsNumber ns → EachOf (May (word number)) ns
 may_be [] e = tt
 may_be (t ∷ ns) e = (number_sound t e.0, may_be ns e.1)
@@ -59,9 +59,9 @@ pub singles : (ns : Words) → flat_map (λ t. t ∷ []) ns ≡ ns
 singles [] = refl
 singles (t ∷ ns) = ap (λ ws. t ∷ ws) (singles ns)
 
--- ---- a word, a number, numbers, letters
+-- ---- a word of one class, numbers, and letters of permutations
 
--- a word of a class
+-- if a word of the class is in front of other words, the form of one word takes it
 word_taken : (c : Class) (x : WrittenWord c) (piece rest words : Words) → MayBe c x → piece ≡ word_of c x ∷ [] → words ≡ word_of c x ∷ rest
     → IsTaken (word c) piece rest words
 word_taken c x piece rest words m p e = record {
@@ -85,7 +85,7 @@ number_taken digits piece rest words n p e = word_taken number digits piece rest
 pub number_wrong : (words : Words) → BeginsOtherwise IsNumber words → StopsIn (word number) words (length words)
 number_wrong words b = stops_first (word number) words refl refl (unlike_numbers words b)
 
--- the letter of a basis, an expression
+-- ---- the letter of a basis, and an expression
 pub is_basis : (t : Basis) → SomeOf (λ b. t ≡ b) all_bases
 is_basis monomials = inl refl
 is_basis elementaries = inr (inl refl)
@@ -140,7 +140,7 @@ letters_taken t more (u ∷ ns) rest words f i e n b = record {
 pub letters_wrong : (words : Words) → BeginsOtherwise IsNumber words → StopsIn permutation_words words (length words)
 letters_wrong words b = stops_first permutation_words words refl refl (unlike_numbers words b)
 
--- ---- a number of rows
+-- ---- words that begin with `-r` and a number of rows: the number is taken; otherwise where they first fail
 
 pub rows_taken : (digits : List ℕ) (piece rest words : Words) → IsNumber digits → piece ≡ codes "-r" ∷ digits ∷ [] → words ≡ codes "-r" ∷ digits ∷ rest
     → IsTaken rows_words piece rest words
@@ -160,7 +160,7 @@ rows_unnumbered words more e b =
     stops_right (the (codes "-r")) (word number) (codes "-r" ∷ []) more words (length more) refl
     (the_taken (codes "-r") (codes "-r" ∷ []) more words refl e) (number_wrong more b)
 
--- ---- a number of rows or none, the word for the one-line form or none
+-- ---- `-r` and a number, or nothing; `-m`, or nothing
 
 pub maybe_rows_taken : (digits : List ℕ) (piece rest words : Words) → IsNumber digits → piece ≡ codes "-r" ∷ digits ∷ [] → words ≡ codes "-r" ∷ digits ∷ rest
     → IsTaken (optional rows_words) piece rest words

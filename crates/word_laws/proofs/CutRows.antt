@@ -1,4 +1,4 @@
--- The rows of a tableau at the front of words, and where words first fail in their place.
+-- The rows of a tableau at the front of words, and the places where other words first fail.
 use Rattle.std.proofs.Common.{◌≡◌, ℕ, true, ◌<◌, List, [], ◌∷◌, ◌++◌, append_assoc, length, length-append, refl, sym, ap, ◌∙◌, subst, arith, inl, inr}
 use Rattle.std.specs.Prelude.{codes}
 use Rattle.sym_model.specs.Sum.{Among}
@@ -12,7 +12,7 @@ use Rattle.word_laws.proofs.Readings.{OfOne, Unlike, unlike}
 use Rattle.word_laws.proofs.Cuts.{StartsAs, EndsAt, IsTaken, StopsIn, unlike_second, unlike_last, ends_unlike, stops_first, stops_left, stops_right, optional_taken, optional_absent, optional_stops}
 use Rattle.word_laws.proofs.CutParts.{is_exact, is_number, unlike_kind, unlike_text, the_taken, letters_taken}
 
--- ---- one form after another
+-- ---- words of one form followed by others
 
 starts_behind : (q r rest : Words) → StartsAs r rest → StartsAs (q ++ r) (q ++ rest)
 starts_behind [] r rest s = s
@@ -34,9 +34,9 @@ sequence_taken f g p q behind rest ws a k l = record {
       (unlike_last f g s u);
 }
 
--- ---- a row
+-- ---- the words of one row
 
--- words of rows go on to numbers alone, and do not begin with a number where they begin with `.`
+-- words that continue a row are numbers, and there is none after a `.`
 of_row : (t : List ℕ) → OfOne (firsts row_words) t → (t ≡ codes "." → ⊥) → IsNumber t
 of_row t o n = elim (o.among) as (λ m. IsNumber t) [
   | inl e ↦ absurd (n (o.spelled ∙ is_exact o.class o.written (codes ".") e))
@@ -76,7 +76,7 @@ row_wrong words d b = stops_first row_words words refl refl (by words d b)
     by [] d b = tt
     by (t ∷ ws) d b = λ o. b (of_row t o d)
 
--- ---- further rows, each after a `/`: no word, or a row and then further ones
+-- ---- the rows after the first one, each after a `/`
 
 abbrev next_row : Form
 next_row = sequence (the (codes "/")) row_words
@@ -149,7 +149,7 @@ further_taken p q more behind rest ws e k l =
     (optional_taken more_rows ((codes "/" ∷ p) ++ q) rest ws refl
     (sequence_taken next_row further_rows (codes "/" ∷ p) q behind rest ws refl (next_taken p more behind ws e k) l))
 
--- words stop in the row after a `/`, or in one after that
+-- if words first fail in the form of one more row after a `/`, they first fail in the form of all further rows
 stops_more : (ws : Words) (left : ℕ) → left < length ws → StopsIn more_rows ws left → StopsIn further_rows ws left
 stops_more ws left l w =
     let o = optional_stops more_rows ws left l w in (
@@ -171,7 +171,7 @@ stops_more ws left l w =
     has_more : (us : Words) → Has further_rows us → Has (optional more_rows) us
     has_more us h = record { written = as_more h.written; allowed = may_more h.written h.allowed; spelled = h.spelled ∙ sym (words_more h.written) }
 
--- fewer words are left than there were, where some stand before
+-- if words first fail after their first word, fewer words are left than there are
 fewer_left : (f : Form) (us ws : Words) (t : List ℕ) (left : ℕ) → ws ≡ t ∷ us → StopsIn f us left → left < length ws
 fewer_left f us ws t left e w =
     let a = ap length e in
@@ -201,7 +201,7 @@ further_stops p more behind ws left e k w =
         let i = w.0.left_is in
         omega (arith, a, b, c, d, i)
 
--- ---- rows of a tableau that have been passed, and the words after them
+-- ---- the rows passed so far, and the words after them
 
 pub record RowsPassed (rest words : Words) : Type 0 where
   pub front : Words
@@ -234,7 +234,7 @@ next_passed p rest more behind words r e k = record {
   stops = λ left w. r.stops left (further_stops p more behind rest left e k w);
 }
 
--- ---- a tableau after `-from`, or no word
+-- ---- `-from` and a tableau, or nothing
 
 pub from_absent : (words : Words) → BeginsOtherwise (λ t. t ≡ codes "-from") words → IsTaken (optional from_words) [] words words
 from_absent words b = optional_absent from_words words refl (unlike_text (codes "-from") words b)

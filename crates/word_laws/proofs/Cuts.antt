@@ -1,4 +1,4 @@
--- Words of one form after another at the front of words, and where words first fail that are not of a form.
+-- Words of one form after another at the front of words, and the places where words that are not of a form first fail.
 use Rattle.std.proofs.Common.{◌≡◌, ℕ, zero, suc, ◌+◌, ◌-◌, ◌<◌, ◌≤◌, Bool, true, false, ◌&&◌, cond, List, [], ◌∷◌, ◌++◌, append_assoc, length, length-append, take, refl, sym, ap, ◌∙◌, subst, arith, ◌⊎◌, inl, inr}
 use Rattle.std.proofs.lemmas.Bool.{and_parts}
 use Rattle.std.proofs.lemmas.List.{append-nil}
@@ -17,17 +17,17 @@ use Rattle.word_laws.proofs.Derivatives.{Parts, has_sequence, sequence_parts, sk
 use Rattle.word_laws.proofs.LongestPrefixes.{some_words}
 use Rattle.word_laws.proofs.Readings.{OfOne, Unlike, View, none, some, view, unlike, unlike_word, of_left, of_right, of_cond, unlike_front, first_word, never_both, reads_once}
 
--- the list is empty or has the first word of the other
+-- the list r is empty or has the same first word as `rest`
 abbrev pub StartsAs : Words → Words → Type 0
 StartsAs [] rest = Unit {0}
 StartsAs (t ∷ r) rest = (u : Words) × (rest ≡ t ∷ u)
 
--- after what is written, words of the form go on to nothing that starts as the rest
+-- after the words of x, no word of `rest` continues words of the form
 abbrev pub EndsAt : (f : Form) → Written f → Words → Type 0
 EndsAt f x rest =
     (y : Written f) (r s : Words) → May f y → StartsAs r rest → words_of f x ++ r ≡ words_of f y ++ s → Unlike (continuing f) s → r ≡ s
 
--- the piece is of the form, and words of the form end after it
+-- the piece is of the form, it is in front of `rest`, and words of the form end after it
 pub record IsTaken (f : Form) (piece rest words : Words) : Type 0 where
   pub written : Written f
   pub allowed : May f written
@@ -35,7 +35,7 @@ pub record IsTaken (f : Form) (piece rest words : Words) : Type 0 where
   pub words_are : words ≡ piece ++ rest
   pub ends : EndsAt f written rest
 
--- the words are not of the form, and first fail where that number of them is left
+-- the words are not of the form, and first fail with this number of words left
 pub record GoesWrong (f : Form) (words : Words) (left : ℕ) : Type 0 where
   pub before : Words
   pub after : Words
@@ -45,12 +45,13 @@ pub record GoesWrong (f : Form) (words : Words) (left : ℕ) : Type 0 where
   pub stops : (t : List ℕ) (rest : Words) → after ≡ t ∷ rest → Begins f (before ++ t ∷ []) → ⊥
   pub is_none : Has f words → ⊥
 
--- they fail inside the form: what follows it can begin at none of the words before
+-- the words first fail inside the form: if some first words before the failure are of the form, the next word continues
+-- it
 abbrev pub StopsIn : Form → Words → ℕ → Type 0
 StopsIn f words left =
     (w : GoesWrong f words left) × ((us vs : Words) → w.before ≡ us ++ vs → Has f us → Unlike (continuing f) vs → ⊥)
 
--- ---- lists
+-- ---- lists cut into a first part and a rest
 
 starts_unlike : (r rest : Words) → StartsAs r rest → (f : Form) → Unlike (continuing f) rest → Unlike (continuing f) r
 starts_unlike [] rest s f u = tt
@@ -68,7 +69,7 @@ starts_itself : (us : Words) → StartsAs us us
 starts_itself [] = tt
 starts_itself (u ∷ us) = (us, refl)
 
--- a first part of words ends in front of a word or holds it
+-- either us begins with `first`, or `first` begins with us and the word t
 data Seam (us : Words) (t : List ℕ) (first : Words) : Type 0 where
   short : (v : Words) → us ≡ first ++ v → Seam us t first
   long : (v : Words) → first ≡ (us ++ t ∷ []) ++ v → Seam us t first
@@ -85,7 +86,7 @@ seam (u ∷ us) t vs (x ∷ first) second e = by (seam us t vs first second cc)
     by (short v h) = short v (ap (λ ws. u ∷ ws) h ∙ ap (λ y. y ∷ (first ++ v)) (sym same))
     by (long v h) = long v (ap (λ ws. x ∷ ws) h ∙ ap (λ y. y ∷ ((us ++ t ∷ []) ++ v)) same)
 
--- after the first part stands the rest of the words
+-- if us is `first` and v, the words us, t, vs are `first` followed by v, t, vs
 seam_rest : (us : Words) (t : List ℕ) (vs first second v : Words) → us ≡ first ++ v → (us ++ t ∷ []) ++ vs ≡ first ++ second → second ≡ v ++ t ∷ vs
 seam_rest us t vs first second v i e = same first (sym e ∙ append_assoc us (t ∷ []) vs ∙ ap (λ ws. ws ++ t ∷ vs) i ∙ append_assoc first v (t ∷ vs))
   where
@@ -93,18 +94,18 @@ seam_rest us t vs first second v i e = same first (sym e ∙ append_assoc us (t 
     same [] h = h
     same (x ∷ first) h = same first cc
 
--- words of a form that is told from another one begin with none by which that goes on
+-- if no first word of g can continue words of f, words of g do not continue words of f
 unlike_words : (f g : Form) (ws : Words) → are_apart (continuing f) (firsts g) ≡ true → Has g ws → Unlike (continuing f) ws
 unlike_words f g ws a h =
     subst (Unlike (continuing f)) (append-nil (words_of g h.written) ∙ sym h.spelled) (unlike_front (continuing f) g h.written h.allowed [] a (λ e. tt))
 
--- ---- a form that is taken
+-- ---- words that a form takes
 
 pub ends_unlike : (f : Form) → is_unambiguous f ≡ true → (x : Written f) → May f x → (rest : Words) → Unlike (continuing f) rest → EndsAt f x rest
 ends_unlike f h x a rest u =
     λ y r s b st e v. (reads_once one_phrase f h x y a b r s e (starts_unlike r rest st f u) v).1
 
--- what stands after it is of the form that follows
+-- if p is taken by f, and words p followed by q are of f and then g, then q is of g
 has_right : (f g : Form) (p rest ws q : Words) → are_apart (continuing f) (firsts g) ≡ true → IsTaken f p rest ws → StartsAs q rest
     → Has (sequence f g) (p ++ q) → Has g q
 has_right f g p rest ws q a k s h = record {
@@ -141,7 +142,7 @@ wrong_right f g p rest ws left a k w = record {
   is_none = λ h. w.is_none (has_right f g p rest ws rest a k (starts_itself rest) (subst (Has (sequence f g)) k.words_are h));
 }
 
--- after words of two forms stand none of those by which the first may go on
+-- after words of f and then g, a word that does not continue these does not continue words of f either
 pub unlike_second : (f g : Form) (z : Written g) → May g z → (vs : Words) → are_apart (continuing f) (firsts g) ≡ true
     → Unlike (continuing (sequence f g)) vs → Unlike (continuing f) (words_of g z ++ vs)
 unlike_second f g z m vs a u =
@@ -165,9 +166,9 @@ stops_right f g p rest ws left a k w = (
       w.1 (words_of g h.written.1) vs s (record { written = h.written.1; allowed = h.allowed.1; spelled = refl }) (unlike_last f g vs u),
 )
 
--- ---- a form in which words first fail
+-- ---- words that first fail inside a form
 
--- no words of the form are followed by those of another one that is told from it
+-- if words first fail inside f, their words up to the failing one, with this one, do not begin words of f followed by words of g
 none_within : (f g : Form) (words : Words) (left : ℕ) → are_apart (continuing f) (firsts g) ≡ true → (w : StopsIn f words left) (t : List ℕ) (more tail : Words)
     → w.0.after ≡ t ∷ more → Parts f g ((w.0.before ++ t ∷ []) ++ tail) → ⊥
 none_within f g words left a w t more tail k p = next (seam w.0.before t tail p.before p.after p.are)
@@ -213,7 +214,7 @@ stops_left f g words left a c w =
         (sequence_parts f g ((w.0.before ++ t ∷ []) ++ more)
         (subst (Has (sequence f g)) (ap (λ us. w.0.before ++ us) k ∙ sym (append_assoc w.0.before (t ∷ []) more)) h))
 
--- words that begin with no first word of the form
+-- if the first of the words is not a first word of the form, the words first fail there
 pub stops_first : (f : Form) (ws : Words) → can_be f ≡ true → is_skippable f ≡ false → Unlike (firsts f) ws → StopsIn f ws (length ws)
 stops_first f ws c n b =
     let some = some_words f c in (
@@ -240,7 +241,7 @@ stops_first f ws c n b =
     nothing [] vs e h = never h
     nothing (u ∷ us) vs e h = cc
 
--- ---- a form or no word
+-- ---- a form that may be absent
 
 pub optional_taken : (f : Form) (p rest ws : Words) → is_skippable f ≡ false → IsTaken f p rest ws → IsTaken (optional f) p rest ws
 optional_taken f p rest ws n k = record { written = inr k.written; allowed = k.allowed; piece_is = k.piece_is; words_are = k.words_are; ends = ends }
@@ -327,7 +328,7 @@ optional_stops f ws left l w = (
         w.1 us vs e (record { written = x; allowed = m; spelled = k })
         (unlike (continuing f) (continuing (optional f)) vs (λ t o. of_left (continuing f) (firsts f ++ cond (is_skippable f) [] []) t o) u)
 
--- ---- the end
+-- ---- words left after the end of a form
 
 pub end_wrong : (ws : Words) → 0 < length ws → GoesWrong empty ws (length ws)
 end_wrong ws l = record {
@@ -340,7 +341,7 @@ end_wrong ws l = record {
   is_none = λ h. let k = ap length h.spelled in absurd (omega (arith, k, l));
 }
 
--- more words than the form has
+-- if words are left after those of the form, the words first fail at the first of these
 pub left_over : (f : Form) (p rest ws : Words) (left : ℕ) → IsTaken f p rest ws → GoesWrong empty rest left → GoesWrong f ws left
 left_over f p rest ws left k w = record {
   before = p;
@@ -365,7 +366,7 @@ left_over f p rest ws left k w = record {
     all : rest ≡ w.after
     all = w.words_are ∙ ap (λ us. us ++ w.after) (nothing w.before w.begins.0 w.begins.1.spelled)
 
--- ---- forms with no expression
+-- ---- forms without an expression
 
 abbrev pub is_plain : Form → Bool
 is_plain empty = true
@@ -389,27 +390,27 @@ none_awaited (either f g) ws h (inl a) = none_awaited f ws (and_parts (is_plain 
 none_awaited (either f g) ws h (inr a) = none_awaited g ws (and_parts (is_plain f) (is_plain g) h).1 a
 none_awaited (many f) ws h a = none_awaited f a.1 h a.4
 
--- ---- the byte of the wrong word
+-- ---- the byte at which the failing word is invalid
 
--- a word follows those before, and an expression is awaited there
+-- a word follows those before, and an expression can be next there
 abbrev pub IsAwaited : Form → Words → Words → Type 0
 IsAwaited f before after = (t : List ℕ) × (rest : Words) × (after ≡ t ∷ rest) × Awaits f before
 
--- the byte at which the word after those before is wrong: after its longest prefix that begins an expression, if one is
--- awaited there; 0 elsewhere
+-- the byte at which the word after those before fails: after its longest prefix that begins an expression, if one can
+-- be next there; otherwise 0
 abbrev pub IsByte : Form → Words → Words → ℕ → Type 0
 IsByte f before after byte =
     ((a : IsAwaited f before after) × IsLongestPrefix BeginsExpression a.0 byte) ⊎ ((IsAwaited f before after → ⊥) × (byte ≡ 0))
 
--- the words are not of the form, and first fail at this byte of the word from which on that number of words is left
+-- the words are not of the form, and first fail at this byte of the first of the last `left` words
 abbrev pub IsWrongAt : Form → Words → ℕ → ℕ → Type 0
 IsWrongAt f words left byte = (w : GoesWrong f words left) × IsByte f w.before w.after byte
 
--- in a form with no expression
+-- in a form without an expression, the byte at which a word is invalid is 0
 pub plain_byte : (f : Form) (before after : Words) → is_plain f ≡ true → IsByte f before after 0
 plain_byte f before after h = inr (λ a. none_awaited f before h a.3, refl)
 
--- in the place of an expression
+-- if a word is no expression, the byte at which it is invalid is the length of its longest prefix that begins one
 pub expression_byte : (words : Words) (left byte : ℕ) (w : StopsIn (word formula) words left)
     → ((t : List ℕ) (rest : Words) → words ≡ t ∷ rest → ((phrase : Phrase) × SpellsPhrase t phrase) ⊎ IsLongestPrefix BeginsExpression t byte)
     → (words ≡ [] → byte ≡ 0) → IsByte (word formula) w.0.before w.0.after byte
@@ -444,7 +445,7 @@ expression_byte words left byte w l z = at (view w.0.before)
                   record { written = p.0; allowed = p.1.allowed; spelled = ap (λ us. (us ++ t ∷ []) ++ []) e ∙ ap (λ u. u ∷ []) p.1.spelled },
                 ))
 
--- the first word of those after which one is awaited
+-- if an expression can follow the words ws, the first of these words is a first word of the form
 awaits_first : (g : Form) (ws : Words) → Awaits g ws → (t : List ℕ) (more : Words) → ws ≡ t ∷ more → OfOne (firsts g) t
 awaits_first empty ws a t more e = absurd a
 awaits_first (word (exact text)) ws a t more e = absurd a
@@ -482,7 +483,7 @@ byte_on : (f g : Form) (b c after : Words) (byte : ℕ) → (Awaits f b → Awai
 byte_on f g b c after byte h k (inl (a, l)) = inl ((a.0, a.1, a.2, h a.3), l)
 byte_on f g b c after byte h k (inr (n, z)) = inr (λ a. n (a.0, a.1, a.2, k a.3), z)
 
--- after words of the form no expression is awaited in it
+-- after the words p, no words lead to a place where the form has an expression
 abbrev pub IsSettled : Form → Words → Type 0
 IsSettled f p = (us : Words) → Awaits f (p ++ us) → ⊥
 
@@ -523,7 +524,7 @@ left_over_at f p rest ws left byte k settled (w, inl (a, l)) = absurd a.3
 left_over_at f p rest ws left byte k settled (w, inr (n, z)) =
     (left_over f p rest ws left k w, inr (λ a. settled [] (subst (Awaits f) (sym (append-nil p)) a.3), z))
 
--- words of one command alone first fail there
+-- for the list of one command, the place where its form first fails is the place of the syntax error
 pub wrong_place : (e : Entry) (words : Words) (left byte : ℕ) → IsWrongAt e.form words left byte
     → IsSyntaxPlace (e ∷ []) words (length words - left) byte
 wrong_place e words left byte (w, b) =

@@ -1,4 +1,4 @@
--- What is proved of forms, said of lists of commands: where words first fail, and that they spell one command.
+-- Statements about forms for lists of commands: the place where words first fail, and words spell one command.
 use Rattle.std.proofs.Common.{◌≡◌, ℕ, ◌<◌, nat_lt, Bool, true, false, not, ◌&&◌, cond, List, [], ◌∷◌, ◌++◌, length, take, refl, sym, ap, ◌∙◌, subst, arith, inl, inr, Option, Some, None}
 use Rattle.std.specs.Prelude.{slice_index_or}
 use Rattle.std.proofs.lemmas.Bool.{ltb-true, lt-ltb, and_parts}
@@ -18,7 +18,7 @@ use Rattle.word_laws.proofs.Readings.{OnePhrase, told_apart, one_written}
 use Rattle.word_laws.proofs.ExpressionWords.{tells_expressions, bytes_longest}
 use Rattle.word_laws.specs.Words.{Words}
 
--- ---- commands and their forms
+-- ---- the forms of a list of commands
 
 pub of_forms : (P : Form → Type 0) (entries : List Entry) → SomeOf P (forms_of entries) → SomeOf (λ (e : Entry). P e.form) entries
 of_forms P [] h = h
@@ -44,7 +44,7 @@ has_spells [] words h = absurd h
 has_spells (e ∷ entries) words (inl h) = (e.says h.written, inl (record { has = h; says_it = refl }))
 has_spells (e ∷ entries) words (inr h) = let r = has_spells entries words h in (r.0, inr r.1)
 
--- ---- where words first fail
+-- ---- the place where words first fail
 
 pub not_true : (b : Bool) → b ≡ false → b ≡ true → ⊥
 not_true b h k = cc
@@ -104,7 +104,7 @@ same_place a b c d h = (ap first h, ap second h)
     second None = 0
     second (Some p) = p.1
 
--- words that are no command first fail at the place that is computed
+-- if `syntax_place` gives a word and a byte, the words are no command and first fail there
 pub syntax_sound : (entries : List Entry) → CanBe (forms_of entries) → 0 < length entries → (words : Words) (word byte : ℕ)
     → syntax_place entries words ≡ Some (word, byte) → IsSyntaxPlace entries words word byte
 syntax_sound entries c n words word byte h = by (is_command entries words) refl h
@@ -127,7 +127,7 @@ syntax_sound entries c n words word byte h = by (is_command entries words) refl 
               (subst (IsSyntaxByte entries words (syntax_word entries words)) k (byte_is entries words (syntax_word entries words)));
         }
 
--- words that fail nowhere spell a command
+-- words without a place of failure spell a command
 pub command_sound : (entries : List Entry) (words : Words) → syntax_place entries words ≡ None
     → (command : Command) × SpellsCommand entries words command
 command_sound entries words h = by (is_command entries words) refl h
@@ -139,7 +139,7 @@ command_sound entries words h = by (is_command entries words) refl h
     by true e h =
         has_spells entries words (whole_sound is_expression tells_expressions (forms_of entries) words e)
 
--- ---- one command
+-- ---- words spell one command
 
 not_skippable : (p q : Bool) → not q ≡ true → not (p && q) ≡ true
 not_skippable true q h = h
@@ -174,7 +174,7 @@ told e entries h =
     let r = and_parts (is_told_from e.form (forms_of entries)) (are_unambiguous (forms_of entries)) q.1 in
     record { clear = p.0; apart = r.0; others = r.1 }
 
--- what is said of the captures of an entry that has the words, is said of them in one way
+-- a function of the written words of an entry has one value for given words
 pub said_once : {B : Type 0} → OnePhrase → (f : (e : Entry) → Written e.form → B) (entries : List Entry) → are_unambiguous (forms_of entries) ≡ true
     → (words : Words) (b d : B)
     → SomeOf (λ (e : Entry). (h : Has e.form words) × (b ≡ f e h.written)) entries
@@ -221,14 +221,14 @@ pub one_offence : OnePhrase → (entries : List Entry) → are_unambiguous (form
 one_offence one entries u words o p h k =
     said_once one (λ e x. first_offence (e.offends x)) entries u words o p (offence_pairs entries words o h) (offence_pairs entries words p k)
 
--- ---- one place
+-- ---- the place where words first fail is unique
 
 one_length : {A : Type 0} (P : List A → Type 0) (xs : List A) (k j : ℕ) → IsLongestPrefix P xs k → IsLongestPrefix P xs j → k ≡ j
 one_length P xs k j h l =
     let up = l.longest k h.within h.begins in
     let down = h.longest j l.within l.begins in omega arith
 
--- words first fail at one place
+-- if words first fail at two places, these are the same
 pub one_place : (entries : List Entry) (words : Words) (word byte other at : ℕ)
     → IsSyntaxPlace entries words word byte → IsSyntaxPlace entries words other at → (word ≡ other) × (byte ≡ at)
 one_place entries words word byte other at h k =

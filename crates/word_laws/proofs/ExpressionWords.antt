@@ -1,4 +1,4 @@
--- Words of expressions, read from the left: which they are, and their longest prefix that begins one.
+-- Words that are expressions, read from the left, and their longest prefix that begins one.
 use Rattle.std.proofs.Common.{◌≡◌, ℕ, zero, suc, ◌+◌, ◌≤◌, Bool, true, false, cond, List, [], ◌∷◌, length, take, refl, sym, ap, ◌∙◌, subst, arith, Option, Some, None}
 use Rattle.std.specs.Prelude.{is_some}
 use Rattle.std.proofs.Math.Numerals.{suc-eq-add-one}
@@ -15,7 +15,7 @@ the_phrase : (text : List ℕ) (o : Option Phrase) → found phrases (run phrase
 the_phrase text None e h = cc
 the_phrase text (Some phrase) e h = (phrase, spells-from_found text phrase e)
 
--- the expressions among words
+-- `is_expression` is true for a word if and only if the word spells a phrase
 pub tells_expressions : TellsExpressions is_expression
 tells_expressions = record {
   sound = λ text h. the_phrase text (found phrases (run phrases text start)) refl h;
@@ -29,7 +29,7 @@ dead_run : (text : List ℕ) → run phrases text dead ≡ dead
 dead_run [] = refl
 dead_run (byte ∷ text) = dead_run text
 
--- what is read of a dead state is dead
+-- if the state after reading a text is not dead, neither is the state before it
 live_before : (text : List ℕ) (state : State Phrase (List ℕ)) → Live state text → is_live state ≡ true
 live_before text dead h = sym (ap is_live (dead_run text)) ∙ h
 live_before text (at p t f o) h = refl

@@ -1,11 +1,11 @@
--- The first of a list of errors is one of them, and none comes before it.
+-- The first of a list of errors is one of them, and no other is before it.
 use Rattle.std.proofs.Common.{◌≡◌, ℕ, ◌<◌, ◌==◌, nat_le, nat_lt, Bool, true, false, ◌&&◌, ◌||◌, cond, List, [], ◌∷◌, refl, sym, ap, ◌∙◌, subst, arith, Option, Some, None, ◌⊎◌, inl, inr}
 use Rattle.std.proofs.lemmas.Bool.Decides.{nat_tests}
 use Rattle.sym_model.specs.Sum.{Among}
 use Rattle.sym_model.specs.CommandOffence.{Offence, is_no_later, ComesBefore, earlier_of, first_offence}
 use Rattle.sym_model.specs.ExpressionOffence.{rank}
 
--- no error comes before itself
+-- an error does not come before itself
 never_itself : (o : Offence) → ComesBefore o o → ⊥
 never_itself o (inl h) = omega arith
 never_itself o (inr h) = by h.1
@@ -14,7 +14,7 @@ never_itself o (inr h) = by h.1
     by (inl k) = omega arith
     by (inr k) = let l = k.1 in omega arith
 
--- the words, the places in them and the kinds, as numbers
+-- the order of errors, by numbers for their words, places and kinds
 abbrev Before : ℕ → ℕ → ℕ → ℕ → ℕ → ℕ → Type 0
 Before a b c d e f = (a < d) ⊎ ((a ≡ d) × ((b < e) ⊎ ((b ≡ e) × (c < f))))
 
@@ -31,7 +31,7 @@ first_before a b c d e f (inl x) = grind (arith, nat_tests)
 first_before a b c d e f (inr (x, inl y)) = grind (arith, nat_tests)
 first_before a b c d e f (inr (x, inr y)) = grind (arith, nat_tests)
 
--- what comes before one that comes first comes before the other one too
+-- an error before x is before y too, if x is not after y
 before-first : (p x y : Offence) → ComesBefore p x → is_no_later x y ≡ true → ComesBefore p y
 before-first p x y h k = before_first p.0 p.1 (rank p.2) x.0 x.1 (rank x.2) y.0 y.1 (rank y.2) h k
 
@@ -53,7 +53,7 @@ first_none (x ∷ os) h = absurd (by (first_offence os) h)
 pub none-empty : (os : List Offence) → os ≡ [] → first_offence os ≡ None
 none-empty os h = ap first_offence h
 
--- which of two it is
+-- if the first of x and y, as the test c decides, is o, then o is x or y
 one_of : (x y o : Offence) (c : Bool) → cond c (Some x) (Some y) ≡ Some o → ((c ≡ true) × (o ≡ x)) ⊎ ((c ≡ false) × (o ≡ y))
 one_of x y o true h = inl (refl, cc)
 one_of x y o false h = inr (refl, cc)

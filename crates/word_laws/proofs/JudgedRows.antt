@@ -1,4 +1,4 @@
--- Rows judged by one rule for each number have the same errors as often as rows judged by one rule after another.
+-- Rows judged by one rule for each number have the same number of each error as rows judged by one rule after another.
 use Rattle.std.proofs.Common.{◌≡◌, ℕ, ◌+◌, Bool, List, [], ◌∷◌, ◌++◌, map, length, drop, refl, arith, Option, Some, None}
 use Rattle.sym_model.specs.Partition.{part}
 use Rattle.sym_model.specs.ExpressionOffence.{OffenceKind, range, shape}
@@ -10,7 +10,7 @@ use Rattle.word_laws.proofs.EarlierOffences.{tally, Alike, tally_append, first_a
 abbrev Weight : Type 0
 Weight = Offence → ℕ
 
--- the error of a kind at a word
+-- the error of this kind at the word k
 abbrev pub of_kind : ℕ → OffenceKind → Offence
 of_kind k kind = (k, 0, kind)
 
@@ -19,7 +19,7 @@ kinds_of_both : (f : Weight) (k : ℕ) (xs ys : List OffenceKind)
 kinds_of_both f k [] ys = omega arith
 kinds_of_both f k (x ∷ xs) ys = let e = kinds_of_both f k xs ys in omega (arith, e)
 
--- the errors by two rules
+-- a tally of the errors by two rules together is the sum of the tallies by each of them
 both_rules : (f : Weight) (r s : Rule) (b : List ℕ) (k : ℕ) (ns : List ℕ)
     → tally f (offences_after (λ before a. r before a ++ s before a) b k ns) ≡ tally f (offences_after r b k ns) + tally f (offences_after s b k ns)
 both_rules f r s b k [] = refl
@@ -54,7 +54,7 @@ cell_tally f count most test k ns =
     let z = both_rules f (long most) (wrong test) [] k ns in
     omega (arith, x, y, z)
 
--- ---- a tableau that is inserted
+-- ---- the rows of an insertion tableau
 
 abbrev ordered : ℕ → List ℕ → ℕ → Rule
 ordered c upper d = wrong (is_disordered c upper d)
@@ -101,7 +101,7 @@ inserted_first [] = refl
 inserted_first (row ∷ rows) =
     first_alike (insertion_offences (row ∷ rows)) (inserted 0 None [] (row ∷ rows) ++ empty_row_offences (row ∷ rows)) (inserted_alike row rows)
 
--- ---- a tableau that records
+-- ---- the rows of a recording tableau
 
 recorded_tally : (f : Weight) (cells count : ℕ) (earlier upper : List ℕ) (rows : List PlacedRow)
     → tally f (recorded cells count earlier upper rows)
@@ -130,7 +130,7 @@ recorded_first cells rows =
     let r = recorded_tally f cells 0 [] [] rows in
     omega (arith, p, q, r))
 
--- ---- a skew tableau
+-- ---- the rows of a skew tableau
 
 skewed_tally : (f : Weight) (c : ℕ) (upper inner : List ℕ) (rows : List PlacedRow)
     → tally f (skewed c upper inner rows) ≡ tally f (row_offences entry_rule rows) + tally f (order_offences c upper inner rows)

@@ -1,4 +1,4 @@
--- What has no error: lists that are empty, numbers by a rule, expressions.
+-- Lists, numbers and expressions whose words have no error.
 use Rattle.std.proofs.Common.{◌≡◌, ℕ, ◌+◌, ◌≤◌, nat_lt, Bool, true, false, cond, List, [], ◌∷◌, ◌++◌, map, length, refl, ap, None, flat_map}
 use Rattle.std.proofs.lemmas.Bool.{ltb-false}
 use Rattle.sym_model.specs.Expression.{degree}
@@ -26,16 +26,16 @@ pub none_first : (xs ys : List Offence) → first_offence (xs ++ ys) ≡ None �
 none_first xs ys h =
     let p = none_append xs ys (first_none (xs ++ ys) h) in (ap first_offence p.0, ap first_offence p.1)
 
--- the first of a list of numbers offends by nothing, and the others neither
+-- if a list of numbers has no error, then its first number has none, and the others have none
 pub none_next : (rule : Rule) (before : List ℕ) (k a : ℕ) (ns : List ℕ) → offences_after rule before k (a ∷ ns) ≡ []
     → (rule before a ≡ []) × (offences_after rule (a ∷ before) (k + 1) ns ≡ [])
 none_next rule before k a ns h =
     let p = none_append (map (λ kind. (k, 0, kind)) (rule before a)) (offences_after rule (a ∷ before) (k + 1) ns) h in
     (none_map (λ kind. (k, 0, kind)) (rule before a) p.0, p.1)
 
--- ---- expressions
+-- ---- expressions without an error
 
--- the one error of a number past its limit is not there
+-- a number without the error of exceeding the limit is at most the limit
 pub not_past : {A : Type 0} (limit d : ℕ) (o : A) → cond (nat_lt limit d) (o ∷ []) [] ≡ [] → d ≤ limit
 not_past limit d o h = ltb-false limit d (by (nat_lt limit d) h)
   where
@@ -51,11 +51,11 @@ within_limit limit phrase h =
     let whole = (none_append (flat_map offences_at (marks 0 0 phrase)) (offences_of_whole_within limit phrase) h).1 in
     not_past limit (degree (tree phrase)) (length (spelling phrase), range) (none_append long past whole).1
 
--- a word without an error at its place in the command has none
+-- if there are no errors with the number of a word in the command, the word has no error
 pub none_in_word : (k : ℕ) (found : List WordOffence) → first_offence (offences_in_word k found) ≡ None → found ≡ []
 none_in_word k found h = none_map (λ (o : WordOffence). (k, o.0, o.1)) found (first_none (offences_in_word k found) h)
 
--- the same of an expression at a word
+-- the degree of an expression without an error, at a word of a command, is within the limit
 pub within_degree : (k limit : ℕ) (phrase : Phrase) → first_offence (offences_in_word k (offences_within limit phrase)) ≡ None
     → degree (tree phrase) ≤ limit
 within_degree k limit phrase h = within_limit limit phrase (none_in_word k (offences_within limit phrase) h)

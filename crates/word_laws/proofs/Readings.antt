@@ -15,7 +15,7 @@ use Rattle.word_laws.proofs.Classes.{number_complete, letter_complete}
 use Rattle.word_laws.proofs.Derivatives.{skippable}
 use Rattle.word_laws.specs.Words.{Words}
 
--- no word spells two phrases
+-- if two phrases are spelled by the same word, they are equal
 abbrev pub OnePhrase : Type 0
 OnePhrase = (text : List ℕ) (p q : Phrase) → SpellsPhrase text p → SpellsPhrase text q → p ≡ q
 
@@ -23,7 +23,7 @@ not_both : (b : Bool) → not b ≡ true → b ≡ true → ⊥
 not_both true h k = cc
 not_both false h k = cc
 
--- no word is of two classes that are apart
+-- if the test `is_apart` passes for two classes, no word is of both
 apart_sound : (c d : Class) → is_apart c d ≡ true → (x : WrittenWord c) (y : WrittenWord d) → MayBe c x → MayBe d y
     → word_of c x ≡ word_of d y → ⊥
 apart_sound (exact a) (exact b) h x y m n e = not_both (same a b) h (same_from a b e)
@@ -105,7 +105,7 @@ pub unlike_word : (cs : List Class) (text : List ℕ) (ws vs : Words) → Unlike
 unlike_word cs text [] vs u e o = cc
 unlike_word cs text (t ∷ ws) vs u e o = let k : text ≡ t = cc in u (subst (OfOne cs) k o)
 
--- a list of words is empty or has a first word
+-- a list of words is empty, or it is a first word followed by others
 pub data View (ws : Words) : Type 0 where
   none : ws ≡ [] → View ws
   some : (text : List ℕ) (rest : Words) → ws ≡ text ∷ rest → View ws
@@ -114,7 +114,7 @@ pub view : (ws : Words) → View ws
 view [] = none refl
 view (text ∷ ws) = some text ws refl
 
--- the first word is of a first class
+-- the first word of words of a form is of one of its first classes
 pub first_word : (f : Form) (x : Written f) → May f x → (text : List ℕ) (ws : Words) → words_of f x ≡ text ∷ ws → OfOne (firsts f) text
 first_word empty x a text ws h = cc
 first_word (word c) x a text ws h = record { class = c; among = inl refl; written = x; allowed = a; spelled = cc }
@@ -147,7 +147,8 @@ first_word (many f) xs a text ws h = of_many f (first_word f) xs a text ws h
             let k : t ∷ (rest ++ flat_map (words_of f) xs) ≡ text ∷ ws = subst (λ us. us ++ flat_map (words_of f) xs ≡ text ∷ ws) e h in
             let n : t ≡ text = cc in subst (OfOne (firsts f)) n (l x a.0 t rest e)
 
--- words of a form in front of others are unlike classes that are apart from its first ones
+-- if the classes are apart from the first classes of f, and, if f is skippable, r begins with none of them, words of f followed by r begin with none
+-- of them
 pub unlike_front : (cs : List Class) (f : Form) (x : Written f) → May f x → (r : Words) → are_apart cs (firsts f) ≡ true
     → (is_skippable f ≡ true → Unlike cs r) → Unlike cs (words_of f x ++ r)
 unlike_front cs f x a r h u = by (view (words_of f x))
@@ -168,11 +169,11 @@ basis_of-letter completes = refl
 basis_of-letter power_sums = refl
 basis_of-letter schurs = refl
 
--- a letter names one basis
+-- if two bases have the same letter, they are equal
 pub letter_once : (b c : Basis) → letter b ≡ letter c → b ≡ c
 letter_once b c h = sym (basis_of-letter b) ∙ ap basis_of h ∙ basis_of-letter c
 
--- what is written by a word of a class
+-- if two values of a class have the same word, they are equal
 one_word : OnePhrase → (c : Class) (x y : WrittenWord c) → MayBe c x → MayBe c y → word_of c x ≡ word_of c y → x ≡ y
 one_word one (exact w) x y a b h = refl
 one_word one number x y a b h = h
@@ -180,9 +181,9 @@ one_word one (target bases) x y a b h = letter_once x y h
 one_word one formula x y a b h =
     one (word_of formula x) x y (record { allowed = a; spelled = refl }) (record { allowed = b; spelled = h })
 
--- ---- one reading
+-- ---- one reading of the words of a form
 
--- what an unambiguous form reads in front of the rest, and the rest
+-- the words of an unambiguous form in front of others determine its value and the rest
 abbrev pub ReadsOnce : Form → Type 0
 ReadsOnce f =
     (x y : Written f) → May f x → May f y → (r s : Words) → words_of f x ++ r ≡ words_of f y ++ s
@@ -211,7 +212,7 @@ sequence_once f g l k d x y a b r s h u v =
     same_pair : (p q : Written f) (m n : Written g) → p ≡ q → m ≡ n → ◌≡◌ {A = Written f × Written g} (p, m) (q, n)
     same_pair p q m n e k = ap (λ (z : Written f). (z, m)) e ∙ ap (λ (z : Written g). (q, z)) k
 
--- words that two forms share stand in neither of them where first words tell them from each other
+-- words of two forms whose first words differ cannot be equal
 pub told_apart : (f g : Form) (x : Written f) (y : Written g) → May f x → May g y → (r s : Words)
     → words_of f x ++ r ≡ words_of g y ++ s → are_apart (firsts f) (firsts g) ≡ true → not (is_skippable f && is_skippable g) ≡ true
     → (is_skippable f ≡ true → Unlike (firsts g) r) → (is_skippable g ≡ true → Unlike (firsts f) s) → ⊥
@@ -305,7 +306,7 @@ many_once f l n d = once
         subst (Unlike (continuing f)) (sym (append_assoc (words_of f x) (flat_map (words_of f) xs) r))
         (unlike_front (continuing f) f x a.0 (flat_map (words_of f) xs ++ r) d (λ e. absurd (never e)))
 
-    -- the first of some more words is no word that may follow
+    -- if r begins with none of the first words of f, it does not begin with words of f
     not_more : (x : Written f) (xs : List (Written f)) → May f x → (r s : Words) → Unlike (firsts f) r
         → r ≡ (words_of f x ++ flat_map (words_of f) xs) ++ s → ⊥
     not_more x xs a r s u h = by (view (words_of f x))
@@ -351,7 +352,7 @@ reads_once one (many f) h =
     let q = and_parts (not (is_skippable f)) (are_apart (continuing f) (firsts f)) p.1 in
     many_once f (reads_once one f p.0) q.0 q.1
 
--- the words of an unambiguous form are written in one way
+-- if words have an unambiguous form, they denote one value of it
 pub one_written : OnePhrase → (f : Form) → is_unambiguous f ≡ true → (ws : Words) (h k : Has f ws) → h.written ≡ k.written
 one_written one f u ws h k =
     (reads_once one f u h.written k.written h.allowed k.allowed [] []

@@ -1,4 +1,4 @@
--- Tableaux of a shape as words: they are judged by the lengths of their rows alone.
+-- Tableaux of a shape as words: they are judged only by the lengths of their rows.
 use Rattle.std.proofs.Common.{◌≡◌, ℕ, zero, suc, ◌+◌, Bool, true, false, ◌&&◌, cond, List, [], ◌∷◌, ◌++◌, map, length, take, refl, sym, ap, ◌∙◌, subst, arith, ◌⊎◌, inl, inr, ◌↔◌, flat_map}
 use Rattle.std.specs.Prelude.{codes}
 use Rattle.std.proofs.lemmas.List.{append-nil}
@@ -110,7 +110,7 @@ same_left r s forms (text ∷ words) p =
     same_left r s (after_word r forms text) words (plain_after r forms text p)
     ∙ ap (λ fs. after_words s fs words) (same_after r s forms text p)
 
--- ---- tableaux with rows of these lengths
+-- ---- tableaux with rows of given lengths
 
 plain_row : (n : ℕ) → is_plain (row_of n) ≡ true
 plain_row zero = refl
@@ -175,7 +175,7 @@ no_offence : (b : Bool) (o : Offence) → cond b [] (o ∷ []) ≡ [] → b ≡ 
 no_offence true o h = refl
 no_offence false o h = cc
 
--- there is no error exactly where the words are a tableau with rows of these lengths
+-- there is no error if and only if the words are a tableau with rows of these lengths
 pub shape_none : (k : ℕ) (lengths : List ℕ) (words : Words) → (shape_offences k lengths words ≡ []) ↔ Has (tableau_of lengths) words
 shape_none k lengths words = (
   λ h. has_sound lengths words (no_offence (are_words_of never (tableau_of lengths) words) (k + taken never (tableau_of lengths ∷ []) words, 0, shape) h),
@@ -187,7 +187,7 @@ the_one true o p m = absurd m
 the_one false o p (inl e) = e
 the_one false o p (inr m) = absurd m
 
--- where there is one, it is the word after the longest prefix that begins such a tableau
+-- an error is at the word after the longest prefix that begins such a tableau
 pub shape_place : (k : ℕ) (lengths : List ℕ) (words : Words) (o : Offence) → Among o (shape_offences k lengths words)
     → (n : ℕ) × (o ≡ (k + n, 0, shape)) × IsLongestPrefix (Begins (tableau_of lengths)) words n
 shape_place k lengths words o m = (
@@ -196,7 +196,7 @@ shape_place k lengths words o m = (
   shape_longest lengths words,
 )
 
--- ---- the lengths of the rows
+-- ---- the lengths of the rows of a tableau
 
 abbrev pub Row : Type 0
 Row = Written row_words
@@ -204,7 +204,7 @@ Row = Written row_words
 abbrev row_length : Row → ℕ
 row_length r = length (row_entries r)
 
--- the rows of a tableau
+-- the rows of the tableau x: its first one, and those after each `/`
 abbrev rows_of : Written tableau_words → List Row
 rows_of x = x.0 ∷ map (λ (y : Unit {0} × Row). y.1) x.1
 
@@ -212,7 +212,7 @@ placed_lengths : (k : ℕ) (rs : List Row) → map length (entries (placed k rs)
 placed_lengths k [] = refl
 placed_lengths k (r ∷ rs) = ap (λ ns. row_length r ∷ ns) (placed_lengths (k + length (words_of row_words r) + 1) rs)
 
--- a row read as one of its length
+-- the words of a row have the form of a row of its own length
 row_to : (w : List ℕ) (ws : Words) → May row_words (inr (w, ws)) → Has (row_of (row_length (inr (w, ws)))) (w ∷ ws)
 row_to w [] a = record { written = w; allowed = a.0; spelled = refl }
 row_to w (v ∷ ws) a =
@@ -240,7 +240,7 @@ tableau_has r (y ∷ rs) a =
     (record { written = tt; allowed = tt; spelled = refl })
     (tableau_has y.1 rs (a.1.0.1, a.1.1)))
 
--- a row that has the words
+-- some row of length n has the words ws
 record RowOf (n : ℕ) (ws : Words) : Type 0 where
   row : Row
   may : May row_words row
@@ -268,7 +268,7 @@ row_from (suc (suc n)) ws h =
     by : RowOf (suc n) (words_of (row_of (suc n)) h.written.1) → RowOf (suc (suc n)) ws
     by r = more r.row r.may r.words_are r.long
 
--- a tableau that has the words
+-- some tableau with rows of these lengths has the words
 record TableauOf (lengths : List ℕ) (ws : Words) : Type 0 where
   tableau : Written tableau_words
   may : May tableau_words tableau
@@ -301,7 +301,7 @@ tableau_from n (m ∷ lengths) ws h =
       long = ap (λ k. k ∷ map row_length (rows_of t.tableau)) r.long ∙ ap (λ ks. n ∷ ks) t.long;
     }
 
--- the words of a tableau are those of one with rows of these lengths exactly where its rows have them
+-- the words of a tableau are those of one with rows of these lengths if and only if its rows have these lengths
 pub shape_rows : (n : ℕ) (lengths : List ℕ) (x : Written tableau_words) → May tableau_words x
     → Has (tableau_of (n ∷ lengths)) (words_of tableau_words x) ↔ (map length (tableau_rows x) ≡ n ∷ lengths)
 shape_rows n lengths x a = (

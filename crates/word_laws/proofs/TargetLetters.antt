@@ -1,4 +1,4 @@
--- No target's letter is the word for the one-line form, so a first word tells whether `expand` has that word.
+-- No letter of a target is the word for the one-line form, so the first word shows whether `expand` has that word.
 use Rattle.std.proofs.Common.{◌≡◌, Bool, true, false, not, ◌&&◌, List, [], ◌∷◌, refl, ap}
 use Rattle.std.specs.Prelude.{codes}
 use Rattle.sym_model.specs.Expansion.{Basis, monomials, elementaries, completes, power_sums, schurs}
@@ -7,7 +7,7 @@ use Rattle.sym_model.specs.Grammar.{entries_of, line_entries}
 use Rattle.word_laws.specs.OneReading.{are_unambiguous}
 use Rattle.word_laws.specs.Reading.{forms_of}
 
--- the word for the one-line form is no letter
+-- the word `-m` is not the letter of a basis
 no_letter : (bases : List Basis) → is_letter_of bases (codes "-m") ≡ false
 no_letter [] = refl
 no_letter (monomials ∷ bases) = no_letter bases
@@ -16,7 +16,7 @@ no_letter (completes ∷ bases) = no_letter bases
 no_letter (power_sums ∷ bases) = no_letter bases
 no_letter (schurs ∷ bases) = no_letter bases
 
--- what is left of the test of all commands
+-- the test that the first word determines the command, as it is computed from whether `-m` is the letter of a target
 abbrev clear : Bool → Bool
 clear letter = (((not letter && true) && true) && true) && true
 

@@ -1,4 +1,4 @@
--- Number words, and with what words begin.
+-- Number words, and the first word of a list.
 use Rattle.std.specs.Prelude.{◌≡◌, ℕ, true, List, [], ◌∷◌}
 use Rattle.sym_model.specs.Form.{is_number_word}
 
@@ -6,7 +6,7 @@ use Rattle.sym_model.specs.Form.{is_number_word}
 abbrev pub IsNumber : List ℕ → Type 0
 IsNumber text = is_number_word text ≡ true
 
--- the first of the words, where there is one, is not of the kind
+-- the first of the words, if there is one, is not of the kind
 abbrev pub BeginsOtherwise : (List ℕ → Type 0) → List (List ℕ) → Type 0
 BeginsOtherwise P [] = Unit {0}
 BeginsOtherwise P (text ∷ words) = P text → ⊥

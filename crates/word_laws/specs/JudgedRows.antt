@@ -7,61 +7,58 @@ use Rattle.sym_model.specs.CommandOffence.{Offence, Rule, PlacedRow, when, offen
 use Rattle.sym_model.specs.CommandOffence.{left_of, falls, stays, stands_in, entry_above}
 use Rattle.sym_model.specs.CommandOffence.{most_letters, earlier_of}
 
--- the earlier of two errors, where there are any
+-- the earlier of two errors, or the only one, if any
 abbrev pub earlier : Option Offence → Option Offence → Option Offence
 earlier None p = p
 earlier (Some o) p = earlier_of o p
 
--- whether the number after that number of entries of its row is the 257th,
--- where that number of entries is counted before the row
+-- whether the number after j entries of its row is the 257th, if `count` entries are counted before the row
 abbrev pub is_too_much : Option ℕ → ℕ → Bool
 is_too_much None j = false
 is_too_much (Some count) j = count + j == most_letters
 
--- whether the number after that number of entries of its row exceeds the length that the row may
--- have
+-- whether the number after j entries of its row exceeds the length that the row may have
 abbrev pub is_too_long : Option ℕ → ℕ → Bool
 is_too_long None j = false
 is_too_long (Some most) j = nat_le most j
 
--- an entry of a tableau: one that is none, the 257th, one that makes its row too long,
--- one that stands wrongly there
+-- the errors of an entry of a tableau: it is no entry, it is the 257th, it makes its row too long, or it is out of
+-- order
 abbrev pub cell_rule : Option ℕ → Option ℕ → (List ℕ → ℕ → Bool) → Rule
 cell_rule count most is_wrong before a =
     entry_rule before a
     ++ (when (is_too_much count (length before)) range
     ++ (when (is_too_long most (length before)) shape ++ when (is_wrong before a) shape))
 
--- whether a number of a row that begins at column d, below a row that begins at column c, is
--- smaller than its left neighbour, or not greater than the entry above it
+-- whether a number of a row that begins at column d, below a row that begins at column c, is smaller than its left
+-- neighbour, or not greater than the entry above it
 abbrev pub is_disordered : ℕ → List ℕ → ℕ → List ℕ → ℕ → Bool
 is_disordered c upper d before a =
     falls (left_of before) a || stays (entry_above upper c (d + length before)) a
 
--- whether a number of a tableau that is to be standard, of that number of cells, below a row and
--- after these entries, is past their number, not greater than its left neighbour or the entry
--- above, or stands earlier
+-- whether a number of a tableau that must be standard, with `cells` cells, below a row and after earlier entries, is
+-- greater than `cells`, not greater than its left neighbour or the entry above, or equal to an earlier entry
 abbrev pub is_no_record : ℕ → List ℕ → List ℕ → List ℕ → ℕ → Bool
 is_no_record cells earlier upper before a =
     nat_lt cells a || stays (left_of before) a || stays (entry_above upper 0 (length before)) a
     || stands_in a before
     || stands_in a earlier
 
--- the rows of a tableau that is inserted, of which no row is longer than the one above
+-- the errors of the rows of an insertion tableau, of which no row is longer than the one above
 abbrev pub inserted : ℕ → Option ℕ → List ℕ → List PlacedRow → List Offence
 inserted count most upper [] = []
 inserted count most upper (row ∷ rows) =
     offences_by (cell_rule (Some count) most (is_disordered 0 upper 0)) row.0 row.1
     ++ inserted (count + length row.1) (Some (length row.1)) row.1 rows
 
--- the rows of a tableau that records
+-- the errors of the rows of a recording tableau
 abbrev pub recorded : ℕ → ℕ → List ℕ → List ℕ → List PlacedRow → List Offence
 recorded cells count earlier upper [] = []
 recorded cells count earlier upper (row ∷ rows) =
     offences_by (cell_rule (Some count) None (is_no_record cells earlier upper)) row.0 row.1
     ++ recorded cells (count + length row.1) (row.1 ++ earlier) row.1 rows
 
--- the rows of a skew tableau with this inner partition, below a row that begins at column c
+-- the errors of the rows of a skew tableau with this inner partition, below a row that begins at column c
 abbrev pub skewed : ℕ → List ℕ → List ℕ → List PlacedRow → List Offence
 skewed c upper inner [] = []
 skewed c upper inner (row ∷ rows) =

@@ -5,7 +5,7 @@ use Rattle.sym_model.specs.Polynomial.{same}
 use Rattle.sym_model.specs.Form.{Class, exact, number, target, Form, empty, word, sequence, either}
 use Rattle.sym_model.specs.Form.{many, is_number_word, is_letter_of, is_skippable}
 
--- whether it is seen that no word is of both classes
+-- whether the test shows that no word is of both classes
 abbrev pub is_apart : Class → Class → Bool
 is_apart (exact a) (exact b) = not (same a b)
 is_apart (exact a) number = not (is_number_word a)
@@ -14,7 +14,7 @@ is_apart number (exact b) = not (is_number_word b)
 is_apart (target bases) (exact b) = not (is_letter_of bases b)
 is_apart c d = false
 
--- whether the class is apart from each of these
+-- whether the class is apart from each class of the list
 abbrev pub is_apart_from : Class → List Class → Bool
 is_apart_from c [] = true
 is_apart_from c (d ∷ classes) = is_apart c d && is_apart_from c classes
@@ -24,7 +24,7 @@ abbrev pub are_apart : List Class → List Class → Bool
 are_apart [] ds = true
 are_apart (c ∷ cs) ds = is_apart_from c ds && are_apart cs ds
 
--- the classes of a first word
+-- the classes of the first words of a form
 abbrev pub firsts : Form → List Class
 firsts empty = []
 firsts (word c) = c ∷ []
@@ -32,7 +32,7 @@ firsts (sequence f g) = firsts f ++ cond (is_skippable f) (firsts g) []
 firsts (either f g) = firsts f ++ firsts g
 firsts (many f) = firsts f
 
--- the classes of a word by which words of the form may go on to more words of it
+-- the classes of the words that can continue words of the form to longer words of it
 abbrev pub continuing : Form → List Class
 continuing empty = []
 continuing (word c) = []
@@ -42,7 +42,7 @@ continuing (either f g) =
     ++ (cond (is_skippable f) (firsts g) [] ++ cond (is_skippable g) (firsts f) []))
 continuing (many f) = firsts f ++ continuing f
 
--- whether each word tells by its class alone to which part of the form it belongs
+-- whether the class of each word determines the part of the form to which it belongs
 abbrev pub is_unambiguous : Form → Bool
 is_unambiguous empty = true
 is_unambiguous (word c) = true
@@ -55,13 +55,13 @@ is_unambiguous (either f g) =
 is_unambiguous (many f) =
     is_unambiguous f && (not (is_skippable f) && are_apart (continuing f) (firsts f))
 
--- whether words of the form are told from words of each of the others by their first word
+-- whether words of f are distinguished from words of each of the others by their first word
 abbrev pub is_told_from : Form → List Form → Bool
 is_told_from f [] = true
 is_told_from f (g ∷ forms) =
     not (is_skippable g) && (are_apart (firsts f) (firsts g) && is_told_from f forms)
 
--- whether each form is unambiguous and the first word tells which of them it is
+-- whether each form is unambiguous and the first word determines the form
 abbrev pub are_unambiguous : List Form → Bool
 are_unambiguous [] = true
 are_unambiguous (f ∷ forms) =

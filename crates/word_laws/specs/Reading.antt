@@ -12,7 +12,7 @@ use Rattle.sym_model.specs.Entry.{Entry}
 abbrev pub is_expression : List ℕ → Bool
 is_expression text = is_some (found phrases (run phrases text start))
 
--- how many bytes are read from the state before one is at fault
+-- the number of bytes that are read from the state before the first one at fault
 abbrev pub bytes_taken : State Phrase (List ℕ) → List ℕ → ℕ
 bytes_taken state [] = 0
 bytes_taken state (byte ∷ text) =
@@ -31,7 +31,7 @@ is_command entries words = has_skippable (after_words is_expression (forms_of en
 abbrev pub syntax_word : List Entry → List (List ℕ) → ℕ
 syntax_word entries words = taken is_expression (forms_of entries) words
 
--- the byte at which the word first fails that stands after that number of words
+-- the byte at which the word after `word` others first fails
 abbrev pub syntax_byte : List Entry → List (List ℕ) → ℕ → ℕ
 syntax_byte entries words word =
     cond
@@ -40,7 +40,7 @@ syntax_byte entries words word =
     (bytes_taken start (slice_index_or words word []))
     0
 
--- where words first fail; nowhere where they are a command
+-- the place where words first fail; `None` if they are a command
 abbrev pub syntax_place : List Entry → List (List ℕ) → Option (ℕ × ℕ)
 syntax_place entries words =
     let word = syntax_word entries words in

@@ -1,4 +1,4 @@
-//! What holds of the words of every grammar of commands, and of the one that there is.
+//! Laws of the words of any grammar of commands, and of the grammar of this program.
 
 ghost use Rattle.std.specs.Prelude.{◌≡◌, ◌↔◌, ◌≤◌, ◌<◌, ℕ, Bool, true, List, [], ◌∷◌, length};
 ghost use Rattle.std.specs.Prelude.{Option};
@@ -20,11 +20,11 @@ ghost use Rattle.sym_model.specs.SyntaxPlace.{IsSyntaxPlace};
 ghost use Rattle.word_laws.specs.OneReading.{are_unambiguous};
 ghost use Rattle.word_laws.specs.Reading.{bytes_taken, forms_of, syntax_place};
 
-/// Words are taken one by one as long as some words may follow that are of one of the forms: how
-/// many that are is the length of their longest prefix that begins such words, for any forms of
-/// which each has words. So it is with the bytes of a word that begin an expression. Words that are
-/// those of no command first fail at the place that is computed so and at no other,
-/// and other words spell a command.
+/// Words are taken one by one as long as they begin words of one of the forms: the number of words
+/// taken is the length of their longest prefix that begins such words, for any forms each of which
+/// has words. The same holds for the bytes of a word that begin an expression. Words that are no
+/// command first fail at the place computed in this way and at no other, and other words spell a
+/// command.
 pub fn syntax_place_law()
     ensures longest_prefix { (reads : List ℕ → Bool) → TellsExpressions reads → (forms : List Form)
         → EachOf (λ f. can_be f ≡ true) forms → 0 < length forms → (words : List (List ℕ))
@@ -43,9 +43,9 @@ pub fn syntax_place_law()
         → (command : Command) × SpellsCommand entries words command }
 {}
 
-/// Where the first word tells the command and each further word tells by its class alone to which
-/// part of the form it belongs, words spell one command at most and have one first error. So it
-/// is with all commands, and with those of a line of a batch.
+/// If the first word determines the command and the class of each further word determines the part
+/// of the form to which it belongs, words spell at most one command and have at most one first
+/// error. This holds for all commands, and for those of a line of a batch.
 pub fn one_command_law()
     ensures all_commands { (bases : List Basis)
         → are_unambiguous (forms_of (entries_of bases)) ≡ true }
@@ -60,8 +60,8 @@ pub fn one_command_law()
         → a ≡ b }
 {}
 
-/// The first error is one of the errors, and none of them comes before it; there is none
-/// exactly where there is no error.
+/// The first error is one of the errors, and none of them is before it; there is no first error if
+/// and only if there is no error.
 pub fn command_offence_law()
     ensures is_one { (offences : List Offence) (first : Offence)
         → first_offence offences ≡ Some first
@@ -72,8 +72,8 @@ pub fn command_offence_law()
     ensures none { (offences : List Offence) → (first_offence offences ≡ None) ↔ (offences ≡ []) }
 {}
 
-/// Each command has words. The expression of an `expand` without error has at most the degree of
-/// its target's limit.
+/// Each command has words. The expression of an `expand` without an error has at most the greatest
+/// degree for its target.
 pub fn words_of_commands_law()
     ensures words { (basis : Basis) (bases : List Basis)
         → EachOf (λ (e : Entry). (words : List (List ℕ)) × Has e.form words)

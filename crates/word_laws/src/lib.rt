@@ -1,15 +1,15 @@
-//! Laws of the words of commands: where words first fail, that they spell one command, which
-//! error comes first, what the words of a tableau are.
+//! Laws of the words of commands: the place where words first fail, words spell one command, the
+//! first error, and the words of a tableau.
 //!
-//! A law function takes nothing, answers nothing and does no work when it runs: its contract is
-//! the law.
+//! A law function takes nothing, returns nothing and does no work when it runs: its contract is the
+//! law.
 //!
 //! What is proved:
 //!
 //! `one_command_law`: no words spell two commands or have two first errors. `syntax_place_law`:
-//! where words first fail is the longest prefix that begins a command. `command_offence_law`,
-//! `words_of_commands_law`, `tableau_shape_law`. `left_shape_law`: where rows as they are written
-//! leave a shape. `judged_rows_law`: the first error of the rows of a tableau is that of judging
+//! words first fail after their longest prefix that begins a command. `command_offence_law`,
+//! `words_of_commands_law`, `tableau_shape_law`. `left_shape_law`: the place where written rows
+//! leave a shape. `judged_rows_law`: the first error of the rows of a tableau is found by judging
 //! each number once. `earlier_offence_law`: the first error of two lists is the earlier of their
 //! first ones.
 #![tactic(auto)]

@@ -1,4 +1,4 @@
-//! Where rows as they are written leave a shape.
+//! The place where written rows leave a shape.
 
 ghost use Rattle.std.specs.Prelude.{◌≡◌, ◌<◌, ℕ, List, ◌∷◌, length};
 ghost use Rattle.sym_model.specs.Form.{EachOf, is_number_word};

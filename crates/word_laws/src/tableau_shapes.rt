@@ -9,9 +9,9 @@ ghost use Rattle.sym_model.specs.CommandOffence.{Offence};
 ghost use Rattle.sym_model.specs.WordForms.{tableau_words, tableau_rows, tableau_of};
 ghost use Rattle.sym_model.specs.WordForms.{shape_offences};
 
-/// A tableau that is to have rows of given lengths is judged by these alone: its words have no
-/// error exactly where its rows have them, and otherwise offend at the word after the longest
-/// prefix that begins such a tableau. One row without cells is written as no row is.
+/// A tableau that must have rows of given lengths is judged only by these: its words have no error
+/// if and only if its rows have these lengths, and otherwise the error is at the word after the
+/// longest prefix that begins such a tableau. A row without cells is written like no row.
 pub fn tableau_shape_law()
     ensures none { (k : ℕ) (lengths : List ℕ) (words : List (List ℕ))
         → (shape_offences k lengths words ≡ []) ↔ Has (tableau_of lengths) words }

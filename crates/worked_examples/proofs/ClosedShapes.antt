@@ -11,11 +11,11 @@ use Rattle.strip_laws.proofs.Containment.{cell}
 use Rattle.strip_laws.proofs.Strips.{horizontal_from_rows, vertical_from_rows}
 use Rattle.strip_laws.proofs.RimHooks.{hook_from_rows, crosses}
 
--- past its last row a shape has no part
+-- if i is greater than the number of parts, part i is 0
 part_past : (parts : List ℕ) (i : ℕ) → length parts < i → part parts i ≡ 0
 part_past parts i h = past_end parts (i - 1) (omega arith)
 
--- a test of the rows 1, .., k, written out
+-- P holds of each of the rows a + 1, .., a + k
 abbrev pub EachRow : (ℕ → Type 0) → ℕ → ℕ → Type 0
 EachRow P a zero = Unit {0}
 EachRow P a (suc k) = P (a + 1) × EachRow P (a + 1) k
@@ -56,7 +56,7 @@ holds_closed outer inner l r = from
     from zero = counted 1 (omega arith)
     from (suc i) = counted (suc i) (omega arith)
 
--- the rows of a hook, tested one by one
+-- outer/inner is a rim hook with the rows first, .., last, by tests of one row after another
 pub record AreHookRows (outer inner : List ℕ) (first last : ℕ) : Type 0 where
   pub falls : Falls outer
   pub longer : length inner ≤ length outer
@@ -86,7 +86,7 @@ hook_closed outer inner first last h = hook_from_rows outer inner first last h.f
 pub removal_closed : (n : ℕ) (shape left : List ℕ) (first last : ℕ) → AreHookRows shape left first last → Falls left → ArePositive left → size shape ≡ size left + n → IsRemoval n shape left
 removal_closed n shape left first last h f p e = record { partition = record { falls = f; positive = p }; hook = hook_closed shape left first last h; cells = e }
 
--- a shape with a 2 by 2 square in its corner is no rim hook
+-- if the first two rows of a shape have at least two cells, it is not a rim hook, since it has a 2 by 2 square
 pub no_hook : (shape : List ℕ) → 2 ≤ part shape 1 → 2 ≤ part shape 2 → IsRimHook shape [] → ⊥
 no_hook shape a b h =
     h.thin 1 1
@@ -95,7 +95,7 @@ no_hook shape a b h =
     (cell shape [] 2 1 (omega arith) (omega arith) (omega arith))
     (cell shape [] 2 2 (omega arith) (omega arith) b)
 
--- so no rim hook of as many cells as the shape has can be removed from it
+-- if the first two rows of a shape of n cells have at least two cells, no rim hook of n cells can be removed
 pub no_removal_of_all : (n : ℕ) (shape : List ℕ) → size shape ≡ n → 2 ≤ part shape 1 → 2 ≤ part shape 2 → HasNoRemoval n shape
 no_removal_of_all n shape e a b left r =
     let c = r.cells in

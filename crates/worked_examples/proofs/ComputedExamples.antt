@@ -1,4 +1,4 @@
--- Worked examples of words, from what is computed.
+-- Worked examples of words, proved by what is computed from their forms.
 use Rattle.std.proofs.Common.{◌≡◌, ℕ, ◌<◌, List, [], ◌∷◌, length, refl, sym, subst, arith, inl, Some}
 use Rattle.sym_model.specs.Sum.{Among}
 use Rattle.sym_model.specs.Command.{Command}

@@ -1,5 +1,4 @@
--- How the worked examples of the words of commands are written: a line of words,
--- and what it says over all commands.
+-- The form of the worked examples of words of commands: a line of words, and its meaning over all commands.
 use Rattle.std.specs.Prelude.{ℕ, List, [], ◌++◌, Some, codes, replicate}
 use Rattle.std.proofs.Common.{zero, suc}
 use Rattle.sym_model.specs.Command.{Command}
@@ -17,11 +16,11 @@ all_commands = entries_of all_bases
 abbrev pub Says : List ℕ → Command → Type 0
 Says line command = SpellsWithoutOffence all_commands (words_of_line line) command
 
--- the words of the line first offend there
+-- the words of the line have this first error
 abbrev pub Offends : List ℕ → Offence → Type 0
 Offends line first = HasFirstOffence all_commands (words_of_line line) (Some first)
 
--- the words of the line are no command, and first fail there
+-- the words of the line are no command, and first fail at this word and byte
 abbrev pub GoesWrong : List ℕ → ℕ → ℕ → Type 0
 GoesWrong line word byte = IsSyntaxPlace all_commands (words_of_line line) word byte
 

@@ -1,5 +1,6 @@
-//! Worked examples of expansions: what the lists that commands print are, in as many variables as
-//! they need. The lists were computed by other programs (lrcalc, Symmetrica) or worked out by hand.
+//! Worked examples of expansions: the lists that commands print are the expansions, in sufficiently
+//! many variables. The lists were computed by other programs (lrcalc, Symmetrica) or worked out by
+//! hand.
 
 ghost use Rattle.std.specs.Prelude.{◌≡◌, pos, negsuc, [], ◌∷◌, map, Some, None};
 ghost use Rattle.sym_model.specs.Polynomial.{coefficient, times};
@@ -12,9 +13,9 @@ ghost use Rattle.sym_model.specs.Expansion.{value, value_by, pair_polynomial, el
 ghost use Rattle.sym_model.specs.Expansion.{completes, power_sums, schurs};
 
 /// Changes of basis, at the monomials with the exponents (3,0,0), (2,1,0) and (1,1,1): s_(2,1) in
-/// p, h and e, m_(2,1) and p_3 in s. Of m_(5,3,1) in p some monomials of degree 9.
+/// p, h and e, m_(2,1) and p_3 in s. And some coefficients, of degree 9, of m_(5,3,1) in p.
 pub fn change_of_basis_examples_law()
-    // 0, 1 and 2, each times the denominators 3 and 3
+    // 0, 1 and 2, each multiplied by the denominators 3 and 3
     ensures power_sums { map
         (coefficient (value power_sums
         (((3 ∷ []), (negsuc 0, 3)) ∷ ((1 ∷ 1 ∷ 1 ∷ []), (pos 1, 3)) ∷ []) 3))
@@ -60,7 +61,7 @@ pub fn change_of_basis_examples_law()
 /// The skew Schur polynomial of (3,2,1)/(2,1) in Schur polynomials, s_(2,1) in two sets of
 /// variables, and products of two Schubert polynomials.
 pub fn expansion_examples_law()
-    // at (3), (2,1) and (1,1,1)
+    // the coefficients of (3), (2,1) and (1,1,1)
     ensures skew { map (λ κ. schur_coefficient 3 κ (skew_schur (3 ∷ 2 ∷ 1 ∷ []) (2 ∷ 1 ∷ []) 3))
         ((3 ∷ []) ∷ (2 ∷ 1 ∷ []) ∷ (1 ∷ 1 ∷ 1 ∷ []) ∷ [])
         ≡ pos 1 ∷ pos 2 ∷ pos 1 ∷ [] }
@@ -114,11 +115,12 @@ pub fn reduced_product_examples_law()
         ≡ map (coefficient (schur (2 ∷ []) 2)) ((2 ∷ 0 ∷ []) ∷ (1 ∷ 1 ∷ []) ∷ []) }
     ensures one_variable { schur_coefficient 1 (2 ∷ []) (skew_schur (2 ∷ 1 ∷ []) (1 ∷ []) 1)
         ≡ pos 1 }
-    // (2,2) times (2,2) is (4,4) in two variables, which loses two hooks of four cells
+    // (2,2) times (2,2) is (4,4) in two variables, from which two rim hooks of four cells are
+    // removed
     ensures two_hooks { reduced_terms (((4 ∷ 4 ∷ []), pos 1) ∷ []) (Some ([], pos 1, 2) ∷ [])
         ≡ ((2, []), pos 1) ∷ [] }
-    // (2,1) times (2,1) in three variables, with hooks of six cells:
-    // (4,2) has none and too many columns
+    // (2,1) times (2,1) in three variables, with rim hooks of six cells: none can be removed from
+    // (4,2), which has too many columns
     ensures three_rows { reduced_terms
         ((4 ∷ 2 ∷ [], pos 1) ∷ (4 ∷ 1 ∷ 1 ∷ [], pos 1) ∷ (3 ∷ 3 ∷ [], pos 1)
         ∷ (3 ∷ 2 ∷ 1 ∷ [], pos 2) ∷ (2 ∷ 2 ∷ 2 ∷ [], pos 1) ∷ [])
@@ -126,14 +128,15 @@ pub fn reduced_product_examples_law()
         ∷ Some (2 ∷ 2 ∷ 2 ∷ [], pos 1, 0) ∷ [])
         ≡ ((1, []), pos 1) ∷ ((0, 3 ∷ 3 ∷ []), pos 1) ∷ ((0, 3 ∷ 2 ∷ 1 ∷ []), pos 2)
         ∷ ((0, 2 ∷ 2 ∷ 2 ∷ []), pos 1) ∷ [] }
-    // the same at level 2, where (4,2) goes to minus (3,2,1) and (3,3) and (4,1,1) vanish
+    // (2,1) times (2,1) in three variables at level 2: (4,2) is reflected to minus (3,2,1), and
+    // (3,3) and (4,1,1) to 0
     ensures at_level_two { map
         (coefficient (reflected_terms 3 5
         ((4 ∷ 2 ∷ [], pos 1) ∷ (4 ∷ 1 ∷ 1 ∷ [], pos 1) ∷ (3 ∷ 3 ∷ [], pos 1)
         ∷ (3 ∷ 2 ∷ 1 ∷ [], pos 2) ∷ (2 ∷ 2 ∷ 2 ∷ [], pos 1) ∷ [])))
         ((3 ∷ 2 ∷ 1 ∷ []) ∷ (2 ∷ 2 ∷ 2 ∷ []) ∷ (3 ∷ 3 ∷ []) ∷ (4 ∷ 2 ∷ []) ∷ [])
         ≡ pos 1 ∷ pos 1 ∷ pos 0 ∷ pos 0 ∷ [] }
-    // x times x
+    // the square of the Schubert polynomial x of (2,1)
     ensures squared_letter { map (coefficient
         (times (schubert_in (2 ∷ 1 ∷ []) 2) (schubert_in (2 ∷ 1 ∷ []) 2)))
         ((2 ∷ 0 ∷ []) ∷ (1 ∷ 1 ∷ []) ∷ [])

@@ -8,7 +8,7 @@ ghost use Rattle.sym_model.specs.Weight.{numerator, growth};
 ghost use Rattle.sym_model.specs.Phrase.{numeral, ratio, label, times, operation, SpellsTree};
 ghost use Rattle.sym_model.specs.ExpressionOffence.{shape, range, first_of, offences};
 
-/// Worked examples of expressions, of their weights, and of where a word offends.
+/// Worked examples of expressions, of their weights, and of the first error of a word.
 pub fn expression_examples_law()
     ensures grouping { SpellsTree (codes "-1-2+3")
         (sum (difference (negation (number 1)) (number 2)) (number 3)) }

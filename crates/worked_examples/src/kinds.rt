@@ -13,7 +13,7 @@ ghost use Rattle.sym_model.specs.Kind.{label_rules, number, expansion, product, 
 ghost use Rattle.sym_model.specs.Kind.{permutations, polynomial, shifts};
 ghost use Rattle.sym_model.specs.PrintedBlock.{block_by, read_by};
 
-/// Blocks of each kind, and texts that are none.
+/// Blocks of each kind, and texts that are no blocks.
 pub fn kind_examples_law()
     // s_(2,1) in two sets of variables
     ensures pairs { block_by (label_rules pairs)
@@ -82,7 +82,7 @@ pub fn kind_examples_law()
     ensures number_with_label { read_by (label_rules number) (codes "1  (2)\n") ≡ None }
 {}
 
-/// The orders of the lines, and the limits of the labels just met and just passed.
+/// The orders of the lines, and labels at their limits and just over them.
 pub fn label_examples_law()
     ensures first_partition { pair_order (2 ∷ [], []) (1 ∷ [], 3 ∷ []) ≡ Less }
     ensures second_partition { pair_order (1 ∷ [], 1 ∷ 1 ∷ []) (1 ∷ [], 2 ∷ []) ≡ Greater }

@@ -1,11 +1,12 @@
-//! Worked examples of one-line forms, and of texts that are none.
+//! Worked examples of one-line forms, and of texts that are no such forms.
 
 ghost use Rattle.std.specs.Prelude.{◌≡◌, pos, negsuc, [], ◌∷◌, codes, Some, None};
 ghost use Rattle.sym_model.specs.Expansion.{monomials, elementaries, completes, power_sums, schurs};
 ghost use Rattle.sym_model.specs.Kind.{label_rules, expansion, product};
 ghost use Rattle.sym_model.specs.OneLine.{one_line, read_one_line};
 
-/// One-line forms in each basis, what they read back as, and texts that are none.
+/// One-line forms in each basis, the lists that they read back as, and texts that are no such
+/// forms.
 pub fn line_examples_law()
     // the square of s_(2,1)
     ensures square { one_line schurs
@@ -35,7 +36,7 @@ pub fn line_examples_law()
     ensures negative_first { one_line schurs (([], (negsuc 0, 1)) ∷ []) ≡ codes "-s[]\n" }
     ensures reads_negative_first { read_one_line schurs (label_rules expansion) (codes "-s[]\n")
         ≡ Some (([], (negsuc 0, 1)) ∷ []) }
-    // h_12 - 10 h_(10,2)/3 + h_1, where a number has two digits
+    // h_12 - 10 h_(10,2)/3 + h_1, with numbers of two digits
     ensures signs { one_line completes
         ((12 ∷ [], (pos 1, 1)) ∷ (10 ∷ 2 ∷ [], (negsuc 9, 3)) ∷ (1 ∷ [], (pos 1, 1)) ∷ [])
         ≡ codes "h[12]-10/3*h[10,2]+h[1]\n" }

@@ -13,8 +13,8 @@ ghost use Rattle.sym_model.specs.DividedDifference.{divided_difference};
 ghost use Rattle.sym_model.specs.Schubert.{schubert, schubert_in};
 ghost use Rattle.sym_model.specs.Straightening.{straightened};
 
-/// Permutations in one-line form. The identity is kept as its first letter; past the end the
-/// letters are fixed.
+/// Permutations in one-line form. The identity is kept as its first letter; letters after the end
+/// are fixed.
 pub fn permutation_examples_law()
     ensures letter { letter (3 ∷ 1 ∷ 2 ∷ []) 2 ≡ 1 }
     ensures letter_past_the_end { letter (3 ∷ 1 ∷ 2 ∷ []) 5 ≡ 5 }
@@ -28,7 +28,8 @@ pub fn permutation_examples_law()
     ensures last_descent { last_descent (2 ∷ 1 ∷ 4 ∷ 3 ∷ 5 ∷ []) ≡ Some 3 }
     ensures no_descent { last_descent (1 ∷ 2 ∷ 3 ∷ []) ≡ None }
     ensures one_letter { last_descent (1 ∷ []) ≡ None }
-    // 4 has 1, 2, 3 to its right, 2 has 1, 5 has 1, 3, and 1, 3 have nothing smaller
+    // the code of 4 2 5 1 3: there are 1, 2, 3 right of 4, 1 right of 2, and 1, 3 right of 5;
+    // nothing smaller is right of 1 or 3
     ensures code { code (4 ∷ 2 ∷ 5 ∷ 1 ∷ 3 ∷ []) ≡ 3 ∷ 1 ∷ 2 ∷ 0 ∷ 0 ∷ [] }
     ensures inversions { inversions (4 ∷ 2 ∷ 5 ∷ 1 ∷ 3 ∷ []) ≡ 6 }
     ensures from_code { from_code (3 ∷ 1 ∷ 2 ∷ 0 ∷ 0 ∷ []) ≡ 4 ∷ 2 ∷ 5 ∷ 1 ∷ 3 ∷ [] }
@@ -129,7 +130,7 @@ pub fn schubert_more_examples_law()
     ensures one_letter { schubert (1 ∷ []) ≡ one 1 }
     ensures no_letter { schubert [] ≡ one 0 }
     ensures identity { schubert (1 ∷ 2 ∷ 3 ∷ []) ≡ one 3 }
-    // x_1 + x_2 + x_3 loses its last term
+    // the Schubert polynomial x_1 + x_2 + x_3 in two variables loses its last term
     ensures drops_a_term { schubert_in (1 ∷ 2 ∷ 4 ∷ 3 ∷ []) 2
         ≡ ((0 ∷ 1 ∷ []), pos 1) ∷ ((1 ∷ 0 ∷ []), pos 1) ∷ [] }
     ensures more_variables { schubert_in (2 ∷ 1 ∷ []) 3 ≡ ((1 ∷ 0 ∷ 0 ∷ []), pos 1) ∷ [] }
@@ -137,8 +138,8 @@ pub fn schubert_more_examples_law()
     ensures identity_without_variables { schubert_in (1 ∷ []) 0 ≡ one 0 }
 {}
 
-/// Straightening: s_(0,2) = -s_(1,1), s_(1,2) = 0, s_(0,0,3) = s_(1,1,1),
-/// and a partition is its own.
+/// Straightening: s_(0,2) = -s_(1,1), s_(1,2) = 0, s_(0,0,3) = s_(1,1,1), and a partition
+/// straightens to itself.
 pub fn straightening_examples_law()
     ensures negative { straightened (0 ∷ 2 ∷ []) ≡ Some (negsuc 0, (1 ∷ 1 ∷ [])) }
     ensures equal { straightened (1 ∷ 2 ∷ []) ≡ None }

@@ -57,8 +57,8 @@ pub fn worked_examples_law()
         ≡ pos 9 }
 {}
 
-/// The words on partitions and numbers that the definitions are made of, and the printed order:
-/// size falling, then falling lexicographically.
+/// Functions on partitions and numbers that the definitions use, and the printed order: decreasing
+/// size, then decreasing lexicographic order.
 pub fn order_examples_law()
     ensures greater_size { printed_order (1 ∷ 1 ∷ 1 ∷ 1 ∷ []) (3 ∷ []) ≡ Less }
     ensures greater_part { printed_order (3 ∷ []) (2 ∷ 1 ∷ []) ≡ Less }
@@ -78,8 +78,8 @@ pub fn order_examples_law()
     ensures past_the_greatest { fits_128_bits (pos (2 ^ 127)) ≡ false }
 {}
 
-/// Blocks and what is none. The first is what `expand m p[2,1]` prints, since `p_(2,1)` is
-/// `m_(3) + m_(2,1)`; the second is `s_(2,1)` in power sums.
+/// Blocks, and texts that are no blocks. The first is the output of `expand m p[2,1]`, since
+/// `p_(2,1)` is `m_(3) + m_(2,1)`; the second is `s_(2,1)` in power sums.
 pub fn block_examples_law()
     ensures whole { block (((3 ∷ []), (pos 1, 1)) ∷ ((2 ∷ 1 ∷ []), (pos 1, 1)) ∷ [])
         ≡ codes "1  (3)\n1  (2,1)\n" }

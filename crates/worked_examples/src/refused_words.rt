@@ -15,7 +15,7 @@ ghost use Rattle.sym_model.specs.BatchLine.{words_of_line};
 ghost use Rattle.worked_examples.specs.Examples.{all_commands, Says, Offends, GoesWrong, repeated};
 ghost use Rattle.worked_examples.specs.Examples.{zeros_of};
 
-/// Words that are no command, and where they first fail.
+/// Words that are no command, and the places where they first fail.
 pub fn words_that_go_wrong_law()
     ensures no_words { GoesWrong (codes "") 0 0 }
     ensures number_for_minus { GoesWrong (codes "mult 1 -1") 2 0 }
@@ -48,7 +48,8 @@ pub fn words_that_go_wrong_law()
         (words_of_line (codes "mult 1 - " ++ (255 ∷ []))) 3 0 }
 {}
 
-/// Errors of numbers, partitions, permutations and letters, and lists that just have none.
+/// Errors of numbers, partitions, permutations and letters, and lists at the limits without an
+/// error.
 pub fn refused_lists_law()
     ensures rows_65 { Offends (codes "mult -r 65 1 - 1") (2, 0, range) }
     ensures rows_64 { Says (codes "mult -r 64 1 - 1")
@@ -108,7 +109,7 @@ pub fn refused_lists_law()
     ensures seed { Offends (codes "work 10000 65537") (2, 0, range) }
 {}
 
-/// Errors of tableaux, and tableaux that have none.
+/// Errors of tableaux, and tableaux without an error.
 pub fn refused_tableaux_law()
     ensures inner_outside { Offends (codes "rect 1 / 2 - .") (3, 0, shape) }
     ensures no_cells { Says (codes "rect 1 / 1 - .") (rect (1 ∷ []) (1 ∷ []) ([] ∷ [])) }
@@ -141,7 +142,7 @@ pub fn refused_tableaux_law()
         (4, 0, literal) }
 {}
 
-/// Errors of the two expressions of a `plethysm`, and expressions that just have none.
+/// Errors of the two expressions of a `plethysm`, and expressions at the limits without an error.
 pub fn refused_plethysms_law()
     ensures minus_inside { Offends (codes "plethysm s h[2] h[1]-h[1]") (3, 4, shape) }
     ensures fraction_inside { Offends (codes "plethysm s h[2] 3*1/2") (3, 2, shape) }
@@ -154,7 +155,7 @@ pub fn refused_plethysms_law()
         (plethysm power_sums (atom completes (5 ∷ [])) (atom elementaries (2 ∷ []))) }
 {}
 
-/// Errors of the expression of a command, and expressions that just have none.
+/// Errors of the expression of a command, and expressions at the limits without an error.
 pub fn refused_expressions_law()
     ensures rising_list { Offends (codes "expand s p[1,2]") (2, 4, shape) }
     ensures rising_on_one_line { Offends (codes "expand -m s s[1,2]") (3, 4, shape) }

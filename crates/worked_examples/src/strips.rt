@@ -37,7 +37,7 @@ pub fn removal_examples_law()
     ensures hook_of_six { ReducesTo 3 6 (4 ∷ 1 ∷ 1 ∷ []) (Some ([], pos 1, 1)) }
     ensures too_wide { ReducesTo 3 6 (4 ∷ 2 ∷ []) None }
     ensures empty { HasNoRemoval 3 [] }
-    // what `quantum 2 2 1 - 2 1` and `quantum 2 2 2 2 - 2 2` must be: s_(2,2) + q, and q^2
+    // the answers to `quantum 2 2 1 - 2 1` and `quantum 2 2 2 2 - 2 2`: s_(2,2) + q, and q^2
     ensures product { Meets (quantum 2 2 ((1 ∷ []) ∷ (2 ∷ 1 ∷ []) ∷ []))
         (answer powers (((0, 2 ∷ 2 ∷ []), (pos 1, 1)) ∷ ((1, []), (pos 1, 1)) ∷ [])) }
     ensures product_of_squares { Meets (quantum 2 2 ((2 ∷ 2 ∷ []) ∷ (2 ∷ 2 ∷ []) ∷ []))

@@ -10,7 +10,7 @@ ghost use Rattle.sym_model.specs.Workload.{after_draws, work_line, work_lines, a
 ghost use Rattle.sym_model.specs.Workload.{summary_text};
 
 /// The lines of `rsk`, `unrsk`, `rect` and `tab`: rows without cells, tableaux without rows, the
-/// empty word, a list that goes on after a tableau, an empty list.
+/// empty word, a list that continues after a tableau, an empty list.
 pub fn tableau_text_examples_law()
     ensures pair { pair_text (insertion_pair (3 ∷ 1 ∷ 2 ∷ [])).0 (insertion_pair (3 ∷ 1 ∷ 2 ∷ [])).1
         ≡ codes "P 1 2 / 3\nQ 1 3 / 2\n" }

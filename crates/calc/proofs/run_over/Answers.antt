@@ -7,7 +7,7 @@ use Rattle.calc.proofs.HandedOn.{handed_on}
 use Rattle.calc.proofs.run_over.Given.{Over}
 use Rattle.calc.proofs.run_over.Goals as goal
 
--- what is left with the status that was answered
+-- The clause `leaves` of `run`, at the status that was returned.
 left_by : (g : Over) (c : goal.After-run g) (answer : Status) → c.run.result ≡ answer
     → Leaves (outlet_seen g.W.Write.contents c.args.sink.now)
     (outlet_seen g.W.Write.contents c.run.new.sink)

@@ -16,7 +16,7 @@ use Rattle.sym_model.proofs.Integers.{product_cancel}
 pub unsigned_abs-scaled : (d : ℕ) (r : Fraction) → unsigned_abs (scaled d r) ≡ magnitude d r
 unsigned_abs-scaled d r = unsigned_abs-mul r.0 (pos (d / r.1))
 
--- a fraction stands for itself cleared over what cleared it
+-- the fraction r equals (d·r)/d
 pub Stands-scaled : (d : ℕ) (r : Fraction) → InLowestTerms r → 0 < d → r.1 ∣ d
     → Stands r (scaled d r) d
 Stands-scaled d r l some h = record {
@@ -27,7 +27,7 @@ Stands-scaled d r l some h = record {
       ∙ sym (product_assoc r.0 (pos (d / r.1)) (pos r.1));
 }
 
--- and what stands for n/d is n where d clears it
+-- if r equals n/d, the denominator of r divides d, and d·r is n
 pub scaled-Stands : (d : ℕ) (n : ℤ) (r : Fraction) → Stands r n d → (r.1 ∣ d) × (scaled d r ≡ n)
 scaled-Stands d n r p =
     let sizes : unsigned_abs r.0 * d ≡ unsigned_abs n * r.1 =

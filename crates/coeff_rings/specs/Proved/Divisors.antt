@@ -1,18 +1,16 @@
--- Common divisors: Euclid's algorithm, Euclid's lemma, and that `greatest_common_divisor` is the
--- greatest common divisor.
-use Rattle.std.proofs.Common.{◌≡◌, ℕ, zero, suc, ◌+◌, ◌*◌, ◌/◌, ◌%◌, ◌<◌, ◌≤◌, ⊎_elim, Bool, true}
-use Rattle.std.proofs.Common.{false, cond, subst, sym, refl, ap, ◌∙◌, arith, nat_eq}
+-- Common divisors: Euclid's algorithm, Euclid's lemma, and `greatest_common_divisor` as the greatest common divisor.
+use Rattle.std.proofs.Common.{◌≡◌, ℕ, zero, suc, ◌+◌, ◌*◌, ◌/◌, ◌%◌, ◌<◌, ◌≤◌}
+use Rattle.std.proofs.Common.{subst, sym, refl, ap, ◌∙◌, arith}
 use Rattle.std.specs.Int.{IsGcd, ◌∣◌}
 use Rattle.std.proofs.lemmas.Nat.Gcd.{IsGcd-from_zero, IsGcd-swap, IsGcd-from_mod, same_from_IsGcd}
-use Rattle.std.proofs.lemmas.Nat.Gcd.{le_from_IsGcd, dvd_trans, le_of_dvd, dvd_of_mod-eq-zero}
-use Rattle.std.proofs.lemmas.Nat.Gcd.{mod-eq-zero_of_dvd}
-use Rattle.std.proofs.lemmas.Bool.{and_parts, eqb-true, eq-eqb, and_from, both_ways, cases_eq}
+use Rattle.std.proofs.lemmas.Nat.Gcd.{dvd_trans}
 use native.Mathlib.Nat.{dvd-add, dvd-add_iff_right, dvd-mul_left_of_dvd, dvd-mul_right}
 use native.Mathlib.Nat.{dvd_of_mul-dvd-mul_right, mul-dvd-mul_right, div-mul_cancel, div-add-mod'}
 use native.Mathlib.Nat.{pos_of_dvd_of_pos, one-dvd, mod-lt, one-mul, add-mul, mul_assoc, zero-mul}
-use Rattle.coeff_rings.specs.Fractions.{divides_both, greatest_divisor_to, greatest_common_divisor}
+use Rattle.sym_model.proofs.GreatestCommonDivisors.{gcd-only, IsGcd-gcd}
+use Rattle.coeff_rings.specs.Fractions.{greatest_common_divisor}
 
--- one step of Euclid's algorithm
+-- if a = q·b + r, the greatest common divisor of b and r is that of a and b
 euclid_step : (a b q r g : ℕ) → a ≡ q * b + r → IsGcd b r g → IsGcd a b g
 euclid_step a b q r g e h =
     let divides = λ (d : ℕ) (s : d ∣ b). dvd-mul_left_of_dvd d s q in (
@@ -22,7 +20,7 @@ euclid_step a b q r g e h =
           (subst (λ (n : ℕ). d ∣ n) e p)),
     )
 
--- a greatest common divisor, which every factor scales
+-- a greatest common divisor that is multiplied by c if both numbers are
 pub record Scales (a b : ℕ) : Type 0 where
   pub g : ℕ
   pub is : IsGcd a b g
@@ -56,9 +54,9 @@ euclid (suc f) a (suc b) h =
 pub scales : (a b : ℕ) → Scales a b
 scales a b = euclid b a b (omega arith)
 
--- ---- numbers whose greatest common divisor is 1
+-- ---- coprime numbers: their greatest common divisor is 1
 
--- Euclid's lemma
+-- Euclid's lemma: if a and b are coprime and a divides b·c, a divides c
 pub divides_other_factor : (a b c : ℕ) → IsGcd a b 1 → a ∣ b * c → a ∣ c
 divides_other_factor a b c h p =
     let s = scales a b in
@@ -77,7 +75,7 @@ coprime-product a b c h k =
     coprime_from a (b * c) (λ d p q.
     k.2 d p (divides_other_factor d b c (coprime_from d b (λ e r s. h.2 e (dvd_trans e r p) s)) q))
 
--- four numbers, each of two having nothing in common with each of the others
+-- if a and b each are coprime to c and to d, so are the products ab and cd
 pub coprime-products : (a b c d : ℕ) → IsGcd a c 1 → IsGcd a d 1 → IsGcd b c 1 → IsGcd b d 1
     → IsGcd (a * b) (c * d) 1
 coprime-products a b c d ac ad bc bd =
@@ -86,7 +84,7 @@ coprime-products a b c d ac ad bc bd =
     (IsGcd-swap a (c * d) 1 (coprime-product a c d ac ad))
     (IsGcd-swap b (c * d) 1 (coprime-product b c d bc bd)))
 
--- what is left of two numbers without their greatest common divisor has nothing in common
+-- two numbers divided by their greatest common divisor are coprime
 pub coprime_without : (a b g : ℕ) → 0 < g → IsGcd a b g → IsGcd (a / g) (b / g) 1
 coprime_without a b g some h =
     coprime_from (a / g) (b / g) (λ d p q.
@@ -106,50 +104,12 @@ quotient_positive n g some h =
     pos_of_dvd_of_pos (dvd-mul_right (n / g) g)
     (subst (λ (m : ℕ). 0 < m) (sym (div-mul_cancel g h)) some)
 
--- ---- the definition
+-- ---- `greatest_common_divisor` is the greatest common divisor
 
-divides_from_test : (k a b : ℕ) → divides_both k a b ≡ true → (k ∣ a) × (k ∣ b)
-divides_from_test k a b t =
-    let parts = and_parts (nat_eq (a % k) 0) (nat_eq (b % k) 0) t in (
-      dvd_of_mod-eq-zero k (eqb-true (a % k) 0 parts.0),
-      dvd_of_mod-eq-zero k (eqb-true (b % k) 0 parts.1),
-    )
-
-test_from_divides : (k a b : ℕ) → k ∣ a → k ∣ b → divides_both k a b ≡ true
-test_from_divides k a b p q =
-    and_from (nat_eq (a % k) 0) (nat_eq (b % k) 0) (eq-eqb (a % k) 0 (mod-eq-zero_of_dvd k p))
-    (eq-eqb (b % k) 0 (mod-eq-zero_of_dvd k q))
-
--- the search from a bound down meets the greatest common divisor first
-greatest_step : (k a b g : ℕ) (t : Bool) → divides_both (suc k) a b ≡ t → g ∣ a → g ∣ b → g ≤ suc k
-    → ((d : ℕ) → d ∣ a → d ∣ b → d ≤ g) → (g ≤ k → greatest_divisor_to k a b ≡ g)
-    → cond t (suc k) (greatest_divisor_to k a b) ≡ g
-greatest_step k a b g true e p q below most rest =
-    let parts = divides_from_test (suc k) a b e in
-    let above : suc k ≤ g = most (suc k) parts.0 parts.1 in
-    omega arith
-greatest_step k a b g false e p q below most rest =
-    rest (⊎_elim (λ (same : g ≡ suc k). absurd (both_ways _ e
-    (test_from_divides (suc k) a b (subst (λ (n : ℕ). n ∣ a) same p)
-    (subst (λ (n : ℕ). n ∣ b) same q))))
-    (λ (other : g ≡ suc k → ⊥). omega arith) (cases_eq g (suc k)))
-
-greatest_is : (k a b g : ℕ) → 0 < g → g ∣ a → g ∣ b → ((d : ℕ) → d ∣ a → d ∣ b → d ≤ g) → g ≤ k
-    → greatest_divisor_to k a b ≡ g
-unfolding greatest_divisor_to
-greatest_is zero a b g some p q most below = absurd (omega arith)
-greatest_is (suc k) a b g some p q most below =
-    greatest_step k a b g (divides_both (suc k) a b) refl p q below most
-    (greatest_is k a b g some p q most)
-
-pub greatest_common_divisor-is : (a b g : ℕ) → 0 < b → IsGcd a b g → greatest_common_divisor a b ≡ g
+pub greatest_common_divisor-is : (a b g : ℕ) → IsGcd a b g → greatest_common_divisor a b ≡ g
 unfolding greatest_common_divisor
-greatest_common_divisor-is a b g some h =
-    let positive : 0 < g = divisor_positive a b g some h in
-    greatest_is b a b g positive h.0 h.1 (λ d p q. le_from_IsGcd a b g d h positive p q)
-    (le_of_dvd some h.1)
+greatest_common_divisor-is a b g h = gcd-only a b g h
 
-pub IsGcd-greatest : (a b : ℕ) → 0 < b → IsGcd a b (greatest_common_divisor a b)
-IsGcd-greatest a b some =
-    let s = scales a b in
-    subst (λ (n : ℕ). IsGcd a b n) (sym (greatest_common_divisor-is a b s.g some s.is)) s.is
+pub IsGcd-greatest : (a b : ℕ) → IsGcd a b (greatest_common_divisor a b)
+unfolding greatest_common_divisor
+IsGcd-greatest a b = IsGcd-gcd a b

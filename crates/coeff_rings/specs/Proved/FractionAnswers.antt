@@ -1,4 +1,4 @@
--- The laws of `Frac`: what its answers are, where they have room, and that they are held.
+-- The laws of `Frac`: the results of its operations, when there are results, and that these are held.
 use Rattle.std.proofs.Common.{◌≡◌, ◌≢◌, ℕ, ◌+◌, ◌*◌, ◌/◌, ◌<◌, ◌≤◌, ◌^◌, sym, refl, ap, ◌∙◌, subst}
 use Rattle.std.proofs.Common.{arith, ℤ, pos, ◌+ℤ◌, ◌-ℤ◌, ◌*ℤ◌, neg_ℤ, unsigned_abs, Bool, true}
 use Rattle.std.proofs.Common.{false, cond, ◌&&◌, FitsSigned, Option, Some, None, IsSome, IfSome}
@@ -38,7 +38,7 @@ use Rattle.coeff_rings.specs.Proved.FractionLaws.{sum-zero, difference-is, recip
 use Rattle.coeff_rings.specs.Proved.Whole.{fitted, where_fits-true, IfSome-where_fits}
 use Rattle.coeff_rings.specs.Proved.Whole.{IsSome-where_fits, fits_from_test, test_from_fits}
 
--- ---- an answer is the exact value
+-- ---- a result is the exact value
 
 pub fitted_sum : (a b s : Fraction) → checked_fraction_sum a b ≡ Some s → s ≡ fraction_sum a b
 fitted_sum a b s =
@@ -57,7 +57,7 @@ unfolding lowest_terms
 IsFraction-lowest_terms n d some f small =
     let g = greatest_common_divisor (unsigned_abs n) d in
     let positive : 0 < g =
-    divisor_positive (unsigned_abs n) d g some (IsGcd-greatest (unsigned_abs n) d some) in
+    divisor_positive (unsigned_abs n) d g some (IsGcd-greatest (unsigned_abs n) d) in
     record {
       fits = quot_fits w128 n (pos g) f (omega (arith, ints));
       small = omega (arith, div-le_self d g);
@@ -95,14 +95,14 @@ IsFraction-negation n m d h f e =
       lowest = (Stands-negation r n d (Stands-itself r h.lowest)).lowest;
     })
 
--- ---- least common denominators
+-- ---- the least common denominator of two fractions
 
--- d over x is a multiple of what y has beyond x
+-- y divided by gcd(x, y) divides d/x
 cofactor_divides : (x y d : ℕ) → 0 < x → 0 < y → x ∣ d → y ∣ d
     → y / greatest_common_divisor x y ∣ d / x
 cofactor_divides x y d sx sy p q =
     let g = greatest_common_divisor x y in
-    let is : IsGcd x y g = IsGcd-greatest x y sy in
+    let is : IsGcd x y g = IsGcd-greatest x y in
     let positive : 0 < g = divisor_positive x y g sy is in
     let coprime : IsGcd (y / g) (x / g) 1 =
     IsGcd-swap (x / g) (y / g) 1 (coprime_without x y g positive is) in
@@ -139,11 +139,10 @@ denominator_le d a b sa sb some p q =
     subst (λ (n : ℕ). common_denominator a b ≤ n) (mul-div_cancel' a.1 p)
     (mul-le-mul_left a.1 (cofactor_le a.1 b.1 d sa sb some p q))
 
-pub greatest_common_divisor_comm : (x y : ℕ) → 0 < x → 0 < y
-    → greatest_common_divisor x y ≡ greatest_common_divisor y x
-greatest_common_divisor_comm x y sx sy =
-    greatest_common_divisor-is x y (greatest_common_divisor y x) sy
-    (IsGcd-swap y x _ (IsGcd-greatest y x sx))
+pub greatest_common_divisor_comm : (x y : ℕ) → greatest_common_divisor x y ≡ greatest_common_divisor y x
+greatest_common_divisor_comm x y =
+    greatest_common_divisor-is x y (greatest_common_divisor y x)
+    (IsGcd-swap y x _ (IsGcd-greatest y x))
 
 -- ---- the sum and the difference are those over the least common denominator
 
@@ -159,16 +158,16 @@ common_cross an ad bn bd p q g e f =
 pub common_positive : (a b : Fraction) → 0 < a.1 → 0 < b.1 → 0 < common_denominator a b
 common_positive a b sa sb =
     mul-pos sa (quotient_positive b.1 (greatest_common_divisor a.1 b.1) sb
-    (IsGcd-greatest a.1 b.1 sb).1)
+    (IsGcd-greatest a.1 b.1).1)
 
 pub sum_over_common : (a b : Fraction) → InLowestTerms a → InLowestTerms b
     → lowest_terms (numerator_over_common a b +ℤ numerator_over_common b a) (common_denominator a b)
     ≡ fraction_sum a b
 sum_over_common a b la lb =
     let g = greatest_common_divisor a.1 b.1 in
-    let is : IsGcd a.1 b.1 g = IsGcd-greatest a.1 b.1 lb.positive in
+    let is : IsGcd a.1 b.1 g = IsGcd-greatest a.1 b.1 in
     let same : greatest_common_divisor b.1 a.1 ≡ g =
-    greatest_common_divisor_comm b.1 a.1 lb.positive la.positive in
+    greatest_common_divisor_comm b.1 a.1 in
     let left : pos g *ℤ pos (a.1 / greatest_common_divisor b.1 a.1) ≡ pos a.1 =
     ap pos (ap (λ (n : ℕ). g * (a.1 / n)) same ∙ mul-div_cancel' g is.0) in
     let right : pos g *ℤ pos (b.1 / g) ≡ pos b.1 = ap pos (mul-div_cancel' g is.1) in
@@ -190,9 +189,9 @@ difference_over_common a b la lb =
     (Stands-negation b b.0 b.1 (Stands-itself b lb)).lowest
     ∙ sym (difference-is a b)
 
--- ---- the four numbers
+-- ---- the four numbers of a sum or a difference
 
--- four tests, one after another
+-- each of the four numbers fits: both numerators over the least common denominator, the total, and that denominator
 pub record FourNumbersFit (a b : Fraction) (total : ℤ) : Type 0 where
   pub left : FitsSigned w128 (numerator_over_common a b)
   pub right : FitsSigned w128 (numerator_over_common b a)
@@ -228,7 +227,7 @@ FourNumbersFit-from a b total t =
       den = ltb-true (common_denominator a b) (2 ^ 127) last.1;
     }
 
--- where a sum has room, its four numbers fit
+-- if a sum has room, its four numbers fit
 numbers_with_room : (d : ℕ) (a b : Fraction) → InLowestTerms a → InLowestTerms b
     → HasRoomForSum d a b
     → (unsigned_abs (numerator_over_common a b) + unsigned_abs (numerator_over_common b a)
@@ -264,14 +263,14 @@ total_difference_fits : (x y : ℤ) → unsigned_abs x + unsigned_abs y < 2 ^ 12
     → FitsSigned w128 (x -ℤ y)
 total_difference_fits x y h = omega (arith, ints)
 
--- ---- sums with 0
+-- ---- sums in which one fraction is 0
 
 greatest_common_divisor-one : (x : ℕ) → greatest_common_divisor x 1 ≡ 1
-greatest_common_divisor-one x = greatest_common_divisor-is x 1 1 (omega arith) (coprime-one x)
+greatest_common_divisor-one x = greatest_common_divisor-is x 1 1 (coprime-one x)
 
 greatest_common_divisor-of_one : (x : ℕ) → 0 < x → greatest_common_divisor 1 x ≡ 1
 greatest_common_divisor-of_one x some =
-    greatest_common_divisor-is 1 x 1 some (IsGcd-swap x 1 1 (coprime-one x))
+    greatest_common_divisor-is 1 x 1 (IsGcd-swap x 1 1 (coprime-one x))
 
 -- over the denominator of b, the fraction 0 is 0 and b is itself
 zero_numerator : (b : Fraction) → numerator_over_common (whole (pos 0)) b ≡ pos 0
@@ -330,7 +329,7 @@ sum_before_zero b h =
     }))
     ∙ ap Some (sum-zero b h.lowest)
 
--- ---- what the operations answer
+-- ---- the results of a sum and a difference
 
 pub sum_answers_fraction : (a b : Fraction) → IsFraction a → IsFraction b
     → AnswersSum (λ r. r) a b (checked_fraction_sum a b)
@@ -392,9 +391,9 @@ difference_held_fraction a b h k =
     (held_over_common a b (fraction_difference a b) total h k
     (difference_over_common a b h.lowest k.lowest))
 
--- ---- products and quotients
+-- ---- the results of a product and a quotient
 
--- lowest terms make neither number greater
+-- the numerator and the denominator of n/d in lowest terms are at most |n| and d
 pub lowest_terms_le : (n : ℤ) (d : ℕ) → 0 < d
     → (unsigned_abs (lowest_terms n d).0 ≤ unsigned_abs n) × ((lowest_terms n d).1 ≤ d)
 unfolding lowest_terms
@@ -405,7 +404,7 @@ lowest_terms_le n d some =
       div-le_self d g,
     )
 
--- a product is there where it has room
+-- if a and b have room for a product, there is a result
 product_fits : (d e : ℕ) (a b : Fraction) → HasRoomForProduct d e a b
     → IsSome (checked_fraction_product a b)
 product_fits d e a b r =
@@ -468,7 +467,7 @@ quotient_answers_fraction a b = record {
   room = λ d e r. product_fits d e a (reciprocal b) r;
 }
 
--- ---- negations
+-- ---- the result of a negation
 
 negation_step : (a : Fraction) (t : Bool) (P : Option Fraction → Type 0)
     → int_eq a.0 (neg_ℤ (pos (2 ^ 127))) ≡ t

@@ -1,4 +1,4 @@
--- Fractions in lowest terms are a field, and so the values of every type of scalars keep its laws.
+-- Fractions in lowest terms are a field, so the values of every type of scalars obey its laws.
 use Rattle.std.proofs.Common.{◌≡◌, ◌≢◌, ℕ, zero, suc, ◌*◌, ◌<◌, sym, refl, ap, ◌∙◌, arith, ℤ, pos}
 use Rattle.std.proofs.Common.{negsuc, ◌+ℤ◌, ◌*ℤ◌, neg_ℤ, unsigned_abs}
 use Rattle.std.specs.Int.{IsGcd}
@@ -16,7 +16,7 @@ use Rattle.coeff_rings.specs.Proved.Cleared.{sum-cleared, product-cleared}
 use Rattle.coeff_rings.specs.Proved.Fractions.{Stands-same, Stands-itself, Stands-whole, Stands-sum}
 use Rattle.coeff_rings.specs.Proved.Fractions.{Stands-product, Stands-negation}
 
--- ---- sums
+-- ---- sums of fractions commute and associate, with 0 as neutral element
 
 pub sum_comm : (a b : Fraction) → fraction_sum a b ≡ fraction_sum b a
 sum_comm a b =
@@ -65,7 +65,7 @@ difference-is a b =
     let join : ℤ → ℕ → Fraction = lowest_terms in
     ap (λ (n : ℤ). join (a.0 *ℤ pos b.1 +ℤ n) (a.1 * b.1)) (sym (negation-product b.0 (pos a.1)))
 
--- ---- products
+-- ---- products of fractions commute, associate and distribute over sums
 
 pub product_comm : (a b : Fraction) → fraction_product a b ≡ fraction_product b a
 product_comm a b =
@@ -115,7 +115,7 @@ distributes a b c la lb lc =
     (Stands-product a b _ _ _ _ pa pb) (Stands-product a c _ _ _ _ pa pc))
     (distributes_cross a.0 (pos a.1) b.0 (pos b.1) c.0 (pos c.1))
 
--- ---- quotients
+-- ---- quotients of fractions cancel
 
 turned_over-lowest : (n : ℤ) (d : ℕ) → 0 < d → n ≢ pos 0 → IsGcd (unsigned_abs n) d 1
     → InLowestTerms (turned_over n d)
@@ -126,7 +126,7 @@ turned_over-lowest (negsuc n) zero some other h = absurd (omega arith)
 turned_over-lowest (negsuc n) (suc d) some other h =
     record { positive = omega arith; coprime = IsGcd-swap (suc n) (suc d) 1 h }
 
--- a numerator is 0 exactly in the fraction 0
+-- a fraction in lowest terms with the numerator 0 is the fraction 0
 pub num-zero : (a : Fraction) → InLowestTerms a → a.0 ≡ pos 0 → a ≡ whole (pos 0)
 num-zero a la e =
     Stands-same a (whole (pos 0)) _ _ _ _ (Stands-itself a la) (Stands-whole (pos 0))

@@ -1,5 +1,5 @@
--- Arithmetic of fractions. A fraction in lowest terms stands for n/d where its numerator times d is
--- n times its denominator; two fractions that stand for equal quotients are the same.
+-- Arithmetic of fractions. A fraction in lowest terms stands for n/d if its numerator times d is n times its
+-- denominator; two fractions that stand for equal quotients are the same.
 use Rattle.std.proofs.Common.{◌≡◌, ℕ, zero, suc, ◌+◌, ◌*◌, ◌/◌, ◌<◌, subst, sym, refl, ap, ◌∙◌}
 use Rattle.std.proofs.Common.{arith, ℤ, pos, negsuc, ◌+ℤ◌, ◌*ℤ◌, neg_ℤ, unsigned_abs, int_div}
 use Rattle.std.specs.Int.{IsGcd, ◌∣◌}
@@ -14,7 +14,7 @@ use Rattle.coeff_rings.specs.Proved.Divisors.{IsGcd-greatest, divisor_positive, 
 use Rattle.coeff_rings.specs.Proved.Divisors.{coprime-one, divides_other_factor, quotient_positive}
 use Rattle.sym_model.proofs.Integers.{product_cancel}
 
--- ---- whole numbers
+-- ---- integers and their absolute values
 
 pub unsigned_abs-negation : (z : ℤ) → unsigned_abs (neg_ℤ z) ≡ unsigned_abs z
 unsigned_abs-negation (pos zero) = refl
@@ -30,7 +30,7 @@ quotient_times (pos n) g h = ap pos (div-mul_cancel g h)
 quotient_times (negsuc n) g h =
     negation-product (pos (suc n / g)) (pos g) ∙ ap (λ (m : ℕ). neg_ℤ (pos m)) (div-mul_cancel g h)
 
--- ---- fractions in lowest terms
+-- ---- a fraction in lowest terms is determined by its numerator and denominator
 
 pub same_parts : (r s : Fraction) → r.0 ≡ s.0 → r.1 ≡ s.1 → r ≡ s
 same_parts r s e f =
@@ -52,7 +52,7 @@ same_fraction r s l k e =
     same_parts r s (product_cancel r.0 s.0 s.1 k.positive (e ∙ ap (λ (n : ℕ). s.0 *ℤ pos n) dens))
     dens
 
--- ---- what a fraction stands for
+-- ---- the quotient that a fraction stands for
 
 pub record Stands (r : Fraction) (n : ℤ) (d : ℕ) : Type 0 where
   pub lowest : InLowestTerms r
@@ -77,7 +77,7 @@ pub Stands-lowest_terms : (n : ℤ) (d : ℕ) → 0 < d → Stands (lowest_terms
 unfolding lowest_terms
 Stands-lowest_terms n d some =
     let g = greatest_common_divisor (unsigned_abs n) d in
-    let is : IsGcd (unsigned_abs n) d g = IsGcd-greatest (unsigned_abs n) d some in
+    let is : IsGcd (unsigned_abs n) d g = IsGcd-greatest (unsigned_abs n) d in
     let positive : 0 < g = divisor_positive (unsigned_abs n) d g some is in
     record {
       lowest = record {
@@ -92,7 +92,7 @@ Stands-lowest_terms n d some =
           (div-mul_cancel g is.1);
     }
 
--- the two sides of equal quotients, times both denominators
+-- if n/d = m/e, the numbers equal to these quotients are equal over the product of all denominators
 cross : (x s y r n m d e : ℤ) → x *ℤ d ≡ n *ℤ r → y *ℤ e ≡ m *ℤ s → n *ℤ e ≡ m *ℤ d
     → (x *ℤ s) *ℤ (d *ℤ e) ≡ (y *ℤ r) *ℤ (d *ℤ e)
 cross x s y r n m d e p q c =

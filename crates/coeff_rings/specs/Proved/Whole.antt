@@ -1,4 +1,4 @@
--- Whole numbers as fractions, and the laws of `Int` and `Count`.
+-- Integers as fractions, and the laws of `Int` and `Count`.
 use Rattle.std.proofs.Common.{◌≡◌, ℕ, ◌+◌, ◌*◌, ◌<◌, ◌≤◌, ◌^◌, sym, refl, ap, ◌∙◌, subst, arith, ℤ}
 use Rattle.std.proofs.Common.{pos, negsuc, ◌+ℤ◌, ◌-ℤ◌, ◌*ℤ◌, neg_ℤ, unsigned_abs, Bool, true, false}
 use Rattle.std.proofs.Common.{FitsSigned, Option, Some, IsSome, IfSome, nat_lt}
@@ -21,7 +21,7 @@ use Rattle.coeff_rings.specs.Proved.Fractions.{InLowestTerms-whole, Stands-same,
 use Rattle.coeff_rings.specs.Proved.Fractions.{Stands-sum, Stands-product}
 use Rattle.coeff_rings.specs.Proved.FractionLaws.{sum_laws, ring_laws, difference-is}
 
--- ---- a value where a test holds
+-- ---- `where_fits`: a value if a test holds
 
 pub where_fits-true : {A : Type 0} (t : Bool) (x : A) → t ≡ true → where_fits t x ≡ Some x
 where_fits-true true x e = refl
@@ -46,7 +46,7 @@ whole_fitted z = fitted (fits_128_bits z) z
 pub count_fitted : (n s : ℕ) → checked_u128 n ≡ Some s → s ≡ n
 count_fitted n = fitted (nat_lt n (2 ^ 128)) n
 
--- ---- the range of i128
+-- ---- the integers that fit i128
 
 pub fits_from_test : (z : ℤ) → fits_128_bits z ≡ true → FitsSigned w128 z
 fits_from_test (pos n) t = let small : n < 2 ^ 127 = ltb-true n (2 ^ 127) t in omega (arith, ints)
@@ -76,7 +76,7 @@ zero_fits_u128 = omega arith
 pub one_fits_u128 : 1 < 2 ^ 128
 one_fits_u128 = omega arith
 
--- ---- whole numbers as fractions
+-- ---- integers as fractions with the denominator 1
 
 pub same_whole : (a b : ℤ) → whole a ≡ whole b → a ≡ b
 same_whole a b e = ap (λ (r : Fraction). r.0) e
@@ -96,7 +96,7 @@ product-whole a b =
     Stands-same _ _ _ _ _ _ (Stands-product (whole a) (whole b) _ _ _ _ (Stands-whole a)
     (Stands-whole b)) (Stands-whole (a *ℤ b)) e
 
--- a positive multiple of the denominator 1 only makes a magnitude greater
+-- the absolute value of an integer is at most that of the integer times a positive d
 abs_le_magnitude : (d : ℕ) (z : ℤ) → 0 < d → unsigned_abs z ≤ magnitude d (whole z)
 abs_le_magnitude d z some =
     subst (λ (n : ℕ). unsigned_abs z ≤ unsigned_abs z * n) (sym (div-one d))
@@ -201,7 +201,7 @@ sum_answers_u128 a b f g = record {
 pub sum_laws_u128 : SumLaws (λ n. n < 2 ^ 128) whole_count
 sum_laws_u128 = sum_laws (λ n. n < 2 ^ 128) whole_count (λ a _. InLowestTerms-whole (pos a))
 
--- ---- what the functions answer, from the number that they compute
+-- ---- the results of `Int` and `Count`, from the numbers that their functions compute
 
 pub sum_answers_i128-from : (a b : ℤ) (answer : Option ℤ) → FitsSigned w128 a → FitsSigned w128 b
     → answer ≡ checked_i128 (a +ℤ b) → AnswersSum whole a b answer

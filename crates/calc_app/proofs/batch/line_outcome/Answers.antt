@@ -1,5 +1,5 @@
 use Rattle.std.proofs.Common.{subst, Option, Ok}
-use Rattle.calc_commands.specs.declared.command.Command.{Command}
+use Rattle.calc_words.specs.declared.command.Command.{Command}
 use Rattle.calc_language.specs.Lines.{IsLineRead}
 use Rattle.sym_model.specs.BatchLine.{batch_line}
 use Rattle.calc_app.proofs.Batches.{line_reply}

@@ -3,8 +3,8 @@ use Rattle.std.proofs.lemmas.Result.{IfOk-weaker, err_from_is_err_and}
 use Rattle.sym_model.specs.Expansion.{monomials}
 use Rattle.sym_model.specs.Expression.{cleared_value, degree, denominator}
 use Rattle.sym_model.specs.Weight.{numerator}
-use Rattle.whole_lists.specs.LabelSizes.{AreWithin}
-use Rattle.whole_lists.proofs.Bounds.{greatest-within}
+use Rattle.sparse_polys.specs.LabelSizes.{AreWithin}
+use Rattle.sparse_polys.proofs.Bounds.{greatest-within}
 use Rattle.expression_reading.specs.Trees.{tree_of}
 use Rattle.expression_reading.proofs.WeightFacts.{positive}
 use Rattle.expression_reading.proofs.GrowthFacts.{wide-weight}

@@ -3,7 +3,7 @@ use Rattle.std.proofs.lemmas.Nat.{mul-le}
 use Rattle.std.proofs.lemmas.Result.{IfOk-weaker, err_from_is_err_and}
 use Rattle.sym_model.specs.Expansion.{monomials, IsExpansionOf}
 use Rattle.sym_model.specs.Expression.{cleared_value, degree, denominator}
-use Rattle.whole_lists.proofs.Bounds.{greatest-within}
+use Rattle.sparse_polys.proofs.Bounds.{greatest-within}
 use Rattle.expression_reading.specs.Trees.{tree_of}
 use Rattle.expression_reading.proofs.WeightFacts.{positive}
 use Rattle.expression_reading.proofs.GrowthFacts.{wide-weight}

@@ -3,7 +3,7 @@ use Rattle.std.specs.Prelude.{string_bytes, codes}
 use Rattle.std.proofs.lemmas.Result.{err_from_is_err_and}
 use Rattle.sym_model.specs.Grammar.{batch_entry}
 use Rattle.sym_model.specs.Command.{batch}
-use Rattle.calc_commands.specs.declared.command.Command.TheVariants.{Batch}
+use Rattle.calc_words.specs.declared.command.Command.TheVariants.{Batch}
 use Rattle.calc_words.proofs.CutCommands.{fine}
 use Rattle.calc_words.proofs.batches.read_batch.Goals as goal
 

@@ -2,7 +2,7 @@ use Rattle.std.proofs.Common.{List, [], ◌∷◌, map, refl, ap}
 use Rattle.std.specs.Prelude.{string_bytes, codes}
 use Rattle.std.proofs.lemmas.Result.{err_from_is_err_and}
 use Rattle.sym_model.specs.Grammar.{rsk_entry, rsk_says, rsk_offends}
-use Rattle.calc_commands.specs.declared.command.Command.TheVariants.{Rsk}
+use Rattle.calc_words.specs.declared.command.Command.TheVariants.{Rsk}
 use Rattle.calc_words.specs.declared.word_parts.Part.{Part}
 use Rattle.calc_words.specs.declared.word_parts.Part.TheVariants.{Word}
 use Rattle.calc_words.proofs.CutCommands.{faulty, fine}

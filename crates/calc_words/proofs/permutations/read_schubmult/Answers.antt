@@ -4,7 +4,7 @@ use Rattle.std.proofs.lemmas.Result.{err_from_is_err_and}
 use Rattle.sym_model.specs.Grammar.{schubmult_entry, schubmult_says, schubmult_offends}
 use Rattle.sym_model.specs.Permutation.{kept}
 use Rattle.sym_model.specs.WordForms.{letters}
-use Rattle.calc_commands.specs.declared.command.Command.TheVariants.{Schubmult}
+use Rattle.calc_words.specs.declared.command.Command.TheVariants.{Schubmult}
 use Rattle.calc_words.specs.declared.word_parts.Part.{Part}
 use Rattle.calc_words.specs.declared.word_parts.Part.TheVariants.{Letters, Minus}
 use Rattle.calc_words.proofs.CutCommands.{faulty, fine, schubmult_parts}

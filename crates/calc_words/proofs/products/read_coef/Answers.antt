@@ -3,7 +3,7 @@ use Rattle.std.specs.Prelude.{string_bytes, codes}
 use Rattle.std.proofs.lemmas.Result.{err_from_is_err_and}
 use Rattle.sym_model.specs.Grammar.{coef_entry, coef_says, coef_offends}
 use Rattle.sym_model.specs.WordForms.{partition}
-use Rattle.calc_commands.specs.declared.command.Command.TheVariants.{Coef}
+use Rattle.calc_words.specs.declared.command.Command.TheVariants.{Coef}
 use Rattle.calc_words.specs.declared.word_parts.Part.{Part}
 use Rattle.calc_words.specs.declared.word_parts.Part.TheVariants.{Minus, Shape}
 use Rattle.calc_words.proofs.CutCommands.{faulty, fine, coef_parts}

@@ -3,7 +3,7 @@ use Rattle.std.specs.Prelude.{string_bytes, codes}
 use Rattle.std.proofs.lemmas.Result.{err_from_is_err_and}
 use Rattle.sym_model.specs.Grammar.{mult_entry, mult_says, mult_offends}
 use Rattle.sym_model.specs.WordForms.{is_one_line, row_limit}
-use Rattle.calc_commands.specs.declared.command.Command.TheVariants.{Mult}
+use Rattle.calc_words.specs.declared.command.Command.TheVariants.{Mult}
 use Rattle.calc_words.specs.declared.word_parts.Part.{Part}
 use Rattle.calc_words.specs.declared.word_parts.Part.TheVariants.{Factors, MaybeForm, MaybeRows}
 use Rattle.calc_words.proofs.CutCommands.{faulty, fine, mult_parts}

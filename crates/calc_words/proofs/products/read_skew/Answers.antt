@@ -3,7 +3,7 @@ use Rattle.std.specs.Prelude.{string_bytes, codes}
 use Rattle.std.proofs.lemmas.Result.{err_from_is_err_and}
 use Rattle.sym_model.specs.Grammar.{skew_entry, skew_says, skew_offends}
 use Rattle.sym_model.specs.WordForms.{is_one_line, partition, row_limit}
-use Rattle.calc_commands.specs.declared.command.Command.TheVariants.{Skew}
+use Rattle.calc_words.specs.declared.command.Command.TheVariants.{Skew}
 use Rattle.calc_words.specs.declared.word_parts.Part.{Part}
 use Rattle.calc_words.specs.declared.word_parts.Part.TheVariants.{MaybeForm, MaybeRows, Shape}
 use Rattle.calc_words.specs.declared.word_parts.Part.TheVariants.{Slash}

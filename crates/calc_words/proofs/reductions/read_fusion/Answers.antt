@@ -3,7 +3,7 @@ use Rattle.std.specs.Prelude.{string_bytes, codes}
 use Rattle.std.proofs.lemmas.Result.{err_from_is_err_and}
 use Rattle.sym_model.specs.Grammar.{fusion_entry, fusion_says, reduction_offends}
 use Rattle.sym_model.specs.PrintedBlock.{decimal_value}
-use Rattle.calc_commands.specs.declared.command.Command.TheVariants.{Fusion}
+use Rattle.calc_words.specs.declared.command.Command.TheVariants.{Fusion}
 use Rattle.calc_words.specs.declared.word_parts.Part.{Part}
 use Rattle.calc_words.specs.declared.word_parts.Part.TheVariants.{Bound, Factors}
 use Rattle.calc_words.proofs.CutCommands.{faulty, fine, reduction_parts}

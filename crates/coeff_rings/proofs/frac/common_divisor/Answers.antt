@@ -10,7 +10,7 @@ pub returns : goal.returns
 returns c =
     let is = c.loop-y.invariant c.loop-y.x (IsGcd-from_zero c.loop-y.x c.loop-y.y (omega arith)) in
     record {
-      greatest = sym (greatest_common_divisor-is c.args.a c.args.b c.loop-y.x c.requires is);
+      greatest = sym (greatest_common_divisor-is c.args.a c.args.b c.loop-y.x is);
       divisor = is;
       positive = divisor_positive c.args.a c.args.b c.loop-y.x c.requires is;
     }

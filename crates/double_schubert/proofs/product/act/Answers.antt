@@ -5,7 +5,7 @@ use Rattle.double_schubert_laws.specs.Factors.{acted}
 use Rattle.double_schubert_laws.proofs.ProductSteps.{product_start}
 use Rattle.sparse_polys.specs.Labels.{same_pair}
 use Rattle.linear_combinations.proofs.Masses.{over_same, represents_sums}
-use Rattle.double_schubert.proofs.FactorGains.{label_laws, alone}
+use Rattle.double_schubert.proofs.FactorGains.{label_laws}
 use Rattle.double_schubert.proofs.product.act.Goals as goal
 
 pub returns-clause-value : goal.returns-clause-value
@@ -16,7 +16,6 @@ returns-clause-value c n =
     sym (over_same label_laws same_pair c.in_ok-sum.sum c.in_ok-sorted_terms.field-0
     c.in_ok-sum.ensures.table c.in_ok-sorted_terms.ensures.combination
     c.in_ok-sorted_terms.ensures.same (λ label. pair (shifted_in label n) φ))
-    ∙ alone n φ c.in_ok-sum.sum
     ∙ c.in_ok-sum.ensures.value n φ
     ∙ ap₂ (λ p e. acted n φ c.args.w.now (p, e)) c.in_ok-copy.ensures.ok c.one.ensures
     ∙ product_start n φ c.args.w.now c.args.other.now)

@@ -12,9 +12,9 @@ use Rattle.linear_combinations.specs.Gains.{Gains, Overflows}
 use Rattle.linear_combinations.proofs.Steps.{error_is}
 use Rattle.basis_change_laws.specs.JoinedLists.{joined, Stands}
 use Rattle.basis_change_laws.proofs.GrowthBounds.{grown-mono}
-use Rattle.whole_lists.specs.Families.{polynomial_of}
-use Rattle.whole_lists.specs.Tables.{equal}
-use Rattle.whole_lists.proofs.Families.{In-family}
+use Rattle.sparse_polys.specs.Families.{polynomial_of}
+use Rattle.sparse_polys.specs.Tables.{equal}
+use Rattle.sparse_polys.proofs.Families.{In-family}
 use Rattle.family_lists.specs.FactorLists.{over_number}
 use Rattle.family_lists.proofs.FactorSteps.{factor-loose}
 use Rattle.family_lists.proofs.PartLists.{parts-none, parts-next, parts-large}

@@ -7,18 +7,18 @@ use Rattle.sym_model.specs.Polynomial.{Same}
 use Rattle.sym_model.specs.Weight.{factorial}
 use Rattle.monomial_laws.specs.ExpressionTerms.{over}
 use Rattle.expression_reading.specs.Trees.{basis_of}
-use Rattle.whole_lists.specs.Families.{polynomial_of}
+use Rattle.sparse_polys.specs.Families.{polynomial_of}
 use Rattle.expand_in_families.proofs.AtomNodes.{clears-atom}
 use Rattle.expand_in_families.proofs.MonomialAtoms.{within-cells, large-in_m, large-change}
 use Rattle.expand_in_families.proofs.MonomialAtoms.{large-whole, atom-stands}
-use Rattle.expand_in_families.specs.Nodes.{ClearsTo, IsHeavy}
-use Rattle.expression_evaluation.proofs.Making.{done, failed}
+use Rattle.expand_in_families.specs.Nodes.{ClearsTo, IsHeavyInFamilies}
+use Rattle.basis_expand.proofs.Making.{done, failed}
 use Rattle.family_lists.proofs.FactorSteps.{factorial-below}
 use Rattle.expand_in_families.proofs.atoms.by_monomials.Goals as goal
 
 pub returns-in_err-list : goal.returns-in_err-list
 returns-in_err-list c =
-    failed (ClearsTo (polynomial_of c.args.target)) IsHeavy
+    failed (ClearsTo (polynomial_of c.args.target)) IsHeavyInFamilies
     (atom (basis_of c.args.basis) c.args.label.now) _ _ c.from_residual.ensures.0
     c.from_residual.ensures.1
     (λ large. large-in_m (basis_of c.args.basis) c.args.label.now (c.in_err-list.ensures.large
@@ -30,7 +30,7 @@ to_basis-requires-clause-sizes c = within-cells c.args.target c.letter_of.result
 
 pub returns-in_err-answer : goal.returns-in_err-answer
 returns-in_err-answer c =
-    failed (ClearsTo (polynomial_of c.args.target)) IsHeavy
+    failed (ClearsTo (polynomial_of c.args.target)) IsHeavyInFamilies
     (atom (basis_of c.args.basis) c.args.label.now) _ _ c.from_residual-in_err-answer.ensures.0
     c.from_residual-in_err-answer.ensures.1
     (λ large.
@@ -46,7 +46,7 @@ pub returns-in_err-terms : goal.returns-in_err-terms
 returns-in_err-terms c =
     let factor : c.factorial.result ≡ factorial (size c.args.label.now) = c.factorial.ensures
     ∙ ap factorial c.size-degree.ensures.value in
-    failed (ClearsTo (polynomial_of c.args.target)) IsHeavy
+    failed (ClearsTo (polynomial_of c.args.target)) IsHeavyInFamilies
     (atom (basis_of c.args.basis) c.args.label.now) _ _ c.from_residual-in_err-terms.ensures.0
     c.from_residual-in_err-terms.ensures.1
     (λ large.
@@ -60,7 +60,7 @@ pub returns : goal.returns
 returns c =
     let factor : c.factorial.result ≡ factorial (size c.args.label.now) = c.factorial.ensures
     ∙ ap factorial c.size-degree.ensures.value in
-    done (ClearsTo (polynomial_of c.args.target)) IsHeavy
+    done (ClearsTo (polynomial_of c.args.target)) IsHeavyInFamilies
     (atom (basis_of c.args.basis) c.args.label.now) _
     (clears-atom (polynomial_of c.args.target) (basis_of c.args.basis) c.args.label.now _ refl
     c.size-degree.ensures.value

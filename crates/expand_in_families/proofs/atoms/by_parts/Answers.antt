@@ -5,15 +5,15 @@ use Rattle.sym_model.specs.Expression.{atom}
 use Rattle.sym_model.specs.Partition.{size}
 use Rattle.sym_model.specs.Weight.{factorial, growth}
 use Rattle.basis_change_laws.specs.JoinedLists.{Stands}
-use Rattle.whole_lists.specs.Families.{basis_in, polynomial_of}
+use Rattle.sparse_polys.specs.Families.{basis_in, polynomial_of}
 use Rattle.expand_in_families.proofs.AtomNodes.{family-atom, large-atom}
-use Rattle.expand_in_families.specs.Nodes.{ClearsTo, IsHeavy}
-use Rattle.expression_evaluation.proofs.Making.{done, failed}
+use Rattle.expand_in_families.specs.Nodes.{ClearsTo, IsHeavyInFamilies}
+use Rattle.basis_expand.proofs.Making.{done, failed}
 use Rattle.expand_in_families.proofs.atoms.by_parts.Goals as goal
 
 pub returns-in_err-terms : goal.returns-in_err-terms
 returns-in_err-terms c =
-    failed (ClearsTo (polynomial_of c.args.target)) IsHeavy
+    failed (ClearsTo (polynomial_of c.args.target)) IsHeavyInFamilies
     (atom (basis_in c.args.family) c.args.label.now) _ _ c.from_residual.ensures.0
     c.from_residual.ensures.1
     (λ large.
@@ -23,7 +23,7 @@ returns-in_err-terms c =
 
 pub returns : goal.returns
 returns c =
-    done (ClearsTo (polynomial_of c.args.target)) IsHeavy
+    done (ClearsTo (polynomial_of c.args.target)) IsHeavyInFamilies
     (atom (basis_in c.args.family) c.args.label.now) _
     (family-atom (polynomial_of c.args.target) c.args.family c.args.label.now _ refl
     (c.in_ok-terms.ensures.size ∙ ap size c.parts.ensures.value)

@@ -1,7 +1,7 @@
 use Rattle.std.proofs.Common.{rules, tests, ◌≡◌, sym, subst}
 use Rattle.sym_model.specs.Expression.{atom}
-use Rattle.whole_lists.specs.declared.family.Family.{Family}
-use Rattle.whole_lists.specs.Families.{basis_in, polynomial_of}
+use Rattle.sparse_polys.specs.declared.family.Family.{Family}
+use Rattle.sparse_polys.specs.Families.{basis_in, polynomial_of}
 use Rattle.expand_in_families.specs.Nodes.{IsConverted}
 use Rattle.expand_in_families.proofs.atoms.from_family.Goals as goal
 

@@ -6,15 +6,15 @@ use Rattle.sym_model.specs.Polynomial.{Same}
 use Rattle.sym_model.specs.Weight.{factorial}
 use Rattle.sym_model.specs.WholeTerms.{WholeTerms}
 use Rattle.basis_change_laws.proofs.GrowthBounds.{grown, factorial-within}
-use Rattle.whole_lists.specs.Families.{basis_in, polynomial_of}
+use Rattle.sparse_polys.specs.Families.{basis_in, polynomial_of}
 use Rattle.family_lists.proofs.PartLists.{stands-itself}
 use Rattle.expand_in_families.proofs.AtomNodes.{family-atom}
-use Rattle.expand_in_families.specs.Nodes.{ClearsTo, IsHeavy}
-use Rattle.expression_evaluation.proofs.Making.{done}
+use Rattle.expand_in_families.specs.Nodes.{ClearsTo, IsHeavyInFamilies}
+use Rattle.basis_expand.proofs.Making.{done}
 use Rattle.family_lists.proofs.FactorSteps.{factorial-below}
 use Rattle.expand_in_families.proofs.atoms.itself.Goals as goal
 
--- the term of the label
+-- the list of one term with the label `parts` and the coefficient z
 abbrev term : List ℕ → ℤ → WholeTerms
 term parts z = (parts, z) ∷ []
 
@@ -35,7 +35,7 @@ returns c target =
     (term p (pos (factorial (size c.args.label.now))))) c.parts.ensures.value
     (subst (λ z. Same c.in_ok-terms.terms (term c.parts.result.now z)) number
     c.in_ok-terms.ensures.value) in
-    done (ClearsTo (polynomial_of target)) IsHeavy (atom (basis_in target) c.args.label.now) _
+    done (ClearsTo (polynomial_of target)) IsHeavyInFamilies (atom (basis_in target) c.args.label.now) _
     (family-atom (polynomial_of target) target parts _ refl c.size-degree.ensures.value
     (stands-itself (polynomial_of target) parts (factorial (size parts)) (grown (size parts))
     c.in_ok-terms.terms c.size-degree.ensures.limits.partition (factorial-within (size parts))

@@ -3,7 +3,7 @@ use Rattle.sym_model.specs.Expansion.{completes}
 use Rattle.sym_model.specs.Partition.{size}
 use Rattle.sym_model.specs.Weight.{growth}
 use Rattle.sym_model.proofs.Conjugates.{size-conjugate}
-use Rattle.whole_lists.specs.Families.{polynomial_of}
+use Rattle.sparse_polys.specs.Families.{polynomial_of}
 use Rattle.expand_in_families.proofs.PeelingSteps.{conjugate-list}
 use Rattle.expand_in_families.proofs.atoms.schur_terms.Goals as goal
 

@@ -6,11 +6,11 @@ use Rattle.monomial_laws.proofs.Growths.{factorial-positive}
 use Rattle.monomial_laws.proofs.WeightBounds.{denominator-positive}
 use Rattle.linear_combinations.proofs.Steps.{error_is}
 use Rattle.expression_reading.specs.Trees.{tree_of}
-use Rattle.whole_lists.proofs.Quotients.{Quotients}
-use Rattle.expression_evaluation.proofs.Parts.{HasDenominators-plain}
-use Rattle.whole_lists.proofs.WholeLists.{if_ok_both}
+use Rattle.sparse_polys.proofs.Quotients.{Quotients}
+use Rattle.basis_expand.proofs.Parts.{HasDenominators-plain}
+use Rattle.sparse_polys.proofs.WholeLists.{if_ok_both}
 use Rattle.basis_change_laws.proofs.GrowthBounds.{grown}
-use Rattle.whole_lists.specs.Families.{polynomial_of}
+use Rattle.sparse_polys.specs.Families.{polynomial_of}
 use Rattle.expand_in_families.specs.Nodes.{ClearsTo}
 use Rattle.expand_in_families.proofs.Endings.{expansion-divided}
 use Rattle.expand_in_families.proofs.MonomialAtoms.{expansion-family}

@@ -9,8 +9,8 @@ use Rattle.sym_model.specs.Weight.{factorial, growth}
 use Rattle.sym_model.proofs.SortedParts.{rows_within_size}
 use Rattle.linear_combinations.proofs.Steps.{error_is}
 use Rattle.basis_change_laws.proofs.GrowthBounds.{grown-mono}
-use Rattle.whole_lists.specs.Families.{polynomial_of}
-use Rattle.whole_lists.proofs.WholeLists.{if_ok_both}
+use Rattle.sparse_polys.specs.Families.{polynomial_of}
+use Rattle.sparse_polys.proofs.WholeLists.{if_ok_both}
 use Rattle.family_lists.proofs.KeptLists.{list-found, lists-kept}
 use Rattle.expand_in_families.specs.SchurLists.{schur_in, IsSchurList}
 use Rattle.expand_in_families.proofs.PeelingSteps.{left-rest, left-sized, left-within, cells-within}

@@ -2,9 +2,9 @@ use Rattle.std.proofs.Common.{◌*◌, ◌+◌, length, take, flat_map}
 use Rattle.sym_model.specs.Partition.{size}
 use Rattle.sym_model.specs.Weight.{factorial}
 use Rattle.basis_change_laws.specs.JoinedLists.{Stands}
-use Rattle.whole_lists.specs.Families.{polynomial_of}
-use Rattle.whole_lists.specs.Tables.{IsWholeTable}
-use Rattle.special_hook_laws.specs.SpecialHooks.{special_hooks}
+use Rattle.sparse_polys.specs.Families.{polynomial_of}
+use Rattle.sparse_polys.specs.Tables.{IsWholeTable}
+use Rattle.expand_in_families.specs.SpecialHooks.{special_hooks}
 use Rattle.expand_in_families.specs.SchurLists.{AreSchurLists}
 use Rattle.expand_in_families.proofs.HookProducts.{hook_term, peeled}
 use Rattle.expand_in_families.proofs.schur_lists.+peeling.Given as goal
@@ -15,7 +15,7 @@ decreases-list_of l = 2 * length l.shape.now
 abbrev pub decreases-index_of : goal.decreases-index_of
 decreases-index_of l = 2 * length l.shape + 1
 
--- the parts of the hooks so far are added, each with its bound
+-- the summands of the hooks so far are added, each within its bound
 abbrev pub invariant-list_of-loop-row : goal.invariant-list_of-loop-row
 invariant-list_of-loop-row l = record {
   stands :

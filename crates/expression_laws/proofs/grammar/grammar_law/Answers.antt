@@ -1,4 +1,4 @@
--- A word is read in one way.
+-- The clauses of `grammar_law`: a word is read in one way.
 use Rattle.std.proofs.Common.{◌≡◌, ℕ, List, sym, ap, ◌∙◌}
 use Rattle.sym_model.specs.Expression.{Tree}
 use Rattle.sym_model.specs.Phrase.{tree, SpellsTree}

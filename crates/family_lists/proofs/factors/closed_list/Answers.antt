@@ -4,11 +4,11 @@ use Rattle.sym_model.specs.Polynomial.{Same}
 use Rattle.sym_model.specs.Partition.{size}
 use Rattle.sym_model.specs.PartitionList.{partitions_of}
 use Rattle.linear_combinations.proofs.Steps.{error_is, all_done, IsCombination-empty}
-use Rattle.whole_lists.specs.Tables.{equal, IsWholeTable}
+use Rattle.sparse_polys.specs.Tables.{equal, IsWholeTable}
 use Rattle.sym_model.specs.LabelLimits.{is_label}
-use Rattle.whole_lists.proofs.WholeLists.{Finds, Finds-next, more_as, Same-from_look_ups}
-use Rattle.whole_lists.proofs.PartitionTerms.{listed_on, listed_partition, IsWithinLimits-listed}
-use Rattle.whole_lists.proofs.PartitionTerms.{listed_next}
+use Rattle.sparse_polys.proofs.WholeLists.{Finds, Finds-next, more_as, Same-from_look_ups}
+use Rattle.sparse_polys.proofs.PartitionTerms.{listed_on, listed_partition, IsWithinLimits-listed}
+use Rattle.sparse_polys.proofs.PartitionTerms.{listed_next}
 use Rattle.family_lists.specs.ClosedCoefficients.{closed_coefficient}
 use Rattle.family_lists.proofs.ClosedLists.{listed-fits, closed-stands}
 use Rattle.linear_combinations.proofs.Counted.{each_by-append}
@@ -75,7 +75,7 @@ loop-alloc-preserved c =
             (c.coefficient-c.ensures ∙ ap (closed_coefficient c.args.target c.args.family)
             c.in_ok-label.ensures.ok)
             c.in_ok-add_term.ensures.ok));
-        table = c.in_ok-add_term.ensures.combination;
+        table = c.in_ok-add_term.ensures.tables.after.combination;
       },
     )
 

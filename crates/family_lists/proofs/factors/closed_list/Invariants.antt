@@ -1,12 +1,12 @@
 use Rattle.std.proofs.Common.{◌≡◌, ℕ, List, ◌++◌, length}
 use Rattle.sym_model.specs.PartitionList.{partitions_of}
-use Rattle.whole_lists.specs.Tables.{IsWholeTable}
-use Rattle.whole_lists.proofs.WholeLists.{Finds}
+use Rattle.sparse_polys.specs.Tables.{IsWholeTable}
+use Rattle.sparse_polys.proofs.WholeLists.{Finds}
 use Rattle.family_lists.specs.ClosedCoefficients.{closed_coefficient}
 use Rattle.linear_combinations.specs.Gains.{each_by}
 use Rattle.family_lists.proofs.factors.closed_list.Given as goal
 
--- the table has the partitions so far, and they and the rest are all
+-- the table has the coefficients of the partitions so far, and the partitions so far and those still to come are all of size k
 abbrev pub invariant-loop-alloc : goal.invariant-loop-alloc
 invariant-loop-alloc l = (done : List (List ℕ)) × record {
   so_far : done ++ l.labels.0 ≡ partitions_of l.k;

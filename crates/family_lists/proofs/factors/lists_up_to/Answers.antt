@@ -1,7 +1,7 @@
 use Rattle.std.proofs.Common.{ℕ, List, ◌+◌, ◌<◌, length, sym, ap, ◌∙◌, subst}
 use Rattle.std.proofs.lemmas.List.{length_push}
 use Rattle.sym_model.specs.WholeTerms.{WholeTerms}
-use Rattle.whole_lists.specs.Families.{polynomial_of}
+use Rattle.sparse_polys.specs.Families.{polynomial_of}
 use Rattle.family_lists.specs.FactorLists.{IsFactor, list_at}
 use Rattle.family_lists.proofs.PlacedLists.{placed-push}
 use Rattle.family_lists.proofs.factors.lists_up_to.Goals as goal

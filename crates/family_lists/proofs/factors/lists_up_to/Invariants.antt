@@ -1,9 +1,9 @@
 use Rattle.std.proofs.Common.{◌≡◌, ℕ, ◌<◌, length}
-use Rattle.whole_lists.specs.Families.{polynomial_of}
+use Rattle.sparse_polys.specs.Families.{polynomial_of}
 use Rattle.family_lists.specs.FactorLists.{IsFactor, list_at}
 use Rattle.family_lists.proofs.factors.lists_up_to.Given as goal
 
--- the lists so far are at their places
+-- the lists so far are at their indices
 abbrev pub invariant-loop-k : goal.invariant-loop-k
 invariant-loop-k l = (length l.lists.items ≡ l.k) × ((k : ℕ) → 0 < k → k < l.k
     → IsFactor (polynomial_of l.target) l.family k (list_at l.lists.items k))

@@ -2,11 +2,11 @@ use Rattle.std.proofs.Common.{ℕ, ℤ, [], ◌∷◌, ◌∙◌, subst, to_z-of
 use Rattle.std.specs.Int.{w128}
 use Rattle.sym_model.specs.Polynomial.{Same}
 use Rattle.sym_model.specs.WholeTerms.{WholeTerms}
-use Rattle.whole_lists.proofs.WholeLists.{if_ok_both}
+use Rattle.sparse_polys.proofs.WholeLists.{if_ok_both}
 use Rattle.family_lists.proofs.FactorSteps.{own-stands}
 use Rattle.family_lists.proofs.factors.own_list.Goals as goal
 
--- the term of the part
+-- the list of one term with the label (k) and the coefficient z
 abbrev term : ℕ → ℤ → WholeTerms
 term k z = (k ∷ [], z) ∷ []
 

@@ -6,7 +6,7 @@ use Rattle.linear_combinations.specs.Labels.{same_partition}
 use Rattle.linear_combinations.proofs.Steps.{on_ok}
 use Rattle.linear_combinations.proofs.Gains.{overflows_alone}
 use Rattle.partitions.specs.Limits.{IsWithinLimits}
-use Rattle.whole_lists.specs.Tables.{equal}
+use Rattle.sparse_polys.specs.Tables.{equal}
 use Rattle.basis_change_laws.specs.JoinedLists.{merged}
 use Rattle.family_lists.proofs.RowSteps.{limits-merged}
 use Rattle.family_lists.proofs.products.add_joined.Goals as goal
@@ -28,7 +28,7 @@ from_valid_parts-requires c =
     (limits-merged c.args.left.now c.args.label.now c.parts.ensures.limits.partition
     c.parts-2.ensures.limits.partition c.requires)
 
--- the label that is added
+-- the term that is added has the merged label and the product of the coefficients
 joined_label : (both : List ℕ) (room left right : List ℕ) (product x : ℤ) → both ≡ room →
     room ≡ merged left right → product ≡ x → term both product ≡ term (merged left right) x
 joined_label both room left right product x e f g = ap₂ term (e ∙ f) g

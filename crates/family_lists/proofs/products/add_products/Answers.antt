@@ -1,7 +1,7 @@
 use Rattle.std.proofs.Common.{subst, arith}
 use Rattle.linear_combinations.specs.Gains.{Gains, Overflows}
 use Rattle.linear_combinations.proofs.Steps.{on_ok}
-use Rattle.whole_lists.specs.Tables.{equal}
+use Rattle.sparse_polys.specs.Tables.{equal}
 use Rattle.sparse_polys.proofs.Rows.{greatest_size-among}
 use Rattle.family_lists.proofs.RowSteps.{products-gained}
 use Rattle.family_lists.proofs.products.add_products.Goals as goal

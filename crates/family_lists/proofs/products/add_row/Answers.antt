@@ -10,7 +10,7 @@ use Rattle.linear_combinations.proofs.Gains.{all_pairs, gains_none, next_among, 
 use Rattle.linear_combinations.proofs.Gains.{pairs_overflow, so_far_next}
 use Rattle.linear_combinations.proofs.Steps.{all_done, error_is}
 use Rattle.sparse_polys.proofs.Rows.{greatest_size-among}
-use Rattle.whole_lists.specs.Tables.{equal}
+use Rattle.sparse_polys.specs.Tables.{equal}
 use Rattle.basis_change_laws.specs.JoinedLists.{merged, row}
 use Rattle.family_lists.proofs.products.add_row.Goals as goal
 

@@ -2,7 +2,7 @@ use Rattle.std.proofs.Common.{◌≡◌, ◌+◌, length, ◌∙◌, ap, sym, re
 use Rattle.sym_model.specs.Growth.{growth_shape}
 use Rattle.sym_model.specs.Insertion.{insertion_pair}
 use Rattle.sym_model.specs.Tableau.{shape_of}
-use Rattle.growth_laws.proofs.GrowthPairs.{perm_from, shape-line}
+use Rattle.growth_diagrams.proofs.GrowthPairs.{perm_from, shape-line}
 use Rattle.row_insertion.specs.RowLists.{rows_in}
 use Rattle.row_insertion.proofs.GrowingRows.{length-rows_in}
 use Rattle.growth_diagrams.proofs.Chains.{chain-more, row_there}
@@ -40,7 +40,7 @@ loop-at-preserved c =
     (c.shape_at-in-loop-at.ensures.shape ∙ ap (λ n. growth_shape w n c.loop-at.at) side)
     (c.from.ensures ∙ c.first_longer-row.ensures.row) c.in_ok-push_at.ensures
 
--- the rows that are read
+-- the rows that are read are those of the insertion tableau
 read : (c : goal.After-deref) → rows_in c.deref.result.now ≡ (insertion_pair c.args.grid.now).0
 read c =
     ap rows_in c.deref.ensures.value

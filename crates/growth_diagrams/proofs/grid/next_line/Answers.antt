@@ -1,7 +1,7 @@
 use Rattle.std.proofs.Common.{ℕ, List, [], ◌∷◌, ◌++◌, ◌+◌, ◌-◌, length, ◌∙◌, ap, ap₂, sym, subst}
 use Rattle.std.proofs.Common.{arith}
 use Rattle.partitions.specs.Limits.{IsWithinLimits}
-use Rattle.growth_laws.proofs.GrowthPairs.{first_column}
+use Rattle.growth_diagrams.proofs.GrowthPairs.{first_column}
 use Rattle.growth_diagrams.proofs.GridLimits.{shape-limits}
 use Rattle.growth_diagrams.proofs.GridLines.{length-line, length_front, line-more, line_all}
 use Rattle.growth_diagrams.proofs.GridLines.{square_next}

@@ -14,6 +14,6 @@ invariant-loop-letter l = record {
   rows : slid_from l.fn.filled l.fn.row l.fn.column ≡ slid_from l.filled l.row l.column;
 }
 
--- a cell stands in one of 512 rows and of 4096 columns
+-- a cell is in one of 512 rows and one of 4096 columns
 abbrev pub decreases-loop-letter : goal.decreases-loop-letter
 decreases-loop-letter l = 5000 - (l.row + l.column)

@@ -1,4 +1,5 @@
--- What slides reach from the tableau so far they reach from the first one; each slide makes the inner partition smaller.
+-- Every tableau that slides reach from the current tableau is reached from the first one; each slide makes the inner
+-- partition smaller.
 use Rattle.sym_model.specs.Partition.{size}
 use Rattle.sym_model.specs.Insertion.{reading_word}
 use Rattle.sym_model.specs.Knuth.{AreKnuthEquivalent}

@@ -11,6 +11,6 @@ times_factor-requires-clause-labels c =
     let l = ap length c.in_ok-perm.ensures.ok in
     let s = ap size c.one-y.ensures in
     only_has label_laws same_pair _ _ _ _ c.new-list.ensures
-    c.in_ok-add_term.ensures.was c.in_ok-add_term.ensures.combination
+    c.in_ok-add_term.ensures.tables.before.combination c.in_ok-add_term.ensures.tables.after.combination
     c.in_ok-add_term.ensures.ok (IsWithin 254 32384)
     (record { short = omega arith; small = omega arith })

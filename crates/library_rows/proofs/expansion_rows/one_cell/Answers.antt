@@ -9,5 +9,5 @@ pub returns : goal.returns
 returns c =
     let one = ap size c.in_ok-from_parts.ensures.ok in
     sizes_bounded 1 _ (only_has nat_list_eq_equiv same_partition _ _ _ _ c.new-list.ensures
-    c.in_ok-add_term.ensures.was c.in_ok-add_term.ensures.combination
+    c.in_ok-add_term.ensures.tables.before.combination c.in_ok-add_term.ensures.tables.after.combination
     c.in_ok-add_term.ensures.ok (λ e. size e ≤ 1) (omega arith))

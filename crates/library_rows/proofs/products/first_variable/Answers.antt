@@ -12,6 +12,6 @@ times_var-requires-clause-room c = let e = ap size c.one.ensures in omega arith
 pub returns : goal.returns
 returns c =
     only_has nat_list_eq_equiv same_partition _ _ _ _ c.new-sum.ensures
-    c.in_ok-add_term.ensures.was c.in_ok-add_term.ensures.combination
+    c.in_ok-add_term.ensures.tables.before.combination c.in_ok-add_term.ensures.tables.after.combination
     c.in_ok-add_term.ensures.ok (λ e. e ≡ 1 ∷ [])
     (c.in_ok-times_var.ensures ∙ ap (raised 1) c.one.ensures)

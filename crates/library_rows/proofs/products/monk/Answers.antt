@@ -11,5 +11,5 @@ times_var-requires-clause-letters c =
     let same = ap length c.in_ok-from_letters.ensures.ok in
     let few = c.requires.letters in
     only_has nat_list_eq_equiv same_partition _ _ _ _ c.new-sum.ensures
-    c.in_ok-add_term.ensures.was c.in_ok-add_term.ensures.combination
+    c.in_ok-add_term.ensures.tables.before.combination c.in_ok-add_term.ensures.tables.after.combination
     c.in_ok-add_term.ensures.ok (λ x. length x ≤ 254) (omega arith)

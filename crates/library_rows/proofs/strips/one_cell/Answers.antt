@@ -6,7 +6,7 @@ use Rattle.linear_combinations.specs.Labels.{same_partition}
 use Rattle.linear_combinations.proofs.Masses.{labels_gained}
 use Rattle.library_rows.proofs.strips.one_cell.Goals as goal
 
--- the label has room for two cells more
+-- the label has at most 4,094 cells and at most 510 rows, so that two more cells can be added
 abbrev Fits : List ℕ → Type 0
 Fits label = (size label + 2 ≤ 4096) × (rows label + 2 ≤ 512)
 

@@ -5,7 +5,7 @@ use Rattle.linear_combinations.proofs.Steps.{if_answered}
 use Rattle.linear_combinations.proofs.Steps.{on_ok}
 use Rattle.lr_product.proofs.Results.{on_any}
 use Rattle.lr_product.proofs.PastCoefficients.{past_factors, small_factors}
-use Rattle.lr_product.proofs.NothingLeft.{nothing_meets, nothing_fits}
+use Rattle.lr_product.proofs.NothingLeft.{nothing_meets, nothing_classical, nothing_fits, classical_given}
 use Rattle.lr_product.proofs.factor_product.mult_all.Goals as goal
 
 pub returns-then-has_longer-clause-meets : goal.returns-then-has_longer-clause-meets
@@ -46,3 +46,20 @@ returns-clause-fits c =
     on_ok c.product_in.result c.product_in.ensures.small
     (small_factors c.args.rows c.unwrap_or-variables.result c.args.factors.now
     c.rows.ensures.limits e)
+
+pub returns-then-has_longer-clause-classical : goal.returns-then-has_longer-clause-classical
+returns-then-has_longer-clause-classical c =
+    let e : c.unwrap_or-variables.result ≡ unwrap_or c.args.rows
+    (max (size (map rows c.args.factors.now)) 1) =
+    c.unwrap_or-variables.ensures ∙ ap (unwrap_or c.args.rows)
+    (c.max.ensures ∙ ap (λ n. max n 1) c.rows.ensures.value) in
+    if_answered c.no_terms.result c.no_terms.ensures.none
+    (λ terms none. nothing_classical c.args.rows c.unwrap_or-variables.result c.args.factors.now
+    terms e c.rows.ensures.limits.small.partitions
+    (c.has_longer.ensures.0 c.if-has_longer.true) none)
+
+pub returns-clause-classical : goal.returns-clause-classical
+returns-clause-classical c =
+    if_answered c.product_in.result c.product_in.ensures.classical
+    (λ terms same. classical_given c.args.rows c.unwrap_or-variables.result c.max.result
+    c.args.factors.now terms c.unwrap_or-variables.ensures same)

@@ -10,6 +10,8 @@ use Rattle.lr_product.proofs.Agreeing.{agree_then}
 use Rattle.lr_product.proofs.GoodCounts.{no_bound}
 use Rattle.lr_product.proofs.ManyStarts.{starts_within, is_product, product_small, product_past}
 use Rattle.lr_product.proofs.Rounds.{agree_zero}
+use Rattle.lr_product.proofs.RowRounds.{started-fresh}
+use Rattle.lr_product.specs.RowExtension.{begun}
 use Rattle.lr_product.proofs.next_factor.times_factor.Goals as goal
 
 -- the letters are enough for each label
@@ -29,14 +31,19 @@ starts_of-requires-clause-rows c = λ t m.
 pub starts_of-requires-clause-counts : goal.starts_of-requires-clause-counts
 starts_of-requires-clause-counts c = λ t m. (c.requires.terms t m).positive
 
-pub with_columns-requires-clause-inside : goal.with_columns-requires-clause-inside
-with_columns-requires-clause-inside c = contains_nothing c.args.next.now
+pub with_shape-requires-clause-inside : goal.with_shape-requires-clause-inside
+with_shape-requires-clause-inside c = contains_nothing c.args.next.now
 
-pub with_columns-requires-clause-size : goal.with_columns-requires-clause-size
-with_columns-requires-clause-size c = omega (arith, c.rows.ensures.limits.small)
+pub with_shape-requires-clause-size : goal.with_shape-requires-clause-size
+with_shape-requires-clause-size c = omega (arith, c.rows.ensures.limits.small)
 
-pub with_columns-requires-clause-reached : goal.with_columns-requires-clause-reached
-with_columns-requires-clause-reached c =
+pub with_shape-requires-clause-fresh : goal.with_shape-requires-clause-fresh
+with_shape-requires-clause-fresh c =
+    agree_zero _ _ (c.in_ok-starts.ensures begun)
+    (started-fresh c.min-letters.result c.args.product.now)
+
+pub with_shape-requires-clause-reached : goal.with_shape-requires-clause-reached
+with_shape-requires-clause-reached c =
     let n = c.min-letters.result in
     let m = 4096 - size c.args.next.now in
     let small = c.rows.ensures.limits.small in

@@ -9,7 +9,6 @@ use Rattle.sym_model.specs.Schubert.{schubert_in}
 use Rattle.linear_combinations.specs.Labels.{same_partition}
 use Rattle.linear_combinations.proofs.Steps.{error_is}
 use Rattle.linear_combinations.proofs.Masses.{over_same, represents_sums}
-use Rattle.monk_product.proofs.MonkGains.{alone}
 use Rattle.monk_product.proofs.product.act.Goals as goal
 
 pub returns-clause-value : goal.returns-clause-value
@@ -20,7 +19,6 @@ returns-clause-value c n =
     sym (over_same nat_list_eq_equiv same_partition c.in_ok-sum.sum c.in_ok-sorted_terms.field-0
     c.in_ok-sum.ensures.table c.in_ok-sorted_terms.ensures.combination
     c.in_ok-sorted_terms.ensures.same (λ x. pair (schubert_in x n) φ))
-    ∙ alone n φ c.in_ok-sum.sum
     ∙ c.in_ok-sum.ensures.value n φ)
 
 pub returns-in_err-sum-clause-large : goal.returns-in_err-sum-clause-large

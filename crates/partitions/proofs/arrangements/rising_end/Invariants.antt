@@ -1,4 +1,4 @@
--- From here on the numbers rise.
+-- The numbers from `at` on are weakly increasing.
 use Rattle.std.proofs.Common.{◌<◌, length, drop}
 use Rattle.partitions.specs.Arranging.{Rises}
 use Rattle.partitions.proofs.arrangements.rising_end.Given as goal

@@ -1,4 +1,4 @@
--- None of the parts after reaches the bound.
+-- No part after the first `rows` is at least the bound.
 use Rattle.std.proofs.Common.{◌≤◌, length}
 use Rattle.sym_model.specs.Conjugate.{count_from}
 use Rattle.partitions.proofs.conjugate.rows_reaching.Given as goal

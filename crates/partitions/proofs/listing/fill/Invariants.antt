@@ -1,4 +1,4 @@
--- The parts so far and the first partition of what is left are the first partition of the whole.
+-- The parts written so far, followed by the first partition of what is left, are the first partition of the whole.
 use Rattle.std.proofs.Common.{◌≡◌, ◌+◌, ◌-◌, ◌<◌, ◌≤◌, ◌++◌, length, take}
 use Rattle.partitions.specs.Listing.{greatest_within}
 use Rattle.partitions.proofs.listing.fill.Given as goal

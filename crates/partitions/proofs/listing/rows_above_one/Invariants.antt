@@ -1,4 +1,4 @@
--- Ones alone come after.
+-- All parts from `rows` on are 1.
 use Rattle.std.proofs.Common.{◌≤◌, length, drop}
 use Rattle.partitions.specs.Listing.{AreOnes}
 use Rattle.partitions.proofs.listing.rows_above_one.Given as goal

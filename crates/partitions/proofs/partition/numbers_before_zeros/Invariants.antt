@@ -1,4 +1,4 @@
--- What is cut off has zeros alone.
+-- The numbers from `len` on are zeros.
 use Rattle.std.proofs.Common.{◌≡◌, ◌≤◌, length, take}
 use Rattle.sym_model.specs.Partition.{without_last_zeros}
 use Rattle.partitions.proofs.partition.numbers_before_zeros.Given as goal

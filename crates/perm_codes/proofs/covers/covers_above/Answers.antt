@@ -27,7 +27,7 @@ loop-other-preserved c =
           c.loop-other.invariant
     ]
 
--- the test says how many inversions the cover has
+-- if the test for a cover passes, the count given is the number of inversions of the list with the letters exchanged
 pub exchanged-requires-clause-count : goal.exchanged-requires-clause-count
 exchanged-requires-clause-count c =
     let w = c.args.letters.now in

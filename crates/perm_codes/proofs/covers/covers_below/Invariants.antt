@@ -1,4 +1,4 @@
--- The covers with the other place up to this one are found.
+-- The list has the covers with the other place up to this one.
 use Rattle.std.proofs.Common.{◌≡◌, ◌+◌, map}
 use Rattle.sym_model.specs.Partition.{after}
 use Rattle.sym_model.specs.Permutation.{covers_among, times_swap}

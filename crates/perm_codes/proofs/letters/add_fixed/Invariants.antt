@@ -1,4 +1,4 @@
--- The fixed letters up to this place are added.
+-- The list has the letters and the fixed ones up to this place.
 use Rattle.std.proofs.Common.{◌≡◌, ◌-◌, ◌≤◌, ◌++◌, length}
 use Rattle.sym_model.specs.Partition.{after}
 use Rattle.perm_codes.proofs.letters.add_fixed.Given as goal

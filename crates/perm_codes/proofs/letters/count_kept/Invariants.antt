@@ -1,4 +1,4 @@
--- Of the first letters the same are kept as of all.
+-- The first `len` letters without fixed ones at the end are those of all letters.
 use Rattle.std.proofs.Common.{◌≡◌, ◌≤◌, length, take}
 use Rattle.sym_model.specs.Permutation.{kept}
 use Rattle.perm_codes.proofs.letters.count_kept.Given as goal

@@ -12,7 +12,7 @@ overflow_add-result c =
     let count = c.requires.count in
     omega arith
 
--- where the first is the smaller
+-- if the first of the two letters is smaller, the number of inversions after the exchange is `count` + 1 + 2·(letters between them)
 more : (c : goal.After-count_between) → c.args.count + 1 + 2 * c.count_between.result ≡ inversions
     (swap c.args.letters.now c.args.first c.args.second)
 more c =
@@ -41,7 +41,7 @@ overflow_sub-result c =
     c.requires.inside c.requires.permutation.one_line.once c.if-left-right.false in
     omega arith
 
--- where it is the greater
+-- if the first of the two letters is greater, the number of inversions before the exchange is that after it + 1 + 2·(letters between them)
 fewer : (c : goal.After-count_between-else-left-right) → c.args.count ≡ inversions
     (swap c.args.letters.now c.args.first c.args.second) + 1 + 2
     * c.count_between-else-left-right.result

@@ -10,10 +10,10 @@ use Rattle.monomial_laws.proofs.Growths.{factorial-positive}
 use Rattle.sparse_polys.specs.MonomialProducts.{greatest_size}
 use Rattle.sparse_polys.proofs.Rows.{greatest_size-among}
 use Rattle.linear_combinations.proofs.Steps.{error_is}
-use Rattle.whole_lists.proofs.Bounds.{greatest-within}
-use Rattle.whole_lists.proofs.Quotients.{Quotients}
-use Rattle.whole_lists.proofs.WholeLists.{if_ok_both}
-use Rattle.change_from_monomials.proofs.ClearedAnswers.{greatest_is}
+use Rattle.sparse_polys.proofs.Bounds.{greatest-within}
+use Rattle.sparse_polys.proofs.Quotients.{Quotients}
+use Rattle.sparse_polys.proofs.WholeLists.{if_ok_both}
+use Rattle.basis_change.proofs.ClearedAnswers.{greatest_is}
 use Rattle.plethysm_laws.proofs.PathWeights.{weight-outer, weight-denominator}
 use Rattle.plethysm.specs.PathSums.{power_sum_in, IsPastPath}
 use Rattle.plethysm.proofs.FinishedBounds.{finished}

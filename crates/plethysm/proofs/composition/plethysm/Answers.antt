@@ -7,12 +7,12 @@ use Rattle.expression_reading.specs.Trees.{basis_of}
 use Rattle.sparse_polys.specs.MonomialProducts.{greatest_size}
 use Rattle.linear_combinations.proofs.Steps.{if_answered, error_is}
 use Rattle.sparse_polys.proofs.Rows.{greatest_size-among}
-use Rattle.whole_lists.proofs.Bounds.{greatest-within}
-use Rattle.change_from_monomials.proofs.ClearedAnswers.{greatest_is}
+use Rattle.sparse_polys.proofs.Bounds.{greatest-within}
+use Rattle.basis_change.proofs.ClearedAnswers.{greatest_is}
 use Rattle.plethysm_laws.proofs.RepeatedMonomials.{repeated-places}
 use Rattle.plethysm_laws.proofs.PathWeights.{weight-finished, weight-number, weight-rises}
 use Rattle.plethysm.proofs.Constants.{constant-expansion}
-use Rattle.plethysm.proofs.FinishedNumbers.{finished_as, positive-bound, most_cells-ten}
+use Rattle.plethysm.proofs.FinishedNumbers.{finished_as, positive-bound, degree_limit-ten}
 use Rattle.plethysm.proofs.InnerLists.{bounded_sum, inner-value, within-inner}
 use Rattle.plethysm.proofs.PlethysmAnswers.{repeated_same}
 use Rattle.plethysm.proofs.composition.plethysm.Goals as goal
@@ -104,7 +104,7 @@ to_basis-requires-clause-sizes c t m =
     c.args.inner_bound.den y c.requires.positive.2 c.requires.whole c.requires.natural
     (λ t m. greatest_size-among c.args.inner.now t m) c.requires.inner in
     let s = (c.in_ok-finished.ensures.bounded (c.args.inner_bound.num * (y + 1)) y h).1 t m in
-    let ten = most_cells-ten (basis_of c.args.target) in
+    let ten = degree_limit-ten (basis_of c.args.target) in
     omega (arith, c.requires.sizes.2)
 
 pub returns-clause-large : goal.returns-clause-large

@@ -4,14 +4,14 @@ use Rattle.sym_model.specs.Partition.{ArePositive, size}
 use Rattle.sym_model.proofs.Parts.{split_first}
 use Rattle.sparse_polys.specs.MonomialProducts.{greatest_size}
 use Rattle.linear_combinations.proofs.Steps.{if_answered, error_is}
-use Rattle.whole_lists.proofs.Bounds.{greatest-within}
-use Rattle.whole_lists.proofs.WholeLists.{Once-labels}
+use Rattle.sparse_polys.proofs.Bounds.{greatest-within}
+use Rattle.sparse_polys.proofs.WholeLists.{Once-labels}
 use Rattle.plethysm.specs.PathSums.{IsProductPast}
 use Rattle.plethysm.proofs.FactorLists.{list-dilated, list-none, list-more, within-product}
 use Rattle.plethysm.proofs.FactorLists.{within-dilated, large-factor, large-later}
 use Rattle.plethysm.proofs.factors.+over_parts.Goals as goal
 
--- the parts taken apart
+-- if all parts are positive, the first one is, and so are the others
 split_positive : (parts : List ℕ) → 1 ≤ length parts → ArePositive parts → (0 < get_or parts 0 0)
     × ArePositive (take (length parts - 1) (drop 1 parts))
 split_positive parts h p = subst ArePositive (sym (split_first parts h)) p

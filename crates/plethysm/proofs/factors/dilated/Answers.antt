@@ -12,10 +12,10 @@ use Rattle.partitions.specs.Limits.{IsWithinLimits}
 use Rattle.linear_combinations.specs.Entries.{coefficient as found}
 use Rattle.linear_combinations.proofs.Gains.{all_pairs, so_far_next}
 use Rattle.linear_combinations.proofs.Steps.{all_done, error_is, IsCombination-empty}
-use Rattle.whole_lists.specs.Tables.{equal, IsWholeTable}
-use Rattle.whole_lists.proofs.Quotients.{coefficient-before}
-use Rattle.whole_lists.proofs.WholeLists.{Finds, Finds-next, more_as, not_refused}
-use Rattle.whole_lists.proofs.WholeLists.{Same-from_look_ups}
+use Rattle.sparse_polys.specs.Tables.{equal, IsWholeTable}
+use Rattle.sparse_polys.proofs.Quotients.{coefficient-before}
+use Rattle.sparse_polys.proofs.WholeLists.{Finds, Finds-next, more_as, not_refused}
+use Rattle.sparse_polys.proofs.WholeLists.{Same-from_look_ups}
 use Rattle.plethysm_laws.specs.PowerSumPlethysm.{dilated}
 use Rattle.plethysm_laws.proofs.Dilations.{coefficient-dilated}
 use Rattle.plethysm.proofs.FactorLists.{IsWithinLimits-multiplied, next_label, dilated-push}
@@ -79,7 +79,7 @@ loop-label-preserved c =
           (subst (Finds new) (sym (dilated-push c.args.k done (k, v)))
           (Finds-next old new (dilated c.args.k done) (multiplied c.args.k k) v
           c.loop-label.invariant.finds more));
-      table = c.in_ok-add_term.ensures.combination;
+      table = c.in_ok-add_term.ensures.tables.after.combination;
       so_far = so_far_next done c.next.new.self c.loop-label.label-iterator _ _ (k, v) pushed
           c.in-Some.ensures.steps c.loop-label.invariant.so_far;
     }

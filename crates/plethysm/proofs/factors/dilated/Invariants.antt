@@ -1,11 +1,11 @@
 use Rattle.std.proofs.Common.{◌≡◌, ◌++◌, map}
 use Rattle.std.specs.Map.Iter.{deref_pair}
-use Rattle.whole_lists.specs.Tables.{IsWholeTable}
-use Rattle.whole_lists.proofs.WholeLists.{Finds}
+use Rattle.sparse_polys.specs.Tables.{IsWholeTable}
+use Rattle.sparse_polys.proofs.WholeLists.{Finds}
 use Rattle.plethysm_laws.specs.PowerSumPlethysm.{dilated}
 use Rattle.plethysm.proofs.factors.dilated.Given as goal
 
--- the table has the terms so far with every part times k, and they and the rest are all
+-- the table has the terms visited so far with every part multiplied by k, and these terms followed by those still to come are all terms
 abbrev pub invariant-loop-label : goal.invariant-loop-label
 invariant-loop-label l = record {
   finds : Finds l.list (dilated l.k (map deref_pair l.yielded));

@@ -9,9 +9,9 @@ use Rattle.sym_model.specs.WholeTerms.{numerators}
 use Rattle.linear_combinations.specs.Entries.{coefficient}
 use Rattle.linear_combinations.proofs.Gains.{all_pairs, so_far_next}
 use Rattle.linear_combinations.proofs.Steps.{all_done, error_is, IsCombination-empty}
-use Rattle.whole_lists.specs.Tables.{equal, IsWholeTable}
-use Rattle.whole_lists.proofs.WholeLists.{Finds, Finds-next, more_as, not_refused}
-use Rattle.whole_lists.proofs.WholeLists.{Same-from_look_ups}
+use Rattle.sparse_polys.specs.Tables.{equal, IsWholeTable}
+use Rattle.sparse_polys.proofs.WholeLists.{Finds, Finds-next, more_as, not_refused}
+use Rattle.sparse_polys.proofs.WholeLists.{Same-from_look_ups}
 use Rattle.plethysm.proofs.NumeratorLists.{numerators-push, none_before}
 use Rattle.plethysm.proofs.inner.numerators.Goals as goal
 
@@ -41,7 +41,7 @@ loop-label-preserved c =
           subst (λ (es : Terms (List ℕ)). Finds new (numerators es)) pushed
           (subst (Finds new) (sym (numerators-push done (k, v)))
           (Finds-next old new (numerators done) k v.0 c.loop-label.invariant.finds more));
-      table = c.in_ok-add_term.ensures.combination;
+      table = c.in_ok-add_term.ensures.tables.after.combination;
       so_far = so_far_next done c.next.new.self c.loop-label.label-iterator _ _ (k, v) pushed
           c.in-Some.ensures.steps c.loop-label.invariant.so_far;
     }

@@ -3,7 +3,7 @@ use Rattle.std.specs.Int.{w128}
 use Rattle.sym_model.specs.Polynomial.{Same, plus, scale}
 use Rattle.monomial_laws.specs.ExpressionTerms.{IsList}
 use Rattle.linear_combinations.proofs.Steps.{if_answered, error_is}
-use Rattle.whole_lists.specs.Large.{SumIsLarge}
+use Rattle.sparse_polys.specs.Large.{SumIsLarge}
 use Rattle.plethysm.specs.PathSums.{power_sum_in, IsProductPast}
 use Rattle.plethysm.proofs.PathSteps.{sum-value, sum-large}
 use Rattle.plethysm.proofs.path.with_product.Goals as goal

@@ -5,7 +5,7 @@ use Rattle.sym_model.specs.Reductions.{IsAlcoveReductionOf}
 use Rattle.sym_model.specs.Products.{classical_product}
 use Rattle.linear_combinations.proofs.Steps.{if_answered}
 use Rattle.product_laws.proofs.FusionSteps.{fusion_steps_answer}
-use Rattle.rim_hooks.proofs.FusionSteps.{fusion_none, fusion_led, fusion_heavy}
+use Rattle.rim_hooks.proofs.FusionSteps.{fusion_none}
 use Rattle.rim_hooks.proofs.fusion_product.fusion.Goals as goal
 
 pub returns-then-has_long-clause-steps : goal.returns-then-has_long-clause-steps
@@ -21,10 +21,7 @@ pub product_in_steps-requires-clause-few : goal.product_in_steps-requires-clause
 product_in_steps-requires-clause-few c = c.has_long.ensures.few c.if-has_long.false
 
 pub returns-clause-steps : goal.returns-clause-steps
-returns-clause-steps c =
-    if_answered c.product_in_steps.result c.product_in_steps.ensures.steps
-    (λ terms led. fusion_led c.args.rows (c.args.rows + c.args.level) c.args.factors.now terms
-    led)
+returns-clause-steps c = c.product_in_steps.ensures.steps
 
 pub returns-clause-meets : goal.returns-clause-meets
 returns-clause-meets c =
@@ -32,12 +29,10 @@ returns-clause-meets c =
     let l = c.has_long.ensures.limits in
     if_answered c.product_in_steps.result c.product_in_steps.ensures.steps
     (λ terms led. fusion_steps_answer c.args.rows c.args.level c.args.factors.now terms
-    (omega arith) l.least l.small.partitions
-    (fusion_led c.args.rows (c.args.rows + c.args.level) c.args.factors.now terms led))
+    (omega arith) l.least l.small.partitions led)
 
 pub returns-clause-large : goal.returns-clause-large
-returns-clause-large c err = fusion_heavy c.args.rows (c.args.rows + c.args.level)
-    c.args.factors.now (c.product_in_steps.ensures.large err)
+returns-clause-large c err = c.product_in_steps.ensures.large err
 
 pub returns-then-has_long-clause-meets : goal.returns-then-has_long-clause-meets
 returns-then-has_long-clause-meets c =

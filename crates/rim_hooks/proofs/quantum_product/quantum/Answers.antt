@@ -5,8 +5,8 @@ use Rattle.sym_model.specs.Reductions.{IsRimHookReduction}
 use Rattle.sym_model.specs.Products.{classical_product}
 use Rattle.linear_combinations.proofs.Steps.{if_answered}
 use Rattle.product_laws.proofs.QuantumSteps.{quantum_steps_answer}
-use Rattle.reduction_laws.proofs.AnyReductions.{any_whole_reductions}
-use Rattle.rim_hooks.proofs.QuantumSteps.{quantum_none, quantum_led, quantum_heavy}
+use Rattle.rim_hooks.proofs.AnyReductions.{any_whole_reductions}
+use Rattle.rim_hooks.proofs.QuantumSteps.{quantum_none}
 use Rattle.rim_hooks.proofs.quantum_product.quantum.Goals as goal
 
 pub returns-then-has_long-clause-steps : goal.returns-then-has_long-clause-steps
@@ -34,10 +34,7 @@ pub product_in_steps-requires-clause-few : goal.product_in_steps-requires-clause
 product_in_steps-requires-clause-few c = c.has_long.ensures.few c.if-has_long.false
 
 pub returns-clause-steps : goal.returns-clause-steps
-returns-clause-steps c =
-    if_answered c.product_in_steps.result c.product_in_steps.ensures.steps
-    (λ terms led. quantum_led c.args.rows (c.args.rows + c.args.cols) c.args.factors.now terms
-    led)
+returns-clause-steps c = c.product_in_steps.ensures.steps
 
 pub returns-clause-meets : goal.returns-clause-meets
 returns-clause-meets c =
@@ -45,14 +42,12 @@ returns-clause-meets c =
     let l = c.has_long.ensures.limits in
     if_answered c.product_in_steps.result c.product_in_steps.ensures.steps
     (λ terms led. quantum_steps_answer c.args.rows c.args.cols c.args.factors.now terms
-    (omega arith) l.least l.small.partitions
-    (quantum_led c.args.rows (c.args.rows + c.args.cols) c.args.factors.now terms led))
+    (omega arith) l.least l.small.partitions led)
 
 pub returns-clause-large : goal.returns-clause-large
-returns-clause-large c err = quantum_heavy c.args.rows (c.args.rows + c.args.cols)
-    c.args.factors.now (c.product_in_steps.ensures.large err)
+returns-clause-large c err = c.product_in_steps.ensures.large err
 
--- the sums of every other list of reductions
+-- if any other list of reductions is given, its terms have the same sums
 pub returns-then-has_long-clause-only : goal.returns-then-has_long-clause-only
 returns-then-has_long-clause-only c =
     let some = c.requires.variables.0 in

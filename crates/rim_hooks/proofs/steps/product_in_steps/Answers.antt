@@ -5,12 +5,12 @@ use Rattle.std.proofs.lemmas.List.{drop_all}
 use Rattle.coeff_rings.specs.Fractions.{whole}
 use Rattle.partitions.specs.FactorList.{cells_of}
 use Rattle.sym_model.specs.Partition.{rows, size}
-use Rattle.sym_model.specs.ReductionSteps.{StepsLead, classical_weight, step_weight}
+use Rattle.sym_model.specs.ReductionSteps.{LeadsTo, StepsLead, classical_weight, step_weight}
 use Rattle.linear_combinations.specs.Entries.{IsCombination}
 use Rattle.linear_combinations.specs.Gains.{Gains, scaled}
 use Rattle.linear_combinations.proofs.Masses.{over_same}
 use Rattle.linear_combinations.proofs.Steps.{error_is, IsCombination-empty}
-use Rattle.rim_hooks.specs.Reductions.{products, multiplied, HaveRoom, LeadsTo, IsHeavyFrom}
+use Rattle.rim_hooks.specs.Reductions.{products, multiplied, HaveRoom, IsHeavyFrom}
 use Rattle.rim_hooks.specs.Reductions.{OverflowsWithin}
 use Rattle.rim_hooks.proofs.FactorSteps.{factor_at, first_two, lead_on, heavy_here, heavy_later}
 use Rattle.rim_hooks.proofs.ReducedProducts.{few_at, room_next, gains_first, heavy_first}

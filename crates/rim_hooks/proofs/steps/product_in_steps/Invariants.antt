@@ -1,14 +1,14 @@
 use Rattle.std.proofs.Common.{drop}
 use Rattle.coeff_rings.specs.Fractions.{whole}
 use Rattle.partitions.specs.FactorList.{cells_of}
-use Rattle.sym_model.specs.ReductionSteps.{StepsLead}
+use Rattle.sym_model.specs.ReductionSteps.{LeadsTo, StepsLead}
 use Rattle.linear_combinations.specs.Entries.{IsCombination}
 use Rattle.linear_combinations.specs.Gains.{WholeTermsOf}
 use Rattle.rim_hooks.specs.HeavySteps.{HasHeavyStep}
-use Rattle.rim_hooks.specs.Reductions.{HaveRoom, LeadsTo, IsHeavyFrom}
+use Rattle.rim_hooks.specs.Reductions.{HaveRoom, IsHeavyFrom}
 use Rattle.rim_hooks.proofs.steps.product_in_steps.Given as goal
 
--- steps lead through the factors so far to the terms, which have room for the rest
+-- `terms` results from steps through the factors before the place `at`, and its labels have room for the cells of the other factors
 abbrev pub invariant-loop-at : goal.invariant-loop-at
 invariant-loop-at g l = record {
   table : IsCombination g.L.PartialEq.eq g.L.Label.is_label whole l.terms;

@@ -2,7 +2,7 @@ use Rattle.std.proofs.Common.{◌≡◌, ◌-◌, ◌≤◌}
 use Rattle.skew_shapes.specs.AddedHooks.{BeginsFrom, hooks_ending_after}
 use Rattle.skew_shapes.proofs.hooks_added.find_next.Given as goal
 
--- the rim hooks with the last rows so far are past
+-- no rim hook that can be added ends in one of the rows tried so far
 abbrev pub invariant-loop-hook : goal.invariant-loop-hook
 invariant-loop-hook l =
     BeginsFrom l.k l.inner l.hook.first l.hook.last × (l.hook.last ≤ l.most)

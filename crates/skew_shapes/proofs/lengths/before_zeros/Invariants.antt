@@ -1,4 +1,4 @@
--- What is cut off has zeros alone.
+-- All numbers that are cut off are zeros.
 use Rattle.std.proofs.Common.{◌≡◌, ◌≤◌, length, take}
 use Rattle.sym_model.specs.Partition.{without_last_zeros}
 use Rattle.skew_shapes.proofs.lengths.before_zeros.Given as goal

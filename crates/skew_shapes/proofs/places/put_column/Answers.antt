@@ -9,7 +9,7 @@ use Rattle.skew_shapes.proofs.CellReadings.{above-reached, above-passed, letters
 use Rattle.skew_shapes.proofs.CellReadings.{letters-passed, right-more}
 use Rattle.skew_shapes.proofs.places.put_column.Goals as goal
 
--- the cells done, and those done with one row more
+-- if row k + 1 has a cell in column j, one cell more has its letter after this row
 more_done :
     (outer inner : List ℕ) (j k : ℕ) → reaches outer inner j (k + 1) ≡ true
     → length (cells_right_of outer inner j ++ cells_above outer inner j (k + 1))
@@ -124,7 +124,7 @@ loop-row-preserved c =
           (sym c.place.ensures) put;
     }
 
--- all rows are done
+-- if k is the last row, the cells right of column j and those of column j in the first k rows are the cells right of column j - 1
 all_rows :
     (outer inner : List ℕ) (j k : ℕ) → 1 ≤ j → j ≤ columns outer → k ≡ length outer
     → cells_right_of outer inner j ++ cells_above outer inner j k ≡ cells_right_of outer inner

@@ -1,4 +1,4 @@
--- Each row so far begins after the ones before it.
+-- Each row visited so far begins after the ones before it.
 use Rattle.std.proofs.Common.{◌≡◌, ℕ, ◌<◌, length, take, get_or}
 use Rattle.sym_model.specs.Partition.{size}
 use Rattle.skew_shapes.proofs.places.row_starts.Given as goal

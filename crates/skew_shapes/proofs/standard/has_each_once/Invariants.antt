@@ -1,4 +1,4 @@
--- All numbers so far stand once.
+-- Each number tried so far occurs once.
 use Rattle.std.proofs.Common.{◌≡◌, ◌==◌, true}
 use Rattle.sym_model.specs.Partition.{after}
 use Rattle.sym_model.specs.GoodTableau.{every}

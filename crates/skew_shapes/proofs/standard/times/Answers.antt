@@ -8,7 +8,7 @@ use Rattle.skew_shapes.proofs.StandardNumbers.{letters-more, length-letters-take
 use Rattle.skew_shapes.proofs.StandardNumbers.{few-letters}
 use Rattle.skew_shapes.proofs.standard.times.Goals as goal
 
--- one row more
+-- `count` plus the occurrences in row i + 1 is the number of occurrences in the first i + 1 rows
 more :
     (rows : List (List ℕ)) (row : List ℕ) (i count this number : ℕ) → i < length rows →
     row ≡ row_of rows (i + 1)

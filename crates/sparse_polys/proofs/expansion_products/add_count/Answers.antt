@@ -33,10 +33,10 @@ returns-clause-ok g c =
     (λ more d e h cleared.
     let v = c.in-Some.ensures.value d e h in
     Gains-entry value g.R.Scalar.zero g.met.R.Scalar.zero_value.0 (d * e) old label
-    c.in-Some.product c.add_term.ensures.was (mul-pos h.0.positive h.1.positive) v.0 cleared
+    c.in-Some.product c.add_term.ensures.tables.before.combination (mul-pos h.0.positive h.1.positive) v.0 cleared
     g.R.Scalar.sum g.met.R.Scalar.sum_value c.add_term.new.self
     (g.met.R.Scalar.lowest c.in-Some.product c.in-Some.ensures.held)
-    c.add_term.ensures.combination
+    c.add_term.ensures.tables.after.combination
     (subst (λ l. HasMoreAt (pointwise nat_eq) g.R.Scalar.zero g.R.Scalar.sum old l
     c.in-Some.product c.add_term.new.self) is more) _ v.1)
     c.add_term.ensures.ok
@@ -49,7 +49,7 @@ returns-clause-large g c err d e h small cleared =
     let is : c.in_ok-label.label ≡ label = c.in_ok-label.ensures.ok ∙ c.as_slice.ensures.value in
     let v = c.in-Some.ensures.value d e h in
     Overflows-entry value g.R.Scalar.zero g.met.R.Scalar.zero_value.0 (d * e) old label
-    c.in-Some.product c.add_term.ensures.was (mul-pos h.0.positive h.1.positive) v.0 cleared
+    c.in-Some.product c.add_term.ensures.tables.before.combination (mul-pos h.0.positive h.1.positive) v.0 cleared
     g.R.Scalar.is_held g.R.Scalar.checked_sum g.met.R.Scalar.sum_answers small
     (subst (λ l. IsRefused g.R.Scalar.is_held g.R.Scalar.checked_sum
     (coefficient (pointwise nat_eq) g.R.Scalar.zero old l) c.in-Some.product) is

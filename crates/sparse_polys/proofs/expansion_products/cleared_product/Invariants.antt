@@ -9,7 +9,7 @@ use Rattle.sparse_polys.specs.MonomialProducts.{products}
 use Rattle.linear_combinations.specs.Cleared.{IsCommonDenominator, GainsCleared}
 use Rattle.sparse_polys.proofs.expansion_products.cleared_product.Given as goal
 
--- the products of the terms so far are added
+-- the products of the terms visited so far are added
 abbrev pub invariant-loop-label : goal.invariant-loop-label
 invariant-loop-label g l = record {
   gains :

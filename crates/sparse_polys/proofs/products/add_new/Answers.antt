@@ -27,19 +27,19 @@ returns-in-Ok-clause-more g c =
 pub returns-in-Ok-clause-was : goal.returns-in-Ok-clause-was
 returns-in-Ok-clause-was g c =
     combination_values g.R.Scalar.value (pointwise nat_eq) is_monomial_label
-    c.args.sum.now c.add_term.ensures.was
+    c.args.sum.now c.add_term.ensures.tables.before.combination
 
 pub returns-in-Ok-clause-combination : goal.returns-in-Ok-clause-combination
 returns-in-Ok-clause-combination g c =
     combination_values g.R.Scalar.value (pointwise nat_eq) is_monomial_label
-    c.add_term.new.self c.add_term.ensures.combination
+    c.add_term.new.self c.add_term.ensures.tables.after.combination
 
 pub returns-in-Err-NoMemory-clause-was : goal.returns-in-Err-NoMemory-clause-was
 returns-in-Err-NoMemory-clause-was g c =
     combination_values g.R.Scalar.value (pointwise nat_eq) is_monomial_label
-    c.args.sum.now c.add_term.ensures.was
+    c.args.sum.now c.add_term.ensures.tables.before.combination
 
 pub returns-in-Err-NoMemory-clause-combination : goal.returns-in-Err-NoMemory-clause-combination
 returns-in-Err-NoMemory-clause-combination g c =
     combination_values g.R.Scalar.value (pointwise nat_eq) is_monomial_label
-    c.add_term.new.self c.add_term.ensures.combination
+    c.add_term.new.self c.add_term.ensures.tables.after.combination

@@ -24,9 +24,9 @@ returns-clause-ok g c =
     (lowest c.args.a c.mul.ensures.held.0) (lowest c.args.b c.mul.ensures.held.1)
     c.in-Some.ensures.answer.value h in
     Gains-entry value g.R.Scalar.zero g.met.R.Scalar.zero_value.0 (d * e) old
-    (join c.args.left.now c.args.right.now) c.in-Some.c c.add_term.ensures.was p.positive p.divides
+    (join c.args.left.now c.args.right.now) c.in-Some.c c.add_term.ensures.tables.before.combination p.positive p.divides
     cleared g.R.Scalar.sum g.met.R.Scalar.sum_value c.add_term.new.self
-    (lowest c.in-Some.c c.in-Some.ensures.held_product) c.add_term.ensures.combination
+    (lowest c.in-Some.c c.in-Some.ensures.held_product) c.add_term.ensures.tables.after.combination
     (subst (λ l. HasMoreAt (pointwise nat_eq) g.R.Scalar.zero g.R.Scalar.sum old l c.in-Some.c
     c.add_term.new.self) c.in_ok-times.ensures more)
     _ p.value)
@@ -40,7 +40,7 @@ returns-clause-large g c err d e h small cleared =
     (lowest c.args.a c.mul.ensures.held.0) (lowest c.args.b c.mul.ensures.held.1)
     c.in-Some.ensures.answer.value h in
     Overflows-entry value g.R.Scalar.zero g.met.R.Scalar.zero_value.0 (d * e) old
-    (join c.args.left.now c.args.right.now) c.in-Some.c c.add_term.ensures.was p.positive p.divides
+    (join c.args.left.now c.args.right.now) c.in-Some.c c.add_term.ensures.tables.before.combination p.positive p.divides
     cleared g.R.Scalar.is_held g.R.Scalar.checked_sum g.met.R.Scalar.sum_answers small
     (subst (λ l. IsRefused g.R.Scalar.is_held g.R.Scalar.checked_sum
     (coefficient (pointwise nat_eq) g.R.Scalar.zero old l) c.in-Some.c) c.in_ok-times.ensures

@@ -1,4 +1,4 @@
--- No state so far leaves the same.
+-- No state visited so far has these remaining parts.
 use Rattle.std.proofs.Common.{map, take}
 use Rattle.sym_model.specs.Sum.{Among}
 use Rattle.sparse_polys.specs.Ways.{labels_left}

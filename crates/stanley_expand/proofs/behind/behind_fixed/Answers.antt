@@ -3,7 +3,7 @@ use Rattle.std.proofs.lemmas.List.{take_all}
 use Rattle.sym_model.specs.Partition.{after}
 use Rattle.sym_model.specs.Stanley.{behind}
 use Rattle.perm_codes.specs.Limits.{IsShortPermutation}
-use Rattle.stanley_laws.proofs.Behind.{one_line_behind, length-behind}
+use Rattle.stanley_expand.proofs.FixedFront.{one_line_behind, length-behind}
 use Rattle.stanley_expand.proofs.behind.behind_fixed.Goals as goal
 
 pub from_valid_letters-requires : goal.from_valid_letters-requires

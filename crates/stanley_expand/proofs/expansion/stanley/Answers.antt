@@ -6,8 +6,8 @@ use Rattle.sym_model.specs.Stanley.{stanley_in}
 use Rattle.linear_combinations.specs.Labels.{same_partition}
 use Rattle.linear_combinations.proofs.Steps.{error_is}
 use Rattle.transition_walk.proofs.Answering.{represents_same}
-use Rattle.stanley_laws.specs.Grassmannian.{IsRising}
-use Rattle.stanley_laws.proofs.Behind.{rising_behind}
+use Rattle.stanley_expand.specs.Grassmannian.{IsRising}
+use Rattle.stanley_expand.proofs.FixedFront.{rising_behind}
 use Rattle.stanley_expand.proofs.Expansions.{past_from, sum_represents, none_past, labels_within}
 use Rattle.stanley_expand.proofs.expansion.stanley.Goals as goal
 

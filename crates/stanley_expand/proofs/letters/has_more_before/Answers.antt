@@ -1,7 +1,7 @@
 use Rattle.std.proofs.Common.{subst, arith, ap, sym, refl, ◌+◌, ◌-◌, get_or, ◌≡◌, ◌<◌, ◌≤◌, length, ℕ, false}
 use Rattle.std.proofs.lemmas.Bool.{both_ways}
-use Rattle.stanley_laws.specs.GreaterBefore.{HasMoreBefore}
-use Rattle.stanley_laws.proofs.GreaterBefore.{to_letters, from_letters, before}
+use Rattle.stanley_expand.specs.GreaterBefore.{HasMoreBefore}
+use Rattle.stanley_expand.proofs.GreaterBefore.{to_letters, from_letters, before}
 use Rattle.stanley_expand.proofs.GreaterLetters.{before_next}
 use Rattle.stanley_expand.proofs.letters.has_more_before.Goals as goal
 

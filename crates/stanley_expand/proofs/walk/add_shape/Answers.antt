@@ -4,7 +4,7 @@ use Rattle.std.specs.Cmp.Lexicographic.{pointwise}
 use Rattle.sym_model.specs.BetaList.{from_beta}
 use Rattle.linear_combinations.specs.Gains.{Gains, Overflows}
 use Rattle.linear_combinations.proofs.Steps.{on_ok}
-use Rattle.stanley_laws.proofs.SchurPositive.{length_front}
+use Rattle.stanley_expand.proofs.SchurPositive.{length_front}
 use Rattle.stanley_expand.proofs.walk.add_shape.Goals as goal
 
 pub from_beta-requires-clause-few : goal.from_beta-requires-clause-few

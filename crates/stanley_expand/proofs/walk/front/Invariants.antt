@@ -1,8 +1,8 @@
 use Rattle.std.proofs.Common.{◌≡◌, ◌≤◌, ◌++◌}
-use Rattle.stanley_laws.specs.Grassmannian.{front_beta}
+use Rattle.stanley_expand.specs.Grassmannian.{front_beta}
 use Rattle.stanley_expand.proofs.walk.front.Given as goal
 
--- what is still to come
+-- the list written so far, followed by the letters less 1 at the places from i to 1, is the front
 abbrev pub invariant-loop-i : goal.invariant-loop-i
 invariant-loop-i l = record {
   all : l.list.items ++ front_beta l.i l.perm ≡ front_beta l.rows l.perm;

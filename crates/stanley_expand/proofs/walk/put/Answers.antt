@@ -13,12 +13,12 @@ use Rattle.sym_model.specs.Polynomial.{pair, nothing}
 use Rattle.sym_model.specs.Schubert.{schubert_in}
 use Rattle.sym_model.proofs.Polynomials.{pair_determined}
 use Rattle.linear_combinations.proofs.Masses.{on_both}
-use Rattle.stanley_laws.proofs.GreaterBefore.{no_polynomial}
+use Rattle.stanley_expand.proofs.GreaterBefore.{no_polynomial}
 use Rattle.stanley_expand.proofs.Tables.{none_step, put_step}
 use Rattle.stanley_expand.proofs.walk.put.Goals as goal
 use lib.IntN.{*ℤ-zero}
 
--- nothing is left of a permutation with too many greater letters in front of one
+-- if some letter has more than m greater ones before it, the polynomial is 0, so that nothing is added
 pub returns-then-has_more_before-clause-step : goal.returns-then-has_more_before-clause-step
 returns-then-has_more_before-clause-step c sum =
     none_step c.args.rows sum c.args.todo.now.items

@@ -15,7 +15,7 @@ use Rattle.sparse_polys.specs.MonomialProducts.{greatest_size}
 use Rattle.sparse_polys.proofs.Expansions.{common-denominators, least-denominators}
 use Rattle.sparse_polys.proofs.Steps.{among-next}
 use Rattle.sparse_polys.proofs.ValueLists.{combination_values}
-use Rattle.whole_lists.specs.Families.{polynomial_of}
+use Rattle.sparse_polys.specs.Families.{polynomial_of}
 use Rattle.strip_rules.proofs.TermProducts.{list_value, expansion}
 use Rattle.strip_rules.proofs.ListProducts.{AddsList, AddsList-none, AddsList-next, refused_large}
 use Rattle.strip_rules.proofs.ListProducts.{list_large, list_table, list_divides, list_sums}

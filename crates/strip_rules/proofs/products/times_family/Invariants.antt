@@ -2,11 +2,11 @@ use Rattle.std.proofs.Common.{◌≡◌, ℕ, ◌++◌, map}
 use Rattle.std.specs.Map.Iter.{deref_pair}
 use Rattle.sparse_polys.specs.Combination.{terms_of}
 use Rattle.linear_combinations.specs.Cleared.{IsCommonDenominator}
-use Rattle.whole_lists.specs.Families.{polynomial_of}
+use Rattle.sparse_polys.specs.Families.{polynomial_of}
 use Rattle.strip_rules.proofs.ListProducts.{AddsList}
 use Rattle.strip_rules.proofs.products.times_family.Given as goal
 
--- the products of the terms so far are added
+-- the products of the terms visited so far are added
 abbrev pub invariant-loop-label : goal.invariant-loop-label
 invariant-loop-label g l =
     let value = g.R.Scalar.value in

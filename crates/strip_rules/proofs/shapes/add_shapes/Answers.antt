@@ -37,8 +37,8 @@ loop-shape-preserved g c =
           (terms_of value c.add_term.new.self)
           (Gains-signed value g.R.Scalar.zero g.met.R.Scalar.zero_value.0 (value c.args.c)
           (pos 1) label c.args.c c.loop-shape.sum (signed_one (value c.args.c))
-          c.add_term.ensures.was g.R.Scalar.sum g.met.R.Scalar.sum_value c.add_term.new.self
-          c.requires.lowest c.in_ok-add_term.ensures.combination c.in_ok-add_term.ensures.ok);
+          c.add_term.ensures.tables.before.combination g.R.Scalar.sum g.met.R.Scalar.sum_value c.add_term.new.self
+          c.requires.lowest c.in_ok-add_term.ensures.tables.after.combination c.in_ok-add_term.ensures.ok);
     }
 
 pub returns-in_err-add_term-clause-large : goal.returns-in_err-add_term-clause-large
@@ -55,7 +55,7 @@ returns-in_err-add_term-clause-large g c large =
     (Overflows-signed value g.R.Scalar.zero g.met.R.Scalar.zero_value.0 (value c.args.c) (pos 1)
     label
     c.args.c c.loop-shape.sum (signed_one (value c.args.c))
-    c.add_term.ensures.was g.R.Scalar.is_held g.R.Scalar.checked_sum g.met.R.Scalar.sum_answers
+    c.add_term.ensures.tables.before.combination g.R.Scalar.is_held g.R.Scalar.checked_sum g.met.R.Scalar.sum_answers
     refused)
 
 pub returns-clause-ok : goal.returns-clause-ok

@@ -75,9 +75,9 @@ loop-alloc-preserved g c =
             Gains-shape (value c.args.c) sign inv.0 label (terms_of value c.args.sum.now)
             (terms_of value cur) inv.1.adds (terms_of value new)
             (Gains-signed value g.R.Scalar.zero g.met.R.Scalar.zero_value.0 (value c.args.c)
-            (sign label) label v cur is c.add_term-in-loop-alloc.ensures.was
+            (sign label) label v cur is c.add_term-in-loop-alloc.ensures.tables.before.combination
             g.R.Scalar.sum g.met.R.Scalar.sum_value new c.in_ok-signed.ensures.lowest
-            c.in_ok-add_term.ensures.combination more);
+            c.in_ok-add_term.ensures.tables.after.combination more);
       },
     )
 
@@ -101,7 +101,7 @@ returns-in_err-add_term-clause-large g c large =
     Overflows-shape (value c.args.c) sign inv.0 label (terms_of value c.args.sum.now)
     (terms_of value cur) inv.1.adds _ _ on
     (Overflows-signed value g.R.Scalar.zero g.met.R.Scalar.zero_value.0 (value c.args.c) (sign label)
-    label v cur is c.add_term-in-loop-alloc.ensures.was
+    label v cur is c.add_term-in-loop-alloc.ensures.tables.before.combination
     g.R.Scalar.is_held g.R.Scalar.checked_sum g.met.R.Scalar.sum_answers
     (subst (λ l. IsRefused g.R.Scalar.is_held g.R.Scalar.checked_sum
     (coefficient (pointwise nat_eq) g.R.Scalar.zero cur l) v) c.in_ok-shape.ensures.ok refused))

@@ -9,7 +9,7 @@ use Rattle.linear_combinations.specs.Cleared.{GainsMultiple}
 use Rattle.linear_combinations.specs.Gains.{each_by}
 use Rattle.strip_rules.proofs.shapes.add_signed_shapes.Given as goal
 
--- the shapes so far are added, they and the rest are all, and the inner partition stays
+-- the shapes visited so far are added with their signs, they and those still to come are all shapes, and the inner partition is unchanged
 abbrev pub invariant-loop-alloc : goal.invariant-loop-alloc
 invariant-loop-alloc g l =
     let value = g.R.Scalar.value in

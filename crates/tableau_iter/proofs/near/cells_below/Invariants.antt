@@ -1,4 +1,4 @@
--- The places passed so far are each below the one before.
+-- Each cell of the places visited so far is below that of the place before.
 use Rattle.std.proofs.Common.{◌≡◌, ◌+◌}
 use Rattle.tableau_iter.specs.Fits.{IsRun}
 use Rattle.tableau_iter.proofs.near.cells_below.Given as goal

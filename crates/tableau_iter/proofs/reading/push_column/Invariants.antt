@@ -1,4 +1,4 @@
--- The numbers of the rows so far were put.
+-- The numbers of the column in the rows visited so far were appended.
 use Rattle.std.proofs.Common.{◌≡◌, ℕ, ◌++◌, map}
 use Rattle.skew_shapes.specs.Rows.{cells_above}
 use Rattle.tableau_iter.specs.ReadRows.{letter_in_rows}

@@ -1,4 +1,4 @@
--- The numbers of the columns further right were put.
+-- The letters in the columns right of the current one have been appended.
 use Rattle.std.proofs.Common.{◌≡◌, ◌≤◌, ℕ, ◌++◌, map}
 use Rattle.sym_model.specs.Partition.{columns}
 use Rattle.skew_shapes.specs.Rows.{cells_right_of}

@@ -1,4 +1,4 @@
--- The letters up to the place stay; those tried lead to nothing.
+-- The letters before the place are unchanged, and no word has one of the letters tried so far at the place.
 use Rattle.std.proofs.Common.{◌≡◌, ◌+◌, ◌-◌, ◌*◌, length, take}
 use Rattle.tableau_iter.specs.Positions.{IsReady, IsSameUpTo, passes}
 use Rattle.tableau_iter.specs.Walks.{continued}

@@ -1,4 +1,4 @@
--- The letters so far may stand where they do, and are counted.
+-- Each letter before this place can follow those before it, and was counted.
 use Rattle.std.proofs.Common.{◌≡◌, true, [], take}
 use Rattle.sym_model.specs.Schur.{content}
 use Rattle.tableau_iter.specs.Fits.{all_fit}

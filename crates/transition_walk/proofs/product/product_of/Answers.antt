@@ -1,13 +1,15 @@
-use Rattle.std.proofs.Common.{◌-◌, ◌<◌, take, sym, ap, ◌∙◌, subst, arith, pos}
+use Rattle.std.proofs.Common.{◌-◌, ◌<◌, [], ◌∷◌, take, sym, ap, ◌∙◌, subst, arith, pos}
 use Rattle.std.proofs.lemmas.Int.{ints}
 use Rattle.std.specs.Prelude.{Err, FitsSigned}
 use Rattle.std.specs.Int.{w128}
 use Rattle.coeff_rings.specs.Fractions.{whole}
+use Rattle.sym_model.specs.Polynomial.{pair}
 use Rattle.linear_combinations.specs.Entries.{IsTable}
 use Rattle.linear_combinations.specs.Gains.{WholeTermsOf}
 use Rattle.linear_combinations.proofs.Steps.{error_is, IsCombination-empty}
 use Rattle.linear_combinations.proofs.Tables.{held_nothing}
 use Rattle.transition_walk.specs.Todo.{load}
+use Rattle.transition_walk.proofs.Answering.{sums_as}
 use Rattle.transition_walk.proofs.UnderWay.{start, popped_load, popped_few, popped_labels, next}
 use Rattle.transition_walk.proofs.UnderWay.{overflow, limited, finished, shared}
 use Rattle.transition_walk.proofs.product.product_of.Goals as goal
@@ -79,7 +81,9 @@ loop-waiting-preserved g c = record {
 
 pub returns-clause-value : goal.returns-clause-value
 returns-clause-value g c n φ =
-    finished g.F.Factor.product (λ r v. g.F.Rule.image (g.F.Factor.made r v)) g.F.Factor.extent
+    sums_as (λ x. pair (g.F.Factor.polynomial n x) φ) (g.F.Factor.product n φ (1 ∷ []))
+    (λ x. sym (g.met.F.Factor.start n φ x)) c.loop-waiting.sum
+    ∙ finished g.F.Factor.product (λ r v. g.F.Rule.image (g.F.Factor.made r v)) g.F.Factor.extent
     g.F.Factor.most c.args.w.now c.args.label.now
     c.loop-waiting.todo.items c.pop.new.self.items c.loop-waiting.sum
     c.loop-waiting.invariant.under_way c.in_default.ensures.items

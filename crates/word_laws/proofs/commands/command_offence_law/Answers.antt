@@ -1,4 +1,4 @@
--- The first error.
+-- The proof of the law about the first error of the words of a command.
 use Rattle.word_laws.proofs.FirstOffences.{first-among, none-before, none-empty, first_none}
 use Rattle.word_laws.proofs.commands.command_offence_law.Goals as goal
 

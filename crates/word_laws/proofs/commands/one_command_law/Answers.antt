@@ -1,4 +1,4 @@
--- Words are read in one way.
+-- The proof of the law that words spell at most one command.
 use Rattle.expression_laws.proofs.PhraseRuns.{one_phrase}
 use Rattle.word_laws.proofs.EntryLists.{one_command, one_offence}
 use Rattle.word_laws.proofs.TargetLetters.{all_clear, line_clear}

@@ -1,4 +1,4 @@
--- Words of commands.
+-- The proof of the law about the words that commands have.
 use Rattle.word_laws.proofs.CommandFacts.{has_words, expression_degree}
 use Rattle.word_laws.proofs.commands.words_of_commands_law.Goals as goal
 

@@ -1,4 +1,4 @@
--- Each is computed.
+-- Each example of the law is computed.
 use Rattle.std.proofs.Common.{[], ◌∷◌, ◌++◌, refl, arith}
 use Rattle.std.specs.Prelude.{codes}
 use Rattle.sym_model.specs.Grammar.{line_entries, all_bases}

@@ -15,7 +15,7 @@ use Rattle.double_schubert.proofs.FactorGains.{overflow_second, overflow_third, 
 use Rattle.double_schubert.proofs.FactorGains.{overflow_negative}
 use Rattle.double_schubert.proofs.factor.TimesFactorRuleShiftedShifted.add_image.Goals as goal
 
--- the four parts are k times the terms of the factor
+-- the four lists that are added are together k times the terms of the factor
 parts : (k minus : ℤ) (r c letter_is : ℕ) (p e : List ℕ) (label : List ℕ × List ℕ)
     (up down : List (List ℕ)) (more less : List ℕ) → (p, e) ≡ label → minus ≡ neg_ℤ k → letter_is
     ≡ letter p r

@@ -3,17 +3,17 @@ use Rattle.std.proofs.Common.{◌≤◌, ◌^◌, pos, ◌*ℤ◌, ap, subst, �
 use Rattle.std.specs.Int.{w128}
 use Rattle.sym_model.specs.Expression.{sum}
 use Rattle.sym_model.specs.Weight.{factorial}
-use Rattle.whole_numbers.proofs.CommonMultiples.{from_left-again, from_right-again}
-use Rattle.expression_evaluation.proofs.Making.{failed, done}
-use Rattle.whole_lists.specs.Families.{polynomial_of}
-use Rattle.expand_in_families.specs.Nodes.{ClearsTo, IsHeavy}
+use Rattle.coeff_rings.proofs.CommonMultiples.{from_left-again, from_right-again}
+use Rattle.basis_expand.proofs.Making.{failed, done}
+use Rattle.sparse_polys.specs.Families.{polynomial_of}
+use Rattle.expand_in_families.specs.Nodes.{ClearsTo, IsHeavyInFamilies}
 use Rattle.expand_in_families.proofs.NodeSums.{clears-sum, large-sum, large-factors}
 use Rattle.expand_in_families.proofs.NodeSums.{large-sum_denominator}
 use Rattle.expand_in_families.proofs.operations.InFamilyTarget.added.Goals as goal
 
 pub returns-in_err-common : goal.returns-in_err-common
 returns-in_err-common c e f t h k =
-    failed (ClearsTo (polynomial_of c.args.self.now.family)) IsHeavy (sum e f) _ _
+    failed (ClearsTo (polynomial_of c.args.self.now.family)) IsHeavyInFamilies (sum e f) _ _
     c.from_residual.ensures.0 c.from_residual.ensures.1
     (λ _. large-sum_denominator (polynomial_of c.args.self.now.family) e f c.args.left
     c.args.right t.plain.0 t.plain.1 h k c.in_err-common.ensures.large)
@@ -21,7 +21,7 @@ returns-in_err-common c e f t h k =
 pub returns-in_err-p : goal.returns-in_err-p
 returns-in_err-p c e f t h k =
     let common = c.in_ok-common.ensures.ok in
-    failed (ClearsTo (polynomial_of c.args.self.now.family)) IsHeavy (sum e f) _ _
+    failed (ClearsTo (polynomial_of c.args.self.now.family)) IsHeavyInFamilies (sum e f) _ _
     c.from_residual-in_err-p.ensures.0 c.from_residual-in_err-p.ensures.1
     (λ _. large-factors (polynomial_of c.args.self.now.family) e f c.args.left c.args.right
     c.rise-by_left.result c.rise-by_right.result t.plain.0 t.plain.1 h k
@@ -38,7 +38,7 @@ returns-in_err-p c e f t h k =
 pub returns-in_err-q : goal.returns-in_err-q
 returns-in_err-q c e f t h k =
     let common = c.in_ok-common.ensures.ok in
-    failed (ClearsTo (polynomial_of c.args.self.now.family)) IsHeavy (sum e f) _ _
+    failed (ClearsTo (polynomial_of c.args.self.now.family)) IsHeavyInFamilies (sum e f) _ _
     c.from_residual-in_err-q.ensures.0 c.from_residual-in_err-q.ensures.1
     (λ _. large-factors (polynomial_of c.args.self.now.family) e f c.args.left c.args.right
     c.rise-by_left.result c.rise-by_right.result t.plain.0 t.plain.1 h k
@@ -59,7 +59,7 @@ returns-in_err-terms c e f t h k =
     ∙ c.get.ensures in
     let right = to_z-of_z {w = w128} {z = c.get-2.result} (record { sfits = c.get-2.type_inv })
     ∙ c.get-2.ensures in
-    failed (ClearsTo (polynomial_of c.args.self.now.family)) IsHeavy (sum e f) _ _
+    failed (ClearsTo (polynomial_of c.args.self.now.family)) IsHeavyInFamilies (sum e f) _ _
     c.from_residual-in_err-terms.ensures.0 c.from_residual-in_err-terms.ensures.1
     (λ large.
     large-sum (polynomial_of c.args.self.now.family) e f c.args.left c.args.right
@@ -82,7 +82,7 @@ returns c e f t h k =
     ∙ c.get.ensures in
     let right = to_z-of_z {w = w128} {z = c.get-2.result} (record { sfits = c.get-2.type_inv })
     ∙ c.get-2.ensures in
-    done (ClearsTo (polynomial_of c.args.self.now.family)) IsHeavy (sum e f) _
+    done (ClearsTo (polynomial_of c.args.self.now.family)) IsHeavyInFamilies (sum e f) _
     (clears-sum (polynomial_of c.args.self.now.family) e f c.args.left c.args.right
     c.rise-by_left.result c.rise-by_right.result t.plain.0 t.plain.1 h k
     (c.rise-by_left.ensures.value ∙ ap factorial c.max-degree.ensures)

@@ -4,18 +4,18 @@ use Rattle.sym_model.specs.Polynomial.{scale}
 use Rattle.sym_model.specs.WholeTerms.{WholeTerms}
 use Rattle.basis_change_laws.specs.JoinedLists.{joined}
 use Rattle.linear_combinations.specs.Gains.{Gains, Overflows}
-use Rattle.expression_evaluation.proofs.Making.{failed, done}
-use Rattle.whole_lists.specs.Families.{polynomial_of}
-use Rattle.whole_lists.specs.Tables.{equal}
-use Rattle.whole_lists.proofs.Families.{In-family}
-use Rattle.expand_in_families.specs.Nodes.{ClearsTo, IsHeavy}
+use Rattle.basis_expand.proofs.Making.{failed, done}
+use Rattle.sparse_polys.specs.Families.{polynomial_of}
+use Rattle.sparse_polys.specs.Tables.{equal}
+use Rattle.sparse_polys.proofs.Families.{In-family}
+use Rattle.expand_in_families.specs.Nodes.{ClearsTo, IsHeavyInFamilies}
 use Rattle.expand_in_families.proofs.Nodes.{node-greatest, clears-product, large-product}
 use Rattle.expand_in_families.proofs.Nodes.{large-product_denominator}
 use Rattle.expand_in_families.proofs.operations.InFamilyTarget.multiplied.Goals as goal
 
 pub returns-in_err-den : goal.returns-in_err-den
 returns-in_err-den c e f t h k =
-    failed (ClearsTo (polynomial_of c.args.self.now.family)) IsHeavy (product e f) _ _
+    failed (ClearsTo (polynomial_of c.args.self.now.family)) IsHeavyInFamilies (product e f) _ _
     c.from_residual.ensures.0 c.from_residual.ensures.1
     (λ _. large-product_denominator (polynomial_of c.args.self.now.family) e f c.args.left
     c.args.right t.plain.0 t.plain.1 h k (let not_below : c.args.left.den * c.args.right.den < 2
@@ -23,7 +23,7 @@ returns-in_err-den c e f t h k =
 
 pub returns-in_err-add_products : goal.returns-in_err-add_products
 returns-in_err-add_products c e f t h k =
-    failed (ClearsTo (polynomial_of c.args.self.now.family)) IsHeavy (product e f) _ _
+    failed (ClearsTo (polynomial_of c.args.self.now.family)) IsHeavyInFamilies (product e f) _ _
     c.from_residual-in_err-add_products.ensures.0 c.from_residual-in_err-add_products.ensures.1
     (λ large.
     large-product (polynomial_of c.args.self.now.family) e f c.args.left c.args.right
@@ -35,7 +35,7 @@ returns-in_err-add_products c e f t h k =
 
 pub returns : goal.returns
 returns c e f t h k =
-    done (ClearsTo (polynomial_of c.args.self.now.family)) IsHeavy (product e f) _
+    done (ClearsTo (polynomial_of c.args.self.now.family)) IsHeavyInFamilies (product e f) _
     (clears-product (polynomial_of c.args.self.now.family) (In-family c.args.self.now.family) e f
     c.args.left c.args.right _ c.binomial.result c.in_ok-den.ensures.1 refl
     c.binomial.ensures.value

@@ -3,7 +3,7 @@ use Rattle.sym_model.specs.WholeTerms.{WholeTerms}
 use Rattle.linear_combinations.specs.Gains.{Gains, Overflows, scaled}
 use Rattle.linear_combinations.proofs.Gains.{gains_none}
 use Rattle.linear_combinations.proofs.Steps.{on_ok}
-use Rattle.whole_lists.specs.Tables.{equal}
+use Rattle.sparse_polys.specs.Tables.{equal}
 use Rattle.basis_change_laws.specs.JoinedLists.{row}
 use Rattle.family_lists.proofs.RowSteps.{row-gained, large-row}
 use Rattle.family_lists.proofs.products.TimesListRulePartitionPartition.add_image.Goals as goal
@@ -24,7 +24,7 @@ returns-in_err-c-clause-large c err =
     c.len.ensures.combination
     (λ e. c.if-len-eq0.false (c.len.ensures.len ∙ e)) c.in_err-c.ensures
 
--- what the inner rule adds
+-- if z = x·c, the row of k with z is x times the row with c
 image : (k : List ℕ) (x c z : ℤ) (V : WholeTerms) → z ≡ x *ℤ c → row k z V ≡ scaled x (row k c V)
 image k x c z V e = ap (λ y. row k y V) e ∙ row-gained k x c V
 

@@ -1,7 +1,7 @@
 use Rattle.std.proofs.Common.{◌≡◌, ℕ, List, ◌∙◌, ap, ap₂, sym, subst}
 use Rattle.sym_model.specs.Insertion.{insertion_pair}
 use Rattle.perm_codes.specs.Limits.{IsWithinLimits}
-use Rattle.growth_laws.proofs.GrowthPairs.{perm_from, first_of_grid, second_of_grid, exchanged}
+use Rattle.growth_diagrams.proofs.GrowthPairs.{perm_from, first_of_grid, second_of_grid, exchanged}
 use Rattle.growth_diagrams.proofs.grid.Grid.pair_of.Goals as goal
 
 pub returns-clause-last_line : goal.returns-clause-last_line

@@ -1,5 +1,5 @@
 use Rattle.std.proofs.Common.{ℕ, List, length, ◌∙◌, ap, arith}
-use Rattle.growth_laws.proofs.GrowthPairs.{growth-shape, perm_from}
+use Rattle.growth_diagrams.proofs.GrowthPairs.{growth-shape, perm_from}
 use Rattle.growth_diagrams.proofs.GridLines.{length-line, shape_in}
 use Rattle.growth_diagrams.proofs.grid.Grid.shape_at.Goals as goal
 

@@ -79,7 +79,7 @@ loop-label-preserved g c =
     sym (map-append deref_pair c.loop-label.yielded ((c.in-Some.label, c.in-Some.c) ∷ [])) in
     record {
       was = inv.was;
-      is = says.combination;
+      is = says.tables.after.combination;
       sums = subst (λ es. IsSumOf eq zero sum first es new) pushed
           (IsSumOf-next laws same zero sum done k v none first cur new (neutral k) inv.sums more);
       fits = λ q. subst (λ es. P (coefficient eq zero first q) (coefficient eq zero es q) → ⊥)

@@ -6,10 +6,10 @@ pub returns-clause-gains : goal.returns-clause-gains
 returns-clause-gains g c =
     on_ok c.add_term.result c.add_term.ensures.ok
     (λ more. gains_term g.met.L.Eq.laws g.met.L.Label.same_label c.args.self.now c.add_term.new.self
-    c.add_term.ensures.was c.add_term.ensures.combination c.args.label c.args.c more)
+    c.add_term.ensures.tables.before.combination c.add_term.ensures.tables.after.combination c.args.label c.args.c more)
 
 pub returns-clause-large : goal.returns-clause-large
 returns-clause-large g c err =
     overflows_term g.met.L.Eq.laws g.met.L.Label.same_label c.args.self.now
-    c.add_term.ensures.was.distinct c.args.label c.args.c
+    c.add_term.ensures.tables.before.combination.distinct c.args.label c.args.c
     (c.add_term.ensures.large.0 err).refused

@@ -1,4 +1,4 @@
--- Each row before this one is no longer inside than outside.
+-- Each row of the inner partition before this one is at most that of the outer one.
 use Rattle.std.proofs.Common.{ℕ, ◌<◌, ◌≤◌, slice_index}
 use Rattle.partitions.proofs.partition.Partition.contains.Given as goal
 

@@ -6,7 +6,7 @@ use Rattle.perm_codes.proofs.CoverSteps.{same_inversions}
 use Rattle.perm_codes.proofs.WithinLimits.{length-with_fixed, short_fixed}
 use Rattle.perm_codes.proofs.perm.Perm.times_swap.Goals as goal
 
--- the letters with fixed ones added up to the place j
+-- the list that the code makes is w with fixed letters added up to the place j
 letters_are : (list letters w : List ℕ) (last j : ℕ) → list ≡ with_fixed last letters → letters ≡ w
     → last ≡ j → list ≡ with_fixed j w
 letters_are list letters w last j a b e = a ∙ ap₂ with_fixed e b
@@ -33,7 +33,7 @@ inversions_exchanged-count-requires-clause-inside c =
     let far = reach c.as_slice.result.now c.args.self.now c.args.j is in
     omega (arith, c.from-second.ensures, c.requires.first, c.requires.order)
 
--- the fixed letters make no inversion
+-- with fixed letters added, w has the same number of inversions
 pub inversions_exchanged-count-requires-clause-count
     : goal.inversions_exchanged-count-requires-clause-count
 inversions_exchanged-count-requires-clause-count c =

@@ -11,7 +11,7 @@ use Rattle.linear_combinations.proofs.Steps.{on_ok}
 use Rattle.schubert_transition.specs.Acted.{raised_terms}
 use Rattle.schubert_transition.proofs.polynomial.TimesVarRuleMonomialMonomial.add_image.Goals as goal
 
--- the one term, as it is added
+-- the list with the one term k·x_r·x^e, in the form in which it is added
 one_term : (r : ℕ) (e x : List ℕ) (k : ℤ) → x ≡ raised r e → (x, k) ∷ [] ≡ scaled k
     (raised_terms r e)
 one_term r e x k is = ap (λ y. (y, k) ∷ []) is ∙ ap (λ z. (raised r e, z) ∷ [])
@@ -24,7 +24,7 @@ returns-clause-gains c =
     (one_term c.args.self.now.r c.args.monomial.now c.in_ok-times_var.field-0 c.args.c
     c.in_ok-times_var.ensures)
     (gains_term nat_list_eq_equiv same_partition c.args.sum.now c.add_term.new.self
-    c.add_term.ensures.was c.add_term.ensures.combination c.in_ok-times_var.field-0 c.args.c
+    c.add_term.ensures.tables.before.combination c.add_term.ensures.tables.after.combination c.in_ok-times_var.field-0 c.args.c
     more))
 
 pub returns-clause-large : goal.returns-clause-large
@@ -32,5 +32,5 @@ returns-clause-large c err =
     subst (Overflows (pointwise nat_eq) c.args.sum.now)
     (one_term c.args.self.now.r c.args.monomial.now c.in_ok-times_var.field-0 c.args.c
     c.in_ok-times_var.ensures)
-    (overflows_term nat_list_eq_equiv same_partition c.args.sum.now c.add_term.ensures.was.distinct
+    (overflows_term nat_list_eq_equiv same_partition c.args.sum.now c.add_term.ensures.tables.before.combination.distinct
     c.in_ok-times_var.field-0 c.args.c (c.add_term.ensures.large.0 err).refused)

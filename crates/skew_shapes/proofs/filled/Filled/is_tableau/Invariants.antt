@@ -1,4 +1,4 @@
--- All rows so far pass.
+-- All rows before this one pass the test.
 use Rattle.std.proofs.Common.{◌≡◌, true}
 use Rattle.sym_model.specs.Partition.{after}
 use Rattle.sym_model.specs.GoodTableau.{every}

@@ -1,5 +1,0 @@
-pub mod LastPlaces
-pub mod FrontSorting
-pub mod HookRows
-pub mod HookSteps
-pub mod StraightenedArrangements

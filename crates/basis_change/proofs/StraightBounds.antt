@@ -1,0 +1,220 @@
+-- Bounds for the numbers in straightening, for each partition of the target separately.
+--     list-within          the terms of a bounded list
+--     large-start          a refused number exceeds the bound
+use Rattle.std.proofs.Common.{◌≡◌, ◌⊎◌, ℕ, zero, suc, ◌+◌, ◌-◌, ◌*◌, ◌/◌, ◌^◌, ◌<◌, ◌≤◌, Bool, true, false, cond, eqb, List, [], ◌∷◌, map, length, refl, sym, ap, ◌∙◌, subst, inl, inr, arith, pow-suc, ℤ, pos, ◌*ℤ◌, flat_map}
+use Rattle.std.specs.Prelude.{◌≤ℤ◌, nat_abs, Some, None}
+use Rattle.std.proofs.lemmas.Int.{ints, unsigned_abs-mul}
+use Rattle.std.proofs.lemmas.Bool.{cases_eq, cases_lt, eq-eqb, ne_eqb}
+use Rattle.std.proofs.Math.Nat.{pow-zero}
+use Rattle.sym_model.specs.Sum.{total, Among}
+use Rattle.sym_model.specs.Partition.{size}
+use Rattle.sym_model.specs.Alternant.{staircase}
+use Rattle.sym_model.specs.Arrangement.{arrangements}
+use Rattle.sym_model.specs.BetaList.{has_equal_entries, sorted_falling, rising_pairs, sorting_sign, from_beta}
+use Rattle.sym_model.specs.Straightening.{shifted}
+use Rattle.sym_model.specs.PlaceOrders.{minus_one_to}
+use Rattle.sym_model.specs.Expansion.{Basis, Fraction, Terms}
+use Rattle.sym_model.specs.ListWeight.{IsBounded, factorials}
+use Rattle.sym_model.specs.Weight.{factorial, growth}
+use Rattle.sym_model.proofs.Sums.{total_ext, total_map, total_each, total_scale, total_zero}
+use Rattle.sym_model.proofs.Exponents.{size-join, length-join_same}
+use Rattle.beta_list_laws.proofs.NeighbourExchanges.{size-sorted, length-sorted}
+use Rattle.beta_list_laws.proofs.SortedLists.{sorted_strict}
+use Rattle.beta_list_laws.proofs.BetaLists.{size-from_beta}
+use Rattle.monomial_laws.proofs.WeightBounds.{factorial-within_growth, growth-mono, growth-positive}
+use Rattle.sparse_polys.specs.Tables.{equal, IsFractionTable}
+use Rattle.sparse_polys.specs.LabelSizes.{AreWithin}
+use Rattle.sparse_polys.proofs.WholeLists.{Once-keys}
+use Rattle.sym_model.specs.WholeTerms.{WholeTerms}
+use Rattle.linear_combinations.specs.Gains.{mass_at}
+use Rattle.linear_combinations.specs.Labels.{same_partition}
+use Rattle.linear_combinations.proofs.Gains.{over_only_within}
+use Rattle.coeff_rings.specs.Fractions.{scaled}
+use Rattle.basis_change.specs.Arranging.{times_straight, straight_term, straight_terms}
+use Rattle.basis_change.specs.Straightening.{straightened_list, IsPast}
+use Rattle.basis_change.proofs.StraightTerms.{straight_term-some}
+use Rattle.basis_change.proofs.LastPlaces.{IsArrangement, arrangement}
+use Rattle.basis_change.proofs.MultinomialSums.{total-mono, multinomial, arranged, multinomials-within, arranged-within}
+use Rattle.sym_model.proofs.Ring.{distributes_right}
+use Rattle.sym_model.proofs.Sums.{total_among}
+use Rattle.sym_model.proofs.Parts.{length-staircase}
+use Rattle.monomial_laws.proofs.Powers.{factorials-positive}
+use native.Mathlib.Nat.{mul-le-mul_left, mul-le-mul_right}
+use lib.IntN.{*ℤ-zero, zero-*ℤ}
+
+-- ---- the terms of one arrangement
+
+pub sign-size : (k : ℕ) (z : ℤ) → nat_abs (minus_one_to k *ℤ z) ≡ nat_abs z
+sign-size k z = unsigned_abs-mul (minus_one_to k) z ∙ ap (λ n. n * nat_abs z) (one k) ∙ single (nat_abs z)
+  where
+    one : (k : ℕ) → nat_abs (minus_one_to k) ≡ 1
+    one zero = refl
+    one (suc k) = let r = one k in omega (arith, ints)
+
+    single : (n : ℕ) → 1 * n ≡ n
+    single n = omega arith
+
+-- straightening α gives a partition of the same size as α
+straight-size : (α : List ℕ) → has_equal_entries (shifted α) ≡ false → size (from_beta (sorted_falling (shifted α))) ≡ size α
+straight-size α h =
+    let strict = sorted_strict (shifted α) h in
+    let a = size-from_beta (sorted_falling (shifted α)) strict in
+    let b = size-sorted (shifted α) in
+    let c = size-join α (staircase (length α)) in
+    let l : length (sorted_falling (shifted α)) ≡ length α = length-sorted (shifted α) ∙ length-join_same (length α) α (staircase (length α)) refl (length-staircase (length α)) in
+    let s = ap (λ k. size (staircase k)) l in
+    omega arith
+
+-- an arrangement adds only to partitions of its own size
+one-within : (ν : List ℕ) (z : ℤ) (parts : List ℕ) (n : ℕ) (α : List ℕ) → IsArrangement parts n α
+    → pos (mass_at equal ν (straight_term z (shifted α))) ≤ℤ cond (eqb (size parts) (size ν)) (pos (nat_abs z)) (pos 0)
+one-within ν z parts n α a = by (has_equal_entries (shifted α)) refl
+  where
+    not_negative : (b : Bool) → pos 0 ≤ℤ cond b (pos (nat_abs z)) (pos 0)
+    not_negative true = omega (arith, ints)
+    not_negative false = omega (arith, ints)
+
+    here : (b : Bool) → equal ν (from_beta (sorted_falling (shifted α))) ≡ b → has_equal_entries (shifted α) ≡ false
+        → pos (cond b (nat_abs (sorting_sign (shifted α) *ℤ z)) 0 + 0) ≤ℤ cond (eqb (size parts) (size ν)) (pos (nat_abs z)) (pos 0)
+    here true e h =
+        let s : size parts ≡ size ν = sym a.sum ∙ sym (straight-size α h) ∙ sym (ap size (same_partition ν (from_beta (sorted_falling (shifted α))) e)) in
+        subst (λ b. pos (nat_abs (sorting_sign (shifted α) *ℤ z) + 0) ≤ℤ cond b (pos (nat_abs z)) (pos 0)) (sym (eq-eqb (size parts) (size ν) s))
+        (let k = sign-size (rising_pairs (shifted α)) z in omega (arith, ints))
+    here false e h = let m = not_negative (eqb (size parts) (size ν)) in omega (arith, ints)
+
+    by : (t : Bool) → has_equal_entries (shifted α) ≡ t → pos (mass_at equal ν (straight_term z (shifted α))) ≤ℤ cond (eqb (size parts) (size ν)) (pos (nat_abs z)) (pos 0)
+    by true h =
+        let m = not_negative (eqb (size parts) (size ν)) in
+        let e : mass_at equal ν (straight_term z (shifted α)) ≡ 0 =
+        ap (λ t. mass_at equal ν (times_straight z (cond t None (Some (sorting_sign (shifted α), from_beta (sorted_falling (shifted α))))))) h in
+        omega (arith, ints)
+    by false h =
+        subst (λ (xs : WholeTerms). pos (mass_at equal ν xs) ≤ℤ cond (eqb (size parts) (size ν)) (pos (nat_abs z)) (pos 0)) (sym (straight_term-some z (shifted α) h))
+        (here (equal ν (from_beta (sorted_falling (shifted α)))) refl h)
+
+-- ---- the terms of one label
+
+mass-total : (ν : List ℕ) (es : WholeTerms) → pos (mass_at equal ν es) ≡ total (λ (t : List ℕ × ℤ). pos (cond (equal ν t.0) (nat_abs t.1) 0)) es
+mass-total ν [] = refl
+mass-total ν (e ∷ es) = let r = mass-total ν es in omega (arith, ints)
+
+mass-each : {A : Type 0} (ν : List ℕ) (h : A → WholeTerms) (xs : List A) → pos (mass_at equal ν (flat_map h xs)) ≡ total (λ (x : A). pos (mass_at equal ν (h x))) xs
+mass-each {A} ν h xs =
+    mass-total ν (flat_map h xs)
+    ∙ total_each (λ (t : List ℕ × ℤ). pos (cond (equal ν t.0) (nat_abs t.1) 0)) h xs
+    ∙ total_ext (λ (x : A). total (λ (t : List ℕ × ℤ). pos (cond (equal ν t.0) (nat_abs t.1) 0)) (h x)) (λ (x : A). pos (mass_at equal ν (h x))) (λ x. sym (mass-total ν (h x))) xs
+
+label-within : (N n : ℕ) (ν : List ℕ) (z : ℤ) (parts : List ℕ) → nat_abs z * factorials parts ≤ N * factorial (size parts)
+    → pos (mass_at equal ν (straight_terms z parts n)) ≤ℤ (pos N *ℤ arranged (size ν) n parts)
+label-within N n ν z parts h =
+    let e = mass-each ν (λ (α : List ℕ). straight_term z (shifted α)) (arrangements parts n) in
+    let m = total-mono (λ (α : List ℕ). pos (mass_at equal ν (straight_term z (shifted α)))) (λ (α : List ℕ). cond (eqb (size parts) (size ν)) (pos (nat_abs z)) (pos 0)) (arrangements parts n)
+    (λ α i. one-within ν z parts n α (arrangement parts n α i)) in
+    let b = by (cases_eq (size parts) (size ν)) in
+    omega (arith, ints)
+  where
+    by : (size parts ≡ size ν) ⊎ (size parts ≡ size ν → ⊥) → total (λ (α : List ℕ). cond (eqb (size parts) (size ν)) (pos (nat_abs z)) (pos 0)) (arrangements parts n) ≤ℤ (pos N *ℤ arranged (size ν) n parts)
+    by (inl e) =
+        subst (λ b. total (λ (α : List ℕ). cond b (pos (nat_abs z)) (pos 0)) (arrangements parts n) ≤ℤ (pos N *ℤ cond b (total (multinomial (size ν) n) (arrangements parts n)) (pos 0))) (sym (eq-eqb (size parts) (size ν) e))
+        (subst (λ s. total (λ (α : List ℕ). pos (nat_abs z)) (arrangements parts n) ≤ℤ (pos N *ℤ total (multinomial s n) (arrangements parts n))) e (arranged-within (nat_abs z) N n parts h))
+    by (inr d) =
+        subst (λ b. total (λ (α : List ℕ). cond b (pos (nat_abs z)) (pos 0)) (arrangements parts n) ≤ℤ (pos N *ℤ cond b (total (multinomial (size ν) n) (arrangements parts n)) (pos 0))) (sym (ne_eqb (size parts) (size ν) d))
+        (let y = total_zero {A = List ℕ} (arrangements parts n) in let x = *ℤ-zero (pos N) in omega (arith, ints))
+
+-- ---- the bound for a list of terms
+
+abbrev sum_of : ℕ → ℕ → Terms (List ℕ) → ℤ
+sum_of s n terms = total (λ (t : List ℕ × Fraction). arranged s n t.0) terms
+
+number-bound : (N D : ℕ) (terms : Terms (List ℕ)) → IsBounded N D terms → (t : List ℕ × Fraction) → Among t terms → nat_abs (scaled D t.1) * factorials t.0 ≤ N * factorial (size t.0)
+number-bound N D terms b t m =
+    subst (λ k. k * factorials t.0 ≤ N * factorial (size t.0)) (sym (unsigned_abs-mul t.1.0 (pos (D / t.1.1)))) (b t m).1
+
+terms-within : (N D n : ℕ) (ν : List ℕ) (terms : Terms (List ℕ)) → IsBounded N D terms → pos (mass_at equal ν (straightened_list D n terms)) ≤ℤ (pos N *ℤ sum_of (size ν) n terms)
+terms-within N D n ν terms b =
+    let e = mass-each ν (λ (t : List ℕ × Fraction). straight_terms (scaled D t.1) t.0 n) terms in
+    let m = total-mono (λ (t : List ℕ × Fraction). pos (mass_at equal ν (straight_terms (scaled D t.1) t.0 n))) (λ (t : List ℕ × Fraction). pos N *ℤ arranged (size ν) n t.0) terms
+    (λ t i. label-within N n ν (scaled D t.1) t.0 (number-bound N D terms b t i)) in
+    let s = total_scale (pos N) (λ (t : List ℕ × Fraction). arranged (size ν) n t.0) terms in
+    omega (arith, ints)
+
+power-more : (n s j : ℕ) → 0 < n → n ^ s ≤ n ^ (j + s)
+power-more n s zero p = let e : 0 + s ≡ s = omega arith in subst (λ k. n ^ s ≤ n ^ k) (sym e) (omega arith)
+power-more n s (suc j) p =
+    let e : suc j + s ≡ suc (j + s) = omega arith in
+    let r = power-more n s j p in
+    let m : n ^ (j + s) * 1 ≤ n ^ (j + s) * n = mul-le-mul_left (n ^ (j + s)) p in
+    let x = pow-suc n (j + s) in
+    subst (λ k. n ^ s ≤ n ^ k) (sym e) (omega arith)
+
+power-within : (n s : ℕ) → s ≤ n → n ^ s ≤ growth Basis.schurs n
+power-within zero s h = let e : s ≡ 0 = omega arith in subst (λ k. 0 ^ k ≤ 1) (sym e) (omega (arith, pow-zero 0))
+power-within (suc d) s h = let e : (suc d - s) + s ≡ suc d = omega arith in subst (λ k. suc d ^ s ≤ suc d ^ k) e (power-more (suc d) s (suc d - s) (omega arith))
+
+scaled-le : (N : ℕ) (x : ℤ) (k : ℕ) → x ≤ℤ pos k → (pos N *ℤ x) ≤ℤ pos (N * k)
+scaled-le zero x k h = let e = zero-*ℤ x in omega (arith, ints)
+scaled-le (suc N) x k h =
+    let r = scaled-le N x k h in
+    let d = distributes_right (pos 1) (pos N) x in
+    omega (arith, ints)
+
+pub list-within : (N D n : ℕ) (terms : Terms (List ℕ)) → IsFractionTable terms → AreWithin n terms → IsBounded N D terms → (ν : List ℕ) → mass_at equal ν (straightened_list D n terms) ≤ N * growth Basis.schurs n
+list-within N D n terms is w b ν = by (cases_lt n (size ν))
+  where
+    by : (n < size ν) ⊎ (size ν ≤ n) → mass_at equal ν (straightened_list D n terms) ≤ N * growth Basis.schurs n
+    by (inl l) =
+        let t = terms-within N D n ν terms b in
+        let z : sum_of (size ν) n terms ≡ pos 0 =
+        total_among (λ (t : List ℕ × Fraction). arranged (size ν) n t.0) (λ (t : List ℕ × Fraction). pos 0) terms
+        (λ t m. let s = w t m in ap (λ b. cond b (total (multinomial (size ν) n) (arrangements t.0 n)) (pos 0)) (ne_eqb (size t.0) (size ν) (λ e. omega arith)))
+        ∙ total_zero {A = List ℕ × Fraction} terms in
+        let x = ap (λ y. pos N *ℤ y) z ∙ *ℤ-zero (pos N) in
+        omega (arith, ints)
+    by (inr l) =
+        let t = terms-within N D n ν terms b in
+        let m = multinomials-within (size ν) n (map (λ (t : List ℕ × Fraction). t.0) terms) (Once-keys terms is) in
+        let e = total_map (arranged (size ν) n) (λ (t : List ℕ × Fraction). t.0) terms in
+        let p = power-within n (size ν) l in
+        let u : N * n ^ size ν ≤ N * growth Basis.schurs n = mul-le-mul_left N p in
+        let v : sum_of (size ν) n terms ≤ℤ pos (n ^ size ν) = omega (arith, ints) in
+        let y = scaled-le N (sum_of (size ν) n terms) (n ^ size ν) v in
+        omega (arith, ints)
+
+-- ---- a number that is refused exceeds the bound
+
+same_growth : (d : ℕ) → growth Basis.schurs d ≡ growth Basis.monomials d
+same_growth zero = refl
+same_growth (suc d) = refl
+
+pub large-start : (N D n : ℕ) (terms : Terms (List ℕ)) → IsFractionTable terms → AreWithin n terms → IsBounded N D terms → IsPast D n terms → 2 ^ 127 ≤ N * growth Basis.schurs n
+large-start N D n terms is w b (inl (t, m, h)) =
+    let k = number-bound N D terms b t m in
+    let f = factorials-positive t.0 in
+    let x : nat_abs (scaled D t.1) * 1 ≤ nat_abs (scaled D t.1) * factorials t.0 = mul-le-mul_left (nat_abs (scaled D t.1)) f in
+    let s = w t m in
+    let g = factorial-within_growth (size t.0) in
+    let i = growth-mono (size t.0) n s in
+    let y : N * factorial (size t.0) ≤ N * growth Basis.monomials n = mul-le-mul_left N (let z : factorial (size t.0) ≤ growth Basis.monomials n = omega arith in z) in
+    let e = ap (λ q. N * q) (same_growth n) in
+    omega arith
+large-start N D n terms is w b (inr (ν, h)) = let l = list-within N D n terms is w b ν in let o = over_only_within equal ν [] in omega arith
+
+pub large-schur : (N D n d : ℕ) → 1 ≤ D → n ≤ d → 2 ^ 127 ≤ N * growth Basis.schurs n → 2 ^ 127 ≤ N * D * growth Basis.schurs d
+large-schur N D n d p l h =
+    let g = growth-mono n d l in
+    let x = same_growth n in
+    let y = same_growth d in
+    let a : N * growth Basis.schurs n ≤ N * growth Basis.schurs d = mul-le-mul_left N (let z : growth Basis.schurs n ≤ growth Basis.schurs d = omega arith in z) in
+    let b : (N * growth Basis.schurs d) * 1 ≤ (N * growth Basis.schurs d) * D = mul-le-mul_left (N * growth Basis.schurs d) p in
+    closing (2 ^ 127) N (growth Basis.schurs n) (growth Basis.schurs d) D h a b
+  where
+    closing : (n N g k D : ℕ) → n ≤ N * g → N * g ≤ N * k → (N * k) * 1 ≤ (N * k) * D → n ≤ N * D * k
+    closing n N g k D a b c = let e : (N * k) * D ≡ N * D * k = omega arith in omega arith
+
+pub large-denominator_schur : (N D d : ℕ) → 1 ≤ N → 2 ^ 127 ≤ D → 2 ^ 127 ≤ N * D * growth Basis.schurs d
+large-denominator_schur N D d p h =
+    let g = growth-positive d in
+    let y = same_growth d in
+    let a : 1 * D ≤ N * D = mul-le-mul_right D p in
+    let b : (N * D) * 1 ≤ (N * D) * growth Basis.schurs d = mul-le-mul_left (N * D) (let z : 1 ≤ growth Basis.schurs d = omega arith in z) in
+    omega arith

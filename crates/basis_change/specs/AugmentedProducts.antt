@@ -1,0 +1,86 @@
+-- Sums on the way from one basis to another: each term is the product of a basis polynomial of the target and an
+-- augmented monomial.
+use Rattle.std.specs.Prelude.{ℕ, ◌+◌, ◌-◌, ◌^◌, ◌<◌, ◌≤◌, nat_eq, Bool, ◌&&◌, cond}
+use Rattle.std.specs.Prelude.{pos, negsuc, ℤ, List, [], ◌∷◌, ◌++◌, map, length, take}
+use Rattle.std.specs.Cmp.Lexicographic.{pointwise}
+use Rattle.coeff_rings.specs.Fractions.{whole}
+use Rattle.sym_model.specs.LabelLimits.{is_pair_label}
+use Rattle.sym_model.specs.Partition.{IsPartition, size, rows, part}
+use Rattle.sym_model.specs.RaisedPart.{raise}
+use Rattle.sym_model.specs.WholeTerms.{WholeTerms}
+use Rattle.basis_change_laws.specs.JoinedLists.{merged, row, IsLow}
+use Rattle.linear_combinations.specs.Entries.{IsCombination}
+use Rattle.linear_combinations.specs.Gains.{WholeTermsOf, HaveLabels, each_with, mass}
+use Rattle.family_lists.specs.FactorLists.{list_at}
+
+-- the partition of the target's polynomial, and that of the augmented monomial
+abbrev pub MixedLabel : Type 0
+MixedLabel = List ℕ × List ℕ
+
+-- a list of terms: labels with their coefficients
+abbrev pub Mixed : Type 0
+Mixed = WholeTermsOf MixedLabel
+
+-- whether two labels are the same
+abbrev pub equal : MixedLabel → MixedLabel → Bool
+equal a b = pointwise nat_eq a.0 b.0 && pointwise nat_eq a.1 b.1
+
+-- the list is a table: no label occurs twice, and no coefficient is 0
+abbrev pub IsMixedTable : Mixed → Type 0
+IsMixedTable terms = IsCombination equal is_pair_label whole terms
+
+-- both lists are partitions, of at most d cells together, and that of the augmented monomial has at
+-- most `most` parts
+pub record IsReady (d most : ℕ) (label : MixedLabel) : Type 0 where
+  pub converted : IsPartition label.0
+  pub augmented : IsPartition label.1
+  pub low : size label.0 + size label.1 ≤ d
+  pub few : length label.1 ≤ most
+
+-- the list has absolute values that add up to at most 2^k - 1, and partitions of at most k cells
+pub record IsSmall (k : ℕ) (terms : WholeTerms) : Type 0 where
+  pub few : mass terms + 1 ≤ 2 ^ k
+  pub low : HaveLabels (IsLow k) terms
+
+-- the list at each index i is small for k = i + 1, as is p_k in the target
+abbrev pub AreSmall : List WholeTerms → Type 0
+AreSmall lists = (i : ℕ) → i < length lists → IsSmall (i + 1) (list_at lists i)
+
+-- each term of a list, times the target's polynomial of a partition, times an augmented monomial
+abbrev pub products : WholeTerms → List ℕ → List ℕ → Mixed
+products factor converted augmented =
+    map (λ (t : List ℕ × ℤ). ((merged converted t.0, augmented), t.1)) factor
+
+-- for each of the numbers b, the augmented monomial with one part b replaced by a + b
+abbrev pub raised : List ℕ → ℕ → List ℕ → List ℕ → List MixedLabel
+raised converted a augmented numbers = map (λ (b : ℕ). (converted, raise a b augmented)) numbers
+
+-- an augmented monomial with its last part a converted, which is a smallest one: with `rest` the other parts, p_a
+-- times the augmented monomial of `rest`, less those in which a part of `rest` is increased by a; the lists are those
+-- of p_1, p_2 and so on
+abbrev pub conversion_of : List WholeTerms → List ℕ → List ℕ → Mixed
+conversion_of factors converted [] = ((converted, []), pos 1) ∷ []
+conversion_of factors converted (b ∷ others) =
+    let parts = b ∷ others in
+    let a = part parts (rows parts) in
+    let rest = take (rows parts - 1) parts in
+    products (list_at factors (a - 1)) converted rest
+    ++ each_with (negsuc 0) (raised converted a rest rest)
+
+-- the terms that replace a label: its augmented monomial is converted if it has `count` parts; otherwise the label
+-- stays
+abbrev pub conversion : List WholeTerms → ℕ → MixedLabel → Mixed
+conversion factors count label =
+    cond (nat_eq (length label.1) count) (conversion_of factors label.0 label.1)
+    ((label, pos 1) ∷ [])
+
+-- the label can be converted with these lists of p_1, p_2 and so on
+pub record IsConvertible (factors : List WholeTerms) (most : ℕ) (label : MixedLabel) : Type 0 where
+  pub small : AreSmall factors
+  pub lists : length factors ≤ 15
+  pub ready : IsReady (length factors) most label
+
+-- a label whose augmented monomial has at most one part, as terms of the target
+abbrev pub in_target : List WholeTerms → MixedLabel → WholeTerms
+in_target factors (converted, []) = (converted, pos 1) ∷ []
+in_target factors (converted, (a ∷ rest)) = row converted (pos 1) (list_at factors (a - 1))

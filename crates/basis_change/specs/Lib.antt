@@ -1,0 +1,10 @@
+pub mod SpecialRimHooks
+pub mod AugmentedProducts
+pub mod Factors
+pub mod Costs
+pub mod Clearing
+pub mod Arranging
+pub mod KeptLists
+pub mod Straightening
+pub mod ClearedAnswer
+pub mod RimHooks

@@ -1,0 +1,64 @@
+//! Special rim hooks added below shapes.
+ghost use Rattle.std.specs.Prelude.{◌≡◌, ◌<◌, ◌≤◌, ◌^◌, ◌*ℤ◌, nat_abs, nat_eq, OnOk, IsErrOf};
+ghost use Rattle.std.specs.Prelude.{MatchOption};
+ghost use Rattle.sym_model.specs.PlaceOrders.{minus_one_to};
+ghost use Rattle.linear_combinations.specs.Gains.{Gains, Overflows, scaled};
+ghost use Rattle.basis_change.specs.RimHooks.{hook};
+
+use beta_sets::{BetaSet, Shapes};
+use calc_base::SumFault;
+use coeff_rings::{Int, Ring};
+use linear_combinations::Rule;
+
+/// The number times (-1)^`times`; `None` if it is too large.
+fn turned(c: Int, times: u32) -> Option<Int>
+    ensures { MatchOption result (2 ^ 127 ≤ nat_abs c) (λ z. z ≡ minus_one_to times *ℤ c) }
+{
+    if times % 2 == 0 { Some(c) } else { c.neg() }
+}
+
+/// Adds c times the result of adding a rim hook of `a` cells that begins in the row below those of
+/// the beta set: the number `a` joins theirs. The last rows of the set may be empty.
+fn add_hook(sum: &mut Shapes, beta: BetaSet, a: u16, c: Int) -> Result<(), SumFault>
+    requires few { a ≤ 20 }
+    requires low { beta < 2 ^ 63 }
+    ensures gains { OnOk result (Gains sum.old (scaled c (hook a beta)) sum.new) }
+    ensures large { IsErrOf result SumFault.Large
+        → Overflows nat_eq sum.old (scaled c (hook a beta)) }
+{
+    let others = beta.raised();
+    if others.has(a) {
+        return Ok(());
+    }
+    let passed = others.len() - others.greater(a);
+    let Some(number) = turned(c, passed) else {
+        return Err(SumFault::Large);
+    };
+    sum.add_owned(others.with(a), number)
+}
+
+/// The rule that adds each rim hook of `cells` cells that begins below a shape: in the next row, or
+/// with fewer than `cells` empty rows between.
+#[derive(Drop)]
+pub(crate) struct HooksBelow {
+    pub cells: u16,
+}
+
+impl Rule<BetaSet, BetaSet> for HooksBelow {
+    ghost use Rattle.std.specs.Prelude.{◌-◌, ◌≤◌};
+    ghost use Rattle.beta_sets.specs.BetaSets.{IsShape};
+    ghost use Rattle.basis_change.specs.RimHooks.{hooks_below};
+
+    ghost takes = { λ rule set. (rule.cells ≤ 20) × IsShape (20 - rule.cells) set };
+
+    ghost image = { λ rule set. hooks_below rule.cells set };
+
+    fn add_image(&self, label: &BetaSet, c: Int, sum: &mut Shapes) -> Result<(), SumFault> {
+        let mut beta = *label;
+        for _ in 0..self.cells {
+            add_hook(sum, beta, self.cells, c)?;
+            beta = beta.lengthened();
+        }
+        Ok(())
+    }
+}

@@ -1,0 +1,158 @@
+-- The nodes of an expression in postorder: they are found one by one, and they evaluate the expression.
+use Rattle.std.proofs.Common.{◌≡◌, ℕ, ◌<◌, List, [], ◌∷◌, ◌++◌, length, reverse, map, take, drop, suc, append_assoc, append-nil, sym, ◌∙◌, ap, ap₂, subst, refl, arith}
+use Rattle.std.specs.List.{All}
+use Rattle.std.specs.Prelude.{flat_map}
+use Rattle.std.proofs.lemmas.Grind.{flat_map-append}
+use Rattle.std.proofs.Math.Seq.{take-append_seam, drop-append_seam}
+use Rattle.std.proofs.lemmas.List.{map-append, reverse-append, length-append}
+use Rattle.std.proofs.lemmas.List.Elements.{All-nil, All-cons, All-head, All-tail, All-append}
+use Rattle.expression_reading.specs.declared.expr.Expr.{Expr, Number, Fraction, Atom, Negation', Sum', Difference', Product'}
+use Rattle.basis_expand.specs.Postorder.{operands, postorder, AreValues, EndsWith, Evaluates}
+
+two : (xs ys : List Expr) (e : Expr) → xs ++ (ys ++ e ∷ []) ≡ (xs ++ (ys ++ [])) ++ e ∷ []
+two xs ys e = sym (append_assoc xs (ys ++ []) (e ∷ []) ∙ ap (λ (zs : List Expr). xs ++ (zs ++ e ∷ [])) (append-nil ys))
+
+-- a node comes after those of its operands
+postorder-operands : (e : Expr) → postorder e ≡ flat_map postorder (operands e) ++ e ∷ []
+postorder-operands (Number num) = refl
+postorder-operands (Fraction num den) = refl
+postorder-operands (Atom basis label) = refl
+postorder-operands (Negation' p inner) = one (postorder inner) (Negation' p inner)
+  where
+    one : (xs : List Expr) (e : Expr) → xs ++ e ∷ [] ≡ (xs ++ []) ++ e ∷ []
+    one xs e = ap (λ (ys : List Expr). ys ++ e ∷ []) (sym (append-nil xs))
+postorder-operands (Sum' p left q right) = two (postorder left) (postorder right) (Sum' p left q right)
+postorder-operands (Difference' p left q right) = two (postorder left) (postorder right) (Difference' p left q right)
+postorder-operands (Product' p left q right) = two (postorder left) (postorder right) (Product' p left q right)
+
+-- in postorder the last waiting node comes after its operands
+postorder-last : (waits : List Expr) (node : Expr) → flat_map postorder (waits ++ node ∷ []) ≡ flat_map postorder (waits ++ operands node) ++ node ∷ []
+postorder-last waits node =
+    flat_map-append postorder waits (node ∷ [])
+    ∙ ap (λ (xs : List Expr). flat_map postorder waits ++ xs) (append-nil (postorder node) ∙ postorder-operands node)
+    ∙ sym (append_assoc (flat_map postorder waits) (flat_map postorder (operands node)) (node ∷ []))
+    ∙ ap (λ (xs : List Expr). xs ++ node ∷ []) (sym (flat_map-append postorder waits (operands node)))
+
+-- the nodes of a tree in postorder are those of the waiting expressions, followed by the visited nodes, the last one first
+module _ {A : Type 0} (now : A → Expr) where
+  pub nodes-first : (waiting nodes : List A) (tree : A) → waiting ≡ tree ∷ [] → nodes ≡ []
+      → flat_map postorder (map now waiting) ++ map now (reverse nodes) ≡ postorder (now tree)
+  nodes-first waiting nodes tree e f =
+      ap₂ (λ (xs ys : List A). flat_map postorder (map now xs) ++ map now (reverse ys)) e f
+      ∙ append-nil (postorder (now tree) ++ []) ∙ append-nil (postorder (now tree))
+
+  waiting-next : (waiting waits more : List A) (node : A) → waiting ≡ waits ++ node ∷ [] → map now more ≡ map now waits ++ operands (now node)
+      → flat_map postorder (map now waiting) ≡ flat_map postorder (map now more) ++ now node ∷ []
+  waiting-next waiting waits more node e f =
+      ap (λ (xs : List A). flat_map postorder (map now xs)) e ∙ ap (flat_map postorder) (map-append now waits (node ∷ []))
+      ∙ postorder-last (map now waits) (now node) ∙ ap (λ (xs : List Expr). flat_map postorder xs ++ now node ∷ []) (sym f)
+
+  pub nodes-next : (waiting waits more met nodes : List A) (node : A) (all : List Expr)
+      → waiting ≡ waits ++ node ∷ [] → map now more ≡ map now waits ++ operands (now node) → nodes ≡ met ++ node ∷ []
+      → flat_map postorder (map now waiting) ++ map now (reverse met) ≡ all
+      → flat_map postorder (map now more) ++ map now (reverse nodes) ≡ all
+  nodes-next waiting waits more met nodes node all e f g h =
+      ap (λ (xs : List Expr). flat_map postorder (map now more) ++ xs)
+      (ap (λ (xs : List A). map now (reverse xs)) g ∙ ap (map now) (reverse-append met (node ∷ [])))
+      ∙ sym (append_assoc (flat_map postorder (map now more)) (now node ∷ []) (map now (reverse met)))
+      ∙ ap (λ (xs : List Expr). xs ++ map now (reverse met)) (sym (waiting-next waiting waits more node e f)) ∙ h
+
+  pub nodes-fewer : (waiting waits more : List A) (node : A) → waiting ≡ waits ++ node ∷ [] → map now more ≡ map now waits ++ operands (now node)
+      → length (flat_map postorder (map now more)) < length (flat_map postorder (map now waiting))
+  nodes-fewer waiting waits more node e f =
+      let is = ap length (waiting-next waiting waits more node e f) ∙ length-append (flat_map postorder (map now more)) (now node ∷ []) in omega arith
+
+  pub nodes-all : (waiting met nodes : List A) (all : List Expr) → waiting ≡ [] → nodes ≡ reverse met
+      → flat_map postorder (map now waiting) ++ map now (reverse met) ≡ all → map now nodes ≡ all
+  nodes-all waiting met nodes all e f h =
+      ap (map now) f ∙ ap (λ (xs : List A). flat_map postorder (map now xs) ++ map now (reverse met)) (sym e) ∙ h
+
+both : (P : Expr → Type 0) (left right e : Expr) → All P (postorder left) → All P (postorder right) → P e → All P (postorder left ++ (postorder right ++ e ∷ []))
+both P left right e h k p = All-append P (postorder left) (postorder right ++ e ∷ []) h (All-append P (postorder right) (e ∷ []) k (All-cons P e [] p (All-nil P)))
+
+-- if a property of an expression holds for its operands, it holds for all nodes
+pub All-postorder : (P : Expr → Type 0) → ((e : Expr) → P e → All P (operands e)) → (e : Expr) → P e → All P (postorder e)
+All-postorder P on (Number num) h = All-cons P (Number num) [] h (All-nil P)
+All-postorder P on (Fraction num den) h = All-cons P (Fraction num den) [] h (All-nil P)
+All-postorder P on (Atom basis label) h = All-cons P (Atom basis label) [] h (All-nil P)
+All-postorder P on (Negation' p inner) h =
+    All-append P (postorder inner) (Negation' p inner ∷ []) (All-postorder P on inner (All-head P inner [] (on (Negation' p inner) h)))
+    (All-cons P (Negation' p inner) [] h (All-nil P))
+All-postorder P on (Sum' p left q right) h =
+    let s = on (Sum' p left q right) h in
+    both P left right (Sum' p left q right) (All-postorder P on left (All-head P left (right ∷ []) s)) (All-postorder P on right (All-head P right [] (All-tail P left (right ∷ []) s))) h
+All-postorder P on (Difference' p left q right) h =
+    let s = on (Difference' p left q right) h in
+    both P left right (Difference' p left q right) (All-postorder P on left (All-head P left (right ∷ []) s)) (All-postorder P on right (All-head P right [] (All-tail P left (right ∷ []) s))) h
+All-postorder P on (Product' p left q right) h =
+    let s = on (Product' p left q right) h in
+    both P left right (Product' p left q right) (All-postorder P on left (All-head P left (right ∷ []) s)) (All-postorder P on right (All-head P right [] (All-tail P left (right ∷ []) s))) h
+
+module _ {V : Type 0} (R : Expr → V → Type 0) where
+  -- a node with two operands is evaluated after its operands
+  evaluates-two : (goal left right node : Expr) (nodes : List Expr) (below : List V) → operands node ≡ left ∷ right ∷ []
+      → ((xs : List Expr) (at : List V) → ((v : V) → R left v → Evaluates R goal xs (at ++ v ∷ [])) → Evaluates R goal (postorder left ++ xs) at)
+      → ((xs : List Expr) (at : List V) → ((v : V) → R right v → Evaluates R goal xs (at ++ v ∷ [])) → Evaluates R goal (postorder right ++ xs) at)
+      → ((v : V) → R node v → Evaluates R goal nodes (below ++ v ∷ []))
+      → Evaluates R goal ((postorder left ++ (postorder right ++ node ∷ [])) ++ nodes) below
+  evaluates-two goal left right node nodes below is on_left on_right h =
+      subst (λ (xs : List Expr). Evaluates R goal xs below)
+      (sym (append_assoc (postorder left) (postorder right ++ node ∷ []) nodes ∙ ap (λ (xs : List Expr). postorder left ++ xs) (append_assoc (postorder right) (node ∷ []) nodes)))
+      (on_left (postorder right ++ (node ∷ nodes)) below (λ v k.
+      on_right (node ∷ nodes) (below ++ v ∷ []) (λ w l.
+      (below, (v ∷ w ∷ [], append_assoc below (v ∷ []) (w ∷ []), subst (λ (es : List Expr). AreValues R es (v ∷ w ∷ [])) (sym is) (k, (l, tt))), h))))
+
+  -- if `nodes` can be evaluated over `below` and any value of e, then the nodes of e followed by `nodes` can be
+  -- evaluated over `below`
+  pub evaluates-part : (goal e : Expr) (nodes : List Expr) (below : List V) → ((v : V) → R e v → Evaluates R goal nodes (below ++ v ∷ []))
+      → Evaluates R goal (postorder e ++ nodes) below
+  evaluates-part goal (Number num) nodes below h = (below, ([], sym (append-nil below), tt), h)
+  evaluates-part goal (Fraction num den) nodes below h = (below, ([], sym (append-nil below), tt), h)
+  evaluates-part goal (Atom basis label) nodes below h = (below, ([], sym (append-nil below), tt), h)
+  evaluates-part goal (Negation' p inner) nodes below h =
+      subst (λ (xs : List Expr). Evaluates R goal xs below) (sym (append_assoc (postorder inner) (Negation' p inner ∷ []) nodes))
+      (evaluates-part goal inner (Negation' p inner ∷ nodes) below (λ v k. (below, (v ∷ [], refl, (k, tt)), h)))
+  evaluates-part goal (Sum' p left q right) nodes below h =
+      evaluates-two goal left right (Sum' p left q right) nodes below refl (evaluates-part goal left) (evaluates-part goal right) h
+  evaluates-part goal (Difference' p left q right) nodes below h =
+      evaluates-two goal left right (Difference' p left q right) nodes below refl (evaluates-part goal left) (evaluates-part goal right) h
+  evaluates-part goal (Product' p left q right) nodes below h =
+      evaluates-two goal left right (Product' p left q right) nodes below refl (evaluates-part goal left) (evaluates-part goal right) h
+
+  -- an expression is evaluated by its nodes
+  pub evaluates-all : (e : Expr) → Evaluates R e (postorder e) []
+  evaluates-all e = subst (λ (xs : List Expr). Evaluates R e xs []) (append-nil (postorder e)) (evaluates-part e e [] [] (λ v h. (v ∷ [], refl, (h, tt))))
+
+  -- ---- the values of operands, which are removed from the stack
+
+  -- the number of values is the number of expressions
+  length-values : (exprs : List Expr) (values : List V) → AreValues R exprs values → length values ≡ length exprs
+  length-values [] [] h = refl
+  length-values [] (v ∷ values) h = elim h [ ]
+  length-values (e ∷ exprs) [] h = elim h [ ]
+  length-values (e ∷ exprs) (v ∷ values) h = ap suc (length-values exprs values h.1)
+
+  same_ends : (xs ys us vs : List V) → length us ≡ length vs → xs ++ us ≡ ys ++ vs → (xs ≡ ys) × (us ≡ vs)
+  same_ends xs ys us vs n e =
+      let m = sym (length-append xs us) ∙ ap length e ∙ length-append ys vs in
+      let k : length xs ≡ length ys = omega arith in (
+        sym (take-append_seam xs us) ∙ ap₂ (λ (i : ℕ) (zs : List V). take i zs) k e ∙ take-append_seam ys vs,
+        sym (drop-append_seam xs us) ∙ ap₂ (λ (i : ℕ) (zs : List V). drop i zs) k e ∙ drop-append_seam ys vs,
+      )
+
+  -- the values below those of the expressions are determined
+  same-below : (exprs : List Expr) (a b values : List V) → EndsWith R exprs a values → EndsWith R exprs b values → a ≡ b
+  same-below exprs a b values (us, e, h) (vs, f, k) =
+      (same_ends a b us vs (length-values exprs us h ∙ sym (length-values exprs vs k)) (sym e ∙ f)).0
+
+  -- the removed values are those of the expressions
+  pub values-taken : (exprs : List Expr) (below values after taken : List V) → length taken ≡ length exprs → EndsWith R exprs below values → values ≡ after ++ taken
+      → AreValues R exprs taken
+  values-taken exprs below values after taken n (given, is, are) e =
+      subst (AreValues R exprs) (same_ends below after given taken (length-values exprs given are ∙ sym n) (sym is ∙ e)).1 are
+
+  -- evaluating a node replaces the values of its operands by its own
+  pub evaluates-next : (goal node : Expr) (nodes : List Expr) (values after more : List V) (v : V) → Evaluates R goal (node ∷ nodes) values
+      → EndsWith R (operands node) after values → R node v → more ≡ after ++ v ∷ [] → Evaluates R goal nodes more
+  evaluates-next goal node nodes values after more v (below, ends, on) took h e =
+      subst (Evaluates R goal nodes) (ap (λ (xs : List V). xs ++ v ∷ []) (same-below (operands node) below after values ends took) ∙ sym e) (on v h)

@@ -1,0 +1,23 @@
+use Rattle.std.proofs.Common.{◌≡◌, ℕ, ◌*◌, ◌++◌, map, ◌*ℤ◌}
+use Rattle.std.specs.Prelude.{nat_eq}
+use Rattle.std.specs.Cmp.Lexicographic.{pointwise}
+use Rattle.std.specs.Map.Iter.{deref_pair}
+use Rattle.coeff_rings.specs.Fractions.{scaled}
+use Rattle.sym_model.specs.LabelLimits.{is_label}
+use Rattle.sym_model.specs.WholeTerms.{WholeTerms}
+use Rattle.linear_combinations.specs.Cleared.{IsDenominator, IsCommonDenominator, AreCleared}
+use Rattle.linear_combinations.specs.Cleared.{GainsCleared}
+use Rattle.basis_expand.specs.SchurLists.{ComeTo, row_at}
+use Rattle.basis_expand.proofs.schur_products.add_term_product.Given as goal
+
+-- the products with the terms so far are added, and the terms so far and those still to come are all terms of the list
+abbrev pub invariant-loop-other : goal.invariant-loop-other
+invariant-loop-other l = record {
+  sums :
+      (d e : ℕ) → IsDenominator d l.c → IsCommonDenominator e l.right
+      → AreCleared (pointwise nat_eq) (d * e) l.fn.sum → (gained : WholeTerms)
+      × ComeTo gained
+      (λ n φ. scaled d l.c *ℤ row_at l.left e (map deref_pair l.yielded) n φ)
+      × GainsCleared (pointwise nat_eq) is_label (d * e) l.fn.sum gained l.sum;
+  so_far : map deref_pair l.yielded ++ l.other-iterator ≡ l.initial.other-iterator;
+}

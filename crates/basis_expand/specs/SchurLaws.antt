@@ -1,0 +1,30 @@
+-- The laws of the target s.
+use Rattle.std.specs.Prelude.{ℕ, List, pos}
+use Rattle.sym_model.specs.Polynomial.{Poly, Same, scale}
+use Rattle.sym_model.specs.Expansion.{schurs, Terms, denominators, value, IsExpansionOf}
+use Rattle.sym_model.specs.Expression.{Tree, negation, sum, difference, denominator, cleared_value}
+use Rattle.sym_model.proofs.Polynomials.{Same_trans, scale_respects}
+use Rattle.basis_expand.specs.TargetLaws.{difference-value}
+use Rattle.basis_expand.specs.declared.operand.Operand.{Operand}
+use Rattle.basis_expand.specs.declared.operand.Operand.TheVariants.{Atom, Expanded}
+use Rattle.basis_expand.specs.Operands.{IsOperand}
+
+-- an expansion of f expands every polynomial that is the same as f
+pub expansion_respects : (terms : Terms (List ℕ)) (n : ℕ) (f g : Poly) (d : ℕ) → Same f g
+    → IsExpansionOf schurs terms n f d → IsExpansionOf schurs terms n g d
+expansion_respects terms n f g d e h = record {
+  positive = h.positive;
+  equal =
+      Same_trans (scale (pos d) (value schurs terms n)) (scale (pos (denominators terms)) f)
+      (scale (pos (denominators terms)) g)
+      h.equal (scale_respects (pos (denominators terms)) f g e);
+}
+
+-- a value of the sum of e and -f is a value of the difference e - f
+pub operand-difference : (e f : Tree) (v : Operand) → IsOperand (sum e (negation f)) v
+    → IsOperand (difference e f) v
+operand-difference e f (Atom basis label) h = cc
+operand-difference e f (Expanded list) h =
+    λ n. expansion_respects list n (cleared_value (sum e (negation f)) n)
+    (cleared_value (difference e f) n) (denominator (difference e f))
+    (difference-value e f n) (h n)

@@ -1,0 +1,40 @@
+-- Lists of terms in Schur polynomials: the expressions they expand, and their values while products are added.
+use Rattle.std.specs.Prelude.{◌≡◌, ℕ, nat_eq, ℤ, List, []}
+use Rattle.std.specs.Cmp.Lexicographic.{pointwise}
+use Rattle.sym_model.specs.Polynomial.{pair, times}
+use Rattle.sym_model.specs.Schur.{schur}
+use Rattle.sym_model.specs.Expansion.{schurs, Fraction, Terms, IsExpansionOf}
+use Rattle.sym_model.specs.Expression.{Tree, cleared_value, denominator}
+use Rattle.sym_model.specs.WholeTerms.{WholeTerms}
+use Rattle.sparse_polys.specs.Combination.{HasMoreAt}
+use Rattle.monomial_laws.specs.ExpressionTerms.{over}
+use Rattle.sparse_polys.specs.Tables.{IsFractionTable}
+
+-- the list is the expansion of the expression in Schur polynomials, in every number of variables
+abbrev pub StandsFor : Tree → Terms (List ℕ) → Type 0
+StandsFor e terms = (n : ℕ) → IsExpansionOf schurs terms n (cleared_value e n) (denominator e)
+
+-- the list has the coefficient c at the label, and 0 elsewhere
+abbrev pub IsOneTerm : List ℕ → Fraction → Terms (List ℕ) → Type 0
+IsOneTerm label c terms = IsFractionTable terms × HasMoreAt (pointwise nat_eq) [] label c terms
+
+-- q times the list, in n variables, paired with a test function of the exponents
+abbrev pub sum_at : ℕ → Terms (List ℕ) → ℕ → (List ℕ → ℤ) → ℤ
+sum_at q terms n φ = pair (over q terms) (λ label. pair (schur label n) φ)
+
+-- the product of two Schur polynomials in n variables, paired with a test function
+abbrev pub product_at : List ℕ → List ℕ → ℕ → (List ℕ → ℤ) → ℤ
+product_at left right n φ = pair (times (schur left n) (schur right n)) φ
+
+-- the product of a Schur polynomial and e times a list, in n variables, paired with a test function
+abbrev pub row_at : List ℕ → ℕ → Terms (List ℕ) → ℕ → (List ℕ → ℤ) → ℤ
+row_at left e right n φ = pair (over e right) (λ label. product_at left label n φ)
+
+-- the product of d times a list and e times a list, in n variables, paired with a test function
+abbrev pub products_at : ℕ → Terms (List ℕ) → ℕ → Terms (List ℕ) → ℕ → (List ℕ → ℤ) → ℤ
+products_at d left e right n φ = pair (over d left) (λ label. row_at label e right n φ)
+
+-- for every n and every test function φ, the list of terms in Schur polynomials of n variables, paired with φ, is `value n φ`
+abbrev pub ComeTo : WholeTerms → (ℕ → (List ℕ → ℤ) → ℤ) → Type 0
+ComeTo terms value =
+    (n : ℕ) (φ : List ℕ → ℤ) → pair terms (λ label. pair (schur label n) φ) ≡ value n φ

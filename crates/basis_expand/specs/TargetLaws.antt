@@ -1,0 +1,45 @@
+-- The laws that a target needs: differences as sums with a negation, and weights that grow.
+use Rattle.std.proofs.Common.{◌≡◌, ◌≤◌, ◌*◌, ◌/◌, ◌^◌, ◌∙◌, ℕ, ap, sym, arith, ℤ, pos, neg_ℤ, ◌*ℤ◌}
+use Rattle.std.proofs.lemmas.Nat.{mul-le}
+use Rattle.sym_model.specs.Polynomial.{Poly, Same, coefficient, negate, scale}
+use Rattle.sym_model.specs.Expansion.{Basis}
+use Rattle.sym_model.specs.Expression.{Tree, negation, sum, difference, denominator, degree, lcm, cleared_value}
+use Rattle.sym_model.specs.Weight.{growth, numerator, weight}
+use Rattle.sym_model.proofs.Polynomials.{coefficient_scale, coefficient_negate, Same_refl, plus_respects}
+use Rattle.sym_model.proofs.Ring.{ring}
+use Rattle.basis_expand.specs.Values.{IsNoHeavier}
+
+negated_multiple : (q : ℤ) (g : Poly) → Same (scale q (negate g)) (negate (scale q g))
+negated_multiple q g α =
+    coefficient_scale q (negate g) α
+    ∙ ap (λ z. q *ℤ z) (coefficient_negate g α)
+    ∙ turn q (coefficient g α)
+    ∙ ap neg_ℤ (sym (coefficient_scale q g α))
+    ∙ sym (coefficient_negate (scale q g) α)
+  where
+    turn : (a b : ℤ) → a *ℤ neg_ℤ b ≡ neg_ℤ (a *ℤ b)
+    turn a b = simp ring
+
+-- a difference has the value of the sum with the negation
+pub difference-value : (e f : Tree) (n : ℕ) → Same (cleared_value (sum e (negation f)) n) (cleared_value (difference e f) n)
+difference-value e f n =
+    let q = lcm (denominator e) (denominator f) / denominator e in
+    let r = lcm (denominator e) (denominator f) / denominator f in
+    plus_respects
+    (scale (pos q) (cleared_value e n)) (scale (pos q) (cleared_value e n))
+    (scale (pos r) (negate (cleared_value f n))) (negate (scale (pos r) (cleared_value f n)))
+    (Same_refl (scale (pos q) (cleared_value e n)))
+    (negated_multiple (pos r) (cleared_value f n))
+
+-- if none of the three numbers of e is greater than that of f, the weight of e is at most that of f
+pub weight-more : (target : Basis) → ((d e : ℕ) → d ≤ e → growth target d ≤ growth target e) → (e f : Tree) → IsNoHeavier e f → weight target e ≤ weight target f
+weight-more target mono e f h =
+    mul-le (numerator e * denominator e) (growth target (degree e)) (numerator f * denominator f) (growth target (degree f))
+    (mul-le (numerator e) (denominator e) (numerator f) (denominator f) h.num h.den) (mono (degree e) (degree f) h.deg)
+
+pub heavy-more : (target : Basis) → ((d e : ℕ) → d ≤ e → growth target d ≤ growth target e) → (e f : Tree) → IsNoHeavier e f
+    → 2 ^ 127 ≤ weight target e → 2 ^ 127 ≤ weight target f
+heavy-more target mono e f h k = three (2 ^ 127) (weight target e) (weight target f) k (weight-more target mono e f h)
+  where
+    three : (a b c : ℕ) → a ≤ b → b ≤ c → a ≤ c
+    three a b c h k = omega arith

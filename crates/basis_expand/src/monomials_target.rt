@@ -1,0 +1,67 @@
+//! The target m: numbers, atoms, negations, sums and products as cleared lists.
+ghost use Rattle.std.specs.Prelude.{ℕ};
+ghost use Rattle.basis_expand.specs.Clearing.{ClearsTo, IsHeavyInMonomials};
+ghost use Rattle.basis_expand.specs.MonomialLaws.{clears-difference, heavy-whole};
+
+use crate::cleared::Cleared;
+use crate::monomial_atoms::atom;
+use crate::target::Target;
+use calc_base::{Basis, SumFault};
+use coeff_rings::{Int, common_denominator, denominator_product};
+use partitions::Partition;
+use sparse_polys::{single, sum_of, times_whole_in_m};
+use std::alloc::Global;
+
+/// The target m.
+#[derive(Clone, Copy)]
+pub(crate) struct Monomials;
+
+impl Target for Monomials {
+    type Value = Cleared;
+
+    ghost limit = { 20 };
+
+    ghost stands = { λ _. ClearsTo };
+
+    ghost heavy = { λ _. IsHeavyInMonomials };
+
+    fn quotient(&self, alloc: Global, num: i128, den: u128) -> Result<Cleared, SumFault> {
+        let terms = single(alloc, &[], num)?;
+        Ok(Cleared { terms, den })
+    }
+
+    fn atom(&self, alloc: Global, basis: Basis, label: &Partition) -> Result<Cleared, SumFault> {
+        atom(alloc, basis, label)
+    }
+
+    fn negated(&self, _: Global, inner: Cleared) -> Result<Cleared, SumFault> {
+        let Cleared { terms, den } = inner;
+        let terms = terms.scale(Int::new(-1))?;
+        Ok(Cleared { terms, den })
+    }
+
+    /// The sum, over the least common denominator.
+    fn added(&self, _: Global, left: Cleared, right: Cleared) -> Result<Cleared, SumFault> {
+        let common = common_denominator(left.den, right.den)?;
+        let terms = sum_of(left.terms, common.from_left, right.terms, common.from_right)?;
+        Ok(Cleared {
+            terms,
+            den: common.den,
+        })
+    }
+
+    fn multiplied(
+        &self,
+        alloc: Global,
+        left: Cleared,
+        right: Cleared,
+    ) -> Result<Cleared, SumFault> {
+        let den = denominator_product(left.den, right.den)?;
+        let terms = times_whole_in_m(alloc, &left.terms, &right.terms)?;
+        Ok(Cleared { terms, den })
+    }
+
+    ghost differs = { λ _. clears-difference };
+
+    ghost grows = { λ _. heavy-whole };
+}

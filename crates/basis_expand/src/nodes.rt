@@ -1,0 +1,61 @@
+//! The nodes of an expression in the order in which they are evaluated, so that a deep tree takes
+//! no stack.
+ghost use Rattle.std.specs.Prelude.{◌≡◌, ◌<◌, ◌++◌, [], ◌∷◌, length, map, IfOk, OnOk};
+ghost use Rattle.basis_expand.specs.Postorder.{operands, postorder};
+
+use calc_base::NoMemory;
+use expression_reading::Expr;
+use std::alloc::Global;
+
+/// The nodes of an expression, each after its operands: when a node is evaluated, the values of its
+/// operands are the last ones on a stack.
+pub fn postorder(alloc: Global, tree: &Expr) -> Result<Vec<&Expr>, NoMemory>
+    ensures { IfOk result (λ nodes. map (λ node. node.now) nodes.items ≡ postorder tree.now) }
+{
+    let mut nodes = Vec::new(alloc);
+    let mut waiting = Vec::new(alloc);
+    waiting.push(tree)?;
+    while let Some(node) = waiting.pop() {
+        nodes.push(node)?;
+        push_operands(&mut waiting, node)?;
+    }
+    // Each node is listed before its operands, and of these the right one first.
+    nodes.reverse();
+    Ok(nodes)
+}
+
+/// Appends the operands of a node.
+fn push_operands<'a>(waiting: &mut Vec<&'a Expr>, node: &'a Expr) -> Result<(), NoMemory>
+    ensures { OnOk result (map (λ e. e.now) waiting.new.items
+        ≡ map (λ e. e.now) waiting.old.items ++ operands node.now) }
+{
+    match node {
+        Expr::Number { .. } | Expr::Fraction { .. } | Expr::Atom { .. } => {}
+        Expr::Negation { inner } => waiting.push(inner)?,
+        Expr::Sum { left, right }
+        | Expr::Difference { left, right }
+        | Expr::Product { left, right } => {
+            waiting.push(left)?;
+            waiting.push(right)?;
+        }
+    }
+    Ok(())
+}
+
+/// Removes the value of a node's one operand, which is the last, and returns it.
+pub(crate) fn take_operand<V>(values: &mut Vec<V>) -> V
+    requires { 0 < length values.old.items }
+    ensures { values.old.items ≡ values.new.items ++ result ∷ [] }
+{
+    values.pop().unwrap()
+}
+
+/// Removes the values of a node's two operands, which are the last ones, and returns them.
+pub(crate) fn take_operands<V>(values: &mut Vec<V>) -> (V, V)
+    requires { 1 < length values.old.items }
+    ensures { values.old.items ≡ values.new.items ++ result.0 ∷ result.1 ∷ [] }
+{
+    let right = take_operand(values);
+    let left = take_operand(values);
+    (left, right)
+}

@@ -1,0 +1,138 @@
+//! The target s: numbers, atoms, negations, sums and products as lists of terms in Schur
+//! polynomials.
+ghost use Rattle.std.specs.Prelude.{ℕ, ◌≤◌, nat_eq, IsTrue, IfOk};
+ghost use Rattle.std.specs.Cmp.Lexicographic.{pointwise};
+ghost use Rattle.sym_model.specs.Expression.{Tree, degree, product};
+ghost use Rattle.expression_reading.specs.Trees.{tree_of, has_no_signs};
+ghost use Rattle.sparse_polys.specs.Combination.{IsSumOf};
+ghost use Rattle.sparse_polys.specs.Tables.{IsFractionTable};
+ghost use Rattle.basis_expand.specs.SchurLists.{StandsFor};
+ghost use Rattle.basis_expand.specs.Operands.{IsOperand, MayBeRefused};
+ghost use Rattle.basis_expand.specs.SchurLaws.{operand-difference};
+
+use crate::evaluation::evaluate;
+use crate::operand::Operand;
+use crate::schur_atoms::{atom, quotient};
+use crate::schur_products::product;
+use crate::strips_added::{factors_of, times_parts};
+use crate::target::Target;
+use calc_base::{Basis, SumFault};
+use coeff_rings::{Frac, Ring};
+use expression_reading::Expr;
+use linear_combinations::Lin;
+use partitions::Partition;
+use std::alloc::Global;
+
+/// The target s. Its operations return `Large` if an intermediate number is too large.
+#[derive(Clone, Copy)]
+pub(crate) struct Schurs;
+
+impl Target for Schurs {
+    type Value = Operand;
+
+    ghost limit = { 20 };
+
+    ghost stands = { λ _. IsOperand };
+
+    ghost heavy = { λ _. MayBeRefused };
+
+    fn quotient(&self, alloc: Global, num: i128, den: u128) -> Result<Operand, SumFault> {
+        let list = quotient(alloc, num, den)?;
+        Ok(Operand::Expanded { list })
+    }
+
+    fn atom(&self, _: Global, basis: Basis, label: &Partition) -> Result<Operand, SumFault> {
+        let label = label.copy()?;
+        Ok(Operand::Atom { basis, label })
+    }
+
+    fn negated(&self, alloc: Global, inner: Operand) -> Result<Operand, SumFault> {
+        let terms = list_of(alloc, inner)?;
+        if terms.len() == 0 {
+            return Ok(Operand::Expanded { list: terms });
+        }
+        let list = terms.scale(Frac::from_whole(-1))?;
+        Ok(Operand::Expanded { list })
+    }
+
+    fn added(&self, alloc: Global, left: Operand, right: Operand) -> Result<Operand, SumFault> {
+        let first = list_of(alloc, left)?;
+        let second = list_of(alloc, right)?;
+        let list = sum_of(first, second)?;
+        Ok(Operand::Expanded { list })
+    }
+
+    fn multiplied(
+        &self,
+        alloc: Global,
+        left: Operand,
+        right: Operand,
+    ) -> Result<Operand, SumFault> {
+        let list = product_of(alloc, left, right)?;
+        Ok(Operand::Expanded { list })
+    }
+
+    ghost differs = { λ _. operand-difference };
+
+    ghost grows = { λ _ e f _ _. tt };
+}
+
+/// The list of an operand.
+fn list_of(alloc: Global, operand: Operand) -> Result<Lin<Partition, Frac>, SumFault>
+    requires { (e : Tree) × IsOperand e operand × (degree e ≤ 20) }
+    ensures { (e : Tree) → IsOperand e operand → IfOk result (StandsFor e) }
+{
+    match operand {
+        Operand::Atom { basis, label } => atom(alloc, basis, &label),
+        Operand::Expanded { list } => Ok(list),
+    }
+}
+
+/// The sum of two lists. The shorter one is added to the longer one.
+fn sum_of(
+    first: Lin<Partition, Frac>,
+    second: Lin<Partition, Frac>,
+) -> Result<Lin<Partition, Frac>, SumFault>
+    ensures tables { IsFractionTable first × IsFractionTable second }
+    ensures sum { IfOk result (IsSumOf (pointwise nat_eq) first second) }
+    ensures table { IfOk result IsFractionTable }
+{
+    if first.len() < second.len() {
+        return second.add_all(&first);
+    }
+    first.add_all(&second)
+}
+
+/// The product of two operands. If one is an atom in e, h or p, the other is multiplied by it part
+/// by part.
+fn product_of(
+    alloc: Global,
+    left: Operand,
+    right: Operand,
+) -> Result<Lin<Partition, Frac>, SumFault>
+    requires left { (e : Tree) × IsOperand e left × (degree e ≤ 20) }
+    requires right { (e : Tree) × IsOperand e right × (degree e ≤ 20) }
+    ensures { (e f : Tree) → IsOperand e left → IsOperand f right
+        → IfOk result (StandsFor (product e f)) }
+{
+    if let Some((family, label)) = factors_of(&right) {
+        return times_parts(alloc, family, list_of(alloc, left)?, label.parts());
+    }
+    if let Some((family, label)) = factors_of(&left) {
+        return times_parts(alloc, family, list_of(alloc, right)?, label.parts());
+    }
+    let first = list_of(alloc, left)?;
+    let second = list_of(alloc, right)?;
+    product(alloc, &first, &second)
+}
+
+/// The expression in Schur polynomials. Returns `Large` if an intermediate number is too large; the
+/// caller then uses another method.
+pub(crate) fn converted(alloc: Global, tree: &Expr) -> Result<Lin<Partition, Frac>, SumFault>
+    requires plain { IsTrue (has_no_signs tree.now) }
+    requires low { degree (tree_of tree.now) ≤ 20 }
+    ensures { IfOk result (StandsFor (tree_of tree.now)) }
+{
+    let value = evaluate(alloc, &Schurs, tree)?;
+    list_of(alloc, value)
+}

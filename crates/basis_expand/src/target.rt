@@ -1,0 +1,77 @@
+//! The trait of the targets in which an expression is evaluated.
+ghost use Rattle.std.specs.Prelude.{◌≡◌, ℕ, ◌<◌, ◌≤◌, ◌^◌, ◌≤ℤ◌, pos, nat_abs};
+ghost use Rattle.sym_model.specs.Expression.{Tree, number, fraction, atom, negation, sum};
+ghost use Rattle.sym_model.specs.Expression.{difference, product};
+ghost use Rattle.sym_model.specs.Partition.{size};
+ghost use Rattle.expression_reading.specs.Trees.{basis_of};
+ghost use Rattle.basis_expand.specs.Values.{AreOperands, IsMade, IsMadeOf, IsTaken};
+ghost use Rattle.basis_expand.specs.Values.{IsNoHeavier};
+
+use calc_base::{Basis, SumFault};
+use partitions::Partition;
+use std::alloc::Global;
+
+/// The values of expressions, and the operations that compute the value of a node from those of its
+/// operands. The contract of each call states which expression its value represents; it returns
+/// `Large` only if that expression is heavy.
+pub trait Target {
+    /// The type of the value of an expression.
+    type Value: Drop;
+
+    /// The greatest degree of an expression.
+    ghost limit: { ℕ };
+
+    /// The relation between an expression and a value that represents it.
+    ghost stands: { Self → Tree → Self.Value → Type 0 };
+
+    /// The expressions that may be refused as too large.
+    ghost heavy: { Self → Tree → Type 0 };
+
+    /// The value of the number `num`/`den`.
+    fn quotient(&self, alloc: Global, num: i128, den: u128) -> Result<Self::Value, SumFault>
+        requires sign { pos 0 ≤ℤ num }
+        requires den { (0 < den) × (den < 2 ^ 127) }
+        ensures number { den ≡ 1 → IsMade (stands self.now) (heavy self.now)
+            (number (nat_abs num)) result }
+        ensures fraction { IsMade (stands self.now) (heavy self.now)
+            (fraction (nat_abs num) den) result };
+
+    /// The value of a partition in a basis.
+    fn atom(&self, alloc: Global, basis: Basis, label: &Partition) -> Result<Self::Value, SumFault>
+        requires { size label.now ≤ limit }
+        ensures { IsMade (stands self.now) (heavy self.now)
+            (atom (basis_of basis) label.now) result };
+
+    /// The value of the negation.
+    fn negated(&self, alloc: Global, inner: Self::Value) -> Result<Self::Value, SumFault>
+        requires { (e : Tree) × IsTaken limit e × stands self.now e inner }
+        ensures { (e : Tree) → IsTaken limit e → stands self.now e inner
+            → IsMade (stands self.now) (heavy self.now) (negation e) result };
+
+    /// The value of the sum.
+    fn added(
+        &self,
+        alloc: Global,
+        left: Self::Value,
+        right: Self::Value,
+    ) -> Result<Self::Value, SumFault>
+        requires { AreOperands sum limit (stands self.now) left right }
+        ensures { IsMadeOf sum limit (stands self.now) (heavy self.now) left right result };
+
+    /// The value of the product.
+    fn multiplied(
+        &self,
+        alloc: Global,
+        left: Self::Value,
+        right: Self::Value,
+    ) -> Result<Self::Value, SumFault>
+        requires { AreOperands product limit (stands self.now) left right }
+        ensures { IsMadeOf product limit (stands self.now) (heavy self.now) left right result };
+
+    /// A value of the sum with a negation represents the difference.
+    ghost differs: { (t : Self) (e f : Tree) (v : Self.Value) → stands t (sum e (negation f)) v
+        → stands t (difference e f) v };
+
+    /// An expression with a weight of at least that of a heavy one is heavy.
+    ghost grows: { (t : Self) (e f : Tree) → IsNoHeavier e f → heavy t e → heavy t f };
+}

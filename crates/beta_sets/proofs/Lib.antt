@@ -1,0 +1,4 @@
+pub mod BinaryPlaces
+pub mod BetaSets
+pub mod GreatestPlaces
+pub mod ShapeSums

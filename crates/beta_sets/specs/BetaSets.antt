@@ -1,0 +1,64 @@
+-- Partitions as sets of beta numbers (James and Kerber, 2.7), and a set as the number with the binary
+-- digit 1 at each number of the set.
+use Rattle.std.specs.Prelude.{◌≡◌, ℕ, zero, suc, ◌+◌, ◌/◌, ◌%◌, ◌^◌, ◌<◌, ◌≤◌, true, nat_eq}
+use Rattle.std.specs.Prelude.{cond, ℤ, List, [], ◌∷◌, ◌++◌, map, IsTrue}
+use Rattle.std.specs.Cmp.{unsigned_tied, unsigned_Decides}
+use Rattle.std.specs.Ordering.{nat_cmp, is_eq}
+use Rattle.std.specs.declared.cmp.Ordering.TheVariants.{Equal}
+use Rattle.std.proofs.Common.{sym, ap, ◌∙◌}
+use Rattle.sym_model.specs.BetaList.{beta, from_beta}
+use Rattle.sym_model.specs.Partition.{IsPartition, rows, size}
+use Rattle.sym_model.specs.WholeTerms.{WholeTerms, WholeTermsOf}
+use Rattle.coeff_rings.specs.Fractions.{whole}
+use Rattle.linear_combinations.specs.Entries.{IsCombination}
+use Rattle.linear_combinations.specs.Gains.{HaveLabels}
+
+-- the places of the digits 1 among the k lowest binary digits of n, decreasing
+unfoldable pub places : ℕ → ℕ → List ℕ
+places zero n = []
+places (suc k) n = map suc (places k (n / 2)) ++ cond (nat_eq (n % 2) 1) (0 ∷ []) []
+
+-- the beta numbers of a set below 2^64, decreasing
+abbrev pub numbers : ℕ → List ℕ
+numbers set = places 64 set
+
+-- the partition of a set
+abbrev pub shape : ℕ → List ℕ
+shape set = from_beta (numbers set)
+
+-- `number` is the greatest number of the set, and `others` is the set of the other numbers
+pub record IsSplit (set number others : ℕ) : Type 0 where
+  pub numbers : numbers set ≡ number ∷ numbers others
+  pub sum : set ≡ 2 ^ number + others
+  pub less : others < 2 ^ number
+  pub place : number < 64
+
+-- `set` has the beta numbers of the partition ν in k rows
+pub record IsBetaSet (ν : List ℕ) (k set : ℕ) : Type 0 where
+  pub partition : IsPartition ν
+  pub enough : rows ν ≤ k
+  pub numbers : numbers set ≡ beta k ν
+
+-- `set` has the beta numbers of a partition of at most d cells, in exactly the number of its rows
+pub record IsShape (d set : ℕ) : Type 0 where
+  pub beta : IsBetaSet (shape set) (rows (shape set)) set
+  pub cells : size (shape set) ≤ d
+  pub low : set < 2 ^ (d + 1)
+
+-- each label of the list is the beta set of a partition of at most d cells
+abbrev pub AreShapes : ℕ → WholeTermsOf ℕ → Type 0
+AreShapes d terms = HaveLabels (IsShape d) terms
+
+-- the list is a table: no label occurs twice, and no coefficient is 0
+abbrev pub IsShapeTable : WholeTermsOf ℕ → Type 0
+IsShapeTable terms = IsCombination nat_eq (λ s. true) whole terms
+
+-- the list with each beta set replaced by its partition
+abbrev pub shapes : WholeTermsOf ℕ → WholeTerms
+shapes terms = map (λ (t : ℕ × ℤ). (shape t.0, t.1)) terms
+
+pub same_set : (a b : ℕ) → nat_eq a b ≡ true → a ≡ b
+same_set a b h = (unsigned_Decides a b).0 h
+
+pub sets_tie : (a b : ℕ) → IsTrue true → IsTrue true → nat_cmp a b ≡ Equal → a ≡ b
+sets_tie a b s t e = same_set a b (sym (unsigned_tied a b) ∙ ap is_eq e)

@@ -1,0 +1,313 @@
+-- The first error of two tableaux that are a pair.
+use Rattle.std.proofs.Common.{◌≡◌, ℕ, ◌+◌, ◌<◌, ◌≤◌, ◌==◌, min, Bool, true, false, cond, List, [], ◌∷◌, ◌++◌, map, length, refl, sym, ap, ◌∙◌, subst, arith, Option, Some, None, Result, ◌⊎◌, inl, inr}
+use Rattle.std.proofs.lemmas.List.{length-map, append-nil}
+use Rattle.sym_model.specs.Sum.{Among}
+use Rattle.sym_model.proofs.Sums.{Among_from_append}
+use Rattle.sym_model.specs.Partition.{size}
+use Rattle.sym_model.specs.PrintedBlock.{decimal_value}
+use Rattle.sym_model.specs.ExpressionOffence.{literal, range, shape, is_wide}
+use Rattle.sym_model.specs.Form.{EachOf}
+use Rattle.sym_model.specs.Command.{unrsk}
+use Rattle.sym_model.specs.CommandOffence.{Offence, PlacedRow, first_offence, offences_by, offences_after, judged_against, entry_rule, row_offences, count_offences, length_offences, empty_row_offences, order_offences, standard_offences, when, is_outside, greatest_letter, most_letters, rows_in}
+use Rattle.sym_model.specs.Grammar.{insertion_offences, filled_offences, unrsk_entry, unrsk_offends}
+use Rattle.sym_model.specs.WordForms.{tableau_words, numbers, placed_rows, tableau_rows, shape_offences}
+use Rattle.sym_model.specs.Form.{words_of}
+use Rattle.calc_language.proofs.RowJudging.{further_length, numbers_fit}
+use Rattle.word_laws.specs.Words.{Words}
+use Rattle.word_laws.proofs.FirstOffences.{first-among, first_none}
+use Rattle.word_laws.specs.WrittenRows.{row_text, further_text, rows_text, written_rows, rows_at, left_at}
+use Rattle.word_laws.specs.JudgedRows.{earlier, inserted, recorded, cell_rule, is_disordered}
+use Rattle.word_laws.proofs.EarlierOffences.{first_of_both, tally_append, first_alike}
+use Rattle.word_laws.proofs.JudgedRows.{inserted_first, recorded_first}
+use Rattle.word_laws.proofs.LeftShapes.{left_shape}
+use Rattle.calc_base.specs.declared.words.WordsFault.{WordsFault}
+use Rattle.calc_language.specs.declared.found.Found.{Found}
+use Rattle.calc_language.specs.FoundOffences.{offence_of, at_most_entry}
+use Rattle.calc_language.specs.PairOffences.{offences_of_pair, pair_offences}
+use Rattle.calc_words.specs.Faults.{fault_of}
+use Rattle.calc_words.specs.declared.offence.Kind.{Kind}
+use Rattle.calc_words.specs.declared.offence.Kind.TheVariants.{Literal, Range, Shape}
+use Rattle.calc_words.specs.NumberRuns.{IsNumber}
+use Rattle.calc_words.specs.Reading.{IsJudged, IsRead, IsFirst}
+use Rattle.calc_language.specs.TableauWords.{AreTwoTableaux}
+use Rattle.calc_words.specs.Commands.{StandsFor}
+use Rattle.calc_words.specs.declared.command.Command.{Command as Read}
+use Rattle.calc_words.proofs.Commands.{read_standing}
+use Rattle.calc_language.proofs.EmptyRows.{empties}
+use Rattle.calc_words.proofs.FirstOffences.{within, no_later_word}
+use Rattle.calc_words.proofs.WrittenLists.{inside}
+use Rattle.word_laws.proofs.NoOffences.{none_append, none_next, none_judged, not_when}
+use Rattle.calc_language.proofs.WrittenTableaux.{rows_placed, rows_entered}
+use Rattle.calc_language.proofs.CutTableaux.{rows_spelled}
+
+-- ---- the words at which the errors of rows are
+
+abbrev pub After : ℕ → List Offence → Type 0
+After k os = (p : Offence) → Among p os → k ≤ p.0
+
+pub after_append : (k : ℕ) (xs ys : List Offence) → After k xs → After k ys → After k (xs ++ ys)
+after_append k xs ys a b p m = by (Among_from_append p xs ys m)
+  where
+    by : Among p xs ⊎ Among p ys → k ≤ p.0
+    by (inl h) = a p h
+    by (inr h) = b p h
+
+after_less : (k m : ℕ) (os : List Offence) → k ≤ m → After m os → After k os
+after_less k m os h a p l = let z = a p l in omega (arith, z, h)
+
+pub entries_after : (k : ℕ) (ws : List Words) → After k (row_offences entry_rule (rows_at k ws))
+entries_after k [] = λ p m. absurd m
+entries_after k (w ∷ ws) =
+    after_append k (offences_by entry_rule k (numbers w)) (row_offences entry_rule (rows_at (k + length (row_text w) + 1) ws))
+    (λ p m. (within entry_rule [] k (numbers w) p m).0)
+    (after_less k (k + length (row_text w) + 1) (row_offences entry_rule (rows_at (k + length (row_text w) + 1) ws)) (omega arith) (entries_after (k + length (row_text w) + 1) ws))
+
+counts_after : (count k : ℕ) (ws : List Words) → After k (count_offences count (rows_at k ws))
+counts_after count k [] = λ p m. absurd m
+counts_after count k (w ∷ ws) =
+    after_append k (offences_by (λ before a. when (count + length before == most_letters) range) k (numbers w))
+    (count_offences (count + length (numbers w)) (rows_at (k + length (row_text w) + 1) ws))
+    (λ p m. (within (λ before a. when (count + length before == most_letters) range) [] k (numbers w) p m).0)
+    (after_less k (k + length (row_text w) + 1) (count_offences (count + length (numbers w)) (rows_at (k + length (row_text w) + 1) ws)) (omega arith)
+    (counts_after (count + length (numbers w)) (k + length (row_text w) + 1) ws))
+
+filled_after : (k : ℕ) (ws : List Words) → After k (filled_offences (rows_at k ws))
+filled_after k ws = after_append k (row_offences entry_rule (rows_at k ws)) (count_offences 0 (rows_at k ws)) (entries_after k ws) (counts_after 0 k ws)
+
+abbrev BeforeIt : ℕ → List Offence → Type 0
+BeforeIt k os = (p : Offence) → Among p os → p.0 < k
+
+before_append : (k : ℕ) (xs ys : List Offence) → BeforeIt k xs → BeforeIt k ys → BeforeIt k (xs ++ ys)
+before_append k xs ys a b p m = by (Among_from_append p xs ys m)
+  where
+    by : Among p xs ⊎ Among p ys → p.0 < k
+    by (inl h) = a p h
+    by (inr h) = b p h
+
+before_more : (k m : ℕ) (os : List Offence) → k ≤ m → BeforeIt k os → BeforeIt m os
+before_more k m os h a p l = let z = a p l in omega (arith, z, h)
+
+inserted_before : (count : ℕ) (most : Option ℕ) (upper : List ℕ) (k : ℕ) (ws : List Words)
+    → BeforeIt (k + length (further_text ws)) (inserted count most upper (rows_at k ws))
+inserted_before count most upper k [] = λ p m. absurd m
+inserted_before count most upper k (w ∷ ws) =
+    let l = further_length w ws in
+    let fit = numbers_fit w in
+    before_append (k + length (further_text (w ∷ ws))) (offences_by (cell_rule (Some count) most (is_disordered 0 upper 0)) k (numbers w))
+    (inserted (count + length (numbers w)) (Some (length (numbers w))) (numbers w) (rows_at (k + length (row_text w) + 1) ws))
+    (λ p m. let z = (within (cell_rule (Some count) most (is_disordered 0 upper 0)) [] k (numbers w) p m).1 in omega (arith, z, l, fit))
+    (before_more (k + length (row_text w) + 1 + length (further_text ws)) (k + length (further_text (w ∷ ws)))
+    (inserted (count + length (numbers w)) (Some (length (numbers w))) (numbers w) (rows_at (k + length (row_text w) + 1) ws)) (omega (arith, l))
+    (inserted_before (count + length (numbers w)) (Some (length (numbers w))) (numbers w) (k + length (row_text w) + 1) ws))
+
+dot_before : (b : Bool) (k m : ℕ) → k < m → BeforeIt m (cond b ((k, 0, shape) ∷ []) [])
+dot_before true k m h p (inl e) = let z : p.0 ≡ k = ap (λ (o : Offence). o.0) e in omega (arith, z, h)
+dot_before true k m h p (inr l) = absurd l
+dot_before false k m h p l = absurd l
+
+empties_before : (k : ℕ) (ws : List Words) → BeforeIt (k + length (further_text ws)) (empties (rows_at k ws))
+empties_before k [] = λ p m. absurd m
+empties_before k (w ∷ ws) =
+    let l = further_length w ws in
+    before_append (k + length (further_text (w ∷ ws))) (cond (length (numbers w) == 0) ((k, 0, shape) ∷ []) []) (empties (rows_at (k + length (row_text w) + 1) ws))
+    (dot_before (length (numbers w) == 0) k (k + length (further_text (w ∷ ws))) (omega (arith, l)))
+    (before_more (k + length (row_text w) + 1 + length (further_text ws)) (k + length (further_text (w ∷ ws))) (empties (rows_at (k + length (row_text w) + 1) ws))
+    (omega (arith, l)) (empties_before (k + length (row_text w) + 1) ws))
+
+empty_rows_before : (k : ℕ) (ws : List Words) → BeforeIt (k + length (further_text ws)) (empty_row_offences (rows_at k ws))
+empty_rows_before k [] = λ p m. absurd m
+empty_rows_before k (w ∷ []) = λ p m. absurd m
+empty_rows_before k (w ∷ v ∷ ws) = empties_before k (w ∷ v ∷ ws)
+
+first_before : (k : ℕ) (ws : List Words) (o : Offence) → first_offence (insertion_offences (rows_at k ws)) ≡ Some o → o.0 < k + length (further_text ws)
+first_before k ws o h =
+    before_append (k + length (further_text ws)) (inserted 0 None [] (rows_at k ws)) (empty_row_offences (rows_at k ws))
+    (inserted_before 0 None [] k ws) (empty_rows_before k ws) o
+    (first-among (inserted 0 None [] (rows_at k ws) ++ empty_row_offences (rows_at k ws)) o (sym (inserted_first (rows_at k ws)) ∙ h))
+
+-- ---- the first error of a pair
+
+pub earlier_word : (o : Offence) (rest : Option Offence) → ((q : Offence) → rest ≡ Some q → o.0 < q.0) → earlier (Some o) rest ≡ Some o
+earlier_word o None h = refl
+earlier_word o (Some q) h = ap (λ b. cond b (Some o) (Some q)) (no_later_word o q (h q refl))
+
+pub some_judged : (xs ys : List Offence) (o : Offence) → first_offence xs ≡ Some o → judged_against xs ys ≡ []
+some_judged [] ys o h = cc
+some_judged (x ∷ xs) ys o h = refl
+
+pub first_of_pair : (first second : List Words) (o : Offence) → 0 < length first → first_offence (insertion_offences (rows_at 1 first)) ≡ Some o
+    → first_offence (pair_offences first second) ≡ Some o
+first_of_pair [] second o s h = absurd (omega (arith, s))
+first_of_pair (w ∷ ws) second o s h =
+    let first = w ∷ ws in
+    let k = 2 + length (rows_text first) in
+    let inserts = insertion_offences (rows_at 1 first) in
+    let fills = filled_offences (rows_at k second) in
+    let lengths = map length (rows_in [] (map numbers first)) in
+    let before = first_before 1 first o h in
+    ap (λ os. first_offence ((inserts ++ fills) ++ os))
+    (some_judged inserts (shape_offences k lengths (rows_text second) ++ standard_offences (size lengths) [] [] (rows_at k second)) o h)
+    ∙ ap first_offence (append-nil (inserts ++ fills))
+    ∙ first_of_both inserts fills
+    ∙ ap (λ x. earlier x (first_offence fills)) h
+    ∙ earlier_word o (first_offence fills) (λ q e. let z = filled_after k second q (first-among fills q e) in omega (arith, before, z))
+
+-- the errors against the shape of the first tableau are the same for its rows as read and as written
+shape_same : (k : ℕ) (first : List Words) (words : Words) → 0 < length first
+    → shape_offences k (map length (rows_in [] (map numbers first))) words ≡ shape_offences k (map length (map numbers first)) words
+shape_same k [] words h = absurd (omega (arith, h))
+shape_same k ([] ∷ []) words h = refl
+shape_same k ([] ∷ v ∷ ws) words h = refl
+shape_same k ((t ∷ w) ∷ ws) words h = refl
+
+size_same : (first : List Words) → 0 < length first → size (map length (rows_in [] (map numbers first))) ≡ size (map length (map numbers first))
+size_same [] h = absurd (omega (arith, h))
+size_same ([] ∷ []) h = refl
+size_same ([] ∷ v ∷ ws) h = refl
+size_same ((t ∷ w) ∷ ws) h = refl
+
+pub number_lengths : (first : List Words) → map length (map numbers first) ≡ map length first
+number_lengths [] = refl
+number_lengths (w ∷ ws) = ap (λ n. n ∷ map length (map numbers ws)) (length-map w decimal_value) ∙ ap (λ ns. length w ∷ ns) (number_lengths ws)
+
+pub left_shape_of : (k : ℕ) (lengths : List ℕ) (second : List Words) → 0 < length lengths → 0 < length second → EachOf (EachOf IsNumber) second
+    → shape_offences k lengths (rows_text second) ≡ left_at k lengths second
+left_shape_of k [] second l s e = absurd (omega (arith, l))
+left_shape_of k (n ∷ lengths) [] l s e = absurd (omega (arith, s))
+left_shape_of k (n ∷ lengths) (row ∷ rows) l s e = left_shape k n lengths row rows e
+
+pub second_of_pair : (first second : List Words) (k : ℕ) (lengths : List ℕ) → 0 < length first → 0 < length second → EachOf (EachOf IsNumber) second
+    → k ≡ 2 + length (rows_text first) → lengths ≡ map length first → first_offence (insertion_offences (rows_at 1 first)) ≡ None
+    → first_offence (filled_offences (rows_at k second) ++ (left_at k lengths second ++ standard_offences (size lengths) [] [] (rows_at k second)))
+    ≡ first_offence (pair_offences first second)
+second_of_pair first second k lengths s t e p q h =
+    let m = 2 + length (rows_text first) in
+    let inserts = insertion_offences (rows_at 1 first) in
+    let ls = map length (rows_in [] (map numbers first)) in
+    let asked = map length (map numbers first) in
+    let rest = λ (j : ℕ) (ns : List ℕ). first_offence (filled_offences (rows_at j second) ++ (left_at j ns second ++ standard_offences (size ns) [] [] (rows_at j second))) in
+    ap (λ j. rest j lengths) p
+    ∙ ap (rest m) (q ∙ sym (number_lengths first))
+    ∙ ap (λ os. first_offence (filled_offences (rows_at m second) ++ (os ++ standard_offences (size asked) [] [] (rows_at m second))))
+    (sym (shape_same m first (rows_text second) s ∙ left_shape_of m asked second (let z = length-map (map numbers first) (length {A = ℕ}) in let y = length-map first numbers in omega (arith, z, y, s)) t e))
+    ∙ ap (λ n. first_offence (filled_offences (rows_at m second) ++ (shape_offences m ls (rows_text second) ++ standard_offences n [] [] (rows_at m second)))) (sym (size_same first s))
+    ∙ ap (λ os. first_offence (filled_offences (rows_at m second) ++ os))
+    (sym (none_judged inserts (shape_offences m ls (rows_text second) ++ standard_offences (size ls) [] [] (rows_at m second)) h))
+    ∙ ap (λ os. first_offence ((os ++ filled_offences (rows_at m second)) ++ judged_against inserts (shape_offences m ls (rows_text second) ++ standard_offences (size ls) [] [] (rows_at m second))))
+    (sym (first_none inserts h))
+
+-- judging the numbers, then what is left, then standardness finds the same first error as judging row by row, with
+-- what is left
+pub recording_first : (cells : ℕ) (rows : List PlacedRow) (lefts : List Offence)
+    → first_offence (filled_offences rows ++ (lefts ++ standard_offences cells [] [] rows)) ≡ earlier (first_offence (recorded cells 0 [] [] rows)) (first_offence lefts)
+recording_first cells rows lefts =
+    let fills = filled_offences rows in
+    let stands = standard_offences cells [] [] rows in
+    first_alike (fills ++ (lefts ++ stands)) ((fills ++ stands) ++ lefts)
+    (λ f.
+    let a = tally_append f fills (lefts ++ stands) in
+    let b = tally_append f lefts stands in
+    let c = tally_append f (fills ++ stands) lefts in
+    let d = tally_append f fills stands in
+    omega (arith, a, b, c, d))
+    ∙ first_of_both (fills ++ stands) lefts
+    ∙ ap (λ x. earlier x (first_offence lefts)) (recorded_first cells rows)
+
+-- ---- the pair is refused by its first error, or returned
+
+pub found_judged : (first : Option Offence) (f : Found) (fault : WordsFault) → first ≡ Some (offence_of f) → fault ≡ fault_of f.word f.kind
+    → IsFirst first fault
+found_judged first f fault e h = subst (λ x. IsFirst first x) (sym h) (by f.kind refl)
+  where
+    by : (k : Kind) → f.kind ≡ k → IsFirst first (fault_of f.word f.kind)
+    by Literal g = subst (λ x. IsFirst first (fault_of f.word x)) (sym g) (e ∙ ap (λ x. Some (offence_of (record { word = f.word; kind = x }))) g)
+    by Range g = subst (λ x. IsFirst first (fault_of f.word x)) (sym g) (e ∙ ap (λ x. Some (offence_of (record { word = f.word; kind = x }))) g)
+    by Shape g = subst (λ x. IsFirst first (fault_of f.word x)) (sym g) (e ∙ ap (λ x. Some (offence_of (record { word = f.word; kind = x }))) g)
+
+small_row : (before : List ℕ) (k : ℕ) (ns : List ℕ) → offences_after entry_rule before k ns ≡ [] → map at_most_entry ns ≡ ns
+small_row before k [] h = refl
+small_row before k (a ∷ ns) h =
+    let n = none_next entry_rule before k a ns h in
+    let o = none_append (when (is_wide a) literal) (when (is_outside greatest_letter a) range) n.0 in
+    let i = inside greatest_letter a (not_when (is_outside greatest_letter a) range o.1) in
+    let z : min a greatest_letter ≡ a = omega (arith, i.1) in
+    ap (λ x. x ∷ map at_most_entry ns) z ∙ ap (λ xs. a ∷ xs) (small_row (a ∷ before) (k + 1) ns n.1)
+
+pub small_rows : {A : Type 0} (f : A → Words) (k : ℕ) (rows : List A) → row_offences entry_rule (rows_at k (map f rows)) ≡ []
+    → map (λ r. map at_most_entry (numbers (f r))) rows ≡ map (λ r. numbers (f r)) rows
+small_rows f k [] h = refl
+small_rows f k (r ∷ rows) h =
+    let n = none_append (offences_by entry_rule k (numbers (f r))) (row_offences entry_rule (rows_at (k + length (row_text (f r)) + 1) (map f rows))) h in
+    ap (λ x. x ∷ map (λ r. map at_most_entry (numbers (f r))) rows) (small_row [] k (numbers (f r)) n.0)
+    ∙ ap (λ xs. numbers (f r) ∷ xs) (small_rows f (k + length (row_text (f r)) + 1) rows n.1)
+
+pub no_entry_first : (ws : List Words) (k : ℕ) → first_offence (insertion_offences (rows_at k ws)) ≡ None → row_offences entry_rule (rows_at k ws) ≡ []
+no_entry_first [] k h = refl
+no_entry_first (w ∷ ws) k h =
+    let rows = rows_at (k + length (row_text w) + 1) ws in
+    let all = rows_at k (w ∷ ws) in
+    let a = none_append (((filled_offences all ++ length_offences (numbers w) rows) ++ empty_row_offences all)) (order_offences 0 [] [] all) (first_none (insertion_offences all) h) in
+    let b = none_append (filled_offences all ++ length_offences (numbers w) rows) (empty_row_offences all) a.0 in
+    let c = none_append (filled_offences all) (length_offences (numbers w) rows) b.0 in
+    (none_append (row_offences entry_rule all) (count_offences 0 all) c.0).0
+
+pub no_entry_second : (rows : List PlacedRow) (more : List Offence) → first_offence (filled_offences rows ++ more) ≡ None → row_offences entry_rule rows ≡ []
+no_entry_second rows more h =
+    let a = none_append (filled_offences rows) more (first_none (filled_offences rows ++ more) h) in
+    (none_append (row_offences entry_rule rows) (count_offences 0 rows) a.0).0
+
+pub lengths_fit : (ws : List Words) → size (map length ws) ≤ length (further_text ws)
+lengths_fit [] = omega arith
+lengths_fit (w ∷ ws) = let e = further_length w ws in let i = lengths_fit ws in let r = wide w in omega (arith, e, i, r)
+  where
+    wide : (w : Words) → length w ≤ length (row_text w)
+    wide [] = omega arith
+    wide (t ∷ w) = omega arith
+
+pub place_of_second : (ws : List Words) → 0 < length ws → 1 + length (further_text ws) ≡ 2 + length (rows_text ws)
+place_of_second [] h = absurd (omega (arith, h))
+place_of_second (w ∷ ws) h = omega arith
+
+pub map_twice : {A : Type 0} (f : A → Words) (g : Words → List ℕ) (rows : List A) → map g (map f rows) ≡ map (λ r. g (f r)) rows
+map_twice f g [] = refl
+map_twice f g (r ∷ rows) = ap (λ xs. g (f r) ∷ xs) (map_twice f g rows)
+
+pub lengths_twice : {A B : Type 0} (f : A → List B) (h : B → List ℕ) (rows : List A) → map (λ r. length (f r)) rows ≡ map length (map (λ r. map h (f r)) rows)
+lengths_twice f h [] = refl
+lengths_twice f h (r ∷ rows) =
+    ap (λ n. n ∷ map (λ r. length (f r)) rows) (sym (length-map (f r) h)) ∙ ap (λ ns. length (map h (f r)) ∷ ns) (lengths_twice f h rows)
+
+-- ---- the words of `unrsk` are read by their two tableaux
+
+abbrev offends_so : List PlacedRow → List (List ℕ) → Words → Words → (ℕ → List PlacedRow) → List Offence
+offends_so first nss words more second = offences_of_pair first nss (2 + length words) more (second (2 + length words))
+
+pub pair_read : (words : Words) (first second : List Words) (r : Result Read WordsFault) → AreTwoTableaux first second words
+    → IsJudged (StandsFor (unrsk (rows_in [] (map numbers first)) (rows_in [] (map numbers second)))) (first_offence (pair_offences first second)) r
+    → IsRead (unrsk_entry ∷ []) words r
+pair_read words first second r t j =
+    let x = t.has.written.1.0 in
+    let y = t.has.written.1.1.1 in
+    let u = written_rows x in
+    let v = written_rows y in
+    let offends : unrsk_offends t.has.written ≡ pair_offences u v =
+    ap (λ p. offends_so p (tableau_rows x) (words_of tableau_words x) (words_of tableau_words y) (λ k. placed_rows k y)) (rows_placed 1 x)
+    ∙ ap (λ p. offends_so (rows_at 1 u) p (words_of tableau_words x) (words_of tableau_words y) (λ k. placed_rows k y)) (rows_entered x)
+    ∙ ap (λ p. offends_so (rows_at 1 u) (map numbers u) p (words_of tableau_words y) (λ k. placed_rows k y)) (rows_spelled x)
+    ∙ ap (λ p. offends_so (rows_at 1 u) (map numbers u) (rows_text u) p (λ k. placed_rows k y)) (rows_spelled y)
+    ∙ ap (λ p. offences_of_pair (rows_at 1 u) (map numbers u) (2 + length (rows_text u)) (rows_text v) p) (rows_placed (2 + length (rows_text u)) y) in
+    read_standing unrsk_entry words t.has (unrsk (rows_in [] (map numbers u)) (rows_in [] (map numbers v)))
+    (ap (λ p. unrsk (rows_in [] p) (rows_in [] (map numbers v))) (sym (rows_entered x))
+    ∙ ap (λ p. unrsk (rows_in [] (tableau_rows x)) (rows_in [] p)) (sym (rows_entered y)))
+    r
+    (subst (λ os. IsJudged (StandsFor (unrsk (rows_in [] (map numbers u)) (rows_in [] (map numbers v)))) (first_offence os) r) (sym offends)
+    (subst (λ w. IsJudged (StandsFor (unrsk (rows_in [] (map numbers u)) (rows_in [] (map numbers w)))) (first_offence (pair_offences u w)) r) t.second_is
+    (subst (λ w. IsJudged (StandsFor (unrsk (rows_in [] (map numbers w)) (rows_in [] (map numbers second)))) (first_offence (pair_offences w second)) r) t.first_is j)))
+
+pub pair_read_rows : {A : Type 0} (f : A → Words) (words : Words) (xs ys : List A) (r : Result Read WordsFault) → AreTwoTableaux (map f xs) (map f ys) words
+    → IsJudged (StandsFor (unrsk (rows_in [] (map (λ r. numbers (f r)) xs)) (rows_in [] (map (λ r. numbers (f r)) ys)))) (first_offence (pair_offences (map f xs) (map f ys))) r
+    → IsRead (unrsk_entry ∷ []) words r
+pair_read_rows f words xs ys r t j =
+    pair_read words (map f xs) (map f ys) r t
+    (subst (λ ns. IsJudged (StandsFor (unrsk (rows_in [] ns) (rows_in [] (map numbers (map f ys))))) (first_offence (pair_offences (map f xs) (map f ys))) r) (sym (map_twice f numbers xs))
+    (subst (λ ns. IsJudged (StandsFor (unrsk (rows_in [] (map (λ r. numbers (f r)) xs)) (rows_in [] ns))) (first_offence (pair_offences (map f xs) (map f ys))) r) (sym (map_twice f numbers ys)) j))

@@ -1,0 +1,25 @@
+-- The errors of two tableaux that are a pair, by their rows.
+use Rattle.std.specs.Prelude.{ℕ, ◌+◌, List, [], ◌++◌, map, length}
+use Rattle.sym_model.specs.Partition.{size}
+use Rattle.sym_model.specs.CommandOffence.{Offence, PlacedRow, judged_against, standard_offences}
+use Rattle.sym_model.specs.CommandOffence.{rows_in}
+use Rattle.sym_model.specs.Grammar.{insertion_offences, filled_offences}
+use Rattle.sym_model.specs.WordForms.{numbers, shape_offences}
+use Rattle.word_laws.specs.WrittenRows.{rows_text, rows_at}
+
+-- the errors from the rows of the first tableau and their entries, and from the words and rows of the second, which
+-- begin at word k
+abbrev pub offences_of_pair : List PlacedRow → List (List ℕ) → ℕ → List (List ℕ) → List PlacedRow
+    → List Offence
+offences_of_pair first nss k words second =
+    insertion_offences first
+    ++ filled_offences second
+    ++ judged_against (insertion_offences first)
+    (shape_offences k (map length (rows_in [] nss)) words
+    ++ standard_offences (size (map length (rows_in [] nss))) [] [] second)
+
+-- the errors from the number words of their rows, of which the first begin at the second word
+abbrev pub pair_offences : List (List (List ℕ)) → List (List (List ℕ)) → List Offence
+pair_offences first second =
+    let k = 2 + length (rows_text first) in
+    offences_of_pair (rows_at 1 first) (map numbers first) k (rows_text second) (rows_at k second)

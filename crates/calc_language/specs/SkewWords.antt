@@ -1,0 +1,38 @@
+-- Two shapes and a tableau among the words of a command.
+use Rattle.std.specs.Prelude.{◌≡◌, ℕ, ◌<◌, List, [], ◌∷◌, ◌++◌, map, length, codes}
+use Rattle.sym_model.specs.CommandOffence.{Offence, row_offences, entry_rule, order_offences}
+use Rattle.sym_model.specs.Form.{EachOf, Has}
+use Rattle.sym_model.specs.Grammar.{rect_words}
+use Rattle.sym_model.specs.Schur.{row_lengths}
+use Rattle.sym_model.specs.WordForms.{shape_offences}
+use Rattle.word_laws.specs.WrittenRows.{rows_text, rows_at, written_rows}
+use Rattle.calc_words.specs.NumberRuns.{IsNumber}
+use Rattle.calc_language.specs.declared.skew_tableaux.SkewRows.{SkewRows}
+
+-- the words are `rect` and two lists of numbers with `/` between them and, after `-`,
+-- a tableau of these rows
+pub record AreSkewWords (outer inner : List (List ℕ)) (rows : List (List (List ℕ)))
+    (words : List (List ℕ)) : Type 0 where
+  pub has : Has rect_words words
+  pub outer_is : outer ≡ has.written.1.0
+  pub inner_is : inner ≡ has.written.1.1.1.0
+  pub rows_are : rows ≡ written_rows has.written.1.1.1.1.1
+  pub words_are : words ≡ codes "rect"
+      ∷ (outer ++ codes "/" ∷ (inner ++ codes "-" ∷ rows_text rows))
+  pub rows_some : 0 < length rows
+  pub rows_numbers : EachOf (EachOf IsNumber) rows
+
+-- the rows of s, the result of reading the words of `rect`
+abbrev pub rows_of : SkewRows → List (List ℕ)
+rows_of s = map (λ r. r.items) s.rows.items
+
+-- the shapes of s are outer and inner, and its rows are `rows`
+abbrev pub AreSkewRows : List ℕ → List ℕ → List (List ℕ) → SkewRows → Type 0
+AreSkewRows outer inner rows s = (s.outer ≡ outer) × (s.inner ≡ inner) × (rows_of s ≡ rows)
+
+-- the errors of the rows of a tableau of shape outer/inner, the first of which begins at word k
+abbrev pub skew_offences : ℕ → List ℕ → List ℕ → List (List (List ℕ)) → List Offence
+skew_offences k outer inner rows =
+    row_offences entry_rule (rows_at k rows)
+    ++ (shape_offences k (row_lengths outer inner) (rows_text rows)
+    ++ order_offences 0 [] inner (rows_at k rows))

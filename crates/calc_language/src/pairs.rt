@@ -1,0 +1,210 @@
+//! The words of `unrsk`.
+ghost use Rattle.std.specs.Prelude.{◌≡◌, ◌≤◌, ◌<◌, ◌+◌, ◌++◌, ◌^◌, IfOk, IfErr, [], ◌∷◌, Some};
+ghost use Rattle.std.specs.Prelude.{length, map, string_bytes};
+ghost use Rattle.sym_model.specs.Command.{unrsk};
+ghost use Rattle.sym_model.specs.CommandOffence.{first_offence, standard_offences, rows_in};
+ghost use Rattle.sym_model.specs.CommandOffence.{most_letters};
+ghost use Rattle.sym_model.specs.Form.{EachOf};
+ghost use Rattle.sym_model.specs.Grammar.{unrsk_entry, filled_offences};
+ghost use Rattle.sym_model.specs.Partition.{size};
+ghost use Rattle.sym_model.specs.Schur.{letters_of};
+ghost use Rattle.sym_model.specs.Tableau.{IsStraightTableau, shape_of};
+ghost use Rattle.sym_model.specs.WordForms.{numbers as numbers_of};
+ghost use Rattle.word_laws.specs.WrittenRows.{further_text, rows_at, left_at};
+ghost use Rattle.calc_language.specs.FoundOffences.{found_of, at_most_entry};
+ghost use Rattle.calc_words.specs.NumberRuns.{IsNumber};
+ghost use Rattle.calc_language.specs.ReadTableaux.{AreFillings, first_rows_of, second_rows_of};
+ghost use Rattle.calc_language.specs.WrittenPairs.{IsWrittenPair};
+ghost use Rattle.calc_words.specs.Commands.{StandsFor};
+ghost use Rattle.calc_words.specs.Pairs.{IsPair};
+ghost use Rattle.calc_words.specs.Reading.{IsRead, IsRefusal, IsJudged};
+ghost use Rattle.calc_language.specs.TableauWords.{AreTwoTableaux};
+ghost use Rattle.calc_language.specs.PairOffences.{pair_offences};
+
+use crate::earlier::earlier;
+use crate::found::Found;
+use crate::row_numbers::rows_numbers;
+use crate::row_offences::{
+    insertion_offence, left_shape, recorded_number, row_lengths, text_length, total,
+};
+use crate::row_words::rows_of_words;
+use crate::tableaux::tableau_of;
+use calc_base::{NoMemory, WordsFault};
+use calc_words::{Command, Part, cut, piece_at, refused as offence};
+use partitions::Partition;
+use skew_shapes::{Standard, Tableau};
+use std::alloc::Global;
+
+/// The rows of two tableaux.
+#[derive(Drop)]
+struct TwoFillings {
+    first: Vec<Vec<u16>>,
+    second: Vec<Vec<u16>>,
+}
+
+/// The first error of a recording tableau that begins at the word `at`, for a shape with rows of
+/// these lengths.
+fn recording_offence(at: u64, lengths: &[usize], rows: &[&[String]]) -> Option<Found>
+    requires some { 0 < length lengths.now }
+    requires few { size lengths.now < 2 ^ 64 }
+    requires room { at + length (further_text (map (λ r. map string_bytes r.now) rows.now))
+        < 2 ^ 64 }
+    ensures { found_of result ≡ first_offence
+        (filled_offences (rows_at at (map (λ r. map string_bytes r.now) rows.now))
+        ++ (left_at at lengths.now (map (λ r. map string_bytes r.now) rows.now)
+        ++ standard_offences (size lengths.now) [] []
+        (rows_at at (map (λ r. map string_bytes r.now) rows.now)))) }
+{
+    earlier(
+        recorded_number(at, rows, total(lengths)),
+        left_shape(at, lengths, rows),
+    )
+}
+
+/// The rows; one row without numbers counts as no row.
+pub(crate) fn rows_of_tableau(alloc: Global, rows: &[&[String]]) -> Result<Vec<Vec<u16>>, NoMemory>
+    ensures { IfOk result (λ v. map (λ r. r.items) v.items
+        ≡ rows_in [] (map (λ r. map at_most_entry (numbers_of (map string_bytes r.now)))
+        rows.now)) }
+{
+    if let [row] = rows {
+        if row.is_empty() {
+            return Ok(Vec::new(alloc));
+        }
+    }
+    rows_numbers(alloc, rows)
+}
+
+/// The rows of two tableaux, of which the first begins at the second word; or the first error.
+fn judge_pair(
+    alloc: Global,
+    first: &[&[String]],
+    second: &[&[String]],
+) -> Result<TwoFillings, WordsFault>
+    requires first { (0 < length first.now)
+        × EachOf (EachOf IsNumber) (map (λ r. map string_bytes r.now) first.now) }
+    requires second { (0 < length second.now)
+        × EachOf (EachOf IsNumber) (map (λ r. map string_bytes r.now) second.now) }
+    requires room { 2 + length (further_text (map (λ r. map string_bytes r.now) first.now))
+        + length (further_text (map (λ r. map string_bytes r.now) second.now)) < 2 ^ 64 }
+    ensures judged { IsJudged (AreFillings
+        (rows_in [] (map (λ r. numbers_of (map string_bytes r.now)) first.now))
+        (rows_in [] (map (λ r. numbers_of (map string_bytes r.now)) second.now)))
+        (first_offence (pair_offences (map (λ r. map string_bytes r.now) first.now)
+        (map (λ r. map string_bytes r.now) second.now))) result }
+    ensures pair { IfOk result (λ s. IsWrittenPair (first_rows_of s) (second_rows_of s)) }
+{
+    if let Some(found) = insertion_offence(1, first) {
+        return Err(offence(found.word, found.kind));
+    }
+    let lengths = row_lengths(alloc, first)?;
+    let at = 1 + text_length(first);
+    if let Some(found) = recording_offence(at, lengths.as_slice(), second) {
+        return Err(offence(found.word, found.kind));
+    }
+    let insertion = rows_of_tableau(alloc, first)?;
+    let recording = rows_of_tableau(alloc, second)?;
+    Ok(TwoFillings {
+        first: insertion,
+        second: recording,
+    })
+}
+
+/// The tableaux with these rows.
+fn tableaux_of(
+    alloc: Global,
+    first: &[Vec<u16>],
+    second: &[Vec<u16>],
+) -> Result<(Tableau, Standard), NoMemory>
+    requires { IsWrittenPair (map (λ r. r.items) first.now) (map (λ r. r.items) second.now) }
+    ensures first { IfOk result (λ c. c.0.rows ≡ map (λ r. r.items) first.now) }
+    ensures second { IfOk result (λ c. c.1.rows ≡ map (λ r. r.items) second.now) }
+    ensures pair { IfOk result (λ c. IsPair c.0 c.1) }
+{
+    let p = straight(alloc, first)?;
+    let Ok(q) = Standard::new(straight(alloc, second)?) else {
+        unreachable!()
+    };
+    Ok((p, q))
+}
+
+/// The two tableaux, of which the first begins at the second word; or the first error.
+fn read_tableaux(
+    alloc: Global,
+    first: &[&[String]],
+    second: &[&[String]],
+) -> Result<Command, WordsFault>
+    requires first { (0 < length first.now)
+        × EachOf (EachOf IsNumber) (map (λ r. map string_bytes r.now) first.now) }
+    requires second { (0 < length second.now)
+        × EachOf (EachOf IsNumber) (map (λ r. map string_bytes r.now) second.now) }
+    requires room { 2 + length (further_text (map (λ r. map string_bytes r.now) first.now))
+        + length (further_text (map (λ r. map string_bytes r.now) second.now)) < 2 ^ 64 }
+    ensures { IsJudged (StandsFor
+        (unrsk (rows_in [] (map (λ r. numbers_of (map string_bytes r.now)) first.now))
+        (rows_in [] (map (λ r. numbers_of (map string_bytes r.now)) second.now))))
+        (first_offence (pair_offences (map (λ r. map string_bytes r.now) first.now)
+        (map (λ r. map string_bytes r.now) second.now))) result }
+{
+    let TwoFillings { first, second } = judge_pair(alloc, first, second)?;
+    let (p, q) = tableaux_of(alloc, first.as_slice(), second.as_slice())?;
+    Ok(Command::Unrsk { p, q })
+}
+
+/// The straight tableau with these rows.
+fn straight(alloc: Global, rows: &[Vec<u16>]) -> Result<Tableau, NoMemory>
+    requires tableau { IsStraightTableau (map (λ r. r.items) rows.now) }
+    requires few { length (letters_of (map (λ r. r.items) rows.now)) ≤ most_letters }
+    ensures { IfOk result (λ t. t
+        ≡ record {
+          outer = shape_of (map (λ r. r.items) rows.now);
+          inner = [];
+          rows = map (λ r. r.items) rows.now;
+        }) }
+{
+    let mut parts = Vec::new(alloc);
+    for row in rows {
+        parts.push(row.len() as u16)?;
+    }
+    let outer = Partition::from_valid_parts(alloc, parts.as_slice())?;
+    let inner = Partition::from_valid_parts(alloc, &[])?;
+    tableau_of(alloc, outer, inner, rows)
+}
+
+/// The rows of the two tableaux of an `unrsk`; otherwise the place of the first failure.
+fn two_tableaux(
+    alloc: Global,
+    words: &[String],
+) -> Result<(Vec<&[String]>, Vec<&[String]>), WordsFault>
+    ensures ok { IfOk result (λ p.
+        AreTwoTableaux (map (λ r. map string_bytes r.now) p.0.items)
+        (map (λ r. map string_bytes r.now) p.1.items) (map string_bytes words.now)) }
+    ensures wrong { IfErr result (λ fault.
+        IsRefusal (unrsk_entry ∷ []) (map string_bytes words.now) fault) }
+{
+    let parts = &[Part::Tableau, Part::Minus, Part::Tableau];
+    let places = cut(words, "unrsk", parts)?;
+    let insertion = piece_at(words, &places, 0);
+    let first = rows_of_words(alloc, insertion.words)?;
+    let recording = piece_at(words, &places, 2);
+    let second = rows_of_words(alloc, recording.words)?;
+    Ok((first, second))
+}
+
+/// Reads the words of `unrsk`: that word and two tableaux with `-` between them. The rows of a
+/// tableau are separated by words `/`; `.` is a row without numbers.
+///
+/// Words that are no such command are refused as `Syntax`, at the word where they first fail.
+/// Otherwise the first error is refused: a number over 2^127 - 1 as `Literal`; an entry that is 0
+/// or over 65,535, and the 257th of a tableau, as `Range`; as `Shape`, in the first tableau, a
+/// number that makes its row longer than the row above, a `.` that is not the whole tableau, and a
+/// number smaller than its left neighbour or not greater than the entry above it; and as `Shape`,
+/// in the second one, the word at which it leaves the shape of the first, and a number that is
+/// greater than the number of cells, not greater than its left neighbour or the entry above it, or
+/// equal to an earlier one.
+pub fn read_unrsk(alloc: Global, words: &[String]) -> Result<Command, WordsFault>
+    ensures { IsRead (unrsk_entry ∷ []) (map string_bytes words.now) result }
+{
+    let (first, second) = two_tableaux(alloc, words)?;
+    read_tableaux(alloc, first.as_slice(), second.as_slice())
+}

@@ -1,0 +1,40 @@
+//! The rows of a tableau, cut out of the words of a command.
+ghost use Rattle.std.specs.Prelude.{◌≡◌, ◌++◌, ◌<◌, ◌≤◌, List, ℕ, map, length, string_bytes, IfOk};
+ghost use Rattle.sym_model.specs.Form.{EachOf};
+ghost use Rattle.word_laws.specs.WrittenRows.{row_text, further_text, rows_text};
+ghost use Rattle.calc_words.specs.NumberRuns.{IsNumber};
+
+use calc_base::NoMemory;
+use calc_words::{behind, numbers_first as numbers};
+use std::alloc::Global;
+
+/// The numbers of the first row that the words write, and the words after that row.
+fn row_first(words: &[String]) -> (&[String], &[String])
+    ensures is { (row : List (List ℕ)) (rows : List (List (List ℕ))) → EachOf IsNumber row
+        → map string_bytes words.now ≡ row_text row ++ further_text rows
+        → (map string_bytes result.0.now ≡ row)
+        × (map string_bytes result.1.now ≡ further_text rows) }
+    ensures shorter { length result.1.now ≤ length words.now }
+{
+    match behind(words, ".") {
+        Some(rest) => (&words[..0], rest),
+        None => numbers(words),
+    }
+}
+
+/// The numbers of each row of the tableau that these words write.
+pub(crate) fn rows_of_words(alloc: Global, words: &[String]) -> Result<Vec<&[String]>, NoMemory>
+    ensures { (rows : List (List (List ℕ))) → 0 < length rows → EachOf (EachOf IsNumber) rows
+        → map string_bytes words.now ≡ rows_text rows
+        → IfOk result (λ v. map (λ r. map string_bytes r.now) v.items ≡ rows) }
+{
+    let (first, mut rest) = row_first(words);
+    let mut rows = Vec::new(alloc);
+    rows.push(first)?;
+    while let Some(more) = behind(rest, "/") {
+        let (row, later) = row_first(more);
+        rows.push(row)?;
+        rest = later;
+    }
+    Ok(rows)
+}

@@ -1,0 +1,113 @@
+//! The words of `tab`.
+ghost use Rattle.std.specs.Prelude.{◌≡◌, ◌<◌, ◌+◌, ◌^◌, [], ◌∷◌, Some, IfOk, IfErr, length, map};
+ghost use Rattle.std.specs.Prelude.{string_bytes};
+ghost use Rattle.sym_model.specs.CommandOffence.{first_offence};
+ghost use Rattle.sym_model.specs.Form.{EachOf};
+ghost use Rattle.sym_model.specs.Grammar.{tab_entry};
+ghost use Rattle.sym_model.specs.WordForms.{numbers as numbers_of, partition};
+ghost use Rattle.calc_words.specs.NumberRuns.{IsNumber};
+ghost use Rattle.calc_words.specs.Reading.{IsRead, IsRefusal, IsJudged};
+ghost use Rattle.calc_language.specs.TabWords.{AreTabWords, last_of, from_offences};
+ghost use Rattle.calc_language.specs.TabWords.{all_tab_offences};
+
+use crate::row_words::rows_of_words;
+use crate::skew_tableaux::rows_of_shape;
+use calc_base::WordsFault;
+use calc_words::{Command, Kind, Part, behind, cut, piece_at, read_two, refused};
+use partitions::Partition;
+use std::alloc::Global;
+use tableau_iter::lattice_reading;
+
+/// The shapes with the tableau of these rows, which follows the word `-from` at `at`; or its first
+/// error, if it is not in the list of the shapes. No rows mean no tableau.
+fn judge_last(
+    alloc: Global,
+    at: u64,
+    outer: Partition,
+    inner: Partition,
+    rows: &[&[String]],
+) -> Result<Command, WordsFault>
+    requires { EachOf (EachOf IsNumber) (map (λ r. map string_bytes r.now) rows.now) }
+    ensures { IsJudged (λ c. c ≡ Command.Tab outer inner
+        (last_of outer inner (map (λ r. numbers_of (map string_bytes r.now)) rows.now)))
+        (first_offence (from_offences at outer inner (map (λ r. map string_bytes r.now) rows.now)))
+        result }
+{
+    if rows.is_empty() {
+        return Ok(Command::Tab {
+            outer,
+            inner,
+            after: None,
+        });
+    }
+    let filled = rows_of_shape(alloc, outer.parts(), rows)?;
+    match lattice_reading(alloc, &outer, &inner, filled.as_slice())? {
+        None => Err(refused(at, Kind::Shape)),
+        Some(after) => Ok(Command::Tab {
+            outer,
+            inner,
+            after: Some(after),
+        }),
+    }
+}
+
+/// The two shapes, of which the first begins at the second word, and the tableau after `-from`; or
+/// the first error.
+fn judge_tab(
+    alloc: Global,
+    outer: &[String],
+    inner: &[String],
+    rows: &[&[String]],
+) -> Result<Command, WordsFault>
+    requires some { EachOf (EachOf IsNumber) (map (λ r. map string_bytes r.now) rows.now) }
+    requires room { 2 + length outer.now + length inner.now < 2 ^ 64 }
+    ensures { IsJudged (λ c. c ≡ Command.Tab (partition (map string_bytes outer.now))
+        (partition (map string_bytes inner.now))
+        (last_of (partition (map string_bytes outer.now)) (partition (map string_bytes inner.now))
+        (map (λ r. numbers_of (map string_bytes r.now)) rows.now)))
+        (first_offence (all_tab_offences (map string_bytes outer.now) (map string_bytes inner.now)
+        (map (λ r. map string_bytes r.now) rows.now))) result }
+{
+    let at = 2 + outer.len() as u64 + inner.len() as u64;
+    let (outer, inner) = read_two(alloc, 1, outer, inner)?;
+    judge_last(alloc, at, outer, inner, rows)
+}
+
+/// The numbers of the two shapes of a `tab`, and the rows after `-from`, none if that is missing;
+/// otherwise the place of the first failure.
+fn tab_parts(
+    alloc: Global,
+    words: &[String],
+) -> Result<(&[String], &[String], Vec<&[String]>), WordsFault>
+    ensures ok { IfOk result (λ p.
+        AreTabWords (map string_bytes p.0.now) (map string_bytes p.1.now)
+        (map (λ r. map string_bytes r.now) p.2.items) (map string_bytes words.now)) }
+    ensures wrong { IfErr result (λ fault.
+        IsRefusal (tab_entry ∷ []) (map string_bytes words.now) fault) }
+{
+    let parts = &[Part::Shape, Part::Slash, Part::Shape, Part::MaybeFrom];
+    let places = cut(words, "tab", parts)?;
+    let outer = piece_at(words, &places, 0);
+    let inner = piece_at(words, &places, 2);
+    let last = piece_at(words, &places, 3);
+    let Some(more) = behind(last.words, "-from") else {
+        return Ok((outer.words, inner.words, Vec::new(alloc)));
+    };
+    let rows = rows_of_words(alloc, more)?;
+    Ok((outer.words, inner.words, rows))
+}
+
+/// Reads the words of `tab`: that word, an outer and an inner partition with `/` between them and,
+/// for the list after a given tableau, `-from` and that tableau. The rows of the tableau are
+/// separated by words `/`; `.` is a row without numbers.
+///
+/// Words that are no such command are refused as `Syntax`, at the word where they first fail.
+/// Otherwise the first error is refused: those of the partitions as `read_mult` says, and as
+/// `Shape`, at the word `-from`, a tableau that is not one of the list of the lattice tableaux of
+/// the outer over the inner partition.
+pub fn read_tab(alloc: Global, words: &[String]) -> Result<Command, WordsFault>
+    ensures { IsRead (tab_entry ∷ []) (map string_bytes words.now) result }
+{
+    let (outer, inner, rows) = tab_parts(alloc, words)?;
+    judge_tab(alloc, outer, inner, rows.as_slice())
+}

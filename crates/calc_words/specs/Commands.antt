@@ -1,0 +1,47 @@
+-- The plain command that a command stands for.
+use Rattle.std.specs.Prelude.{◌≡◌}
+use Rattle.sym_model.specs.Command.{Command as PlainCommand, mult, skew, coef, coprod, quantum}
+use Rattle.sym_model.specs.Command.{fusion, expand, schubert, schubmult, tab, rsk, unrsk, rect}
+use Rattle.sym_model.specs.Command.{growth, plethysm, dschubmult, stanley, batch, work}
+use Rattle.expression_reading.specs.Trees.{basis_of, tree_of}
+use Rattle.calc_words.specs.Pairs.{IsPair}
+use Rattle.calc_words.specs.declared.command.Command.{Command}
+use Rattle.calc_words.specs.declared.command.Command.TheVariants.{Mult, Skew, Coef, Coprod}
+use Rattle.calc_words.specs.declared.command.Command.TheVariants.{Quantum, Fusion, Expand}
+use Rattle.calc_words.specs.declared.command.Command.TheVariants.{Schubert, Schubmult, Tab, Rsk}
+use Rattle.calc_words.specs.declared.command.Command.TheVariants.{Unrsk, Rect, Growth, Plethysm}
+use Rattle.calc_words.specs.declared.command.Command.TheVariants.{Dschubmult, Stanley, Batch}
+use Rattle.calc_words.specs.declared.command.Command.TheVariants.{Work}
+
+-- the plain command, by the definitions, that a command of the calculator stands for
+abbrev pub command_of : Command → PlainCommand
+command_of (Mult rows one_line factors) = mult rows one_line factors
+command_of (Skew rows one_line outer inner) = skew rows one_line outer inner
+command_of (Coef outer left right) = coef outer left right
+command_of (Coprod shape) = coprod shape
+command_of (Tab outer inner after) = tab outer inner after
+command_of (Quantum rows cols factors) = quantum rows cols factors
+command_of (Fusion rows level factors) = fusion rows level factors
+command_of (Schubert perm) = schubert perm
+command_of (Schubmult left right) = schubmult left right
+command_of (Expand target one_line formula) =
+    expand (basis_of target) one_line (tree_of formula.tree)
+command_of (Rsk letters) = rsk letters
+command_of (Unrsk p q) = unrsk p.rows q.rows
+command_of (Rect tableau) = rect tableau.outer tableau.inner tableau.rows
+command_of (Growth perm) = growth perm
+command_of (Plethysm target outer inner) =
+    plethysm (basis_of target) (tree_of outer.tree) (tree_of inner.tree)
+command_of (Dschubmult left right) = dschubmult left right
+command_of (Stanley rows perm) = stanley rows perm
+command_of Batch = batch
+command_of (Work lines seed) = work lines seed
+
+-- the two tableaux of `unrsk` are a pair; there is no condition on other commands
+abbrev pub IsSound : Command → Type 0
+IsSound (Unrsk p q) = IsPair p q
+IsSound _ = Unit {0}
+
+-- `command` stands for the plain command, and is sound
+abbrev pub StandsFor : PlainCommand → Command → Type 0
+StandsFor plain command = (command_of command ≡ plain) × IsSound command

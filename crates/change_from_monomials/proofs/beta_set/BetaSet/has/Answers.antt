@@ -1,7 +1,0 @@
-use Rattle.std.proofs.lemmas.Nat.Bits.{shr_and_one}
-use Rattle.change_from_monomials.proofs.BinaryPlaces.{has-places}
-use Rattle.change_from_monomials.proofs.beta_set.BetaSet.has.Goals as goal
-
-pub returns : goal.returns
-returns c = let v = c.self.view_is in let s = shr_and_one c.args.self c.args.number in let l =
-    has-places 64 c.args.number c.args.self c.requires in cc

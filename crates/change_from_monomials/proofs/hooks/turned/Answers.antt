@@ -1,9 +1,0 @@
-use Rattle.change_from_monomials.proofs.SortingSigns.{even_sign, negated_number}
-use Rattle.change_from_monomials.proofs.hooks.turned.Goals as goal
-
-pub returns-then-times-eq0 : goal.returns-then-times-eq0
-returns-then-times-eq0 c = even_sign c.args.times c.args.c c.if-times-eq0.true
-
-pub returns-else-times-eq0 : goal.returns-else-times-eq0
-returns-else-times-eq0 c = negated_number c.args.times c.args.c c.neg.result c.neg.ensures.negation
-    c.if-times-eq0.false

@@ -1,0 +1,48 @@
+//! Common denominators and products of denominators.
+ghost use Rattle.std.specs.Prelude.{◌≡◌, ◌/◌, ◌*◌, ◌<◌, ◌≤◌, ◌^◌, pos, IfOk, IfErr, OkIff};
+ghost use Rattle.sym_model.specs.Expression.{lcm};
+
+use crate::divisors::gcd;
+use calc_base::Large;
+
+/// Denominators are below this limit.
+const LIMIT: u128 = 1 << 127;
+
+/// The least common multiple of two denominators, and its quotients by them.
+#[derive(Clone, Copy)]
+pub struct Common {
+    /// The least common multiple.
+    pub den: u128,
+    /// The multiple divided by the left denominator.
+    pub from_left: i128,
+    /// The multiple divided by the right denominator.
+    pub from_right: i128,
+}
+
+/// The least common multiple of two positive denominators below 2^127.
+///
+/// Returns an error if and only if it is 2^127 or more.
+pub fn common_denominator(a: u128, b: u128) -> Result<Common, Large>
+    requires left { (0 < a) × (a < 2 ^ 127) }
+    requires right { (0 < b) × (b < 2 ^ 127) }
+    ensures ok { IfOk result (λ c. (c.den ≡ lcm a b) × (c.den < 2 ^ 127) × (0 < c.den)
+        × (c.from_left ≡ pos (lcm a b / a)) × (c.from_right ≡ pos (lcm a b / b))) }
+    ensures large { IfErr result (λ _. 2 ^ 127 ≤ lcm a b) }
+{
+    let divisor = gcd(a, b);
+    let from_left = b / divisor;
+    let from_right = a / divisor;
+    let den = denominator_product(from_right, b)?;
+    Ok(Common {
+        den,
+        from_left: from_left as i128,
+        from_right: from_right as i128,
+    })
+}
+
+/// The product of two denominators. Returns an error if and only if it is 2^127 or more.
+pub fn denominator_product(a: u128, b: u128) -> Result<u128, Large>
+    ensures { OkIff result (a * b < 2 ^ 127) (a * b) }
+{
+    a.checked_mul(b).filter(|den| *den < LIMIT).ok_or(Large)
+}

@@ -1,5 +1,0 @@
-use Rattle.std.proofs.Common.{length}
-use Rattle.expand_in_monomials.proofs.atoms.+over_parts.Given as goal
-
-abbrev pub decreases-over_parts : goal.decreases-over_parts
-decreases-over_parts l = length l.parts.now

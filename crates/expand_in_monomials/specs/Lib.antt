@@ -1,4 +1,0 @@
-pub mod Clearing
-pub mod Strips
-pub mod Contents
-pub mod TargetLaws

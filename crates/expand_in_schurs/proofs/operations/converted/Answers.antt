@@ -1,8 +1,0 @@
-use Rattle.expression_reading.specs.Trees.{tree_of}
-use Rattle.expand_in_schurs.proofs.operations.converted.Goals as goal
-
-pub list_of-requires : goal.list_of-requires
-list_of-requires c = (tree_of c.args.tree.now, c.in_ok-value.ensures.ok, c.requires.low)
-
-pub returns : goal.returns
-returns c = c.list_of.ensures (tree_of c.args.tree.now) c.in_ok-value.ensures.ok

@@ -1,3 +1,0 @@
-pub mod SchurLists
-pub mod Operands
-pub mod TargetLaws

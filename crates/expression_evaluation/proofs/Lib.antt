@@ -1,4 +1,0 @@
-pub mod Evaluations
-pub mod Parts
-pub mod Making
-pub mod Laws

@@ -1,2 +1,0 @@
-pub mod Postorder
-pub mod Values

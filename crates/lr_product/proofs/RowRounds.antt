@@ -1,0 +1,173 @@
+-- One round of the loop over the rows of a shape, and its start.
+use Rattle.std.proofs.Common.{◌≡◌, ℕ, zero, suc, ◌+◌, ◌-◌, ◌*◌, ◌<◌, ◌≤◌, ◌⊎◌, inl, inr, nat_le, nat_lt, Bool, true, false, cond, List, [], ◌∷◌, length, take, drop, get_or, nat_abs, refl, sym, ap, ap₂, subst, ◌∙◌, arith, ℤ}
+use Rattle.std.proofs.lemmas.Bool.{cases_lt, lt-ltb, le-ltb}
+use Rattle.sym_model.specs.Sum.{sum_by}
+use Rattle.sym_model.specs.Partition.{Falls, size, part}
+use Rattle.sym_model.specs.Polynomial.{resize}
+use Rattle.sym_model.specs.Schur.{contains}
+use Rattle.sym_model.specs.WholeTerms.{WholeTerms}
+use Rattle.tableau_laws.specs.ColumnFold.{column_lines}
+use Rattle.schur_laws.proofs.Duality.{contains_places}
+use Rattle.lr_product.specs.WeighedSum.{at_state, weighed, started, over_states, unreached, VanishesOutside}
+use Rattle.lr_product.specs.RowExtension.{next_row, over_rows, begun}
+use Rattle.lr_product.specs.Capped.{Agree}
+use Rattle.lr_product.proofs.Agreeing.{agree_same, agree_then}
+use Rattle.lr_product.proofs.Reaching.{weighed-weaker}
+use Rattle.lr_product.proofs.Steps.{positive_factor, reached-tells, length_taken}
+use Rattle.lr_product.proofs.RowFilling.{vanishes-row}
+use Rattle.lr_product.proofs.RowFold.{rows_columns}
+
+-- ---- the sums by rows and by columns over starts that keep no row or column
+
+fresh_tells : (ν right : List ℕ) → begun ν right ≡ 0 → right ≡ []
+fresh_tells ν [] e = refl
+fresh_tells ν (x ∷ right) e = absurd (omega arith)
+
+fresh_whole : (n : ℕ) (s : List ℕ) → drop n s ≡ [] → take n s ≡ s
+fresh_whole zero [] e = refl
+fresh_whole zero (a ∷ s) e = absurd (cc)
+fresh_whole (suc n) [] e = refl
+fresh_whole (suc n) (a ∷ s) e = ap (λ l. a ∷ l) (fresh_whole n s e)
+
+pub weighed_rows : (n m : ℕ) (outer inner : List ℕ) (f : List ℕ → ℕ) (starts : List (List ℕ × ℕ)) → 0 < n → Falls outer → contains outer inner ≡ true
+    → weighed n begun starts ≡ 0 → weighed n (unreached n m) starts ≡ 0
+    → weighed n (over_rows n outer inner (λ ν r. f ν)) starts ≡ weighed n (over_states n (column_lines outer inner) (λ ν r. f ν)) starts
+weighed_rows n m outer inner f [] some falls holds fresh reached = refl
+weighed_rows n m outer inner f ((s, w) ∷ starts) some falls holds fresh reached =
+    ap₂ ◌+◌ (here w (omega arith) (omega arith)) (weighed_rows n m outer inner f starts some falls holds (omega arith) (omega arith))
+  where
+    here : (c : ℕ) → c * at_state n begun s ≡ 0 → c * at_state n (unreached n m) s ≡ 0
+        → c * at_state n (over_rows n outer inner (λ ν r. f ν)) s ≡ c * at_state n (over_states n (column_lines outer inner) (λ ν r. f ν)) s
+    here zero g h = let a : 0 * at_state n (over_rows n outer inner (λ ν r. f ν)) s ≡ 0 = omega arith in let b : 0 * at_state n (over_states n (column_lines outer inner) (λ ν r. f ν)) s ≡ 0 = omega arith in a ∙ sym b
+    here (suc c) g h =
+        let b : begun (take n s) (drop n s) ≡ 0 = positive_factor (suc c) (at_state n begun s) (omega arith) g in
+        let r = reached-tells n m (take n s) (drop n s) (positive_factor (suc c) (at_state n (unreached n m) s) (omega arith) h) in
+        ap (λ x. suc c * x)
+        (ap (over_rows n outer inner (λ ν r'. f ν) (take n s)) (fresh_tells (take n s) (drop n s) b)
+        ∙ rows_columns n outer inner f (take n s) some falls holds r.long r.falls
+        ∙ ap (over_states n (column_lines outer inner) (λ ν r'. f ν) (take n s)) (sym (fresh_tells (take n s) (drop n s) b)))
+
+pub started-fresh : (n : ℕ) (terms : WholeTerms) → started n begun terms ≡ 0
+started-fresh n [] = refl
+started-fresh n (t ∷ terms) = let e = started-fresh n terms in let z : nat_abs t.1 * 0 ≡ 0 = omega arith in omega arith
+
+-- ---- one more row of the shape
+
+nothing : (k : ℕ) → drop {A = ℕ} (suc k) [] ≡ drop k []
+nothing zero = refl
+nothing (suc k) = refl
+
+nothing' : (k : ℕ) → drop {A = ℕ} k [] ≡ []
+nothing' zero = refl
+nothing' (suc k) = refl
+
+later : (row m : ℕ) → nat_lt (row + 1) m ≡ nat_lt (suc row + 1) (suc m)
+later row m = by (cases_lt (row + 1) m)
+  where
+    by : (row + 1 < m) ⊎ (m ≤ row + 1) → nat_lt (row + 1) m ≡ nat_lt (suc row + 1) (suc m)
+    by (inl l) = lt-ltb (row + 1) m l ∙ sym (lt-ltb (suc row + 1) (suc m) (omega arith))
+    by (inr l) = le-ltb (row + 1) m l ∙ sym (le-ltb (suc row + 1) (suc m) (omega arith))
+
+rows_front : (n row : ℕ) (outer inner : List ℕ) (F : List ℕ → List ℕ → ℕ) → row < length outer
+    → over_rows n (drop row outer) (drop row inner) F
+    ≡ next_row n (nat_lt (row + 1) (length outer)) (get_or inner row 0) (get_or outer row 0) (over_rows n (drop (row + 1) outer) (drop (row + 1) inner) F)
+rows_front n row [] inner F l = absurd (omega arith)
+rows_front n zero (a ∷ outer) [] F l = ap₂ (λ (k : Bool) (o : List ℕ). next_row n k 0 a (over_rows n o [] F)) (more outer) (sym (none outer))
+  where
+    none : (v : List ℕ) → drop 0 v ≡ v
+    none [] = refl
+    none (x ∷ v) = refl
+
+    more : (o : List ℕ) → nat_lt 0 (length o) ≡ nat_lt 1 (suc (length o))
+    more [] = refl
+    more (x ∷ o) = lt-ltb 0 (suc (length o)) (omega arith) ∙ sym (lt-ltb 1 (suc (suc (length o))) (omega arith))
+rows_front n zero (a ∷ outer) (b ∷ inner) F l = ap₂ (λ (k : Bool) (o : List ℕ). next_row n k b a (over_rows n o (drop 0 inner) F)) (more outer) (sym (none outer))
+  where
+    none : (v : List ℕ) → drop 0 v ≡ v
+    none [] = refl
+    none (x ∷ v) = refl
+
+    more : (o : List ℕ) → nat_lt 0 (length o) ≡ nat_lt 1 (suc (length o))
+    more [] = refl
+    more (x ∷ o) = lt-ltb 0 (suc (length o)) (omega arith) ∙ sym (lt-ltb 1 (suc (suc (length o))) (omega arith))
+rows_front n (suc row) (a ∷ outer) [] F l =
+    let e : suc row + 1 ≡ suc (row + 1) = omega arith in
+    ap (λ o. over_rows n (drop row outer) o F) (nothing row) ∙ rows_front n row outer [] F (omega arith)
+    ∙ ap₂ (λ (k : Bool) (o : List ℕ). next_row n k 0 (get_or outer row 0) (over_rows n (drop (row + 1) outer) o F)) (later row (length outer)) (nothing' (row + 1) ∙ sym (nothing' (suc row + 1)))
+    ∙ ap (λ k. next_row n (nat_lt (suc row + 1) (suc (length outer))) 0 (get_or outer row 0) (over_rows n (drop k (a ∷ outer)) (drop (suc row + 1) []) F)) (sym e)
+rows_front n (suc row) (a ∷ outer) (b ∷ inner) F l =
+    let e : suc row + 1 ≡ suc (row + 1) = omega arith in
+    rows_front n row outer inner F (omega arith)
+    ∙ ap (λ (k : Bool). next_row n k (get_or inner row 0) (get_or outer row 0) (over_rows n (drop (row + 1) outer) (drop (row + 1) inner) F)) (later row (length outer))
+    ∙ ap (λ k. next_row n (nat_lt (suc row + 1) (suc (length outer))) (get_or inner row 0) (get_or outer row 0) (over_rows n (drop k (a ∷ outer)) (drop k (b ∷ inner)) F)) (sym e)
+
+vanishes-rows : (n : ℕ) (outer inner bound : List ℕ) (F : List ℕ → List ℕ → ℕ) → length bound ≤ n → VanishesOutside bound F → VanishesOutside bound (over_rows n outer inner F)
+vanishes-rows n [] inner bound F l v = v
+vanishes-rows n (a ∷ outer) inner bound F l v = vanishes-row n (nat_lt 0 (length outer)) (part inner 1) a bound (over_rows n outer (drop 1 inner) F) l (vanishes-rows n outer (drop 1 inner) bound F l v)
+
+size_front : (row : ℕ) (outer : List ℕ) → row < length outer → size (drop row outer) ≡ get_or outer row 0 + size (drop (row + 1) outer)
+size_front row [] l = absurd (omega arith)
+size_front zero (a ∷ outer) l = ap (λ o. a + size o) (sym (none outer))
+  where
+    none : (v : List ℕ) → drop 0 v ≡ v
+    none [] = refl
+    none (x ∷ v) = refl
+size_front (suc row) (a ∷ outer) l = let e : suc row + 1 ≡ suc (row + 1) = omega arith in size_front row outer (omega arith) ∙ ap (λ k. get_or outer row 0 + size (drop k (a ∷ outer))) (sym e)
+
+size_drop : (row : ℕ) (outer : List ℕ) → size (drop row outer) ≤ size outer
+size_drop zero [] = omega arith
+size_drop zero (a ∷ outer) = omega arith
+size_drop (suc row) [] = omega arith
+size_drop (suc row) (a ∷ outer) = let e = size_drop row outer in omega arith
+
+-- there is room for a row of a - b cells: b ≤ a ≤ 4096, and no state of the table has a sum of more than 4096 - (a - b)
+pub record RowRoom (n row a b : ℕ) (es : List (List ℕ × ℕ)) : Type 0 where
+  pub cells : b ≤ a
+  pub short : a ≤ 4096
+  pub reached : weighed n (unreached n (4096 - (a - b))) es ≡ 0
+
+pub row_room : (n row : ℕ) (outer inner : List ℕ) (es : List (List ℕ × ℕ)) → row < length outer → contains outer inner ≡ true → size outer ≤ 4096
+    → weighed n (unreached n (4096 - size (drop row outer))) es ≡ 0 → RowRoom n row (get_or outer row 0) (get_or inner row 0) es
+row_room n row outer inner es l holds room z =
+    let f = size_front row outer l in
+    let d = size_drop row outer in
+    record {
+      cells = contains_places outer inner holds row;
+      short = omega arith;
+      reached = weighed-weaker n (4096 - size (drop row outer)) (4096 - (get_or outer row 0 - get_or inner row 0)) es (omega arith) z;
+    }
+
+pub row_reached : (n row : ℕ) (outer inner : List ℕ) (new : List (List ℕ × ℕ)) → row < length outer → size outer ≤ 4096
+    → weighed n (unreached n (4096 - size (drop row outer) + (get_or outer row 0 - get_or inner row 0))) new ≡ 0
+    → weighed n (unreached n (4096 - size (drop (row + 1) outer))) new ≡ 0
+row_reached n row outer inner new l room z =
+    let f = size_front row outer l in
+    let d = size_drop row outer in
+    weighed-weaker n (4096 - size (drop row outer) + (get_or outer row 0 - get_or inner row 0)) (4096 - size (drop (row + 1) outer)) new (omega arith) z
+
+pub row_counts : (n row : ℕ) (outer inner bound : List ℕ) (starts es new : List (List ℕ × ℕ)) (a b : ℕ) (kept : Bool) → row < length outer → length bound ≤ n
+    → a ≡ get_or outer row 0 → b ≡ get_or inner row 0 → kept ≡ nat_lt (row + 1) (length outer)
+    → ((f : List ℕ → ℕ) → VanishesOutside bound (λ ν r. f ν) → Agree (weighed n (over_rows n (drop row outer) (drop row inner) (λ ν r. f ν)) es) (weighed n (over_rows n outer inner (λ ν r. f ν)) starts))
+    → ((f : List ℕ → List ℕ → ℕ) → VanishesOutside bound f → Agree (weighed n f new) (weighed n (next_row n kept b a f) es))
+    → (f : List ℕ → ℕ) → VanishesOutside bound (λ ν r. f ν)
+    → Agree (weighed n (over_rows n (drop (row + 1) outer) (drop (row + 1) inner) (λ ν r. f ν)) new) (weighed n (over_rows n outer inner (λ ν r. f ν)) starts)
+row_counts n row outer inner bound starts es new a b kept l s ea eb ek agree more f v =
+    let g = over_rows n (drop (row + 1) outer) (drop (row + 1) inner) (λ ν r. f ν) in
+    agree_then _ _ _ (more g (vanishes-rows n (drop (row + 1) outer) (drop (row + 1) inner) bound (λ ν r. f ν) s v))
+    (agree_then _ _ _ (agree_same _ _
+    (ap₂ (λ (x y : ℕ). weighed n (next_row n kept y x g) es) ea eb
+    ∙ ap (λ (t : Bool). weighed n (next_row n t (get_or inner row 0) (get_or outer row 0) g) es) ek
+    ∙ sym (ap (λ (h : List ℕ → List ℕ → ℕ). weighed n h es) (rows_front n row outer inner (λ ν r. f ν) l))))
+    (agree f v))
+
+pub last_row : (n row : ℕ) (outer inner : List ℕ) (starts es : List (List ℕ × ℕ)) (f : List ℕ → ℕ) → length outer ≤ row
+    → Agree (weighed n (over_rows n (drop row outer) (drop row inner) (λ ν r. f ν)) es) (weighed n (over_rows n outer inner (λ ν r. f ν)) starts)
+    → Agree (weighed n (λ ν r. f ν) es) (weighed n (over_rows n outer inner (λ ν r. f ν)) starts)
+last_row n row outer inner starts es f l agree =
+    subst (λ (o : List ℕ). Agree (weighed n (over_rows n o (drop row inner) (λ ν r. f ν)) es) (weighed n (over_rows n outer inner (λ ν r. f ν)) starts)) (all row outer l) agree
+  where
+    all : (k : ℕ) (o : List ℕ) → length o ≤ k → drop k o ≡ []
+    all zero [] h = refl
+    all (suc k) [] h = refl
+    all zero (x ∷ o) h = absurd (omega arith)
+    all (suc k) (x ∷ o) h = all k o (omega arith)

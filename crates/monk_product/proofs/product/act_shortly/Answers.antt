@@ -1,0 +1,44 @@
+use Rattle.std.proofs.Common.{List, ℕ, ℤ}
+use Rattle.sym_model.specs.Expansion.{Represents}
+use Rattle.sym_model.specs.WholeTerms.{as_fractions}
+use Rattle.linear_combinations.specs.Gains.{over}
+use Rattle.std.proofs.Common.{◌≡◌, ◌+◌, ◌*◌, ◌^◌, ◌≤◌, max, length, sym, ap, ◌∙◌, subst, arith}
+use Rattle.std.specs.Prelude.{Err, nat_abs}
+use Rattle.std.specs.Cmp.Lexicographic.{nat_list_eq_equiv}
+use Rattle.sym_model.specs.PastLimit.{value_at_ones}
+use Rattle.sym_model.specs.PlaceOrders.{inversions}
+use Rattle.sym_model.specs.Polynomial.{pair, times}
+use Rattle.sym_model.specs.Schubert as polynomials
+use Rattle.sym_model.specs.Schubert.{schubert_in}
+use Rattle.linear_combinations.specs.Labels.{same_partition}
+use Rattle.linear_combinations.proofs.Steps.{error_is}
+use Rattle.linear_combinations.proofs.Masses.{over_same, represents_sums}
+use Rattle.monk_product.proofs.product.act_shortly.Goals as goal
+
+pub returns-clause-value : goal.returns-clause-value
+returns-clause-value c n =
+    let terms = c.in_ok-sorted_terms.field-0 in
+    let sums : (φ : List ℕ → ℤ) → over (λ x. pair (schubert_in x n) φ) terms
+    ≡ pair (times (schubert_in c.args.w.now n) (schubert_in c.args.other.now n)) φ =
+    λ φ.
+    sym (over_same nat_list_eq_equiv same_partition c.in_ok-sum.sum terms
+    c.in_ok-sum.ensures.table c.in_ok-sorted_terms.ensures.combination
+    c.in_ok-sorted_terms.ensures.same (λ x. pair (schubert_in x n) φ))
+    ∙ c.in_ok-sum.ensures.value n φ
+    ∙ ap (λ x. pair (times (schubert_in c.args.w.now n) (schubert_in x n)) φ) c.of.ensures in
+    subst (λ l. Represents (λ x. schubert_in x n) (as_fractions l)
+    (times (schubert_in c.args.w.now n) (schubert_in c.args.other.now n)) 1)
+    (sym c.in_ok-written_out.ensures)
+    (represents_sums (λ x. schubert_in x n) terms
+    (times (schubert_in c.args.w.now n) (schubert_in c.args.other.now n)) sums)
+
+pub returns-in_err-sum-clause-large : goal.returns-in_err-sum-clause-large
+returns-in_err-sum-clause-large c err =
+    let large = c.in_err-sum.ensures.large (ap Err (error_is _ _ _ c.from_residual.ensures.1 err))
+    in
+    let of = ap length c.of.ensures in
+    let base : max (length c.args.w.now) (length c.of.result) + inversions c.args.w.now + 0
+    ≡ max (length c.args.w.now) (length c.args.other.now) + inversions c.args.w.now =
+    omega arith in
+    subst (λ b. 2 ^ 127 ≤ nat_abs (value_at_ones (polynomials.schubert c.args.w.now)) * b ^
+    inversions c.args.w.now) base large

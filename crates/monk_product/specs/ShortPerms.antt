@@ -1,0 +1,11 @@
+-- The fields of a short permutation: its letters with fixed ones up to place 32, and the number of
+-- its inversions.
+use Rattle.std.specs.Prelude.{◌≡◌, ℕ, List, length}
+use Rattle.sym_model.specs.PlaceOrders.{inversions}
+use Rattle.sym_model.specs.Permutation.{IsOneLine}
+
+-- w is a permutation of 32 letters, fixed ones included, and `count` is the number of its inversions
+pub record IsFilled (w : List ℕ) (count : ℕ) : Type 0 where
+  pub one_line : IsOneLine w
+  pub long : length w ≡ 32
+  pub count_is : count ≡ inversions w

@@ -1,5 +1,0 @@
-pub mod MarkedPlaces
-pub mod SplitCounts
-pub mod Placings
-pub mod ColumnArrangements
-pub mod ShapeLists

@@ -1,6 +1,0 @@
-mod ColumnRows
-mod ColumnSums
-mod DivisionSteps
-mod AddedCells
-mod PlacingSteps
-mod RowTables

@@ -1,6 +1,0 @@
-use Rattle.pieri_product.proofs.ColumnRows.{IsCounted}
-use Rattle.pieri_product.proofs.elementary.coefficient_at.Given as goal
-
--- the rows before the next one are counted
-abbrev pub invariant-loop-at : goal.invariant-loop-at
-invariant-loop-at l = IsCounted l.inner l.outer l.at l.count l.run l.longer

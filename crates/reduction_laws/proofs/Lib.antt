@@ -1,3 +1,0 @@
-pub mod AnyReductions
-pub mod CanonicalTerms
-pub mod TextsInSteps

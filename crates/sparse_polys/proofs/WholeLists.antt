@@ -1,0 +1,143 @@
+-- Tables with partitions as labels: look-ups and sums over the terms.
+--     Same-from_look_ups         the look-ups determine a list of integers
+--     coefficient-no_label       a list of numbers that is not a label has the coefficient 0
+--     label-partition            each label is a partition
+--     Once-labels, Once-keys     no label occurs twice
+use Rattle.std.proofs.Common.{◌≡◌, ◌⊎◌, ℕ, Bool, true, false, cond, List, [], ◌∷◌, ◌++◌, map, sym, ◌∙◌, ap, subst, refl, inl, inr, ℤ, pos, ◌+ℤ◌, arith}
+use Rattle.std.specs.Prelude.{nat_abs, Option, Some, FitsSigned, Result, Ok, Err, IfOk}
+use Rattle.std.specs.Int.{w128}
+use Rattle.std.specs.Cmp.Lexicographic.{nat_list_eq_equiv}
+use Rattle.std.specs.List.{IsDistinct, AllByRecursion}
+use Rattle.std.specs.Map.{keys_of, lookup}
+use Rattle.std.specs.Option.{unwrap_or}
+use Rattle.std.proofs.lemmas.Bool.{and_parts, both_ways}
+use Rattle.std.proofs.lemmas.Map.Keys.{IsDistinct-head, IsDistinct-tail}
+use Rattle.coeff_rings.specs.Fractions.{whole}
+use Rattle.coeff_rings.specs.Checked.{checked_i128}
+use Rattle.coeff_rings.specs.Proved.Whole.{sum_answers_i128}
+use Rattle.sym_model.specs.Sum.{Among, Once}
+use Rattle.sym_model.specs.Partition.{IsPartition}
+use Rattle.sym_model.specs.Polynomial.{Same, same, coefficient as coefficient_of}
+use Rattle.sym_model.specs.Expansion.{Fraction, Terms}
+use Rattle.sym_model.specs.Canonical.{is_reduced}
+use Rattle.sym_model.specs.LabelLimits.{is_label}
+use Rattle.sym_model.specs.WholeTerms.{WholeTerms, labels}
+use Rattle.sym_model.proofs.Orders.{is_label-tells, is_reduced-tells}
+use Rattle.sym_model.proofs.Polynomials.{coefficient_plus}
+use Rattle.sym_model.proofs.Sums.{total_none}
+use Rattle.sym_model.proofs.Exponents.{same_from, same_apart, same_or_not}
+use Rattle.linear_combinations.specs.Entries.{coefficient, HasMoreAt, IsRefused}
+use Rattle.linear_combinations.specs.Gains.{HaveLabels, over}
+use Rattle.linear_combinations.specs.Labels.{same_partition}
+use Rattle.linear_combinations.proofs.Found.{coefficient_found, sums_same}
+use Rattle.linear_combinations.proofs.Gains.{gains_labels}
+use Rattle.linear_combinations.proofs.Steps.{fits-zero_left}
+use Rattle.linear_combinations.proofs.Totals.{found-among as look_up-among, term-among}
+use Rattle.sparse_polys.specs.Tables.{equal, found, IsFractionTable, IsWholeTable}
+use lib.IntN.{+ℤ_idl, +ℤ_idr}
+
+pub equal_from : (a b : List ℕ) → a ≡ b → equal a b ≡ true
+equal_from a b e = subst (λ x. equal a x ≡ true) e (nat_list_eq_equiv.refl a)
+
+pub equal_apart : (a b : List ℕ) → (a ≡ b → ⊥) → equal a b ≡ false
+equal_apart a b n = by (equal a b) refl
+  where
+    by : (t : Bool) → equal a b ≡ t → equal a b ≡ false
+    by true e = absurd (n (same_partition a b e))
+    by false e = e
+
+-- ---- labels that occur in a table
+
+all-apart : (x : List ℕ) (ks : List (List ℕ)) → AllByRecursion (λ y. equal x y ≡ false) ks → Among x ks → ⊥
+all-apart x [] h m = m
+all-apart x (k ∷ ks) h (inl e) = both_ways (equal x k) h.0 (equal_from x k e)
+all-apart x (k ∷ ks) h (inr m) = all-apart x ks h.1 m
+
+Once-distinct : (ks : List (List ℕ)) → IsDistinct equal ks → Once ks
+Once-distinct [] d = tt
+Once-distinct (k ∷ ks) d = (all-apart k ks (IsDistinct-head equal k ks d), Once-distinct ks (IsDistinct-tail equal k ks d))
+
+pub Once-keys : (terms : Terms (List ℕ)) → IsFractionTable terms → Once (map (λ (t : List ℕ × Fraction). t.0) terms)
+Once-keys terms is = Once-distinct (keys_of terms) is.distinct
+
+pub Once-labels : (terms : WholeTerms) → IsWholeTable terms → Once (labels terms)
+Once-labels terms is = Once-distinct (keys_of terms) is.distinct
+
+pub label-partition : (terms : WholeTerms) → IsWholeTable terms → (t : List ℕ × ℤ) → Among t terms → IsPartition t.0
+label-partition terms is t m = (is_label-tells t.0 (and_parts _ (is_label t.0) (term-among is_label whole terms is.proper t m)).1).partition
+
+pub coefficient-no_label : (terms : WholeTerms) → IsWholeTable terms → (label : List ℕ) → is_label label ≡ false → coefficient_of terms label ≡ pos 0
+coefficient-no_label terms is label none =
+    total_none (λ (t : List ℕ × ℤ). cond (same t.0 label) t.1 (pos 0)) terms
+    (λ t m. ap (λ b. cond b t.1 (pos 0))
+    (same_apart t.0 label
+    (λ e. both_ways (is_label label) none (sym (ap is_label e) ∙ (and_parts _ (is_label t.0) (term-among is_label whole terms is.proper t m)).1))))
+
+-- ---- tables that are built term by term
+
+-- looking up a label in the table gives its coefficient in the list W, for each label
+abbrev pub Finds : WholeTerms → WholeTerms → Type 0
+Finds terms W = (label : List ℕ) → coefficient equal (pos 0) terms label ≡ coefficient_of W label
+
+pub Same-from_look_ups : (terms W : WholeTerms) → IsWholeTable terms → Finds terms W → Same terms W
+Same-from_look_ups terms W is h label = coefficient_found terms is.distinct label ∙ h label
+
+-- adding c at a label of the table appends the term to the list W
+pub Finds-next : (old new W : WholeTerms) (label : List ℕ) (c : ℤ) → Finds old W → HasMoreAt equal (pos 0) ◌+ℤ◌ old label c new → Finds new (W ++ (label, c) ∷ [])
+Finds-next old new W label c h more l = more l ∙ by (same_or_not label l) ∙ sym (coefficient_plus W ((label, c) ∷ []) l)
+  where
+    by : (label ≡ l) ⊎ (label ≡ l → ⊥)
+        → cond (equal label l) (coefficient equal (pos 0) old label +ℤ c) (coefficient equal (pos 0) old l) ≡ coefficient_of W l +ℤ coefficient_of ((label, c) ∷ []) l
+    by (inl e) =
+        ap (λ b. cond b (coefficient equal (pos 0) old label +ℤ c) (coefficient equal (pos 0) old l)) (equal_from label l e)
+        ∙ ap (λ z. z +ℤ c) (ap (coefficient equal (pos 0) old) e ∙ h l)
+        ∙ ap (λ z. coefficient_of W l +ℤ z) (sym (ap (λ b. cond b c (pos 0) +ℤ pos 0) (same_from label l e) ∙ +ℤ_idr c))
+    by (inr n) =
+        ap (λ b. cond b (coefficient equal (pos 0) old label +ℤ c) (coefficient equal (pos 0) old l)) (equal_apart label l n)
+        ∙ h l
+        ∙ sym (ap (λ z. coefficient_of W l +ℤ z) (ap (λ b. cond b c (pos 0) +ℤ pos 0) (same_apart label l n)) ∙ +ℤ_idr (coefficient_of W l))
+
+-- a table to which only c at one label was added is the list of this term
+pub Same-single : (new : WholeTerms) (label : List ℕ) (c : ℤ) → IsWholeTable new → HasMoreAt equal (pos 0) ◌+ℤ◌ [] label c new → Same new ((label, c) ∷ [])
+Same-single new label c is more = Same-from_look_ups new ((label, c) ∷ []) is (Finds-next [] new [] label c (λ l. refl) more)
+
+-- adding c to the coefficient a = 0 never returns `Large`
+pub not_refused : (a c : ℤ) → a ≡ pos 0 → IsRefused (FitsSigned w128) (λ (x y : ℤ). checked_i128 (x +ℤ y)) a c → ⊥
+not_refused a c e = fits-zero_left {is_held = FitsSigned w128} {value = whole} {checked = λ (x y : ℤ). checked_i128 (x +ℤ y)} sum_answers_i128 a c (ap whole e)
+
+-- if lists, labels and coefficients are equal, a clause for the one holds for the other
+pub more_as : (old old' new : WholeTerms) (label label' : List ℕ) (c c' : ℤ) → old ≡ old' → label ≡ label' → c ≡ c'
+    → HasMoreAt equal (pos 0) ◌+ℤ◌ old label c new → HasMoreAt equal (pos 0) ◌+ℤ◌ old' label' c' new
+more_as old old' new label label' c c' p q r h =
+    subst (λ o. HasMoreAt equal (pos 0) ◌+ℤ◌ o label' c' new) p
+    (subst (λ l. HasMoreAt equal (pos 0) ◌+ℤ◌ old l c' new) q (subst (λ z. HasMoreAt equal (pos 0) ◌+ℤ◌ old label z new) r h))
+
+pub if_ok_both : {T E : Type 0} {P Q R : T → Type 0} (r : Result T E) → IfOk r P → IfOk r Q → ((x : T) → P x → Q x → R x) → IfOk r R
+if_ok_both (Ok x) h k f = f x h k
+if_ok_both (Err e) h k f = tt
+
+-- no coefficient of a table is 0
+pub not_zero : (terms : WholeTerms) → IsWholeTable terms → (t : List ℕ × ℤ) → Among t terms → t.1 ≡ pos 0 → ⊥
+not_zero terms is t m e =
+    let some = (is_reduced-tells (whole t.1) (and_parts (is_reduced (whole t.1)) _ (term-among is_label whole terms is.proper t m)).0).nonzero in
+    let none = ap nat_abs e in
+    omega arith
+
+-- if all labels of W have the property P, so have those of a table with the coefficients of W
+pub labels-same : (P : List ℕ → Type 0) (terms W : WholeTerms) → IsWholeTable terms → Same terms W → HaveLabels P W → HaveLabels P terms
+labels-same P terms W is h each =
+    gains_labels nat_list_eq_equiv same_partition [] W terms is
+    (record { sums = λ φ. sums_same terms W h φ ∙ sym (+ℤ_idl (over φ W)) }) P (not_zero terms is) (λ t m. absurd m) each
+
+-- ---- look-ups in tables of fractions
+
+-- a look-up finds each term of a table
+pub found-among : (terms : Terms (List ℕ)) → IsDistinct equal (keys_of terms) → (t : List ℕ × Fraction) → Among t terms → found terms t.0 ≡ t.1
+found-among terms d t m = ap (λ (o : Option Fraction). unwrap_or o (pos 0, 1)) (look_up-among nat_list_eq_equiv same_partition terms d t m)
+
+-- a look-up does not find a label that does not occur
+pub found-absent : (terms : Terms (List ℕ)) (label : List ℕ) → (Among label (map (λ (t : List ℕ × Fraction). t.0) terms) → ⊥) → found terms label ≡ whole (pos 0)
+found-absent [] label n = refl
+found-absent (t ∷ terms) label n =
+    ap (λ b. unwrap_or (cond b (Some t.1) (lookup (equal label) terms)) (pos 0, 1)) (equal_apart label t.0 (λ e. n (inl e)))
+    ∙ found-absent terms label (λ m. n (inr m))

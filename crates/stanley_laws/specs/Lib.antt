@@ -1,3 +1,0 @@
-pub mod Grassmannian
-pub mod SchurPositive
-pub mod GreaterBefore

@@ -1,0 +1,292 @@
+-- The coefficient of m_ν in m_μ·e_k for a vertical strip ν/μ, computed row by row.
+--     `rises`     the coefficient does not decrease from row to row
+--     at_end      after the last row it is the coefficient
+--     fraction, row_.., next_..   the change by one row
+use Rattle.std.proofs.Common.{◌≡◌, ◌⊎◌, ℕ, zero, suc, ◌+◌, ◌-◌, ◌*◌, ◌<◌, ◌≤◌, List, [], ◌∷◌, ◌++◌, length, get_or, refl, sym, ap, ap₂, ◌∙◌, inl, inr, arith}
+use Rattle.std.proofs.lemmas.Bool.{cases_lt, cases_eq}
+use Rattle.sym_model.specs.Sum.{Among}
+use Rattle.sym_model.specs.Partition.{IsPartition, size, sorted_parts}
+use Rattle.sym_model.specs.Polynomial.{resize}
+use Rattle.sym_model.specs.Schur.{times_in}
+use Rattle.sym_model.specs.Strip.{IsVerticalStrip}
+use Rattle.sym_model.proofs.Contents.{times_in-last, times_in-last_other, times_in-none}
+use Rattle.sym_model.proofs.Exponents.{length-resize, resize_same}
+use Rattle.sym_model.proofs.FirstPlaces.{resize-next, size-resize_next, Falls-resize, next-resize, last-resize, sorted_parts-resize}
+use Rattle.sym_model.proofs.Numbers.{other_factor, grows_from_steps}
+use Rattle.sym_model.proofs.Parts.{part-get_or, positive-at, positive_within, size-append, ArePositive_from}
+use Rattle.sym_model.proofs.SortedParts.{sorted_parts-partition, size-sorted_parts}
+use Rattle.strip_laws.proofs.Strips.{falls_get, falls_far, vertical_rows}
+use Rattle.monomial_laws.specs.MonomialProduct.{arrangements}
+use Rattle.strip_rules.specs.StripProduct.{column}
+use Rattle.strip_rules.proofs.ColumnArrangements.{column-kept, column-raised}
+
+-- the coefficient for the first i rows: of m_ν' in m_μ'·e_j, μ' and ν' being the first i rows of μ and ν, and j the number of cells between them
+abbrev pub so_far : List ℕ → List ℕ → ℕ → ℕ
+so_far μ ν i =
+    arrangements (sorted_parts (resize i μ)) (column (size (resize i ν) - size (resize i μ)))
+    (resize i ν)
+
+-- the state before row i + 1: the coefficient for the first i rows, the number `run` of these that are as long as row i + 1 in ν, and `longer` of
+-- them that are longer in ν than in μ
+pub record IsCounted (μ ν : List ℕ) (i count run longer : ℕ) : Type 0 where
+  pub count_is : count ≡ so_far μ ν i
+  pub run_is : run ≡ times_in (get_or ν i 0) (resize i ν)
+  pub longer_is : (c : ℕ) → get_or ν i 0 ≡ suc c → longer ≡ times_in c (resize i μ)
+  pub few_rows : run ≤ i
+  pub few_longer : longer ≤ i
+
+-- the state after row i + 1 is counted: the coefficient, the number `run` of rows of its length in ν, and `longer` of them that are longer in ν than
+-- in μ
+pub record IsRow (μ ν : List ℕ) (i count run longer : ℕ) : Type 0 where
+  pub count_is : count ≡ so_far μ ν (suc i)
+  pub run_is : run ≡ times_in (get_or ν i 0) (resize (suc i) ν)
+  pub longer_is : (c : ℕ) → get_or ν i 0 ≡ suc c → longer ≡ times_in c (resize (suc i) μ)
+  pub few_rows : run ≤ suc i
+  pub few_longer : longer ≤ suc i
+
+pub counted-none : (μ ν : List ℕ) → IsCounted μ ν 0 1 0 0
+counted-none μ ν = record {
+  count_is = refl;
+  run_is = refl;
+  longer_is = λ c e. refl;
+  few_rows = omega arith;
+  few_longer = omega arith;
+}
+
+module _ (μ ν : List ℕ) (p : IsPartition μ) (q : IsPartition ν) (s : IsVerticalStrip ν μ) where
+  within : (i : ℕ) → get_or μ i 0 ≤ get_or ν i 0
+  within i = omega (arith, part-get_or μ i, part-get_or ν i, s.holds (i + 1))
+
+  near : (i : ℕ) → get_or ν i 0 ≤ get_or μ i 0 + 1
+  near i = omega
+      (arith, part-get_or μ i, part-get_or ν i, vertical_rows ν μ s (i + 1) (omega arith))
+
+  sizes-first : (i : ℕ) → size (resize i μ) ≤ size (resize i ν)
+  sizes-first zero = omega arith
+  sizes-first (suc i) = omega
+      (arith, sizes-first i, within i, size-resize_next i μ, size-resize_next i ν)
+
+  both-first : (i : ℕ) → length (resize i μ) ≡ length (resize i ν)
+  both-first i = length-resize i μ ∙ sym (length-resize i ν)
+
+  one_row_more : (i : ℕ) → so_far μ ν (suc i)
+      ≡ arrangements (sorted_parts (resize i μ ++ get_or μ i 0 ∷ []))
+      (column (size (resize i ν ++ get_or ν i 0 ∷ []) - size (resize i μ ++ get_or μ i 0 ∷ [])))
+      (resize i ν ++ get_or ν i 0 ∷ [])
+  one_row_more i =
+      ap₂ (λ (a b : List ℕ). arrangements (sorted_parts a) (column (size b - size a)) b)
+      (resize-next i μ) (resize-next i ν)
+
+  kept : (i : ℕ) → i < length ν → get_or μ i 0 ≡ get_or ν i 0 → so_far μ ν (suc i) ≡ so_far μ ν i
+  kept i h e =
+      let c = get_or ν i 0 in
+      let some : 0 < get_or ν i 0 = positive-at ν i q.positive h in
+      let k = size (resize i ν) - size (resize i μ) in
+      let above : (d : ℕ) → Among d (resize i μ) → get_or ν i 0 ≤ d = λ d m. omega
+      (arith, next-resize i μ d p.falls m, e) in
+      let is : IsPartition (resize i μ) = record {
+        falls = Falls-resize i μ p.falls;
+        positive = ArePositive_from (resize i μ) (λ d m. omega (arith, above d m, some));
+      } in
+      let same : size (resize i ν ++ get_or ν i 0 ∷ []) - size (resize i μ ++ get_or μ i 0 ∷ [])
+      ≡ size (resize i ν) - size (resize i μ) = omega (
+        arith,
+        size-append (resize i μ) (get_or μ i 0 ∷ []),
+        size-append (resize i ν) (get_or ν i 0 ∷ []),
+      ) in
+      one_row_more i
+      ∙ ap₂ (λ (n a : ℕ). arrangements (sorted_parts (resize i μ ++ a ∷ [])) (column n)
+      (resize i ν ++ get_or ν i 0 ∷ [])) same e
+      ∙ column-kept c k (resize i μ) (resize i ν) some is (both-first i) above
+      ∙ ap (λ l. arrangements l (column k) (resize i ν))
+      (sym (sorted_parts-partition (resize i μ) is))
+
+  raised : (i c : ℕ) → get_or ν i 0 ≡ suc c → get_or μ i 0 ≡ c
+      → so_far μ ν (suc i) * suc (times_in c (resize i μ))
+      ≡ so_far μ ν i * suc (times_in (suc c) (resize i ν))
+  raised i c e f =
+      let k = size (resize i ν) - size (resize i μ) in
+      let more : size (resize i ν ++ get_or ν i 0 ∷ []) - size (resize i μ ++ get_or μ i 0 ∷ [])
+      ≡ suc (size (resize i ν) - size (resize i μ)) = omega (
+        arith,
+        sizes-first i,
+        size-append (resize i μ) (get_or μ i 0 ∷ []),
+        size-append (resize i ν) (get_or ν i 0 ∷ []),
+      ) in
+      ap (λ n. n * suc (times_in c (resize i μ))) (one_row_more i)
+      ∙ ap (λ n. arrangements (sorted_parts (resize i μ ++ get_or μ i 0 ∷ [])) (column n)
+      (resize i ν ++ get_or ν i 0 ∷ []) * suc (times_in c (resize i μ))) more
+      ∙ ap₂ (λ (a b : ℕ). arrangements (sorted_parts (resize i μ ++ a ∷ [])) (column (suc k))
+      (resize i ν ++ b ∷ []) * suc (times_in c (resize i μ))) f e
+      ∙ column-raised c k (resize i μ) (resize i ν) (both-first i)
+      (λ d m. omega (arith, next-resize i ν d q.falls m))
+
+  -- if row i of ν, counted from 0, has length c + 1 and j ≤ i, at most as many of the first j rows of μ have length c as of those of ν have length c
+  -- + 1
+  few : (i c j : ℕ) → get_or ν i 0 ≡ suc c → j ≤ i
+      → times_in c (resize j μ) ≤ times_in (suc c) (resize j ν)
+  few i c zero e h = omega arith
+  few i c (suc j) e h = by (cases_eq (get_or μ j 0) c) (cases_eq (get_or ν j 0) (suc c))
+      (few i c j e (omega arith))
+    where
+      far : get_or ν i 0 ≤ get_or ν j 0
+      far = omega (
+        arith,
+        part-get_or ν i,
+        part-get_or ν j,
+        falls_far ν q.falls (j + 1) (i + 1) (omega arith) (omega arith),
+      )
+
+      by : (get_or μ j 0 ≡ c) ⊎ (get_or μ j 0 ≡ c → ⊥) → (get_or ν j 0 ≡ suc c) ⊎ (get_or ν j 0 ≡ suc c → ⊥)
+          → times_in c (resize j μ) ≤ times_in (suc c) (resize j ν)
+          → times_in c (resize (suc j) μ) ≤ times_in (suc c) (resize (suc j) ν)
+      by (inl a) (inl b) r = omega (
+        arith,
+        ap (times_in c) (resize-next j μ),
+        ap (times_in (suc c)) (resize-next j ν),
+        times_in-last c (get_or μ j 0) (resize j μ) a,
+        times_in-last (suc c) (get_or ν j 0) (resize j ν) b,
+      )
+      by (inl a) (inr b) r = absurd (b (omega (arith, far, near j)))
+      by (inr a) (inl b) r = omega (
+        arith,
+        ap (times_in c) (resize-next j μ),
+        ap (times_in (suc c)) (resize-next j ν),
+        times_in-last_other c (get_or μ j 0) (resize j μ) a,
+        times_in-last (suc c) (get_or ν j 0) (resize j ν) b,
+      )
+      by (inr a) (inr b) r = omega (
+        arith,
+        ap (times_in c) (resize-next j μ),
+        ap (times_in (suc c)) (resize-next j ν),
+        times_in-last_other c (get_or μ j 0) (resize j μ) a,
+        times_in-last_other (suc c) (get_or ν j 0) (resize j ν) b,
+      )
+
+  rises_once : (i : ℕ) → i < length ν → so_far μ ν i ≤ so_far μ ν (suc i)
+  rises_once i h = by (cases_lt (get_or μ i 0) (get_or ν i 0))
+    where
+      by : (get_or μ i 0 < get_or ν i 0) ⊎ (get_or ν i 0 ≤ get_or μ i 0)
+          → so_far μ ν i ≤ so_far μ ν (suc i)
+      by (inl l) =
+          let c = get_or μ i 0 in
+          let e : get_or ν i 0 ≡ suc (get_or μ i 0) = omega (arith, near i) in
+          other_factor (so_far μ ν (suc i)) (suc (times_in c (resize i μ))) (so_far μ ν i)
+          (suc (times_in (suc c) (resize i ν))) (raised i c e refl) (omega arith)
+          (omega (arith, few i c i e (omega arith)))
+      by (inr l) = omega (arith, kept i h (omega (arith, within i)))
+
+  pub rises : (i n : ℕ) → i ≤ n → n ≤ length ν → so_far μ ν i ≤ so_far μ ν n
+  rises i n h l = grows_from_steps (so_far μ ν) (length ν) rises_once i n h l
+
+  rows-few : length μ ≤ length ν
+  rows-few = by (cases_lt 0 (length μ))
+    where
+      by : (0 < length μ) ⊎ (length μ ≤ 0) → length μ ≤ length ν
+      by (inl l) =
+          let some : 0 < get_or μ (length μ - 1) 0 = positive-at μ (length μ - 1) p.positive
+          (omega arith) in
+          omega (
+            arith,
+            positive_within ν (length μ - 1) (omega (arith, some, within (length μ - 1))),
+          )
+      by (inr l) = omega arith
+
+  pub at_end : (k : ℕ) → size ν ≡ size μ + k → so_far μ ν (length ν) ≡ arrangements μ (column k) ν
+  at_end k e =
+      let inner = sorted_parts-resize (length ν) μ p rows-few in
+      let outer = resize_same (length ν) ν refl in
+      let left : size (resize (length ν) ν) - size (resize (length ν) μ) ≡ k = omega (
+        arith,
+        ap size outer,
+        ap size inner,
+        size-sorted_parts (resize (length ν) μ),
+      ) in
+      ap₂ (λ (l : List ℕ) (j : ℕ). arrangements l (column j) (resize (length ν) ν)) inner left
+      ∙ ap (arrangements μ (column k)) outer
+
+  -- ---- the loop over the rows of ν and the coefficient
+
+  -- a row that is longer in ν multiplies the coefficient by (run + 1)/(longer + 1)
+  pub fraction : (i count run longer : ℕ) → IsCounted μ ν i count run longer
+      → get_or μ i 0 < get_or ν i 0
+      → so_far μ ν (suc i) * (longer + 1) ≡ count * (run + 1)
+  fraction i count run longer h l =
+      let c = get_or μ i 0 in
+      let e : get_or ν i 0 ≡ suc (get_or μ i 0) = omega (arith, near i) in
+      let a : longer + 1 ≡ suc (times_in (get_or μ i 0) (resize i μ)) = omega
+      (arith, h.longer_is c e) in
+      let b : suc (times_in (suc (get_or μ i 0)) (resize i ν)) ≡ run + 1 = omega
+      (arith, h.run_is, ap (λ r. times_in r (resize i ν)) e) in
+      ap (λ n. so_far μ ν (suc i) * n) a ∙ raised i c e refl
+      ∙ ap₂ (λ (m n : ℕ). m * n) (sym h.count_is) b
+
+  row_run : (i run : ℕ) → run ≡ times_in (get_or ν i 0) (resize i ν)
+      → run + 1 ≡ times_in (get_or ν i 0) (resize (suc i) ν)
+  row_run i run e = omega (
+    arith,
+    e,
+    ap (times_in (get_or ν i 0)) (resize-next i ν),
+    times_in-last (get_or ν i 0) (get_or ν i 0) (resize i ν) refl,
+  )
+
+  pub row_raised : (i count run longer more : ℕ) → IsCounted μ ν i count run longer
+      → get_or μ i 0 < get_or ν i 0 → more ≡ so_far μ ν (suc i)
+      → IsRow μ ν i more (run + 1) (longer + 1)
+  row_raised i count run longer more h l e = record {
+    count_is = e;
+    run_is = row_run i run h.run_is;
+    longer_is = λ c f. omega (
+      arith,
+      h.longer_is c f,
+      ap (times_in c) (resize-next i μ),
+      times_in-last c (get_or μ i 0) (resize i μ) (omega (arith, l, f, near i)),
+    );
+    few_rows = omega (arith, h.few_rows);
+    few_longer = omega (arith, h.few_longer);
+  }
+
+  pub row_kept : (i count run longer : ℕ) → IsCounted μ ν i count run longer → i < length ν
+      → get_or ν i 0 ≤ get_or μ i 0 → IsRow μ ν i count (run + 1) longer
+  row_kept i count run longer h n l =
+      let e : get_or μ i 0 ≡ get_or ν i 0 = omega (arith, within i) in
+      record {
+        count_is = h.count_is ∙ sym (kept i n e);
+        run_is = row_run i run h.run_is;
+        longer_is = λ c f. omega (
+          arith,
+          h.longer_is c f,
+          ap (times_in c) (resize-next i μ),
+          times_in-last_other c (get_or μ i 0) (resize i μ) (λ g. omega (arith, e, f, g)),
+        );
+        few_rows = omega (arith, h.few_rows);
+        few_longer = omega (arith, h.few_longer);
+      }
+
+  -- if the next row of ν is shorter, the counts of rows begin again at 0
+  pub next_shorter : (i count run longer : ℕ) → IsRow μ ν i count run longer
+      → get_or ν (suc i) 0 < get_or ν i 0 → IsCounted μ ν (suc i) count 0 0
+  next_shorter i count run longer h l = record {
+    count_is = h.count_is;
+    run_is = sym
+        (times_in-none (get_or ν (suc i) 0) (resize (suc i) ν)
+        (λ m. omega (arith, l, last-resize i ν (get_or ν (suc i) 0) q.falls m)));
+    longer_is = λ c f. sym
+        (times_in-none c (resize (suc i) μ)
+        (λ m. omega (arith, l, f, near i, last-resize i μ c p.falls m)));
+    few_rows = omega arith;
+    few_longer = omega arith;
+  }
+
+  -- if the next row of ν has the same length, the counts of rows go on
+  pub next_same : (i count run longer : ℕ) → IsRow μ ν i count run longer
+      → get_or ν i 0 ≤ get_or ν (suc i) 0 → IsCounted μ ν (suc i) count run longer
+  next_same i count run longer h l =
+      let e : get_or ν (suc i) 0 ≡ get_or ν i 0 = omega (arith, falls_get ν q.falls i) in
+      record {
+        count_is = h.count_is;
+        run_is = h.run_is ∙ ap (λ r. times_in r (resize (suc i) ν)) (sym e);
+        longer_is = λ c f. h.longer_is c (sym e ∙ f);
+        few_rows = h.few_rows;
+        few_longer = h.few_longer;
+      }

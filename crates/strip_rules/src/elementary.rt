@@ -1,0 +1,118 @@
+//! A list in m times e_k.
+ghost use Rattle.std.specs.Prelude.{◌≡◌, ℕ, ◌+◌, ◌^◌, ◌≤◌, [], ◌∷◌, get_or};
+ghost use Rattle.std.specs.Prelude.{MatchOption, IfOk, OnOk, IsErrOf};
+ghost use Rattle.sym_model.specs.Bases.{elementary_of};
+ghost use Rattle.sym_model.specs.Partition.{size};
+ghost use Rattle.sym_model.specs.Polynomial.{Same, times};
+ghost use Rattle.sym_model.specs.Strip.{IsVerticalStrip};
+ghost use Rattle.monomial_laws.specs.ExpressionTerms.{elementary_terms, in_monomials};
+ghost use Rattle.linear_combinations.specs.Gains.{Gains, Overflows, counted, scaled, HaveLabels};
+ghost use Rattle.sparse_polys.specs.Large.{ProductIsLarge};
+ghost use Rattle.sparse_polys.specs.Tables.{equal, IsWholeTable};
+ghost use Rattle.strip_rules.specs.Columns.{HasRoomForColumn, column_count};
+
+use crate::counts::{times_count, times_quotient};
+use calc_base::SumFault;
+use coeff_rings::{Int, Scalar};
+use linear_combinations::{Lin, Rule};
+use partitions::Partition;
+use skew_shapes::with_vertical_strip;
+use sparse_polys::Whole;
+use std::alloc::Global;
+
+/// The row at a place, counted from 0; 0 after the last one.
+fn row_at(rows: &[u16], at: usize) -> u16
+    ensures { result ≡ get_or rows.now at 0 }
+{
+    rows.get(at).copied().unwrap_or(0)
+}
+
+/// The coefficient of m_outer in m_inner·e_k, for a vertical strip outer/inner of k cells; `None`
+/// if it is 2^128 or more.
+fn coefficient_at(inner: &Partition, outer: &Partition) -> Option<u128>
+    requires { IsVerticalStrip outer.now inner.now }
+    ensures { (k : ℕ) → size outer.now ≡ size inner.now + k
+        → MatchOption result (2 ^ 128 ≤ column_count k inner.now outer.now)
+        (λ count. count ≡ column_count k inner.now outer.now) }
+{
+    let shorter = inner.parts();
+    let rows = outer.parts();
+    let mut count: u128 = 1;
+    // The number of rows so far of the same length as the next one, and of those among them with a
+    // new cell.
+    let mut run = 0;
+    let mut longer = 0;
+    for at in 0..rows.len() {
+        let row = rows[at];
+        run += 1;
+        if row_at(shorter, at) < row {
+            longer += 1;
+            count = times_quotient(count, run, longer)?;
+        }
+        if row_at(rows, at + 1) < row {
+            run = 0;
+            longer = 0;
+        }
+    }
+    Some(count)
+}
+
+/// Adds `c` times the coefficient of m_ν in m_μ·e_k at the shape ν, for the label μ; ν/μ is a
+/// vertical strip.
+fn add_shape(label: &Partition, shape: &Partition, c: Int, sum: &mut Whole) -> Result<(), SumFault>
+    requires { IsVerticalStrip shape.now label.now }
+    ensures gains { OnOk result ((k : ℕ) → size shape.now ≡ size label.now + k
+        → Gains sum.old (scaled c (counted (column_count k label.now) (shape.now ∷ []))) sum.new) }
+    ensures large { IsErrOf result SumFault.Large → (k : ℕ) → size shape.now ≡ size label.now + k
+        → Overflows equal sum.old (scaled c (counted (column_count k label.now) (shape.now ∷ []))) }
+{
+    if c.is_zero() {
+        return Ok(());
+    }
+    let product = times_count(c, coefficient_at(label, shape))?;
+    sum.add_at_label(shape, product)
+}
+
+/// The rule that multiplies by e_k: m_μ·e_k is the sum of the m_ν for which ν/μ is a vertical strip
+/// of k cells, each times the product of binomial coefficients of `column_product_law`.
+#[derive(Drop)]
+struct TimesElementary {
+    alloc: Global,
+    k: u16,
+}
+
+impl Rule<Partition, Partition> for TimesElementary {
+    ghost use Rattle.strip_rules.specs.Columns.{HasRoomForColumn, column_terms};
+
+    ghost takes = { λ rule label. HasRoomForColumn rule.k label };
+
+    ghost image = { λ rule label. column_terms rule.k label };
+
+    fn add_image(&self, label: &Partition, c: Int, sum: &mut Whole) -> Result<(), SumFault> {
+        let shapes = with_vertical_strip(self.alloc, label, self.k)?;
+        let listed = shapes.as_slice();
+        for shape in listed {
+            add_shape(label, shape, c, sum)?;
+        }
+        Ok(())
+    }
+}
+
+/// The product of a list in m and e_k, in every number of variables. Each label has room for k more
+/// cells and k more rows.
+///
+/// Returns `Large` only if some coefficient of the product of e_k and the list with absolute values
+/// as coefficients is 2^127 or more.
+///
+/// Example: m_(2,1) times e_2 has m_(2,2,1) twice.
+pub fn times_elementary(alloc: Global, list: &Whole, k: u16) -> Result<Whole, SumFault>
+    requires { HaveLabels (HasRoomForColumn k) list.now }
+    ensures value { IfOk result (λ product. (n : ℕ)
+        → Same (in_monomials product n) (times (elementary_of k n) (in_monomials list.now n))) }
+    ensures table { IfOk result IsWholeTable }
+    ensures large { IsErrOf result SumFault.Large → ProductIsLarge (elementary_terms k) list.now }
+{
+    let mut product = Lin::new(alloc);
+    product.add_by(&TimesElementary { alloc, k }, list)?;
+    Ok(product)
+}

@@ -1,9 +1,0 @@
-pub mod TableauWords
-pub mod FoundOffences
-pub mod ReadTableaux
-pub mod PairOffences
-pub mod SkewWords
-pub mod AskedLengths
-pub mod SkewTotals
-pub mod WrittenPairs
-pub mod TabWords

@@ -1,4 +1,0 @@
-pub mod LabelSizes
-pub mod Tables
-pub mod Large
-pub mod Families

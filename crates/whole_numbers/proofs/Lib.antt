@@ -1,3 +1,0 @@
-pub mod CommonMultiples
-pub mod LowestTerms
-pub mod CheckedResults
