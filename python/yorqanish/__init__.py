@@ -13,7 +13,8 @@ from ._answers import Grid as Grid
 from ._arguments import Exponents as Exponents, Partition as Partition, Permutation as Permutation
 from ._batch import Block as Block
 from ._calculator import Calculator
-from ._expansion import Expansion, Number as Number
+from ._expansion import Expansion
+from ._kinds import Number as Number
 from ._pictures import Picture as Picture, diagram as diagram, rothe_diagram as rothe_diagram
 from ._refusals import LiteralRefusal, RangeRefusal, Refusal, ShapeRefusal, SyntaxRefusal, TooLarge
 from ._rings import Element as Element, Ring as Ring
@@ -22,15 +23,5 @@ from ._version import __version__
 from ._ways import NoCalculator
 
 # What `from yorqanish import *` brings: no name that Sage has for something of its own.
-__all__ = [
-    "Calculator",
-    "Expansion",
-    "LiteralRefusal",
-    "NoCalculator",
-    "RangeRefusal",
-    "Refusal",
-    "ShapeRefusal",
-    "SyntaxRefusal",
-    "TooLarge",
-    "__version__",
-]
+__all__ = ["Calculator", "Expansion", "LiteralRefusal", "NoCalculator", "RangeRefusal", "Refusal", "ShapeRefusal", "SyntaxRefusal"]
+__all__ += ["TooLarge", "__version__"]

@@ -24,10 +24,6 @@ def grid_of(text: str) -> Grid:
     return Grid(tuple(map(listed, line.split(" "))) for line in text.splitlines())
 
 
-def letters_of(text: str) -> Numbers:
-    return tuple(map(int, text.split()))
-
-
 def tableaux_of(text: str, words: List[str]) -> Any:
     inner = words[words.index("/") + 1 :]
     cut = inner.index("-from") if "-from" in inner else len(inner)
@@ -42,7 +38,7 @@ OTHERS: Dict[str, Callable[[str, List[str]], Any]] = {
     "coef": lambda text, words: int(text),
     "tab": tableaux_of,
     "rsk": lambda text, words: pair_of(text),
-    "unrsk": lambda text, words: letters_of(text),
+    "unrsk": lambda text, words: tuple(map(int, text.split())),
     "rect": lambda text, words: tableau_of(text.rstrip("\n")),
     "growth": lambda text, words: grid_of(text),
 }

@@ -20,19 +20,12 @@ Rows = Collection[Collection[SupportsIndex]]
 
 Self = TypeVar("Self")
 # The types of other packages that are lists of numbers, beside sequences. They are known by their names, so that no package is imported.
-LISTS = {
-    "array.array",
-    "numpy.ndarray",
-    "pandas.core.series.Series",
-    "pandas.core.indexes.base.Index",
-    "sage.combinat.composition.Composition",
-    "sage.combinat.partition.Partition",
-    "sage.combinat.permutation.Permutation",
-    "sage.combinat.words.finite_word.FiniteWord_class",
-    "sage.modules.free_module_element.FreeModuleElement",
-    "sympy.core.containers.Tuple",
-    "sympy.tensor.array.ndim_array.NDimArray",
-}
+LISTS = set(
+    """array.array numpy.ndarray pandas.core.indexes.base.Index pandas.core.series.Series
+    sage.combinat.composition.Composition sage.combinat.partition.Partition sage.combinat.permutation.Permutation
+    sage.combinat.words.finite_word.FiniteWord_class sage.modules.free_module_element.FreeModuleElement
+    sympy.core.containers.Tuple sympy.tensor.array.ndim_array.NDimArray""".split()
+)
 # Those that are lists of rows.
 TABLES = {"numpy.ndarray", "sage.combinat.tableau.Tableau"}
 # Sequences of characters are no lists of numbers, even if they are empty.
@@ -104,20 +97,12 @@ def seconds(value: Optional[SupportsFloat], name: str = "timeout") -> Optional[f
     """A time in seconds; nothing, and what is infinite, is no limit."""
     if value is None:
         return None
-    if isinstance(value, TEXTS) or type(value).__name__ in ("bool", "bool_", "complex") or not hasattr(value, "__float__"):
+    if isinstance(value, TEXTS) or type(value).__name__.startswith(("bool", "complex")) or not hasattr(value, "__float__"):
         raise TypeError(f"{name}: {value!r} is not a number of seconds")
     number = float(value)
     if not number >= 0:
         raise ValueError(f"{name}: {value!r} is not a number of seconds that is at least 0")
     return None if math.isinf(number) else number
-
-
-def are_plain(values: Iterable[object]) -> bool:
-    """Whether all are small numbers of Python's own type, which need no other look."""
-    for it in values:
-        if type(it) is not int or not 0 <= it < 1 << 64:
-            return False
-    return True
 
 
 def items_of(values: Any, name: str, what: str, names: Set[str], dimensions: int) -> "Tuple[Any, ...]":
@@ -138,10 +123,15 @@ def items_of(values: Any, name: str, what: str, names: Set[str], dimensions: int
 
 def numbers(values: Shape, name: str) -> Numbers:
     """The numbers of a list in their order."""
-    if type(values) in (tuple, list):
+    if type(values) is tuple or type(values) is list:
         plain: Tuple[Any, ...] = tuple(values)
-        if len(plain) <= MOST_NUMBERS and are_plain(plain):
-            return plain
+        for it in plain:
+            # (a small number of Python's own type needs no other look)
+            if type(it) is not int or not 0 <= it < 1 << 64:
+                break
+        else:
+            if len(plain) <= MOST_NUMBERS:
+                return plain
     return tuple(whole(it, name) for it in items_of(values, name, "a list of numbers", LISTS, 1))
 
 
@@ -155,7 +145,8 @@ def without_zeros(values: Numbers) -> Numbers:
 
 def partition(values: Shape, name: str) -> Numbers:
     """The parts of a partition, without zeros at the end."""
-    return without_zeros(numbers(values, name))
+    parts = numbers(values, name)
+    return parts if parts and parts[-1] else without_zeros(parts)
 
 
 def tableau(rows: Rows, name: str) -> Tuple[Numbers, ...]:
@@ -177,18 +168,21 @@ def text_of(value: str) -> str:
 
 def words(*parts: Union[str, int, Numbers]) -> str:
     """A line of words: texts and numbers as they are, lists number by number."""
-    texts: List[str] = []
+    them: "List[Union[str, int]]" = []
     for it in parts:
-        texts += map(str, it) if isinstance(it, tuple) else [str(it)] if it != "" else []
-    return " ".join(texts)
+        if isinstance(it, tuple):
+            them += it
+        elif it != "":
+            them.append(it)
+    return " ".join(map(str, them))
 
 
 def factors(shapes: Iterable[Shape]) -> "List[Union[str, Numbers]]":
     """The factors of a product with `-` between them."""
     parts: "List[Union[str, Numbers]]" = []
     for i, shape in enumerate(shapes, 1):
-        parts += ["-"] * (i > 1) + [partition(shape, f"factor {i}")]
-    return parts
+        parts += "-", partition(shape, f"factor {i}")
+    return parts[1:]
 
 
 def limit(rows: Optional[SupportsIndex]) -> str:

@@ -1,6 +1,7 @@
 """Many lines: in windows that are sent at once, and in pieces over several processes."""
 from __future__ import annotations
 
+import math
 import os
 import random
 import threading
@@ -85,8 +86,10 @@ class Source:
     """Lines as they are read. What is raised where they come from is kept until those before it are answered."""
 
     def __init__(self, lines: Iterable[str]) -> None:
-        self._lines, self._is_there = iter(lines), isinstance(lines, (list, tuple))
+        self._lines = iter(lines)
         self._error: Optional[Exception] = None
+        # How many are left, if they are there.
+        self.left = len(lines) if isinstance(lines, (list, tuple)) else math.inf
 
     def take(self, count: int) -> List[str]:
         """The next lines: at most so many, and fewer if they come slowly; none at the end."""
@@ -97,10 +100,11 @@ class Source:
                 if not isinstance(line, str):
                     raise TypeError(f"a line is a string, and {line!r} is not")
                 taken.append(text_of(line))
-                if not self._is_there and time.monotonic() - began > READING:
+                if self.left == math.inf and time.monotonic() - began > READING:
                     break
         except Exception as error:
             self._error = error
+        self.left -= len(taken)
         return taken
 
     def end(self) -> None:
@@ -203,9 +207,11 @@ class Spread:
     def _next(self) -> Optional[Slot]:
         """The next piece to be handed out: of what was left first."""
         if not self._cut and len(self._deals) * self._dealt < MOST_AHEAD:
-            # (single lines are not dealt, so that each comes as soon as it is done)
-            count = self._dealt if self._size >= 2 else 1
-            lines = self._lines.take(int(self._size) * count)
+            # (towards the end the pieces are short, so that all are done at one time; single lines are not dealt, so that each comes as soon as
+            # it is done)
+            size = int(min(self._size, self._lines.left / (2 * self._dealt)))
+            count = self._dealt if size >= 2 else 1
+            lines = self._lines.take(max(1, size) * count)
             if lines:
                 self._deals.append(Deal(lines, min(count, len(lines)), self._draw))
                 self._cut.extend(self._deals[-1].slots)
@@ -274,46 +280,28 @@ def over_executor(executor: Executor, arguments: Any, lines: Source, workers: Op
     return Spread(lambda it: executor.submit(remote, arguments, it, seconds), lines, 2 * count, count).outcomes()
 
 
-class Threads:
-    """At most so many threads that wait for processes. Python ends without them, in the middle of whatever they wait for: those of a
-    `ThreadPoolExecutor` would keep it from ending."""
+def over_workers(open_way: Callable[[], Way], lines: Source, workers: int, seconds: Optional[float]) -> Iterator[Outcome]:
+    """The outcomes of lines over this many processes of the program. For each piece a thread waits, without which Python ends, in the middle of
+    whatever it waits for: those of a `ThreadPoolExecutor` would keep it from ending."""
+    way, free = open_way(), threading.Semaphore(workers)
 
-    def __init__(self, count: int) -> None:
-        self._count, self._started = count, 0
-        self._tasks: "SimpleQueue[Optional[Tuple[Future[Done], Callable[[], Done]]]]" = SimpleQueue()
-
-    def submit(self, task: Callable[[], Done]) -> "Future[Done]":
-        future: "Future[Done]" = Future()
-        self._tasks.put((future, task))
-        if self._started < self._count:
-            self._started += 1
-            threading.Thread(target=self._work, args=(self._tasks,), daemon=True).start()
-        return future
-
-    @staticmethod
-    def _work(tasks: "SimpleQueue[Optional[Tuple[Future[Done], Callable[[], Done]]]]") -> None:
-        while given := tasks.get():
-            future, task = given
+    def work(future: "Future[Done]", lines: List[str]) -> None:
+        with free:
             if future.set_running_or_notify_cancel():
                 try:
-                    future.set_result(task())
+                    future.set_result(piece(way, lines, seconds))
                 except BaseException as error:
                     future.set_exception(error)
 
-    def end(self) -> None:
-        for _ in range(self._started):
-            self._tasks.put(None)
+    def submit(lines: List[str]) -> "Future[Done]":
+        future: "Future[Done]" = Future()
+        threading.Thread(target=work, args=(future, lines), daemon=True).start()
+        return future
 
-
-def over_workers(open_way: Callable[[], Way], lines: Source, workers: int, seconds: Optional[float]) -> Iterator[Outcome]:
-    """The outcomes of lines over this many processes of the program, each of which a thread waits for."""
-    way, threads, owner = open_way(), Threads(workers), os.getpid()
     try:
-        yield from Spread(lambda it: threads.submit(partial(piece, way, it, seconds)), lines, workers + 1, workers).outcomes()
+        yield from Spread(submit, lines, workers + 1, workers).outcomes()
     finally:
         way.close()
-        if owner == os.getpid():
-            threads.end()
 
 
 def blocks(outcomes_of: Iterable[Outcome], progress: Optional[Callable[[int], None]], check: Callable[[], None]) -> Iterator[Block]:

@@ -7,10 +7,9 @@ from fractions import Fraction
 from numbers import Rational
 from typing import Any, Callable, Dict, Generic, Iterable, Iterator, List, Mapping, Optional, SupportsIndex, Tuple, TypeVar, Union, cast
 
-from ._arguments import Fixed, integer, ratio
-from ._kinds import KINDS
+from ._arguments import Fixed, Numbers, integer, ratio, text_of
+from ._kinds import KINDS, Number
 
-Number = Union[int, Fraction]
 # What an expansion can be multiplied by: exact numbers of any package.
 Scalar = Union[SupportsIndex, Rational]
 Label = TypeVar("Label")
@@ -48,10 +47,6 @@ def given(terms: Any, kind: str) -> "Dict[Any, Number]":
     return {label: c for label, c in found.items() if c}
 
 
-def latex_number(size: Number) -> str:
-    return f"\\frac{{{size.numerator}}}{{{size.denominator}}}" if size.denominator > 1 else str(size)
-
-
 class Expansion(Fixed, Mapping[Label, Coefficient], Generic[Label, Coefficient]):
     """A list of terms: labels and their coefficients, in the order in which `calc` prints them. It does not change.
 
@@ -80,11 +75,13 @@ class Expansion(Fixed, Mapping[Label, Coefficient], Generic[Label, Coefficient])
     (True, True, True, False)
     """
 
-    __slots__ = ("kind", "basis", "_terms", "__weakref__")
+    __slots__ = ("kind", "basis", "_terms", "_calculator", "__weakref__")
 
     kind: str
     basis: str
     _terms: "Dict[Any, Any]"
+    # What gives the Calculator for products; nothing, if this is no answer, or that of another ring or of few variables.
+    _calculator: Any
 
     # (numpy's numbers leave products to this class)
     __array_ufunc__ = None
@@ -110,37 +107,35 @@ class Expansion(Fixed, Mapping[Label, Coefficient], Generic[Label, Coefficient])
             raise ValueError(f"{kind!r} is not a kind of expansion")
         if not isinstance(basis, str) or basis not in BASES or basis != "s" and kind != "symmetric":
             raise ValueError(f"{basis!r} is not a basis of {kind}")
-        return cls._made(in_order(given(terms, kind), kind), kind, basis)
+        return cls._made(in_order(given(terms, kind), kind), text_of(kind), text_of(basis))
 
     @classmethod
-    def _made(cls, terms: "Dict[Any, Any]", kind: str, basis: str) -> "Expansion[Any, Any]":
+    def _made(cls, terms: "Dict[Any, Any]", kind: str, basis: str, calculator: Any = None) -> "Expansion[Any, Any]":
         """An expansion of terms that are known to be of this kind and in its order."""
-        made = object.__new__(cls)
-        object.__setattr__(made, "_terms", terms)
-        object.__setattr__(made, "kind", kind)
-        object.__setattr__(made, "basis", basis)
+        made, put = object.__new__(cls), object.__setattr__
+        put(made, "_terms", terms)
+        put(made, "kind", kind)
+        put(made, "basis", basis)
+        put(made, "_calculator", calculator)
         return made
 
     @staticmethod
-    def of(text: str, kind: str = "symmetric", basis: str = "s") -> "Expansion[Any, Any]":
+    def of(text: str, kind: str = "symmetric", basis: str = "s", calculator: Any = None) -> "Expansion[Any, Any]":
         """Parses a list of terms that `calc` has printed.
 
         >>> Expansion.of("1  (2)\\n-1/2  (1,1)\\n", basis="p")
         Expansion({(2,): 1, (1, 1): Fraction(-1, 2)}, basis='p')
         """
-        terms: Dict[Any, Any] = {}
-        if text != "0\n":
-            read, lines = KINDS[kind].read, text.splitlines()
-            for line in lines:
-                coefficient, label = line.split("  ", 1)
-                terms[read(label)] = Fraction(coefficient) if "/" in coefficient else int(coefficient)
-            if not lines or len(terms) != len(lines):
-                raise ValueError(f"{text!r} is not a list of terms")
-        return Expansion._made(terms, kind, basis)
+        lines = text.splitlines() if text != "0\n" else []
+        terms = dict(map(KINDS[kind].term, lines))
+        if not text or len(terms) != len(lines):
+            raise ValueError(f"{text!r} is not a list of terms")
+        return Expansion._made(terms, kind, basis, calculator)
 
-    def _with(self, terms: "Dict[Any, Any]") -> "Expansion[Any, Any]":
+    def _with(self, terms: "Dict[Any, Any]", calculator: Any = None) -> "Expansion[Any, Any]":
         """An expansion of the same kind and basis, of terms in any order."""
-        return Expansion._made(in_order({label: c for label, c in terms.items() if c}, self.kind), self.kind, self.basis)
+        ordered = in_order({label: c for label, c in terms.items() if c}, self.kind)
+        return Expansion._made(ordered, self.kind, self.basis, calculator)
 
     def __getitem__(self, label: Any) -> Coefficient:
         return cast(Coefficient, self._terms.get(KINDS[self.kind].find(label), 0))
@@ -211,7 +206,7 @@ class Expansion(Fixed, Mapping[Label, Coefficient], Generic[Label, Coefficient])
         terms = dict(self._terms)
         for label, c in self._fitting(other).items():
             terms[label] = exact(terms.get(label, 0) + sign * c)
-        return self._with(terms)
+        return self._with(terms, other._calculator and self._calculator)
 
     def __add__(self, other: "Union[Expansion[Label, Coefficient], int]") -> "Expansion[Label, Coefficient]":
         return cast("Expansion[Label, Coefficient]", self._plus(other, 1))
@@ -222,9 +217,7 @@ class Expansion(Fixed, Mapping[Label, Coefficient], Generic[Label, Coefficient])
         return cast("Expansion[Label, Coefficient]", self._plus(other, -1))
 
     def __rsub__(self, other: int) -> "Expansion[Label, Coefficient]":
-        if integer(other) == 0:
-            return -self
-        return NotImplemented
+        return cast("Expansion[Label, Coefficient]", (-self)._plus(other, 1))
 
     def __pos__(self) -> "Expansion[Label, Coefficient]":
         return self
@@ -232,9 +225,9 @@ class Expansion(Fixed, Mapping[Label, Coefficient], Generic[Label, Coefficient])
     def __neg__(self) -> "Expansion[Label, Coefficient]":
         return self * -1
 
-    def __mul__(self, scalar: Scalar) -> "Expansion[Label, Coefficient]":
+    def __mul__(self, scalar: "Union[Scalar, Expansion[Numbers, Any]]") -> "Expansion[Label, Coefficient]":
         if isinstance(scalar, Expansion):
-            raise TypeError("an expansion is multiplied by numbers alone; products are commands of a Calculator, and of its rings")
+            return self._product(scalar)
         parts = ratio(scalar)
         if parts is None:
             from ._sage import is_element, refuse_residue
@@ -244,15 +237,25 @@ class Expansion(Fixed, Mapping[Label, Coefficient], Generic[Label, Coefficient])
                 return NotImplemented
             raise TypeError(f"{scalar!r} is not an exact number")
         by = exact(scalar)
-        return self._with({label: exact(c * by) for label, c in self._terms.items()})
+        return self._with({label: exact(c * by) for label, c in self._terms.items()}, self._calculator)
 
-    __rmul__ = __mul__
+    def __rmul__(self, scalar: Scalar) -> "Expansion[Label, Coefficient]":
+        return self * scalar
+
+    def _product(self, other: "Expansion[Any, Any]") -> "Expansion[Any, Any]":
+        """The product of answers in s, by `mult`, or of those of `schubmult`, by that."""
+        calculator = other._calculator and self._calculator
+        self._fitting(other)
+        if not calculator or self.basis != "s":
+            raise TypeError("these expansions have no product by *: expand them in s, or make it in a ring, as in calc.quantum_ring(K, C)")
+        ring = calculator().schur_ring() if self.kind == "symmetric" else calculator().schubert_ring()
+        return cast("Expansion[Any, Any]", ring.product(self, other))
 
     def __truediv__(self, scalar: Scalar) -> "Expansion[Label, Union[int, Fraction]]":
         by = Fraction(exact(scalar))
         if not by:
             raise ZeroDivisionError("an expansion is divided by 0")
-        return self._with({label: exact(c / by) for label, c in self._terms.items()})
+        return self._with({label: exact(c / by) for label, c in self._terms.items()}, self._calculator)
 
     def _joined(
         self, terms: "Iterable[Tuple[Any, Number]]", label_of: Callable[[str, Any], str], of_size: Callable[[Number], str], sign: str
@@ -275,10 +278,10 @@ class Expansion(Fixed, Mapping[Label, Coefficient], Generic[Label, Coefficient])
         return self._latex_of(self._terms.items())
 
     def _latex_of(self, terms: "Iterable[Tuple[Any, Number]]") -> str:
-        return self._joined(terms, KINDS[self.kind].latex, latex_number, "")
+        written = KINDS[self.kind].latex
+        return self._joined(terms, written, lambda it: f"\\frac{{{it.numerator}}}{{{it.denominator}}}" if it.denominator > 1 else str(it), "")
 
-    def _latex_(self) -> str:
-        return self.latex()
+    _latex_ = latex
 
     def _repr_latex_(self) -> str:
         """What a notebook shows. A long list is shown by its first and last terms and the number of terms."""
@@ -301,7 +304,7 @@ class Expansion(Fixed, Mapping[Label, Coefficient], Generic[Label, Coefficient])
 
     def filter(self, keep: "Callable[[Label, Coefficient], object]") -> "Expansion[Label, Coefficient]":
         """The terms for which a function of label and coefficient says yes."""
-        return Expansion._made({label: c for label, c in self._terms.items() if keep(label, c)}, self.kind, self.basis)
+        return Expansion._made({label: c for label, c in self._terms.items() if keep(label, c)}, self.kind, self.basis, self._calculator)
 
     def map(self, change: "Callable[[Label, Coefficient], Tuple[Any, Any]]") -> "Expansion[Any, Any]":
         """The sum of the terms that a function of label and coefficient makes of the terms: pairs of a label and a coefficient."""
@@ -321,7 +324,8 @@ class Expansion(Fixed, Mapping[Label, Coefficient], Generic[Label, Coefficient])
     def omega(self) -> "Expansion[Label, Coefficient]":
         """The image of a symmetric function in s under the involution that takes s of a partition to s of its conjugate."""
         self._be_in_s()
-        return self._with({tuple(sum(it > i for it in label) for i in range(sum(label[:1]))): c for label, c in self._terms.items()})
+        terms = {tuple(sum(it > i for it in label) for i in range(sum(label[:1]))): c for label, c in self._terms.items()}
+        return self._with(terms, self._calculator)
 
     def scalar(self, other: "Expansion[Any, Any]") -> Number:
         """The scalar product of two symmetric functions in s, for which the Schur functions are orthonormal."""

@@ -1,30 +1,36 @@
 """The kinds of answers that are lists of terms: how the labels of each are read, looked up, ordered and written."""
 from __future__ import annotations
 
-from functools import lru_cache
-from typing import Any, Callable, Dict, NamedTuple, Tuple
+from fractions import Fraction
+from functools import lru_cache, partial
+from typing import Any, Callable, Dict, NamedTuple, Tuple, Union
 
 from ._arguments import Numbers, integer, numbers, partition, whole, without_zeros
 
+Number = Union[int, Fraction]
+
 
 class Kind(NamedTuple):
-    """`read` reads a printed label, `find` makes a label of what is asked for, `order` is the key by which `calc` sorts labels, `plain` and
-    `latex` write one; `letter` is the basis."""
+    """`term` reads a printed term: its label and its coefficient. `find` makes a label of what is asked for, `order` is the key by which `calc`
+    sorts labels, `plain` and `latex` write one by the letter of the basis."""
 
-    read: Callable[[str], Any]
+    term: "Callable[[str], Tuple[Any, Number]]"
     find: Callable[[Any], Any]
     order: Callable[[Any], Any]
     plain: Callable[[str, Any], str]
     latex: Callable[[str, Any], str]
 
 
-@lru_cache(1 << 16)
-def listed(label: str) -> Numbers:
+def one(label: str) -> Numbers:
     """The numbers of a label: `(2,1)` is (2, 1)."""
     if label[:1] != "(" or label[-1:] != ")":
         raise ValueError(f"{label!r} is not a label")
     inner = label[1:-1]
     return tuple(map(int, inner.split(","))) if inner else ()
+
+
+# (the lists of pairs and grids come again and again)
+listed = lru_cache(1 << 16)(one)
 
 
 def two(label: str) -> "Tuple[Numbers, Numbers]":
@@ -37,6 +43,16 @@ def power(label: str) -> "Tuple[int, Numbers]":
     if first[:2] != "q^":
         raise ValueError(f"{label!r} is not a label")
     return int(first[2:]), listed(second)
+
+
+def term_of(read: Callable[[str], Any], line: str) -> "Tuple[Any, Number]":
+    coefficient, label = line.split("  ", 1)
+    return read(label), Fraction(coefficient) if "/" in coefficient else int(coefficient)
+
+
+# (such terms come again and again)
+ONE_LIST = lru_cache(1 << 16)(partial(term_of, one))
+PAIR = partial(term_of, two)
 
 
 def one_list(label: Any) -> Any:
@@ -96,9 +112,12 @@ def atom(letter: str, label: Numbers) -> str:
     return f"{letter}[{','.join(map(str, label))}]"
 
 
-def powers_of(letter: str, label: Numbers) -> str:
+def powers_of(letter: str, label: Numbers, index: str = "{}", power: str = "^{}", between: str = "*") -> str:
     """A monomial by its exponents; nothing if they are all 0."""
-    return "*".join(f"{letter}{i}" + (f"^{e}" if e > 1 else "") for i, e in enumerate(label, 1) if e)
+    return between.join(letter + index.format(i) + (power.format(e) if e > 1 else "") for i, e in enumerate(label, 1) if e)
+
+
+product = partial(powers_of, index="_{{{}}}", power="^{{{}}}", between=" ")
 
 
 def after(front: str, label: str) -> str:
@@ -113,43 +132,27 @@ def indexed(letter: str, label: Numbers) -> str:
     return f"{letter}_{{{','.join(map(str, label)) or chr(92) + 'emptyset'}}}"
 
 
-def product(letter: str, label: Numbers) -> str:
-    """A monomial by its exponents; nothing if they are all 0."""
-    return " ".join(f"{letter}_{{{i}}}" + (f"^{{{e}}}" if e > 1 else "") for i, e in enumerate(label, 1) if e)
-
-
 def permuted(label: Numbers) -> str:
     """A Schubert polynomial. (Between the letters of a permutation LaTeX drops blanks, so that a letter over 9 needs commas.)"""
     return f"\\mathfrak{{S}}_{{{('' if max(label) < 10 else ',').join(map(str, label))}}}"
 
 
-def powered(label: "Tuple[int, Numbers]") -> str:
-    q = "" if label[0] == 0 else "q " if label[0] == 1 else f"q^{{{label[0]}}} "
-    return q + indexed("\\sigma", label[1])
-
-
 KINDS: Dict[str, Kind] = {
-    "symmetric": Kind(listed, a_partition, by_degree, atom, indexed),
+    "symmetric": Kind(ONE_LIST, a_partition, by_degree, atom, indexed),
     "pairs": Kind(
-        two,
-        both(a_partition, a_partition),
-        lambda it: (by_degree(it[0]), by_degree(it[1])),
+        *(PAIR, both(a_partition, a_partition), lambda it: (by_degree(it[0]), by_degree(it[1]))),
         lambda letter, it: f"{atom('s', it[0])}#{atom('s', it[1])}",
         lambda letter, it: f"{indexed('s', it[0])} \\otimes {indexed('s', it[1])}",
     ),
     "powers": Kind(
-        power,
-        both(lambda it: whole(it, "the power of q"), a_partition),
-        lambda it: (it[0], by_degree(it[1])),
+        *(partial(term_of, power), both(lambda it: whole(it, "the power of q"), a_partition), lambda it: (it[0], by_degree(it[1]))),
         lambda letter, it: after(power_of_q(it[0]), atom("s", it[1])),
-        lambda letter, it: powered(it),
+        lambda letter, it: ("" if it[0] == 0 else "q " if it[0] == 1 else f"q^{{{it[0]}}} ") + indexed("\\sigma", it[1]),
     ),
-    "monomials": Kind(listed, exponents, by_degree, lambda letter, it: powers_of("x", it), lambda letter, it: product("x", it)),
-    "permutations": Kind(listed, a_permutation, by_inversions, lambda letter, it: atom("X", it), lambda letter, it: permuted(it)),
+    "monomials": Kind(ONE_LIST, exponents, by_degree, lambda letter, it: powers_of("x", it), lambda letter, it: product("x", it)),
+    "permutations": Kind(ONE_LIST, a_permutation, by_inversions, lambda letter, it: atom("X", it), lambda letter, it: permuted(it)),
     "shifts": Kind(
-        two,
-        both(a_permutation, exponents),
-        lambda it: (by_inversions(it[0]), by_degree(it[1])),
+        *(PAIR, both(a_permutation, exponents), lambda it: (by_inversions(it[0]), by_degree(it[1]))),
         lambda letter, it: after(powers_of("y", it[1]), atom("X", it[0])),
         lambda letter, it: f"{product('y', it[1])} {permuted(it[0])}".strip(),
     ),

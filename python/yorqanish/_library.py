@@ -81,7 +81,7 @@ class Library:
         return self.blocks([line], seconds)[0] if len(line) <= LONGEST or is_of_batch(line) else self._text(line)
 
     def blocks(self, lines: Sequence[bytes], seconds: Optional[float]) -> List[str]:
-        texts = self._text(b"batch", b"".join(it + b"\n" for it in lines)).split("--\n")
+        texts = self._text(b"batch", b"\n".join((*lines, b""))).split("--\n")
         if len(texts) != len(lines):
             raise NoCalculator(f"{self.path} does not answer as calc does")
         return texts

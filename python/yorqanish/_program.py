@@ -12,9 +12,9 @@ import threading
 import time
 import weakref
 from queue import SimpleQueue
-from typing import Any, Dict, Iterator, List, NoReturn, Optional, Sequence, Tuple, cast
+from typing import Any, Callable, Dict, Iterator, List, NoReturn, Optional, Sequence, Tuple, cast
 
-from ._ways import BREAK, END, LAST, LONGEST, NO_MEMORY, PATIENCE, QUESTIONS, Ended, NoCalculator, closed, is_of_batch, no_memory
+from ._ways import BREAK, END, ENDED, LAST, LONGEST, NO_MEMORY, PATIENCE, QUESTIONS, Ended, NoCalculator, closed, is_of_batch, no_memory
 
 # The processes that this one has started, each with the writing end of the pipe that ties it to this one, and with whoever reads from it. A
 # process made by fork closes its copies of their pipes and forgets them.
@@ -23,7 +23,9 @@ STARTED: "Dict[subprocess.Popen[bytes], Tuple[Any, weakref.ref[Running]]]" = {}
 # them; what asks for it is one step, wherever the collector or an interrupted call does that.
 STARTING: "SimpleQueue[Any]" = SimpleQueue()
 ENDING: "SimpleQueue[Any]" = SimpleQueue()
-SERVANTS: "List[threading.Thread]" = []
+SERVANTS: "List[Tuple[SimpleQueue[Any], threading.Thread]]" = []
+# Held while a process is started, and at a fork, whose copies of that process's pipes would else not be known, and keep its start waiting.
+STARTS = threading.RLock()
 IS_ENDING = False
 NOTHING = memoryview(b"")
 # A group of its own; before Python 3.11 that takes a session of its own.
@@ -78,18 +80,18 @@ def tie(process: "subprocess.Popen[bytes]", watched: int) -> None:
 def start(path: str, words: List[str], file: Optional[File], reader: "weakref.ref[Running]") -> "subprocess.Popen[bytes]":
     """Starts the program, out of reach of the terminal's Ctrl-C: who is interrupted ends it."""
     try:
-        if file:
-            file.check()
-        ends = os.pipe()
-        watched, kept = open(ends[0], "rb", buffering=0), open(ends[1], "wb", buffering=0)
-        with watched:
-            # (the reading end stays open in the program, and in it alone)
-            passed = (watched.fileno(), file.number) if file else (watched.fileno(),)
-            where = file.place if file else path
-            pipes: "Dict[str, Any]" = {"stdin": subprocess.PIPE, "stdout": subprocess.PIPE, "stderr": subprocess.DEVNULL}
-            process = subprocess.Popen([path, *words], executable=where, bufsize=0, pass_fds=passed, **pipes, **GROUP)
-            STARTED[process] = kept, reader
-            tie(process, watched.fileno())
+        with STARTS:
+            if file:
+                file.check()
+            ends = os.pipe()
+            watched, kept = open(ends[0], "rb", buffering=0), open(ends[1], "wb", buffering=0)
+            with watched:
+                # (the reading end stays open in the program, and in it alone)
+                passed = (watched.fileno(), file.number) if file else (watched.fileno(),)
+                pipes: "Dict[str, Any]" = {"stdin": subprocess.PIPE, "stdout": subprocess.PIPE, "stderr": subprocess.DEVNULL}
+                process = subprocess.Popen([path, *words], executable=file.place if file else path, bufsize=0, pass_fds=passed, **pipes, **GROUP)
+                STARTED[process] = kept, reader
+                tie(process, watched.fileno())
     except OSError as error:
         raise NoCalculator(f"{path} cannot be started: {error.strerror}") from None
     if reader() is None:
@@ -99,28 +101,58 @@ def start(path: str, words: List[str], file: Optional[File], reader: "weakref.re
 
 def started(path: str, words: List[str], file: Optional[File], reader: "Running") -> "subprocess.Popen[bytes]":
     """Has the program started, and waits for that."""
-    if IS_ENDING:
+    if IS_ENDING or threading.current_thread() in (it for _, it in SERVANTS):
+        # (also if the collector calls a `__del__` in one of these threads)
         return start(path, words, file, weakref.ref(reader))
-    for task in (start_each, end_each)[len(SERVANTS) :]:
-        thread = threading.Thread(target=task, daemon=True)
-        thread.start()
-        SERVANTS.append(thread)
     answer: "SimpleQueue[Any]" = SimpleQueue()
     STARTING.put((answer, path, words, file, weakref.ref(reader, ENDING.put)))
+    serve()
     process = answer.get()
     if isinstance(process, BaseException):
         raise process
     return cast("subprocess.Popen[bytes]", process)
 
 
-def start_each() -> None:
-    """Starts what is to be started, one after the other."""
-    while True:
-        answer, *asked = STARTING.get()
-        try:
-            answer.put(start(*asked))
-        except BaseException as error:
-            answer.put(error)
+def serve() -> None:
+    """Has the threads that start and end processes, unless they are there. (What they are to do is asked for before, so that one that is about to
+    end is not waited for in vain.)"""
+    for queue, task in () if IS_ENDING else ((STARTING, start_one), (ENDING, end_one)):
+        if not any(it is queue and thread.is_alive() for it, thread in SERVANTS):
+            thread = threading.Thread(target=work, args=(queue, task), daemon=True)
+            try:
+                thread.start()
+                SERVANTS.append((queue, thread))
+            except RuntimeError:
+                # (there is no thread any more at the end of Python 3.12, or no further one)
+                queue.put(None)
+                work(queue, task)
+
+
+def work(queue: "SimpleQueue[Any]", task: "Callable[[Any], None]") -> None:
+    """Does what is asked for, one after the other."""
+    while asked := queue.get():
+        task(asked)
+
+
+def pause() -> None:
+    """Before a fork these threads end if there are no others, since a copy of a process with threads may hang, of which Python warns; the next call
+    has them again. They are waited for, but not for ever: the collector may run anything in them. No process is being started meanwhile."""
+    alone = not IS_ENDING and threading.active_count() == 1 + len(SERVANTS)
+    ending = [SERVANTS.pop() for _ in range(len(SERVANTS))] if alone else []
+    for queue, _ in ending:
+        queue.put(None)
+    for _, thread in ending:
+        if thread is not threading.current_thread():
+            thread.join(1)
+    STARTS.acquire()
+
+
+def start_one(asked: Any) -> None:
+    answer, *how = asked
+    try:
+        answer.put(start(*how))
+    except BaseException as error:
+        answer.put(error)
 
 
 def kill(process: "subprocess.Popen[bytes]") -> None:
@@ -142,16 +174,13 @@ def end(process: "subprocess.Popen[bytes]") -> None:
             pipe.close()
 
 
-def end_each() -> None:
-    """Ends what is to be ended, one after the other."""
-    while True:
-        asked = ENDING.get()
-        for process, (_, reader) in list(STARTED.items()):
-            if process is asked or reader is asked:
-                try:
-                    end(process)
-                except OSError:
-                    pass
+def end_one(asked: Any) -> None:
+    for process, (_, reader) in list(STARTED.items()):
+        if process is asked or reader is asked:
+            try:
+                end(process)
+            except OSError:
+                pass
 
 
 def end_all(is_ending: bool = False) -> None:
@@ -165,8 +194,8 @@ def end_all(is_ending: bool = False) -> None:
 def forget_all() -> None:
     """Lets go of what a fork has copied. The processes are their parent's: they are neither ended nor waited for. A call that was interrupted by
     the fork goes on to read: in place of its pipes there is nothing, and no other file gets their numbers before it has ended."""
-    global STARTING, ENDING
-    STARTING, ENDING = SimpleQueue(), SimpleQueue()
+    global STARTING, ENDING, STARTS
+    STARTING, ENDING, STARTS = SimpleQueue(), SimpleQueue(), threading.RLock()
     SERVANTS.clear()
     pipes = [it for process, (kept, _) in STARTED.items() for it in (process.stdin, process.stdout, kept) if it and not it.closed]
     for process in STARTED:
@@ -182,7 +211,7 @@ def forget_all() -> None:
 
 
 atexit.register(end_all, True)
-os.register_at_fork(after_in_child=forget_all)
+os.register_at_fork(before=pause, after_in_parent=lambda: STARTS.release(), after_in_child=forget_all)
 
 
 class Running:
@@ -205,7 +234,7 @@ class Running:
     def _written(self, data: memoryview) -> memoryview:
         """Writes what the pipe takes; what is left. Of a process that has gone nothing is left: its output says so."""
         try:
-            return data[os.write(self.into, data[: 1 << 16]) :]
+            return data[os.write(self.into, data) :]
         except BlockingIOError:
             return data
         except BrokenPipeError:
@@ -215,6 +244,15 @@ class Running:
         """What has come, and what is left to be written; nothing comes from a process that has ended. It waits until something comes, and
         until the deadline at most."""
         data = self._written(data) if data else data
+        if data or deadline is not None:
+            data = self._waited(data, deadline)
+        came = os.read(self.out, 1 << 18)
+        if self._owner != os.getpid():
+            raise NoCalculator("this answer is read by the process that was forked, and not by its copy")
+        return came, data
+
+    def _waited(self, data: memoryview, deadline: Optional[float]) -> memoryview:
+        """Writes until something comes; what is left."""
         if data:
             self._poll.register(self.into, select.POLLOUT)
         try:
@@ -222,20 +260,17 @@ class Running:
                 left = LONGEST_WAIT if deadline is None else min(max(0.0, deadline - time.monotonic()), LONGEST_WAIT)
                 ready = dict(self._poll.poll(left * 1000))
                 if self.out in ready:
-                    break
+                    return data
                 if ready:
                     data = self._written(data)
                     if not data:
                         self._poll.unregister(self.into)
                 elif deadline is not None and time.monotonic() >= deadline:
                     raise TimeoutError
+            return data
         finally:
             if data:
                 self._poll.unregister(self.into)
-        came = os.read(self.out, 1 << 18)
-        if self._owner != os.getpid():
-            raise NoCalculator("this answer is read by the process that was forked, and not by its copy")
-        return came, data
 
     def stop(self) -> None:
         """Ends the process from another thread than the one that reads, which closes the pipes."""
@@ -270,7 +305,7 @@ class Batch(Running):
 
     def _meet(self) -> None:
         """The first exchange, by which another program of this name is found out, or another version."""
-        wanted, got = BREAK.join(QUESTIONS.values()) + BREAK + END, b""
+        wanted, got = BREAK.join(QUESTIONS.values()) + ENDED, b""
         data, deadline = memoryview(b"\n".join((*QUESTIONS, LAST, b""))), deadline_in(PATIENCE)
         try:
             came = wanted
@@ -284,17 +319,16 @@ class Batch(Running):
 
     def exchange(self, lines: Sequence[bytes], seconds: Optional[float]) -> List[str]:
         """The blocks of lines. A line of a known answer is sent after them: where that answer is, theirs have ended."""
-        data, got = memoryview(b"\n".join((*lines, LAST, b""))), bytearray()
-        deadline = deadline_in(seconds)
-        while not (got.endswith(BREAK + END) and got.count(BREAK) > len(lines)):
+        data, got, deadline = memoryview(b"\n".join((*lines, LAST, b""))), bytearray(), deadline_in(seconds)
+        while not (got.endswith(ENDED) and got.count(BREAK) > len(lines)):
             came, data = self.read(data, deadline)
             if not came:
                 raise self.gone()
             got += came
-        texts = got[: -len(BREAK + END)].decode("ascii").split("--\n")
-        if texts[0] or len(texts) != len(lines) + 1:
+        first, *texts, _ = got.decode("ascii").split("--\n")
+        if first or len(texts) != len(lines):
             raise NoCalculator(f"{self.path} does not answer as calc does")
-        return texts[1:]
+        return texts
 
     def listing(self, line: bytes, seconds: Optional[float]) -> Iterator[str]:
         """The lines of the answer to a line, each as soon as it is there and within so many seconds."""
@@ -303,7 +337,8 @@ class Batch(Running):
             came, data = self.read(data, deadline_in(seconds))
             if not came:
                 raise self.gone()
-            *lines, rest = (rest + came).split(b"\n")
+            # (what comes after the answer is no line of it, however it is cut)
+            *lines, rest = (rest + came).split(b"\n") if breaks < 2 else (rest + came,)
             for at, it in enumerate(lines):
                 if it + b"\n" != BREAK:
                     yield it.decode("ascii")
@@ -337,13 +372,10 @@ class Program:
         self._owner, self._is_closed = os.getpid(), False
         first = Batch(self.path, None)
         self._file = tried(first)
+        # What the program's file is known by.
+        self.digest = self._file.digest if self._file else None
         self._idle: List[Batch] = [first]
         self._open: "weakref.WeakSet[Running]" = weakref.WeakSet(self._idle)
-
-    @property
-    def digest(self) -> Optional[str]:
-        """What the program's file is known by."""
-        return self._file.digest if self._file else None
 
     def _own(self) -> None:
         """Leaves what a fork has copied to the parent."""
@@ -351,6 +383,8 @@ class Program:
             self._owner, self._idle, self._open = os.getpid(), [], weakref.WeakSet()
         if self._is_closed:
             raise closed()
+        if not SERVANTS:
+            serve()
 
     def _taken(self) -> Batch:
         """A process that is not in use."""
@@ -366,19 +400,17 @@ class Program:
                 return batch
             batch.end()
 
-    def _given_back(self, batch: Batch) -> None:
-        self._idle.append(batch)
-        if self._is_closed:
-            self.close()
-
     def blocks(self, lines: Sequence[bytes], seconds: Optional[float]) -> List[str]:
         batch = self._taken()
         try:
             texts = batch.exchange(lines, seconds)
         except BaseException:
             batch.end()
+            serve()
             raise
-        self._given_back(batch)
+        self._idle.append(batch)
+        if self._is_closed:
+            self.close()
         return texts
 
     def answer(self, line: bytes, seconds: Optional[float]) -> str:
@@ -393,7 +425,9 @@ class Program:
         except BaseException:
             batch.end()
             raise
-        self._given_back(batch)
+        self._idle.append(batch)
+        if self._is_closed:
+            self.close()
 
     def _of_its_own(self, line: bytes, deadline: Optional[float]) -> List[str]:
         """The lines of the answer to a line that is too long for a batch: a process of its own writes them."""
@@ -430,5 +464,6 @@ class Program:
         if self._owner == os.getpid():
             while self._idle:
                 self._idle.pop().end()
+            serve()
             for it in list(self._open):
                 it.stop()

@@ -76,7 +76,7 @@ class Ring:
             for label, d in answers[first, second].items():
                 label = form.times(label, before, behind)
                 table[label] = table.get(label, 0) + c * d
-        return Expansion(((label, exact(c)) for label, c in table.items()), self.kind)
+        return left._with({label: exact(c) for label, c in table.items()}, right._calculator and left._calculator)
 
 
 class Element(Fixed):

@@ -1,7 +1,7 @@
 """Tableaux, and pairs of them."""
 from __future__ import annotations
 
-from typing import Any, NamedTuple, Tuple
+from typing import Any, NamedTuple, Optional, Tuple
 
 from ._arguments import Fixed, Numbers, Rows, Shape, partition, tableau
 from ._pictures import filled
@@ -33,8 +33,8 @@ class Tableau(Fixed, Tuple[Numbers, ...]):
 
     inner: Numbers
 
-    def __new__(cls, rows: Rows = (), inner: Shape = ()) -> "Tableau":
-        return cls._made(tableau(rows, "rows"), partition(inner, "inner"))
+    def __new__(cls, rows: Rows = (), inner: Optional[Shape] = None) -> "Tableau":
+        return cls._made(tableau(rows, "rows"), rows.inner if inner is None and isinstance(rows, Tableau) else partition(inner or (), "inner"))
 
     @classmethod
     def _made(cls, rows: "Tuple[Numbers, ...]", inner: Numbers) -> "Tableau":
@@ -48,10 +48,7 @@ class Tableau(Fixed, Tuple[Numbers, ...]):
             return NotImplemented
         return tuple.__eq__(self, other) and self.inner == getattr(other, "inner", ())
 
-    def __ne__(self, other: object) -> bool:
-        if not isinstance(other, tuple):
-            return NotImplemented
-        return not self == other
+    __ne__ = object.__ne__
 
     def __hash__(self) -> int:
         return hash((tuple(self), self.inner)) if self.inner else tuple.__hash__(self)
@@ -96,8 +93,7 @@ class Tableau(Fixed, Tuple[Numbers, ...]):
     def _repr_svg_(self) -> str:
         return filled(self, self.inner).svg
 
-    def _latex_(self) -> str:
-        return self._array()
+    _latex_ = _array
 
 
 class Pair(NamedTuple):

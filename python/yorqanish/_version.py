@@ -2,14 +2,8 @@
 import os
 
 _FOLDER = os.path.dirname(os.path.abspath(__file__))
-
-
-def _read() -> str:
-    for path in (os.path.join(_FOLDER, "VERSION"), os.path.join(_FOLDER, "..", "..", "VERSION")):
-        if os.path.exists(path):
-            with open(path, encoding="ascii") as file:
-                return file.read().strip()
-    return "unknown"
-
-
-__version__ = _read()
+__version__ = "unknown"
+for _path in (os.path.join(_FOLDER, "..", "..", "VERSION"), os.path.join(_FOLDER, "VERSION")):
+    if os.path.exists(_path):
+        with open(_path, encoding="ascii") as _file:
+            __version__ = _file.read().strip()

@@ -34,6 +34,7 @@ QUESTIONS = {
 # The line that is asked after others: where its known answer begins, theirs have ended.
 LAST, END = b"rsk", b"P .\nQ .\n"
 BREAK = b"--\n"
+ENDED = BREAK + END
 
 # A line of a batch has at most this many bytes.
 LONGEST = 4096
@@ -74,6 +75,8 @@ def sent(line: str) -> Optional[bytes]:
     >>> sent("mult 1 - 1\\n"), sent("# a comment"), sent(" "), sent("mult 1\\n- 1")
     (b'mult 1 - 1', None, None, b'mult 1\\x01- 1')
     """
+    if type(line) is str and line[:1].isalpha() and line.isascii() and line.isprintable():
+        return line.encode()
     if not isinstance(line, str):
         raise TypeError(f"a line is a string, and {line!r} is not")
     data = text_of(line).encode("utf-8", "surrogatepass").replace(b"\0", b"\x01")

@@ -3,7 +3,6 @@ that change, forks, and files that are replaced."""
 import copy
 import enum
 import gc
-import glob
 import multiprocessing
 import os
 import pickle
@@ -17,7 +16,7 @@ import time
 from collections import UserString, deque
 from fractions import Fraction
 
-from common import LIBRARY, PROGRAM, Skipped, main, need, printed, raises, same, terms, within
+from common import LIBRARY, PROGRAM, Skipped, main, need, printed, pythons, raises, same, terms, within
 
 from yorqanish import Calculator, Expansion, NoCalculator, Tableau
 from yorqanish._program import end_all
@@ -115,7 +114,7 @@ def test_a_finalizer_asks():
         assert sum(asked_inside(calc, begin, end, 1500) for _ in range(5)) > 100
 
 
-# ---- what is no list of numbers
+# ---- values that are not lists of numbers
 
 def test_what_can_be_read_once_is_no_shape():
     for make in (lambda: map(int, "2 1".split()), lambda: (it for it in (2, 1)), lambda: iter([2, 1]), lambda: zip([2, 1])):
@@ -347,7 +346,7 @@ STAIRS = tuple(range(30, 0, -1)), tuple(range(29, 0, -1))
 
 
 def in_child(action):
-    """What a forked child makes of an action: the name of its error, or that there was none; it hangs for no time."""
+    """The result of an action in a forked child: the name of its error, or that there was none. It must not hang."""
     reading, writing = os.pipe()
     child = os.fork()
     if not child:
@@ -467,7 +466,7 @@ def test_a_program_that_is_written_over():
 
 
 def test_a_script_that_runs_the_program():
-    """What is kept is the program, which has taken the script's place."""
+    """The Calculator records the program, which has replaced the script."""
     with tempfile.TemporaryDirectory() as room:
         path, script = copied(room), os.path.join(room, "script")
         replaced(script, f'#!/bin/sh\nexec {path} "$@"\n')
@@ -500,7 +499,7 @@ for number, line in enumerate(sys.stdin):
 
 
 def test_another_version():
-    """One that refuses a command, or has other conventions, is none of this package's."""
+    """A program that refuses a command, or has other conventions, is not the program of this package."""
     with tempfile.TemporaryDirectory() as room:
         path = os.path.join(room, "calc")
         for word, said in (("growth", "! Syntax 0:0\n"), ("stanley", "1  (1,1)\n"), ("mult 2 1", "1  (2,1,1)\n1  (2,2)\n1  (3,1)\n"), ("never", "")):
@@ -543,8 +542,7 @@ def test_a_path_in_another_folder():
 
 def test_the_oldest_python_sends_numbers():
     """`operator.index` of 3.8 and 3.9 keeps a type that is derived from `int`."""
-    places = [shutil.which("python3.8"), *glob.glob(os.path.expanduser("~/.pyenv/versions/3.8.*/bin/python"))]
-    old = next((it for it in places if it and not subprocess.run([it, "-c", ""], capture_output=True).returncode), None)
+    old = pythons((3, 8)).get((3, 8))
     if not old:
         raise Skipped("there is no Python 3.8")
     script = (

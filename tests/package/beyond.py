@@ -1,4 +1,4 @@
-"""What the package makes of the answers: rings, sums over terms, pictures, tables; and other ways to call the program."""
+"""Values that the package builds from the answers: rings, sums over terms, pictures, tables; and other ways to call the program."""
 import copy
 import itertools
 import json
@@ -14,7 +14,7 @@ from fractions import Fraction
 from common import PROGRAM, main, printed, raises, same, terms
 
 import yorqanish
-from yorqanish import Calculator, Expansion, Tableau, diagram, rothe_diagram
+from yorqanish import Calculator, Expansion, NoCalculator, Tableau, diagram, rothe_diagram
 
 CALC = Calculator(program=PROGRAM)
 
@@ -71,6 +71,31 @@ def test_products_in_rings():
     # (a label that is not in the ring's basis is written in it)
     same((ring([5]).expansion, ring([1, 1, 1]).expansion), (CALC.quantum(2, 3, [5], []), Expansion()))
     same(str(Fraction(1, 2) * ring([1]) - 3), "1/2*s[1]-3*s[]")
+
+
+def test_products_of_expansions():
+    """By `mult` and `schubmult`, term by term; where it is not said which product is meant, there is none."""
+    with Calculator(program=PROGRAM) as calc:
+        one, two, e = calc.mult([2, 1], []), calc.mult([3], [1]), calc.schubmult([1, 3, 2], [2, 1])
+        same((one * one, one * two, two * one), (CALC.mult([2, 1], [2, 1]), CALC.mult([2, 1], [3], [1]), CALC.mult([2, 1], [3], [1])))
+        same(one * two * one, CALC.mult([2, 1], [3], [1], [2, 1]))
+        same(((one + two) * (one - 2 * two), one * one - one * two - 2 * (two * two)), ((one - 2 * two) * (one + two), (one + two) * (one - 2 * two)))
+        same((calc.expand("s", "1/2*p[2]") * one, one * calc.skew([2, 1], [])), (CALC.expand("s", "1/2*p[2]*s[2,1]"), CALC.expand("s", "s[2,1]*s[2,1]")))
+        same((one.omega() * two.omega(), (one * two).omega()), ((one * two).omega(), one.omega() * two.omega()))
+        same((e * e, (one - one) * two, one * 2 * two), ((CALC.schubert_ring()(e) ** 2).expansion, 0, 2 * (one * two)))
+        fewer, level, few = calc.mult([2, 1], [1], rows=2), calc.fusion(2, 1, [1], [1]), calc.stanley([2, 1, 4, 3], rows=2)
+        for it in (fewer, level, few, calc.skew([2, 1], [1], rows=2), calc.expand("p", "s[2]"), Expansion({(1,): 1}), pickle.loads(pickle.dumps(one)), one + fewer):
+            for wrong in (lambda: it * one, lambda: one * it, lambda: it * it):
+                with raises((TypeError, ValueError)):
+                    wrong()
+        for it in (calc.coprod([1]), calc.quantum(2, 2, [1], [1]), calc.schubert([2, 1]), calc.dschubmult([2, 1], [1]), e):
+            with raises((TypeError, ValueError)):
+                one * it
+            if it is not e:
+                with raises(TypeError, "ring"):
+                    it * it
+    with raises(NoCalculator, "closed"):
+        one * two
 
 
 def test_elements_of_rings():

@@ -1,6 +1,8 @@
-"""What the tests of the Python package share. Each test is a function `test_..` of a file of this folder without parameters, which
-tests/python_package calls in a process of its own, so that one that hangs stops no other."""
+"""Functions that the tests of the Python package share. Each test is a function `test_..` of a file of this folder without parameters, which
+tests/python_package calls in its own process, so that a test that hangs stops no other."""
+import glob
 import os
+import shutil
 import signal
 import subprocess
 import sys
@@ -15,7 +17,7 @@ CLOCKS, HANGS = os.environ.get("YORQANISH_CLOCKS") == "1", 120
 
 
 class Skipped(Exception):
-    """What the test needs is not there."""
+    """Something that the test needs is missing."""
 
 
 def need(module):
@@ -56,11 +58,23 @@ def raises(kind, *words):
 
 @contextmanager
 def within(seconds):
-    """The body does not hang; where clocks are asked for, it takes at most this long."""
+    """The body does not hang; if clocks are asked for, it takes at most `seconds`."""
     began, allowed = time.perf_counter(), seconds if CLOCKS else HANGS
     yield
     took = time.perf_counter() - began
     assert took <= allowed, f"it took {took:.2f} s, and {allowed} s were allowed"
+
+
+def pythons(least):
+    """Each Python from this version on that runs, the first of each version, among them those of pyenv."""
+    found, pyenv = {}, os.environ.get("PYENV_ROOT") or os.path.expanduser("~/.pyenv")
+    for name in (sys.executable, "python3", *(f"python3.{it}" for it in range(8, 20)), *sorted(glob.glob(f"{pyenv}/versions/*/bin/python3"))):
+        if shutil.which(name):
+            done = subprocess.run([name, "-c", "import sys; print(*sys.version_info[:2])"], capture_output=True, text=True)
+            version = tuple(map(int, done.stdout.split()))
+            if done.returncode == 0 and version >= least:
+                found.setdefault(version, name)
+    return dict(sorted(found.items()))
 
 
 def comes(is_so):

@@ -94,7 +94,7 @@ def test_a_fork_while_other_threads_ask():
 
 
 def test_a_calculator_is_pickled():
-    """It is opened anew where it is unpickled."""
+    """A Calculator is opened anew when it is unpickled."""
     again = pickle.loads(pickle.dumps(USED))
     same(dict(again.mult((1,), (1,))), {(2,): 1, (1, 1): 1})
     with multiprocessing.get_context("spawn").Pool(2) as pool:
@@ -321,7 +321,7 @@ def test_a_foreign_program_that_is_named():
 
 
 def test_a_foreign_program_on_the_path():
-    """It is found out, and one behind it on the PATH is taken."""
+    """It is detected, and a later one on the PATH is used."""
     del os.environ["YORQANISH_CALC"]
     _search.GENUINE = ""
     with tempfile.TemporaryDirectory() as room:

@@ -1,4 +1,6 @@
-"""Attacks on the package by somebody who did not write it: what went wrong in the first round."""
+"""Attacks on the package by somebody who did not write it: the failures of the first round."""
+import enum
+import gc
 import os
 import re
 import resource
@@ -7,10 +9,11 @@ import stat
 import subprocess
 import sys
 import tempfile
+import threading
 import time
 
 from common import HANGS, LIBRARY, PROGRAM, main, raises, same
-from yorqanish import Calculator, Expansion, SyntaxRefusal
+from yorqanish import Calculator, Expansion, SyntaxRefusal, _program, _tableaux
 
 CALC = Calculator()
 WAYS = [CALC, *([Calculator(library=True)] if LIBRARY else [])]
@@ -24,7 +27,7 @@ def partitions(size, most):
 
 
 def test_a_line_feed_beside_a_long_expression():
-    """The parts of a long expression are sent as single lines are: a comment behind a line feed is no end of the inner expression."""
+    """The parts of a long expression are treated as single lines are: a comment after a line feed does not end the inner expression."""
     long = Expansion({label: 10**18 + i for size in range(11) for i, label in enumerate(partitions(size, size))})
     assert len(str(long)) > 4096
     for calc in WAYS:
@@ -92,7 +95,7 @@ def test_a_fork_without_a_free_descriptor():
 
 
 def test_a_script_that_runs_the_program():
-    """What it has started ends with it: at a timeout, and when Python is killed."""
+    """The processes that a script started end with it: at a timeout, and when Python is killed."""
     with tempfile.TemporaryDirectory() as room:
         path = os.path.join(room, "script")
         with open(path, "w", encoding="ascii") as file:
@@ -119,6 +122,71 @@ def is_running(group):
     """Whether a process of this group is more than a zombie."""
     listed = subprocess.run(["ps", "-eo", "pgid=,stat="], capture_output=True, text=True).stdout
     return re.search(rf"^ *{group} [^Z]", listed, re.MULTILINE) is not None
+
+
+def test_lines_that_come_in_pieces():
+    """A list is the same however what is read is cut."""
+    calc, read = Calculator(), os.read
+    wanted = list(calc.tab([3, 2, 1], [2, 1]))
+    try:
+        os.read = lambda number, _: read(number, 1)
+        same((list(calc.tab([3, 2, 1], [2, 1])), calc.coef([3, 2, 1], [2, 1], [2, 1])), (wanted, 2))
+    finally:
+        os.read = read
+
+
+def test_a_fork_beside_threads_that_ask():
+    """It does not wait until they have asked for the last time."""
+    calc, done = Calculator(), threading.Event()
+
+    def ask():
+        while not done.is_set():
+            next(calc.tab([3, 2, 1], [2, 1]))
+
+    threads = [threading.Thread(target=ask) for _ in range(4)]
+    for it in threads:
+        it.start()
+    began, took, statuses = time.monotonic(), 0.0, []
+    while len(statuses) < 4 and took < 10:
+        child = os.fork()
+        if not child:
+            os._exit(0 if calc.coef([2], [1], [1]) == 1 else 1)
+        statuses.append(os.waitpid(child, 0)[1])
+        took = time.monotonic() - began
+    done.set()
+    for it in threads:
+        it.join()
+    same((statuses, took < 10), ([0] * 4, True))
+
+
+def test_a_call_where_no_thread_begins():
+    """At the end of Python 3.12, after a fork; and where the collector calls a `__del__` in a thread that starts processes."""
+    head = "import atexit, gc, os, threading\nfrom yorqanish import Calculator\ncalc = Calculator()\n"
+    late = "atexit.register(lambda: print(calc.coef([2], [1], [1])))\npid = os.fork()\nif pid: os.waitpid(pid, 0)\nelse: os._exit(0)"
+    same(subprocess.run([sys.executable, "-c", head + late], capture_output=True, text=True, timeout=HANGS).stdout, "1\n")
+    inside = (
+        "class Left:\n    def __del__(self): print(Calculator().coef([2], [1], [1]), flush=True)\n"
+        "pipe, first, main = os.pipe, [1], threading.current_thread()\n"
+        "def collecting():\n    if first and threading.current_thread() is not main: first.pop(); Left()\n    return pipe()\n"
+        "os.pipe = collecting\nlisted = calc.tab([2, 1], [1])\nnext(listed)\nprint(calc.coef([2], [1], [1]))"
+    )
+    same(subprocess.run([sys.executable, "-c", head + inside], capture_output=True, text=True, timeout=HANGS).stdout, "1\n1\n")
+
+
+def test_what_is_kept_and_what_is_not():
+    """Answers do not keep processes; a basis that is a member of an `Enum` is its letter; a skew tableau stays one."""
+    before = len(_program.STARTED)
+    kept = [Calculator().mult([1], [1]) for _ in range(3)]
+    gc.collect()
+    until = time.monotonic() + HANGS
+    while len(_program.STARTED) > before and time.monotonic() < until:
+        time.sleep(0.05)
+    same((len(_program.STARTED) - before, kept[0] * kept[1] == Calculator().mult([1], [1], [1], [1])), (0, True))
+    letter = enum.Enum("Letter", {"P": "p"}, type=str).P
+    calc = Calculator(library=1) if LIBRARY else Calculator()
+    same(str(calc.expand(letter, "p[2,1]")) + str(Expansion({(2,): 1}, basis=letter)), "p[2,1]p[2]")
+    skew = _tableaux.Tableau(((1,), (2,)), inner=(1,))
+    same((_tableaux.Tableau(skew), _tableaux.Tableau(skew, inner=()) == skew), (skew, False))
 
 
 if __name__ == "__main__":

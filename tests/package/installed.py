@@ -28,7 +28,7 @@ def bare():
 
 
 def files(room):
-    """What a checkout and an archive have of the package."""
+    """The files of the package in a checkout and in an archive."""
     top = os.path.join(room, "checkout")
     shutil.copytree(f"{TOP}/python", f"{top}/python", ignore=shutil.ignore_patterns("__pycache__", "build"))
     os.mkdir(f"{top}/release")
@@ -38,7 +38,7 @@ def files(room):
 
 
 def checkout(room):
-    """A checkout with one crate, with the program and the library where they are built, and noted as those of its sources."""
+    """A checkout with one crate. It has the built program and library if they exist, recorded as built from its sources."""
     top = files(room)
     for name in ("calc", "crates.txt", "HANDLES"):
         shutil.copy(f"{TOP}/{name}", top)
@@ -124,7 +124,7 @@ def test_a_wheel_is_installed():
 
 
 def test_the_tag_of_the_library_alone():
-    """The library needs no more than glibc 2.14, so that its wheel runs where pip knows manylinux2014."""
+    """The library needs no newer glibc than 2.14, so that its wheel runs on each system that pip takes for manylinux2014."""
     if not LIBRARY:
         raise Skipped("there is no library")
     with tempfile.TemporaryDirectory() as room:

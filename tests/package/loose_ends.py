@@ -1,4 +1,4 @@
-"""What hangs, leaks, or leaves something unclear behind."""
+"""Calls that hang, leak, or leave a state that is unclear."""
 import asyncio
 import gc
 import math

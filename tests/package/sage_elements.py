@@ -94,7 +94,7 @@ def test_a_set_is_no_list():
 
 
 def test_shapes_of_sage():
-    """Those that are lists of numbers; what else can be gone through is none."""
+    """The elements of Sage that are lists of numbers are shapes; other iterables are not."""
     for shape in (Partition([2, 1]), Composition([2, 1]), vector(ZZ, [2, 1]), Word([2, 1]), Permutation([2, 1]), Sequence([2, 1])):
         same(CALC.coef([3, 2, 1], shape, shape), 2)
     same(CALC.rsk(Word([3, 1, 2])).insertion, ((1, 2), (3,)))

@@ -1,4 +1,4 @@
-"""What is shown of answers and refusals, and what goes on into the next command."""
+"""The texts of answers and refusals, and the values that the next command takes."""
 import pickle
 from fractions import Fraction
 
@@ -115,7 +115,7 @@ def test_sums_and_multiples():
     for wrong in (lambda: a + p, lambda: a - CALC.coprod([1]), lambda: a | p):
         with raises(ValueError):
             wrong()
-    for wrong in (lambda: a * b, lambda: a * 0.5, lambda: a / 0.5, lambda: a + 1, lambda: 1 - a):
+    for wrong in (lambda: a * Expansion({(1,): 1}), lambda: a * 0.5, lambda: a / 0.5, lambda: a + 1, lambda: 1 - a):
         with raises(TypeError):
             wrong()
     with raises(ZeroDivisionError):

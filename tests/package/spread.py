@@ -3,7 +3,9 @@ import heapq
 import itertools
 import os
 import random
+import subprocess
 import sys
+import threading
 import time
 from concurrent.futures import Future, ProcessPoolExecutor, ThreadPoolExecutor
 from types import SimpleNamespace
@@ -114,7 +116,7 @@ def test_no_process_is_given_many_heavy_lines_at_once():
 
 
 class Simulated:
-    """Four processes with clocks of their own, on which a line takes as long as it is told to. It stands for the queue of what is finished,
+    """Four simulated processes with their own clocks, on which a line takes the time that it is given. It replaces the queue of finished pieces,
     so that pieces finish in the order of these clocks."""
 
     def __init__(self, cost):
@@ -155,13 +157,13 @@ class Simulated:
 
 
 def in_a_row(lines):
-    """How many heavy lines stand together at most."""
+    """The length of the longest run of consecutive heavy lines."""
     return max(map(len, "".join("h" if it == HEAVY else "." for it in lines).split(".")))
 
 
 def test_heavy_and_light_lines_are_balanced():
-    """By clocks that are simulated four processes need little more than a quarter of the time of one, and of heavy lines that stand together
-    each has its part."""
+    """By simulated clocks, four processes need little more than a quarter of the time of one, and consecutive heavy lines are shared among
+    them."""
     for lines in (MIXED, *PATTERNS):
         for light, heavy in ((0.00005, 0.08), (0.00005, 1.0), (0.0005, 0.08), (0.00001, 0.01)):
             four = Simulated(lambda line: heavy if line == HEAVY.encode() else light)
@@ -172,6 +174,44 @@ def test_heavy_and_light_lines_are_balanced():
             alone = lines.count(LIGHT) * light + lines.count(HEAVY) * heavy
             assert max(four.free) < 0.36 * alone, (light, heavy, alone, four.free)
             assert lines is not MIXED or max(map(in_a_row, four.lines)) <= 4, four.lines
+
+
+def test_heavy_lines_are_done_at_one_time():
+    """By clocks that are simulated: the last pieces are as short as it takes for four processes to end together."""
+    for count in (32, 64, 100):
+        for heavy in (0.01, 0.02, 0.05, 0.1, 0.3, 1.0):
+            four = Simulated(lambda line: heavy)
+            _batch.time = SimpleNamespace(monotonic=four.monotonic)
+            spread = _batch.Spread(four.submit, _batch.Source([HEAVY] * count), 5, 4)
+            spread._finished = four
+            same(len(list(spread.outcomes())), count)
+            assert max(four.free) < 0.26 * heavy * count, (count, heavy, four.free)
+
+
+def test_four_workers_are_three_times_as_fast():
+    """On four free processors, for 32 heavy lines. What four programs without Python need is printed beside it."""
+    if not CLOCKS or os.cpu_count() < 4:
+        raise Skipped("needs YORQANISH_CLOCKS=1 and four free processors")
+    lines = [f"mult 7 {STAIRS} - {STAIRS}"] * 32
+
+    def seconds(do):
+        began = time.perf_counter()
+        do()
+        return time.perf_counter() - began
+
+    def programs():
+        given = "\n".join(lines[:8]) + "\n"
+        for it in [threading.Thread(target=lambda: subprocess.run([PROGRAM, "batch"], input=given.encode(), stdout=subprocess.PIPE)) for _ in range(4)]:
+            it.start()
+            threads.append(it)
+        while threads:
+            threads.pop().join()
+
+    threads = []
+    alone, shared = (min(seconds(lambda: same(sum(it.refusal is None for it in CALC.batch(lines, workers=count)), 32)) for _ in range(3)) for count in (1, 4))
+    bound = min(seconds(programs) for _ in range(3))
+    print(f"32 heavy lines: one worker {alone:.2f} s, four {shared:.2f} s ({alone / shared:.2f} times as fast), four programs by themselves {bound:.2f} s")
+    assert 3 * shared <= alone, (alone, shared, bound)
 
 
 def test_four_processes_need_less_time_than_one():
@@ -201,7 +241,7 @@ def test_a_batch_is_lazy():
 
 
 def test_answers():
-    """The answer of a block is what the method of its command answers."""
+    """The answer of a block equals the value that the method of its command returns."""
     lines = ["mult 2 1 - 2 1", "skew 2 1 / 1", "coef 3 2 1 - 2 1 - 2 1", "coprod 1", "quantum 2 2 1 - 2 1", "fusion 2 1 1 - 1", "schubert 1 3 2",
              "schubmult 2 1 - 2 1", "dschubmult 1 - 2 1", "stanley -r 2 2 1 4 3", "expand p s[2,1]", "plethysm s h[2] h[2]", "tab 2 1 / 1",
              "rsk 3 1 2", "unrsk 1 2 / 3 - 1 3 / 2", "rect 2 2 / 1 - 1 / 1 2", "growth 2 1", "expand -m p s[2,1]"]

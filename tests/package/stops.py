@@ -9,7 +9,7 @@ import time
 from contextlib import contextmanager
 from itertools import islice
 
-from common import LIBRARY, PROGRAM, Skipped, comes, main, raises, same, within
+from common import HANGS, LIBRARY, PROGRAM, Skipped, comes, pythons, main, raises, same, within
 
 from yorqanish import Calculator, NoCalculator, Tableau
 
@@ -233,6 +233,23 @@ def test_nothing_is_left_behind():
     comes(lambda: all(map(has_ended, pids)))
 
 
+def test_no_thread_is_there_at_a_fork():
+    """On each Python: from 3.12 on it warns of threads. What a fork interrupts goes on, and what is let go of later is ended."""
+    script = (
+        "import os, threading\nos.register_at_fork(before=lambda: print(threading.active_count(), flush=True))\n"
+        "from yorqanish import Calculator\ncalc, other = Calculator(), Calculator()\n"
+        "for _ in range(3):\n    child = os.fork()\n    got = calc.coef((2,), (1,), (1,))\n"
+        "    if not child: os._exit(got)\n    assert os.waitpid(child, 0)[1] == got << 8 == 256\n"
+        "pid = other._way._idle[0].process.pid\nos.waitpid(os.fork() or os._exit(0), 0)\nother.close()\n"
+        "while os.path.exists(f'/proc/{pid}'): pass\n"
+    )
+    # (3.8 and 3.9 break off at their end where such a hook is registered)
+    for version, name in pythons((3, 10)).items():
+        done = subprocess.run([name, "-W", "always::DeprecationWarning", "-c", script], capture_output=True, text=True, timeout=HANGS)
+        # (3.12 may warn of a thread that has ended a moment ago)
+        same((version, done.stdout, done.stderr * (version != (3, 12)), done.returncode), (version, "1\n" * 4, "", 0))
+
+
 def test_a_python_that_is_killed():
     """The program dies with it in the middle of commands, also if the thread that started it has ended, and a fork does not keep it alive."""
     script = (
@@ -269,7 +286,7 @@ def test_a_library_cannot_be_stopped():
 
 
 def test_a_pool_that_is_terminated():
-    """Processes of a pool that is terminated in the middle of commands leave the parent's Calculator as it is."""
+    """If a pool is terminated while its processes run commands, the parent's Calculator still works."""
     works_on()
     pool = multiprocessing.get_context("fork").Pool(2)
     pool.map_async(long_product, [LONG] * 4)

@@ -30,8 +30,9 @@ def main() -> None:
         print(sum(calc.unrsk(pair.insertion, pair.recording)))
         ring = calc.quantum_ring(2, 3)
         print(ring([1]) * ring([2, 1]) + 1, sum([twice, twice]), +twice, twice + 0)
-        # (an expansion is multiplied by numbers alone, and text and iterators are no shapes)
-        print(twice * twice)  # type: ignore[operator]
+        print(twice * twice, calc.schubmult([2, 1], [1]) * calc.schubmult([2, 1], [1]))
+        # (pairs have no product, and text and iterators are not shapes)
+        print(calc.coprod([1]) * calc.coprod([1]))  # type: ignore[operator]
         print(calc.mult("21", [1]))  # type: ignore[arg-type]
         print(calc.mult(map(int, ["2"]), [1]))  # type: ignore[arg-type]
 
