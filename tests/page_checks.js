@@ -1,6 +1,6 @@
 // What tests/page tries in the open page, beside whose scripts this runs. Each check gives a value; tests/page compares it.
 (() => {
-  const pause = (ms = 20) => new Promise((next) => setTimeout(next, ms));
+  const pause = (ms = 4) => new Promise((next) => setTimeout(next, ms));
   const all = (what, of = document) => [...of.querySelectorAll(what)];
   const textsOf = (what, of) => all(what, of).map((it) => it.textContent);
 
@@ -23,6 +23,20 @@
     return all("article")[0];
   };
   const answer = (text) => more(1, () => run(text));
+
+  /** The answers to many lines, in turn, typed some at once where none has a comment. (Of a longer list drawings are made when they are asked for.) */
+  const SOME = 19;
+  const answersTo = async (lines) => {
+    const found = [];
+    for (let begin = 0; begin < lines.length; ) {
+      const comment = lines.slice(begin, begin + SOME).findIndex((it) => it.includes("#"));
+      const some = lines.slice(begin, begin + (comment < 0 ? SOME : comment || 1));
+      await more(some.length, () => run(some.join("; ")));
+      found.push(...all("article").slice(0, some.length).reverse());
+      begin += some.length;
+    }
+    return found;
+  };
   const press = (place, name) => all("button", place).find((it) => it.textContent === name).click();
 
   /** The names of what is not so. */
@@ -34,7 +48,7 @@
   const isWide = () => document.documentElement.scrollWidth > WIDTH;
 
   /** What can have the focus, in turn. */
-  const stops = () => all("a, button, input, select, summary, pre, .drawn").filter((it) => !it.disabled && it.checkVisibility());
+  const stops = () => all("a, button, input, select, summary, [tabindex='0']").filter((it) => !it.disabled && it.checkVisibility());
 
   // The way of the focus: where it has to be in turn, how often it came somewhere, and what was wrong there.
   const amiss = [];
@@ -43,19 +57,14 @@
   const checks = {
     ready: () => until(() => !at("run").disabled),
 
-    async texts(lines) {
-      const texts = [];
-      for (const line of lines) texts.push((await answer(line)).querySelector("pre").textContent);
-      return texts;
-    },
+    texts: async (lines) => (await answersTo(lines)).map((it) => it.querySelector("pre").textContent),
 
     async refusals(lines) {
-      const found = [];
-      for (const line of lines) {
-        const it = await answer(line), mark = it.querySelector("mark");
-        found.push([line, textsOf(".said", it)[0], mark && mark.textContent]);
-      }
-      return found;
+      const told = (it, i) => {
+        const mark = it.querySelector("mark");
+        return [lines[i], textsOf(".said", it)[0], mark && mark.textContent];
+      };
+      return (await answersTo(lines)).map(told);
     },
 
     /** The lines of cases that are refused with no sentence of their own, and those that are answered and would be changed. */
@@ -73,22 +82,17 @@
       }),
 
     async typed(lines) {
-      const found = [];
-      for (const line of lines) {
-        const it = await answer(line);
-        found.push([line, ...textsOf("h3, .note", it).slice(0, 2), it.className]);
-      }
+      const found = (await answersTo(lines)).map((it, i) => [lines[i], ...textsOf("h3, .note", it).slice(0, 2), it.className]);
       run("$ calc");
       return [found, at("state").textContent];
     },
 
     async readings(lines) {
-      const found = [];
-      for (const line of lines) {
-        const it = await answer(line), isRefused = it.className === "refused";
-        found.push([line, isRefused ? null : textsOf("h3", it)[0], isRefused ? "" : textsOf(".computed", it).join(""), all("[data-line]", it).map((of) => of.dataset.line)]);
-      }
-      return found;
+      const read = (it, i) => {
+        const isRefused = it.className === "refused";
+        return [lines[i], isRefused ? null : textsOf("h3", it)[0], isRefused ? "" : textsOf(".computed", it).join(""), all("[data-line]", it).map((of) => of.dataset.line)];
+      };
+      return (await answersTo(lines)).map(read);
     },
 
     async several(first, pasted) {
@@ -104,7 +108,7 @@
       const row = (it) => {
         const details = it.querySelector("details"), closed = details.offsetHeight;
         details.open = true;
-        return [it.querySelector("h3 code").textContent, details.offsetHeight > closed, details.textContent, textsOf("[data-line]", it)];
+        return [it.querySelector("h3 code").textContent, details.offsetHeight > closed, details.textContent, textsOf("[data-line]", it), it.querySelector(".formula").textContent];
       };
       const rows = all("#commands li").map(row);
       return [rows, isWide()];
@@ -138,11 +142,7 @@
       return names;
     },
 
-    async counts(lines) {
-      const found = [];
-      for (const line of lines) found.push((await answer(line)).querySelector("header span").textContent.split(",")[0]);
-      return found;
-    },
+    counts: async (lines) => (await answersTo(lines)).map((it) => it.querySelector("header span").textContent.split(",")[0]),
 
     /** A long answer: what is shown, what is said of it, what is downloaded and by which name, and all of it. */
     async large(line) {
@@ -252,10 +252,36 @@
     },
 
     /** What stands right above the text of an answer: what was computed, and not what could have been. */
-    async above(lines) {
+    above: async (lines) => (await answersTo(lines)).map((it) => it.querySelector("pre").previousElementSibling.textContent),
+
+    /** What stands beside the text of an answer as a sum, and whether the text stays what is copied. */
+    async sums(lines) {
       const found = [];
-      for (const line of lines) found.push((await answer(line)).querySelector("pre").previousElementSibling.textContent);
+      for (const line of lines) {
+        const it = await answer(line), text = it.querySelector("pre").textContent;
+        found.push([line, textsOf(".sum", it).join(""), text === kept[kept.length - 1].text]);
+      }
       return found;
+    },
+
+    /** The form of each command, filled in with the words of each of its examples: the line that it makes. */
+    forms() {
+      const lineOf_ = (example) => {
+        const words = textsOfWords(example), row = at(`help-${words[0]}`), open = row.querySelector(".open-form");
+        if (open.getAttribute("aria-expanded") === "false") open.click();
+        const form = row.querySelector("form"), parts = partsOf(words).filter((it) => !it.sign);
+        const fields = () => all("[data-role]", form), isLess = (role) => fields().filter((it) => it.dataset.role === role).length < parts.filter((it) => it.role === role).length;
+        while (isLess("partition")) press(form, "One more factor");
+        for (const field of fields()) {
+          const found = parts.findIndex((it) => it.role === field.dataset.role);
+          field.value = found < 0 ? "" : parts.splice(found, 1)[0].words.join(" ");
+        }
+        for (const box of all("[type=checkbox]", form)) box.checked = words.includes("-m");
+        form.dispatchEvent(new Event("input"));
+        open.click();
+        return [example, form.querySelector(".note code").textContent];
+      };
+      return textsOf("#commands [data-line]").map(lineOf_);
     },
 
     /** The order of headings, what the articles are named by, and how often the sentence of a refusal is seen. */
@@ -291,7 +317,7 @@
     /** What speaks by itself, what has no name or no place in the order of the keys, and what moves. */
     access() {
       const live = all("[aria-live], [role=status], [role=alert], [role=log]").map((it) => it.id);
-      const parts = all("button, a, input, select, summary, pre, .drawn");
+      const parts = all("button, a, input, select, summary, [tabindex='0']");
       const unnamed = parts.filter((it) => !it.textContent.trim() && !it.getAttribute("aria-label") && !(it.labels && it.labels.length > 0));
       const unreached = parts.filter((it) => it.tabIndex < 0);
       const moves = getComputedStyle(document.querySelector(".bar"), "::before").animationName;
@@ -342,8 +368,10 @@
       const go = (hash) => more(1, () => void (location.hash = hash));
       const first = (await go("#coef%202%201%20-%201%20-%202")).querySelector("h3").textContent;
       const count = numberOfAnswer;
-      location.hash = "#about";
-      await pause(200);
+      await new Promise((next) => {
+        addEventListener("hashchange", next, { once: true });
+        location.hash = "#about";
+      });
       const none = numberOfAnswer - count;
       return [first, none, (await go("#%E0%A4")).className];
     },

@@ -1,4 +1,4 @@
-"""What tests/page tries: the lines, and what the page has to make of them."""
+"""The tables of tests/page: the lines, and the results that the page has to show for them."""
 
 # Each command, and the longest sum of a word.
 LINES = """mult 2 1 - 2 1
@@ -22,7 +22,7 @@ growth 3 1 2
 work 2 0
 mult 1 2 - 1""".splitlines() + ["expand m " + "+".join(["1"] * 2048)]
 
-# What is refused: the line, the sentence, and what is marked.
+# The lines that are refused: the line, the sentence, and the part that is marked.
 REFUSALS = [
     ("mult 1 2 - 1", "Part 2 is greater than part 1: 2 after 1. The parts of a partition cannot increase.", "2"),
     ("multiply 2 1 - 1", "There is no command multiply. Is mult meant?", "multiply"),
@@ -47,7 +47,7 @@ REFUSALS = [
     (f"expand m {2**127 - 1}+1", "The answer is not computed: the bound for the numbers on the way is greater than 2^127 - 1.", None),
 ]
 
-# What is typed, what is run, and what the page says that it did.
+# The text that is typed, the line that is run, and the note of the page about what it left out or changed.
 TYPED = [
     ("$ calc mult 2 1 - 2 1", "mult 2 1 - 2 1", "left out the prompt and left out the name of the program"),
     ("./calc coef 3 2 1 - 2 1 - 2 1", "coef 3 2 1 - 2 1 - 2 1", "left out the name of the program"),
@@ -66,7 +66,7 @@ TYPED = [
     ("mult 1\u00a0- 1", "mult 1 - 1", "wrote unusual blanks as plain ones"),
 ]
 
-# What the help of a command says.
+# The texts that the help of a command contains.
 HELP = {
     "mult": ["mult [-r K] [-m] λ - μ", "two blanks", "512", "Partitions are ordered by decreasing size"],
     "quantum": ["K", "C", "columns", "Powers of q"],
@@ -78,7 +78,7 @@ HELP = {
 # The limits of calc.1 that the help of no command has.
 NO_LIMIT = []
 
-# What is said of how much an answer is.
+# The number of terms or tableaux that the page reports for a line.
 COUNTS = {
     "mult 2 1 - 2 1": "7 terms",
     "mult 1 -": "1 term",
@@ -87,7 +87,20 @@ COUNTS = {
     "mult -r 1 1 1 - 1": "0 terms",
 }
 
-# What is copied: the line, the button, the text.
+# The sum beside the text of an answer, from the definitions.
+SUMS = {
+    "mult 1 - 1": "= s(2) + s(1,1)",
+    "mult -r 1 1 1 - 1": "= 0",
+    "quantum 2 2 2 1 - 2 1": "= q σ(2) + q σ(1,1)",
+    "expand p s[2,1]": "= −1/3 p(3) + 1/3 p(1,1,1)",
+    "expand h s[2,1]": "= −h(3) + h(2,1)",
+    "schubert 1 3 2": "= x1 + x2",
+    "coprod 1": "= s(1)(x) s∅(y) + s∅(x) s(1)(y)",
+    "dschubmult 2 1 - 2 1": "= −y1 S21(x; y) + y2 S21(x; y) + S312(x; y)",
+    "coef 3 2 1 - 2 1 - 2 1": "",
+}
+
+# The copies: the line, the button, the text.
 S = "s = SymmetricFunctions(QQ).s()\n"
 COPIES = [
     ("mult 1 - 1", "Copy text", "1  (2)\n1  (1,1)\n"),
@@ -103,7 +116,7 @@ COPIES = [
     ("schubert 1 3 2", "Copy LaTeX", "x_{1}+x_{2}"),
     ("schubert 1 3 2", "Copy for Sage", "(x0,x1,) = PolynomialRing(ZZ, ['x0','x1']).gens()\n1*x0^1+1*x0^0*x1^1"),
     ("schubmult 1 3 2 - 1 3 2", "Copy for Sage", "X = SchubertPolynomialRing(ZZ)\n1*X([1,4,2,3])+1*X([2,3,1])"),
-    ("dschubmult 2 1 - 2 1", "Copy LaTeX", "-y_{1} \\mathfrak{S}_{21}+y_{2} \\mathfrak{S}_{21}+\\mathfrak{S}_{312}"),
+    ("dschubmult 2 1 - 2 1", "Copy LaTeX", "-y_{1} \\mathfrak{S}_{21}(x;y)+y_{2} \\mathfrak{S}_{21}(x;y)+\\mathfrak{S}_{312}(x;y)"),
     ("schubmult 10 1 2 3 4 5 6 7 8 9 - 1", "Copy LaTeX", "\\mathfrak{S}_{10,1,2,3,4,5,6,7,8,9}"),
     ("unrsk 1 12 - 1 2", "Copy LaTeX", "1,12"),
     ("mult 12 -", "Copy LaTeX", "s_{(12)}"),

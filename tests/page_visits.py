@@ -1,17 +1,19 @@
-"""What tests/page tries on pages of their own: addresses, reloads, lists of commands, and what no address may do. Each visit gives what is wrong,
-if something is. A visit gets the browser, the page's path, and its size."""
+"""The visits of tests/page, each to a page of its own: addresses, reloads, lists of commands, and the limits of an address. A visit gets the
+browser, the page's path, and its size, and returns a text of the faults that it found, "" if there are none. All pages are opened in one browser,
+each with a storage of its own."""
 import functools
 import http.server
 import json
 import os
 import threading
-import time
 import urllib.parse
-
-from browse import Page
 
 HEAVY = "mult 9 8 7 6 5 4 3 2 1 - 9 8 7 6 5 4 3 2 1 - 9 8 7 6 5 4 3 2 1"
 LARGE = "mult 8 6 5 4 3 2 1 - 6 5 4 3 2 1"
+# A line that needs more than 64 MiB.
+LARGER = "coprod 10 7 5 4 3 2 1"
+# A memory in pages of which some lines need nearly all.
+LITTLE_PAGES = 360
 TRANSCRIPT = """    $ ./calc mult 2 1 - 2 1
     1  (4,2)
     1  (4,1,1)
@@ -24,19 +26,34 @@ TRANSCRIPT = """    $ ./calc mult 2 1 - 2 1
     Q 1 3 / 2
 """
 
+# Pastes a text into the field.
+PASTE = "const it = new Event('paste', { cancelable: true }); it.clipboardData = { getData: () => %s }; document.getElementById('line').dispatchEvent(it)"
+
+# Gives the page a module with so little memory that some lines need nearly all; functions of web/cases.mjs limit it.
+LITTLE_MEMORY = """
+const packed = Uint8Array.from(atob(document.getElementById("module").textContent), (byte) => byte.charCodeAt(0));
+const whole = new Uint8Array(await new Response(new Blob([packed]).stream().pipeThrough(new DecompressionStream("gzip"))).arrayBuffer());
+const Buffer = { from: (list) => Uint8Array.from(list), concat: (parts) => parts.reduce((all, it) => { const sum = new Uint8Array(all.length + it.length); sum.set(all); sum.set(it, all.length); return sum; }) };
+%s
+globalThis.little = await WebAssembly.compile(limited(whole, %d));
+globalThis.boot = () => { isReady = false; worker = new Worker(URL.createObjectURL(new Blob([WORKER]))); worker.onmessage = ({ data }) => received(data); worker.postMessage({ module: little }); };
+end(); boot(); await until(() => isReady)
+"""
+
 HELPERS = """
-globalThis.pause = (ms = 20) => new Promise((next) => setTimeout(next, ms));
-globalThis.until = async (test) => { for (let n = 0; n < 6000 && !test(); n += 1) await pause(); return test(); };
+globalThis.pause = (ms = 4) => new Promise((next) => setTimeout(next, ms));
+globalThis.until = async (test) => { for (const end = performance.now() + 240000; performance.now() < end && !test(); ) await pause(); return test(); };
+globalThis.went = (action) => new Promise((next) => { addEventListener("hashchange", next, { once: true }); action(); });
 globalThis.answers = () => [...document.querySelectorAll("article")].map((it) => [it.querySelector("h3").textContent, (it.querySelector("pre") || { textContent: "" }).textContent]);
 globalThis.quiet = () => until(() => !document.getElementById("run").disabled && !running && waiting.length === 0);
 """
 
 
 class Visit:
-    """A page that is opened with a fragment, and whose queue has come to rest."""
+    """A page that is opened with a fragment and whose queue has become idle."""
 
     def __init__(self, browser, path, size, fragment=""):
-        self.page = Page(browser, path, fragment=fragment, **size)
+        self.page = browser.page(path, fragment=fragment, **size)
 
     def __enter__(self):
         self.page.__enter__()
@@ -47,16 +64,12 @@ class Visit:
         self.page.__exit__()
 
     def helped(self):
-        """Waits until the page is there and at rest."""
-        for _ in range(300):
-            if self.page.run("document.readyState === 'complete' && !!document.getElementById('run') && typeof quiet !== 'undefined' || typeof waiting !== 'undefined'"):
-                break
-            time.sleep(0.02)
+        """Waits until the page is at rest."""
         self.page.run(HELPERS)
         self.ask("await quiet()")
 
     def ask(self, script):
-        """What a script gives that may wait, read from JSON."""
+        """The value of a script, which may wait, read from JSON."""
         value = self.page.run(f"(async () => {{ {script if 'return' in script else script + '; return null'} }})().then((it) => JSON.stringify(it ?? null))")
         return json.loads(value)
 
@@ -73,25 +86,21 @@ def fragment(text):
 
 def wrong(*pairs):
     """The first of these pairs that is not of two equal things."""
-    return next((f"{got!r}, not {wanted!r}" for got, wanted in pairs if got != wanted), "")
+    return next((f"{got!r:.500}, not {wanted!r:.500}" for got, wanted in pairs if got != wanted), "")
 
 
 def back(*where):
     """Going to a section and back runs nothing again."""
     with Visit(*where, fragment("coef 2 - 1 - 1")) as visit:
-        visit.ask("document.querySelector('nav a').click(); await pause(300); history.back(); await pause(500); await quiet()")
+        visit.ask("await went(() => document.querySelector('nav a').click()); await went(() => history.back()); await quiet()")
         first = visit.answers()
-        visit.ask("location.hash = '#about'; await pause(200); location.hash = '#coef%202%20-%201%20-%201'; await pause(300); await quiet()")
+        visit.ask("await went(() => (location.hash = '#about')); await went(() => (location.hash = '#coef%202%20-%201%20-%201')); await quiet()")
         return wrong((first, [["coef 2 - 1 - 1", "1\n"]]), (visit.answers(), first))
 
 
 def reloaded(visit):
     """Loads the page again."""
-    if visit.page.browser == "chromium":
-        visit.page.channel.ask("Page.reload")
-    else:
-        visit.page.channel.ask("browsingContext.reload", context=visit.page.context, wait="complete")
-    time.sleep(0.3)
+    visit.page.load()
     visit.helped()
 
 
@@ -110,30 +119,51 @@ def reload(*where):
 def heavy_link(*where):
     """A link with a command that can take long shows it and waits for Enter."""
     with Visit(*where, fragment(HEAVY)) as visit:
-        shown = visit.ask("await pause(300); return [document.getElementById('line').value, answers().length, document.getElementById('state').textContent]")
+        shown = visit.ask("return [document.getElementById('line').value, answers().length, document.getElementById('state').textContent]")
         wanted = [HEAVY, 0, "This link has a command that can take long. Press Enter to run it."]
-        is_run = visit.ask("document.getElementById('run').click(); await pause(100); const is = running !== null; stop(); return is")
+        is_run = visit.ask("document.getElementById('run').click(); const is = running !== null; stop(); return is")
         return wrong((shown, wanted), (is_run, True))
+
+
+def powers_link(*where):
+    """Whether a command of a link can take long is decided by the words that run: here two partitions of 81 cells."""
+    with Visit(*where, fragment("mult (5^9,4^9) - (5^9,4^9)")) as visit:
+        got = visit.ask("return [answers().length, running, document.getElementById('state').textContent]")
+        return wrong((got, [0, None, "This link has a command that can take long. Press Enter to run it."]))
 
 
 def lines_link(*where):
     """A link with several lines shows them as they can be run."""
     with Visit(*where, fragment(f"coef 1 - 1 -\n{HEAVY}")) as visit:
-        shown = visit.ask("await pause(300); return [document.getElementById('line').value, answers().length, document.getElementById('state').textContent]")
+        shown = visit.ask("return [document.getElementById('line').value, answers().length, document.getElementById('state').textContent]")
         return wrong((shown, [f"coef 1 - 1 -; {HEAVY}", 0, "This link has 2 commands that can take long. Press Enter to run them."]))
 
 
+def next_links(*where):
+    """A link that is opened in a page which has answered a part of it runs the rest, or shows that and waits for Enter; one that is answered runs nothing."""
+    with Visit(*where, fragment("coef 1 - 1 -")) as visit:
+        go = "await went(() => (location.hash = %s)); await quiet(); return [answers().map(([line]) => line), document.getElementById('line').value, document.getElementById('state').textContent]"
+        light = visit.ask(go % json.dumps(fragment("coef 1 - 1 -\ncoef 2 - 1 - 1; rsk 1")))
+        address = visit.ask("return decodeURIComponent(location.hash)")
+        again = visit.ask(go % json.dumps(fragment("rsk 1; coef 1 - 1 -")))
+        heavy = visit.ask(go % json.dumps(fragment(f"rsk 1; {HEAVY}")))
+        lines = ["rsk 1", "coef 2 - 1 - 1", "coef 1 - 1 -"]
+        wanted = [lines, HEAVY, "This link has a command that can take long. Press Enter to run it."]
+        return wrong((light[0], lines), (address, f"#{'; '.join(lines[::-1])}"), (again[0], lines), (heavy, wanted))
+
+
 def unseen_link(*where):
-    """Characters of a link that turn the direction of a text, or are not seen, are put in sight."""
+    """Characters of a link that turn the direction of a text, or that are invisible, are made visible."""
     with Visit(*where, fragment("mult 2 1 - \u202e1 2")) as visit:
-        texts = visit.ask("await pause(200); await quiet(); return [document.getElementById('line').value, document.querySelector('article').textContent.includes('\\u202e')]")
-        return wrong((texts, ["mult 2 1 - ⟨U+202E⟩1 2", False]))
+        texts = visit.ask("return [document.getElementById('line').value, answers().length, document.body.innerText.includes('\\u202e')]")
+        ran = visit.ask("ask('mult 2 1 - \\u202e1 2'); await quiet(); return [answers()[0][0].includes('\\u202e'), document.querySelectorAll('.offers button').length]")
+        return wrong((texts, ["mult 2 1 - ⟨U+202E⟩1 2", 0, False]), (ran, [False, 0]))
 
 
 def several_readings_link(*where):
     """A link whose line has several readings computes none of them."""
     with Visit(*where, fragment("mult 2(2,1) - 1")) as visit:
-        got = visit.ask("await pause(200); await quiet(); return [answers().length, document.getElementById('line').value, document.getElementById('state').textContent]")
+        got = visit.ask("return [answers().length, document.getElementById('line').value, document.getElementById('state').textContent]")
         return wrong((got, [0, "mult 2(2,1) - 1", "This link has a command that can be read in several ways. Press Enter to run it."]))
 
 
@@ -152,21 +182,25 @@ def draft(*where):
 
 
 def fresh_field(*where):
-    """The field is empty at first, and what is typed after a command takes its place."""
+    """The field is empty at first, and what is typed or pasted after a command takes its place."""
     with Visit(*where) as visit:
-        empty = visit.page.run("document.getElementById('line').value")
+        value = "document.getElementById('line').value"
+        empty = visit.page.run(value)
         visit.page.run("document.getElementById('line').focus()")
         visit.page.press(*"coef 1 - 1 -", "Enter")
         visit.ask("await until(() => answers().length === 1)")
         visit.page.press(*"rsk 1")
-        return wrong((empty, ""), (visit.page.run("document.getElementById('line').value"), "rsk 1"))
+        typed = visit.page.run(value)
+        visit.page.press("Enter")
+        visit.ask("await until(() => answers().length === 2)")
+        visit.ask(PASTE % json.dumps("rsk 2\nrsk 3\n"))
+        return wrong((empty, ""), (typed, "rsk 1"), (visit.page.run(value), "rsk 2; rsk 3"))
 
 
 def transcript(*where):
-    """Of a transcript that is pasted the commands run; comments are none."""
+    """When a transcript is pasted, its commands are run, and its comments are not."""
     with Visit(*where) as visit:
-        paste = "const it = new Event('paste', { cancelable: true }); it.clipboardData = { getData: () => %s }; document.getElementById('line').dispatchEvent(it)"
-        visit.ask(paste % json.dumps(TRANSCRIPT))
+        visit.ask(PASTE % json.dumps(TRANSCRIPT))
         visit.ask("document.getElementById('run').click(); await quiet()")
         lines = [line for line, _ in visit.answers()]
         visit.run("# nothing; mult 1 - 1")
@@ -230,7 +264,9 @@ def forms(*where):
         const all = [...document.querySelectorAll(".open-form")]; for (const it of all) if (it.getAttribute("aria-expanded") === "false") it.click();
         return [said, answers()[0], all.length, document.querySelectorAll(".fields").length, document.documentElement.scrollWidth <= WIDTH]"""
         got = visit.ask(script.replace("WIDTH", str(visit.page.width)))
-        return wrong((got, ["quantum 2 2 2 1 - 2 1 σ(2,1) * σ(2,1) in QH*(Gr(2,4))", ["quantum 2 2 2 1 - 2 1", "1  q^1  (2)\n1  q^1  (1,1)\n"], 18, 18, True]))
+        half = visit.ask('''const row = document.getElementById("help-plethysm"), form = row.querySelector("form"), before = answers().length;
+        const [outer] = form.querySelectorAll("input"); outer.value = "s[2,1] s[1]"; form.requestSubmit(); await quiet(); return answers().length - before''')
+        return wrong((half, 0), (got, ["quantum 2 2 2 1 - 2 1 σ(2,1) * σ(2,1) in QH*(Gr(2,4))", ["quantum 2 2 2 1 - 2 1", "1  q^1  (2)\n1  q^1  (1,1)\n"], 18, 18, True]))
 
 
 # The characters of S_3, by cycle types (3), (2,1), (1,1,1); Kostka numbers of size 3 and their inverse; and products in Gr(1,3), the projective plane, without q and with it.
@@ -280,15 +316,19 @@ def tables(*where):
         )
 
 
-# What the last step of a picture says or shows: the line, the number of steps, a name of a drawing at the last one.
+# The last step of a picture: the line, the beginning of the title, the number of steps, and the name of a drawing at that step. (The diagram of
+# 2 1 4 3 has cells in rows 1 and 3, from the later and smaller letters 1 < 2 and 3 < 4.)
 PICTURES = [
-    ("rsk 3 1 2", 4, "tableau P with the rows 1 2, 3"),
-    ("rect 2 2 / 1 - 1 / 1 2", 2, "tableau with the rows 1 1, 2"),
-    ("tab 3 2 1 / 2 1", 12, "partition 1,1,1"),
-    ("schubert 1 4 3 2", 5, "pipe dream with crosses in row 2 column 2, row 2 column 1, row 3 column 1"),
-    ("schubert 3 1 2", 1, None),
-    ("schubert 2 3 1", 1, None),
-    ("schubert 2 1 4 3", 3, None),
+    ("rsk 3 1 2", "Row insertion", 4, "tableau P with the rows 1 2, 3"),
+    ("rect 2 2 / 1 - 1 / 1 2", "Slides", 2, "tableau with the rows 1 1, 2"),
+    ("tab 3 2 1 / 2 1", "The tableaux", 12, "partition 1,1,1"),
+    ("schubert 1 4 3 2", "The pipe dreams", 5, "pipe dream with crosses in row 2 column 2, row 2 column 1, row 3 column 1"),
+    ("schubert 3 1 2", "The pipe dreams", 1, None),
+    ("schubert 2 3 1", "The pipe dreams", 1, None),
+    ("schubert 2 1 4 3", "The pipe dreams", 3, None),
+    ("schubert 2 1 4 3", "The diagram of 2 1 4 3", 4, "diagram of 2 1 4 3 with row 1 column 1, row 3 column 3"),
+    ("schubert 3 1 4 2 5", "The diagram of 3 1 4 2", 4, "diagram of 3 1 4 2 with row 1 column 1, row 1 column 2, row 3 column 2"),
+    ("schubert 1 2", "The diagram", 1, None),
 ]
 
 
@@ -296,18 +336,53 @@ def pictures(*where):
     """The pictures go step by step from the begin to the answer."""
     with Visit(*where) as visit:
         script = """await (async () => { document.getElementById("line").value = %s; document.getElementById("run").click(); await quiet(); })();
-        const it = document.querySelector("article").querySelector(".steps"); if (!it) return null;
+        const it = [...document.querySelector("article").querySelectorAll(".steps")].find((of) => of.querySelector(".step-title").textContent.startsWith(%s)); if (!it) return null;
         const press = (name) => [...it.querySelectorAll("button")].find((of) => of.textContent === name).click(), range = it.querySelector("input");
         const said = [it.querySelector(".step-caption").textContent]; for (let n = 1; n < Number(range.max); n += 1) press("Next"), said.push(it.querySelector(".step-caption").textContent);
         press("Next"); const names = [...it.querySelectorAll("[role=img]")].map((of) => of.getAttribute("aria-label")); press("Before");
         return [new Set(said).size, names, range.value]"""
-        for line, count, name in PICTURES:
-            got = visit.ask(script % json.dumps(line))
+        for line, title, count, name in PICTURES:
+            got = visit.ask(script % (json.dumps(line), json.dumps(title)))
             if count == 1 and got is None:
                 continue
             if got is None or got[0] != count or (name and name not in got[1]) or got[2] != str(max(count - 1, 1)):
                 return f"{line}: {got}"
         return ""
+
+
+def offers(*where):
+    """A reading that is offered is shown in mathematics, and runs when it is pressed."""
+    with Visit(*where) as visit:
+        visit.run("mult (1)' - (1)'")
+        script = "const it = document.querySelector('article .offers li'), said = it.textContent; it.querySelector('button').click(); await quiet(); return [said, answers()[0], document.getElementById('line').value]"
+        return wrong((visit.ask(script), ["mult 1 - 1 s(1) · s(1)", ["mult 1 - 1", "1  (2)\n1  (1,1)\n"], "mult 1 - 1"]))
+
+
+def memory(*where):
+    """A line that needed much memory leaves none of it behind: the next ones run in a fresh module, and are answered as before."""
+    with Visit(*where) as visit:
+        visit.ask("globalThis.before = worker")
+        visit.run("coef 1 - 1 -")
+        same = visit.ask("return worker === before")
+        visit.run(LARGER)
+        fresh = visit.ask("return worker !== before")
+        visit.run("coef 1 - 1 -")
+        return wrong((same, True), (fresh, True), (visit.answers()[0], ["coef 1 - 1 -", "1\n"]))
+
+
+def little_memory(browser, path, size):
+    """With little memory a line has the answer of a fresh module, whatever ran before."""
+    large, line = "tab 9 8 7 6 5 4 3 2 1 / 7 6 5 4 3 2 1", "dschubmult 5 4 3 2 1 - 5 4 3 2 1"
+    with open(os.path.join(os.path.dirname(os.path.abspath(__file__)), "../web/cases.mjs"), encoding="utf-8") as file:
+        limited = file.read().split("/** A number as bytes")[1].split("const bytes =")[0]
+    with Visit(browser, path, size) as visit:
+        visit.ask(LITTLE_MEMORY % (f"/** A number as bytes{limited}", LITTLE_PAGES))
+        visit.run(line)
+        visit.ask("restart(); await until(() => isReady)")
+        visit.run(large)
+        visit.run(line)
+        after, _, before = visit.answers()
+        return wrong((after, before), (before[1][:1], "1"))
 
 
 class Quiet(http.server.SimpleHTTPRequestHandler):
@@ -322,9 +397,7 @@ def installed(browser, path, size):
     folder = os.path.join(os.path.dirname(path), "app")
     server = http.server.ThreadingHTTPServer(("127.0.0.1", 0), functools.partial(Quiet, directory=folder))
     threading.Thread(target=server.serve_forever, daemon=True).start()
-    visit = Visit(browser, path, size)
-    visit.page.url = f"http://127.0.0.1:{server.server_address[1]}/"
-    with visit:
+    with Visit(browser, f"http://127.0.0.1:{server.server_address[1]}/", size) as visit:
         named = visit.ask("return (await (await fetch('calc.webmanifest').catch(() => ({ json: () => null }))).json())")
         visit.ask("await navigator.serviceWorker.ready; await until(() => navigator.serviceWorker.controller)")
         server.shutdown()
@@ -337,4 +410,4 @@ def installed(browser, path, size):
         return wrong((visit.answers(), [["coef 2 - 1 - 1", "1\n"]]), (named, None), (manifest["display"], "standalone"))
 
 
-VISITS = [back, reload, heavy_link, lines_link, unseen_link, several_readings_link, draft, fresh_field, transcript, show_more, thousands, cleared, help_asked, forms, tables, pictures, installed]
+VISITS = [back, reload, heavy_link, powers_link, lines_link, next_links, unseen_link, several_readings_link, draft, fresh_field, transcript, show_more, thousands, cleared, help_asked, offers, forms, tables, pictures, memory, little_memory, installed]

@@ -106,7 +106,7 @@ function latexPermutation(letters) {
 function latexLabel(term, letter) {
   if (letter === "x") return monomial("x", term.first);
   if (letter === "S") return latexPermutation(term.first);
-  if (letter === "SS") return `${monomial("y", term.second)} ${latexPermutation(term.first)}`.trim();
+  if (letter === "SS") return `${monomial("y", term.second)} ${latexPermutation(term.first)}(x;y)`.trim();
   const index = (label) => (label.length === 1 && label[0] > 9 ? `(${label[0]})` : label.join(",") || "\\emptyset");
   const one = (label) => `${letter === "q" ? "\\sigma" : letter}_{${index(label)}}`;
   const power = term.q && term.q !== "0" ? (term.q === "1" ? "q " : `q^{${term.q}} `) : "";

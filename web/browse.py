@@ -2,7 +2,7 @@
 """Opens the page in a headless browser: `web/browse.py BROWSER PAGE [--size WxH] [--dark] [--picture FILE] LINE ..`.
 
 BROWSER is `chromium` (over its DevTools protocol) or `firefox` (over WebDriver BiDi). The lines are typed one after another, and their texts
-are printed as a list in JSON. A picture of the page is left in the file. tests/page opens the page in the same way, by `Page`."""
+are printed as a list in JSON. A picture of the page is left in the file. tests/page opens its pages in the same way, many in one `Browser`."""
 import argparse
 import base64
 import json
@@ -13,13 +13,13 @@ import socket
 import struct
 import subprocess
 import tempfile
-import urllib.request
+import threading
 
 SECONDS = 600
 
 # Waits for the module, types each line, waits for its answer, and gives the texts.
 TYPES = """(async () => {
-  const pause = () => new Promise((next) => setTimeout(next, 20));
+  const pause = () => new Promise((next) => setTimeout(next, 4));
   while (document.getElementById("run").disabled) await pause();
   const texts = [];
   for (const line of %s) {
@@ -35,6 +35,12 @@ TYPES = """(async () => {
 # The keys with a name, by the code that Chromium is given and the character that stands for them in WebDriver.
 KEYS = {"Enter": (13, "\ue007"), "Tab": (9, "\ue004"), "Escape": (27, "\ue00c"), "ArrowUp": (38, "\ue013"), "ArrowDown": (40, "\ue015")}
 
+# What Chromium is told: a page that is not in front has the processor as one that is. A page of which no picture is taken is laid out and not
+# drawn, which takes most of the time on a machine without a graphics processor.
+FOR_CHROMIUM = """--no-sandbox --disable-gpu --hide-scrollbars --disable-renderer-backgrounding --disable-backgrounding-occluded-windows
+--disable-background-timer-throttling --no-first-run --disable-component-update --disable-background-networking""".split()
+NOT_DRAWN = "--in-process-gpu --disable-threaded-compositing".split()
+
 # What Firefox is told in its profile; Chromium is told the same over its protocol.
 PREFERENCES = 'user_pref("layout.css.prefers-color-scheme.content-override", {scheme});\nuser_pref("ui.prefersReducedMotion", {still});\n'
 
@@ -45,6 +51,8 @@ class Channel:
     def __init__(self, url):
         host, port, path = re.fullmatch(r"ws://([^:/]+):(\d+)(/.*)?", url).groups()
         self.socket = socket.create_connection((host, int(port)), SECONDS)
+        # (small messages that follow one another do not wait for each other)
+        self.socket.setsockopt(socket.IPPROTO_TCP, socket.TCP_NODELAY, 1)
         key = base64.b64encode(os.urandom(16)).decode()
         self.socket.sendall(
             f"GET {path or '/session'} HTTP/1.1\r\nHost: {host}:{port}\r\nUpgrade: websocket\r\nConnection: Upgrade\r\n"
@@ -56,14 +64,20 @@ class Channel:
         while self.file.readline().strip():
             pass
 
+    def close(self):
+        self.file.close()
+        self.socket.close()
+
     def ask(self, method, **params):
         """Sends a message and gives its result."""
         self.number += 1
         text = json.dumps({"id": self.number, "method": method, "params": params}).encode()
-        mask = os.urandom(4)
         long = struct.pack("!BQ", 255, len(text)) if len(text) > 65535 else struct.pack("!BH", 254, len(text))
         size = b"\x81" + (long if len(text) > 125 else bytes([128 + len(text)]))
-        self.socket.sendall(size + mask + bytes(byte ^ mask[i % 4] for i, byte in enumerate(text)))
+        mask = os.urandom(4)
+        masks = (mask * (len(text) // 4 + 1))[: len(text)]
+        masked = int.from_bytes(text, "big") ^ int.from_bytes(masks, "big")
+        self.socket.sendall(size + mask + masked.to_bytes(len(text), "big"))
         while True:
             answer = json.loads(self.message())
             if answer.get("id") == self.number:
@@ -85,29 +99,33 @@ class Channel:
         return text
 
 
-class Page:
-    """A page in a browser of its own, at a size, in light or dark colours, with motion or reduced motion.
+class Browser:
+    """A headless browser, in light or dark colours, with motion or reduced motion, with pictures or without. Each of its pages has a storage of
+    its own.
 
-        with Page("chromium", "build/calc.html", width=390, height=844) as page:
+        with Browser("chromium", dark=True) as browser, browser.page("build/calc.html", 390, 844) as page:
             page.run("document.title")
     """
 
-    def __init__(self, browser, path, width=1280, height=900, dark=False, still=False, fragment=""):
-        self.browser, self.width, self.height, self.dark, self.still = browser, width, height, dark, still
-        self.path, self.url = path, f"file://{os.path.abspath(path)}{fragment}"
+    def __init__(self, name, dark=False, still=False, pictures=True):
+        self.name, self.dark, self.still, self.pictures = name, dark, still, pictures
         self.profile = tempfile.mkdtemp()
 
     def __enter__(self):
-        if self.browser == "chromium":
-            words = ["--no-sandbox", "--disable-gpu", "--hide-scrollbars", f"--user-data-dir={self.profile}"]
+        if self.name == "chromium":
+            words, mark = [*FOR_CHROMIUM, *([] if self.pictures else NOT_DRAWN), f"--user-data-dir={self.profile}"], "DevTools listening on "
         else:
-            words = ["--profile", self.profile]
+            words, mark = ["--profile", self.profile], "WebDriver BiDi listening on "
             with open(f"{self.profile}/user.js", "w", encoding="utf-8") as file:
                 file.write(PREFERENCES.format(scheme=0 if self.dark else 1, still=int(self.still)))
-        words = [self.browser, "--headless", "--remote-debugging-port=0", *words, "about:blank"]
+        words = [self.name, "--headless", "--remote-debugging-port=0", *words, "about:blank"]
         self.started = subprocess.Popen(words, stdout=subprocess.DEVNULL, stderr=subprocess.PIPE, text=True)
         try:
-            self.open_chromium() if self.browser == "chromium" else self.open_firefox()
+            self.address = self.listening(mark)
+            self.channel = Channel(self.address if self.name == "chromium" else f"{self.address}/session")
+            if self.name == "firefox":
+                self.channel.ask("session.new", capabilities={})
+                self.channel.ask("session.subscribe", events=["network.beforeRequestSent"])
         except BaseException:
             self.__exit__()
             raise
@@ -119,86 +137,142 @@ class Page:
         shutil.rmtree(self.profile, ignore_errors=True)
 
     def listening(self, mark):
-        """The address that the browser names on standard error."""
+        """The address that the browser names on standard error, of which the rest is read and left."""
         for line in self.started.stderr:
             if mark in line:
+                threading.Thread(target=self.started.stderr.read, daemon=True).start()
                 return line.split(mark)[1].strip()
-        raise SystemExit(f"{self.browser} has ended")
+        raise SystemExit(f"{self.name} has ended")
 
-    def open_chromium(self):
-        port = re.search(r"ws://[^:]+:(\d+)", self.listening("DevTools listening on ")).group(1)
-        with urllib.request.urlopen(f"http://127.0.0.1:{port}/json/list", timeout=SECONDS) as tabs:
-            tab = next(it for it in json.load(tabs) if it["type"] == "page")
-        self.channel = Channel(tab["webSocketDebuggerUrl"])
-        ask = self.channel.ask
-        ask("Page.enable")
-        ask("Network.enable")
-        size = {"width": self.width, "height": self.height, "deviceScaleFactor": 1, "mobile": self.width < 600}
-        ask("Emulation.setDeviceMetricsOverride", **size)
-        scheme, motion = "dark" if self.dark else "light", "reduce" if self.still else "no-preference"
-        wanted = {"prefers-color-scheme": scheme, "prefers-reduced-motion": motion}
-        ask("Emulation.setEmulatedMedia", features=[{"name": name, "value": value} for name, value in wanted.items()])
-        ask("Page.navigate", url=self.url)
-        while self.run("document.readyState === 'complete' && !!document.getElementById('run')") is not True:
-            pass
+    def page(self, path, width=1280, height=900, fragment=""):
+        """A page of this file or address, at a size."""
+        url = path if "://" in path else f"file://{os.path.abspath(path)}"
+        return {"chromium": ChromiumPage, "firefox": FirefoxPage}[self.name](self, path, url + fragment, width, height)
 
-    def open_firefox(self):
-        self.channel = Channel(self.listening("WebDriver BiDi listening on ") + "/session")
-        ask = self.channel.ask
-        ask("session.new", capabilities={})
-        ask("session.subscribe", events=["network.beforeRequestSent"])
-        # (the first tab has the focus in its field for addresses, where no key reaches the page)
-        first = ask("browsingContext.getTree")["contexts"][0]["context"]
-        self.context = ask("browsingContext.create", type="tab")["context"]
-        ask("browsingContext.close", context=first)
-        ask("browsingContext.activate", context=self.context)
-        viewport = {"width": self.width, "height": self.height}
-        ask("browsingContext.setViewport", context=self.context, viewport=viewport)
-        ask("browsingContext.navigate", context=self.context, url=self.url, wait="complete")
+
+class Page:
+    """A page in a browser: what both kinds have in common. `open`, `close`, `load` again, `evaluated`, `press`, `requests` and `picture` are their own."""
+
+    def __init__(self, browser, path, url, width, height):
+        self.browser, self.path, self.url, self.width, self.height = browser, path, url, width, height
+
+    def __enter__(self):
+        self.open()
+        return self
+
+    def __exit__(self, *_):
+        self.close()
 
     def run(self, script):
         """The value of an expression in the page: a text, a number, a truth value, or what a promise of one comes to."""
-        if self.browser == "chromium":
-            done = self.channel.ask("Runtime.evaluate", expression=script, awaitPromise=True)
-        else:
-            target = {"context": self.context}
-            done = self.channel.ask("script.evaluate", expression=script, target=target, awaitPromise=True)
+        done = self.evaluated(script)
         if "exceptionDetails" in done:
-            raise SystemExit(f"{self.browser}: {json.dumps(done['exceptionDetails'])[:600]}")
+            raise SystemExit(f"{self.browser.name}: {json.dumps(done['exceptionDetails'])[:600]}")
         return done["result"].get("value")
 
     def type(self, lines):
         """The texts of these lines, typed one after another."""
         return json.loads(self.run(TYPES % json.dumps(lines)))
 
+    def save(self, data, path):
+        with open(path, "wb") as file:
+            file.write(base64.b64decode(data))
+
+
+class ChromiumPage(Page):
+    """A page of Chromium, over a channel of its own."""
+
+    def open(self):
+        ask = self.browser.channel.ask
+        self.storage = ask("Target.createBrowserContext")["browserContextId"]
+        target = ask("Target.createTarget", url="about:blank", browserContextId=self.storage)["targetId"]
+        self.channel = Channel(re.sub(r"/devtools/.*", f"/devtools/page/{target}", self.browser.address))
+        ask = self.channel.ask
+        for what in ("Page.enable", "Network.enable"):
+            ask(what)
+        size = {"width": self.width, "height": self.height, "deviceScaleFactor": 1, "mobile": self.width < 600}
+        ask("Emulation.setDeviceMetricsOverride", **size)
+        scheme, motion = "dark" if self.browser.dark else "light", "reduce" if self.browser.still else "no-preference"
+        wanted = {"prefers-color-scheme": scheme, "prefers-reduced-motion": motion}
+        ask("Emulation.setEmulatedMedia", features=[{"name": name, "value": value} for name, value in wanted.items()])
+        ask("Emulation.setFocusEmulationEnabled", enabled=True)
+        self.load("Page.navigate", url=self.url)
+
+    def close(self):
+        self.channel.close()
+        self.browser.channel.ask("Target.disposeBrowserContext", browserContextId=self.storage)
+
+    def load(self, how="Page.reload", **given):
+        """Loads the page, or loads it again, and waits until it is there."""
+        self.channel.events.clear()
+        self.channel.ask(how, **given)
+        is_loaded = False
+        while not is_loaded:
+            self.channel.events.append(json.loads(self.channel.message()))
+            # (the empty page before it has an event, too)
+            is_loaded = self.channel.events[-1].get("method") == "Page.loadEventFired" and self.run("document.URL") != "about:blank"
+
+    def evaluated(self, script):
+        return self.channel.ask("Runtime.evaluate", expression=script, awaitPromise=True)
+
     def press(self, *keys):
         """Presses keys one after another, each a character or a name."""
-        if self.browser == "chromium":
-            for key in keys:
-                words = {"key": key, "code": key, "windowsVirtualKeyCode": KEYS[key][0]} if key in KEYS else {"key": key}
-                text = {"text": "\r"} if key == "Enter" else {} if key in KEYS else {"text": key}
-                self.channel.ask("Input.dispatchKeyEvent", type="keyDown", **words, **text)
-                self.channel.ask("Input.dispatchKeyEvent", type="keyUp", **words)
-        else:
-            values = [KEYS[key][1] if key in KEYS else key for key in keys]
-            pressed = [{"type": way, "value": value} for value in values for way in ("keyDown", "keyUp")]
-            actions = [{"type": "key", "id": "keys", "actions": pressed}]
-            self.channel.ask("input.performActions", context=self.context, actions=actions)
+        for key in keys:
+            words = {"key": key, "code": key, "windowsVirtualKeyCode": KEYS[key][0]} if key in KEYS else {"key": key}
+            text = {"text": "\r"} if key == "Enter" else {} if key in KEYS else {"text": key}
+            self.channel.ask("Input.dispatchKeyEvent", type="keyDown", **words, **text)
+            self.channel.ask("Input.dispatchKeyEvent", type="keyUp", **words)
+
+    def requests(self):
+        """The addresses that the page has asked for since it was loaded."""
+        self.run("0")
+        return [it["params"]["request"]["url"] for it in self.channel.events if it.get("method") == "Network.requestWillBeSent"]
+
+    def picture(self, path, whole=False):
+        """Leaves a picture of what is seen of the page, or of all of it."""
+        self.save(self.channel.ask("Page.captureScreenshot", captureBeyondViewport=whole)["data"], path)
+
+
+class FirefoxPage(Page):
+    """A page of Firefox, over the channel of the browser."""
+
+    def ask(self, method, **given):
+        return self.browser.channel.ask(method, context=self.context, **given)
+
+    def open(self):
+        ask = self.browser.channel.ask
+        self.storage = ask("browser.createUserContext")["userContext"]
+        self.context = ask("browsingContext.create", type="tab", userContext=self.storage)["context"]
+        # (a tab in front has the focus, and its clocks go at their pace)
+        self.ask("browsingContext.activate")
+        self.ask("browsingContext.setViewport", viewport={"width": self.width, "height": self.height})
+        self.ask("browsingContext.navigate", url=self.url, wait="complete")
+
+    def close(self):
+        self.browser.channel.ask("browser.removeUserContext", userContext=self.storage)
+
+    def load(self):
+        """Loads the page again, and waits until it is there."""
+        self.ask("browsingContext.reload", wait="complete")
+
+    def evaluated(self, script):
+        return self.browser.channel.ask("script.evaluate", expression=script, target={"context": self.context}, awaitPromise=True)
+
+    def press(self, *keys):
+        """Presses keys one after another, each a character or a name."""
+        values = [KEYS[key][1] if key in KEYS else key for key in keys]
+        pressed = [{"type": way, "value": value} for value in values for way in ("keyDown", "keyUp")]
+        self.ask("input.performActions", actions=[{"type": "key", "id": "keys", "actions": pressed}])
 
     def requests(self):
         """The addresses that the page has asked for."""
         self.run("0")
-        named = {"Network.requestWillBeSent": "Network", "network.beforeRequestSent": "network"}
-        return [it["params"]["request"]["url"] for it in self.channel.events if it.get("method") in named]
+        asked = [it["params"] for it in self.browser.channel.events if it.get("method") == "network.beforeRequestSent"]
+        return [it["request"]["url"] for it in asked if it["context"] == self.context]
 
-    def picture(self, path):
-        """Leaves a picture of what is seen of the page."""
-        if self.browser == "chromium":
-            data = self.channel.ask("Page.captureScreenshot")["data"]
-        else:
-            data = self.channel.ask("browsingContext.captureScreenshot", context=self.context)["data"]
-        with open(path, "wb") as file:
-            file.write(base64.b64decode(data))
+    def picture(self, path, whole=False):
+        """Leaves a picture of what is seen of the page, or of all of it."""
+        self.save(self.ask("browsingContext.captureScreenshot", origin="document" if whole else "viewport")["data"], path)
 
 
 def main():
@@ -211,7 +285,7 @@ def main():
     words.add_argument("--picture")
     given = words.parse_intermixed_args()
     width, height = map(int, given.size.split("x"))
-    with Page(given.browser, given.page, width, height, given.dark) as page:
+    with Browser(given.browser, given.dark) as browser, browser.page(given.page, width, height) as page:
         print(json.dumps(page.type(given.lines)))
         if given.picture:
             page.picture(given.picture)

@@ -47,7 +47,7 @@ function limited(bytes, most) {
 }
 
 const bytes = fs.readFileSync(path);
-await asked({ wasm: pages ? limited(bytes, Number(pages)) : bytes });
+await asked({ module: await WebAssembly.compile(pages ? limited(bytes, Number(pages)) : bytes) });
 let same = 0;
 for (const [line, input, status, text] of JSON.parse(fs.readFileSync(jobs, "utf8"))) {
   const got = await asked({ line, input });

@@ -138,7 +138,7 @@ function shownTerm(term, letter) {
   const power = term.q === undefined || term.q === "0" ? "" : term.q === "1" ? "q " : `q^{${term.q}} `;
   if (letter === "x") return monomial("x", term.first);
   if (letter === "S") return permutation(term.first);
-  if (letter === "SS") return `${monomial("y", term.second)} ${permutation(term.first)}`.trim();
+  if (letter === "SS") return `${monomial("y", term.second)} ${permutation(term.first)}(x; y)`.trim();
   if (term.second) return `s${index(term.first)}(x) s${index(term.second)}(y)`;
   return `${power}${letter === "q" ? "σ" : letter}${index(term.first)}`;
 }

@@ -31,7 +31,10 @@ function fieldOf(slot, isOptional) {
   else if (NUMBERS[slot.role]) {
     const [least, limit] = NUMBERS[slot.role], first = isOptional ? {} : { value: String(Math.max(least, 2)), required: "" };
     input = element("input", { type: "number", min: String(least), max: String(LIMITS[limit]), inputmode: "numeric", ...first });
-  } else input = element("input", { autocomplete: "off", autocapitalize: "off", spellcheck: "false", placeholder: hint });
+  } else {
+    const needed = EXPRESSIONS.includes(slot.role) ? { required: "" } : {};
+    input = element("input", { autocomplete: "off", autocapitalize: "off", spellcheck: "false", placeholder: hint, ...needed });
+  }
   input.dataset.role = slot.role;
   return element("label", {}, label, " ", input);
 }

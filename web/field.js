@@ -142,7 +142,7 @@ function paste(event) {
 
 // ---- addresses
 
-/** Whether the lines of a link are so small that they run by themselves. */
+/** Whether the lines that a link runs are so small that they run by themselves. */
 function isLight(lines) {
   const numbers = lines.join(" ").match(/\d+/g) || [];
   return lines.length <= LIGHT.commands && lines.every((it) => it.length <= 200) && sumOf(numbers) <= LIGHT.sum;
@@ -159,24 +159,34 @@ function textOfAddress() {
   }
 }
 
-/** The article that answers the first command of a text, if it is there. */
-function answeredAlready(text) {
-  const lines = linesOf(text).map((it) => readTyped(it).line);
-  return [...at("answers").children].find((it) => it.dataset.of === lines[0]);
+/** The article that answers a line, if it is there. */
+function articleOf(line) {
+  return [...at("answers").children].find((it) => it.dataset.of === line);
 }
 
-/** Shows the answers to the commands of the page's address: runs them if they are not there, and waits for Enter if they can be heavy or have several readings. */
+/** Shows the answers to the commands of the page's address: runs those that are not there, and waits for Enter if they can be heavy or have several readings. */
 function follow() {
-  const text = textOfAddress(), lines = linesOf(text);
-  if (lines.length === 0) return;
-  const article = answeredAlready(text);
-  if (article) return article.scrollIntoView(), article.focus({ preventScroll: true });
-  put(lines.map(inSight).join("; "));
-  const isClear = lines.every((it) => readTyped(it).reason === undefined);
-  if (isClear && isLight(lines)) return ask(text, LIGHT.time);
-  const [what, them] = lines.length === 1 ? ["a command", "it"] : [`${lines.length} commands`, "them"];
+  const read = linesOf(textOfAddress()).map((typed) => ({ typed, ...readTyped(typed) }));
+  if (read.length === 0) return;
+  const inQueue = [running, ...ahead, ...waiting].map((job) => job && job.line);
+  const left = read.filter(({ line }) => !articleOf(line) && !inQueue.includes(line));
+  if (left.length === 0) return showAnswer(articleOf(read[0].line));
+  put(left.map((it) => inSight(it.typed)).join("; "));
+  const isClear = left.every((it) => it.reason === undefined);
+  if (isClear && isLight(left.map((it) => it.line))) {
+    askLines(left.map((it) => it.typed), LIGHT.time);
+    return putInAddress(read.map((it) => it.line).join("; "));
+  }
+  const [what, them] = left.length === 1 ? ["a command", "it"] : [`${left.length} commands`, "them"];
   say(`This link has ${what} that can ${isClear ? "take long" : "be read in several ways"}. Press Enter to run ${them}.`);
   return toField();
+}
+
+/** Brings an answer into sight, if it is there. */
+function showAnswer(article) {
+  if (!article) return;
+  article.scrollIntoView();
+  article.focus({ preventScroll: true });
 }
 
 /** What a page that is opened runs: after a reload what it ran before; else the commands of its address. */

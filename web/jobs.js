@@ -22,23 +22,32 @@ const COMPILED = "The module is being compiled.";
 const waiting = [];
 /** The commands that the worker was given beside the one that runs. */
 const ahead = [];
+/** The module, once for all workers. */
+let compiled;
 let worker, isReady = false, running = null, clock, later;
 /** What the queue came to since it was empty: how many commands were answered, refused and stopped, and what a single one is said to have come to. */
 let round = { asked: 0, answered: 0, refused: 0, stopped: 0, last: [] };
 
-/** Starts the module anew. */
+/** Starts a worker with the module. */
 function boot() {
   isReady = false;
   if (!running && waiting.length === 0 && round.asked === 0 && numberOfAnswer === 0) say(COMPILED);
   try {
-    worker = new Worker(URL.createObjectURL(new Blob([WORKER], { type: "text/javascript" })));
+    const started = (worker = new Worker(URL.createObjectURL(new Blob([WORKER], { type: "text/javascript" }))));
     worker.onerror = (error) => fail(error.message || "its worker does not start");
     worker.onmessage = ({ data }) => received(data);
-    const bytes = Uint8Array.from(atob(at("module").textContent), (byte) => byte.charCodeAt(0)).buffer;
-    worker.postMessage({ packed: bytes }, [bytes]);
+    compiled = compiled || compile();
+    compiled.then((module) => started.postMessage({ module }), (error) => fail(error.message));
   } catch (error) {
     fail(error.message);
   }
+}
+
+/** Compiles the module, which is packed in the page. The browser does it while the worker starts. */
+async function compile() {
+  const text = atob(at("module").textContent), bytes = new Uint8Array(text.length);
+  for (let i = 0; i < text.length; i += 1) bytes[i] = text.charCodeAt(i);
+  return WebAssembly.compile(await new Response(new Blob([bytes]).stream().pipeThrough(new DecompressionStream("gzip"))).arrayBuffer());
 }
 
 /** Ends the worker. (An answer on its way from it is no answer to a later command.) */

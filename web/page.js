@@ -42,9 +42,9 @@ document.addEventListener("click", ({ target }) => {
 });
 
 window.onhashchange = follow;
+boot();
 showEarlier();
 addEntries();
 addTables();
 if (document.querySelector("link[rel=manifest]") && navigator.serviceWorker) navigator.serviceWorker.register("offline.js").catch(() => {});
-boot();
 begin();

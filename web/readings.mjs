@@ -7,7 +7,7 @@ const [script, lines] = process.argv.slice(2);
 vm.runInThisContext(fs.readFileSync(script, "utf8"));
 const read = vm.runInThisContext(`(typed) => {
   const { line, help, reason } = readTyped(typed), isRun = isCommand(textsOfWords(line));
-  const offers = isRun ? [...meantInstead(line).map((it) => it.line)] : offersFor(typed);
+  const offers = isRun ? [...meantInstead({ line, typed }).map((it) => it.line)] : offersFor(typed);
   return { typed, line, help, reason, isRun, computed: isRun ? plainFormula(computedBy(line)) : "", offers };
 }`);
 console.log(JSON.stringify(JSON.parse(fs.readFileSync(lines, "utf8")).map(read)));

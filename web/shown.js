@@ -122,8 +122,8 @@ function offer(line) {
 }
 
 /** What a line that was answered can be meant as, too. (What that would compute is not said: right above the text stands what was computed.) */
-function insteadOf(line) {
-  return meantInstead(line).map((it) => note("offer note", `${it.why}: `, offer(it.line)[0]));
+function insteadOf(job) {
+  return meantInstead(job).map((it) => note("offer note", `${it.why}: `, offer(it.line)[0]));
 }
 
 /** What a line could mean that was refused. */
@@ -178,7 +178,7 @@ function shownArticle(job, { status, text = "", time, stopped, why, error }) {
   const [computed, sum] = isDone || stopped || text === "! Large\n" ? mathematicsOf(line, text, answer) : [[], []];
   const id = `answer-${(numberOfAnswer += 1)}`, title = element("h3", { id }, element("code", { dir: "ltr" }, ...marked(line, told)));
   const header = element("header", {}, title, element("span", {}, aboutOf(status, count, time, stopped)));
-  const article = element("article", { "aria-labelledby": id, tabindex: "-1" }, header, ...changesOf(job), ...(isDone ? insteadOf(line) : []), ...computed);
+  const article = element("article", { "aria-labelledby": id, tabindex: "-1" }, header, ...changesOf(job), ...(isDone ? insteadOf(job) : []), ...computed);
   if (!isDone) article.className = "refused";
   article.dataset.of = line;
   if (text) article.append(...textOf(line, text), ...sum);
@@ -193,7 +193,7 @@ function shownArticle(job, { status, text = "", time, stopped, why, error }) {
 
 /** The drawings of an answer and its pictures step by step; a button for them, where many commands wait. */
 function picturesOf(line, answer, text) {
-  const made = () => [drawn(answer, text), steps(line, answer)].filter(Boolean);
+  const made = () => [drawn(answer, text), ...steps(line, answer)].filter(Boolean);
   if (waiting.length < 20) return made();
   return answer && drawn(answer, text) ? [button("Draw", (event) => event.target.replaceWith(...made()))] : [];
 }

@@ -1,27 +1,30 @@
-// Pictures step by step: how a word is inserted, how a tableau slides, how a Littlewood–Richardson tableau is read, and the pipe dreams of a
-// permutation. Each is made here anew, and shown only if it ends where the printed answer is.
+// Pictures step by step: how a word is inserted, how a tableau slides, how a Littlewood–Richardson tableau is read, and the pipe dreams and the
+// diagram of a permutation. Each is made here anew, and shown only if it ends where the printed answer is.
 
 /** The most steps of a picture, and the most letters of a permutation whose pipe dreams are drawn. */
 const MOST_STEPS = 400;
 const MOST_PIPES = 6;
 
-/** The pictures of an answer, if it has some: a title, and for each step what is drawn and what is said. */
+/** The pictures of an answer: of each its title, and for each step what is drawn and what is said. */
 function framesOf(line, answer) {
-  if (!answer) return null;
+  if (!answer) return [];
   const parts = partsOf(textsOfWords(line)) || [], list = (role) => (parts.find((it) => it.role === role) || { words: [] }).words;
-  if (line.startsWith("rsk")) return insertion(list("letters").map(plainNumber), answer);
-  if (line.startsWith("rect")) return rectification(list("partition"), parts.filter((it) => it.role === "partition")[1].words, list("filling"), answer);
-  if (line.startsWith("tab")) return readings(answer);
-  return line.startsWith("schubert") ? pipeDreams(list("permutation").map(Number), answer) : null;
+  if (line.startsWith("rsk")) return [insertion(list("letters").map(plainNumber), answer)];
+  if (line.startsWith("rect")) return [rectification(list("partition"), parts.filter((it) => it.role === "partition")[1].words, list("filling"), answer)];
+  if (line.startsWith("tab")) return [readings(answer)];
+  const letters = moved(list("permutation").map(Number));
+  return line.startsWith("schubert") ? [pipeDreams(letters, answer), permutationDiagram(letters, answer)] : [];
 }
 
-/** The pictures of an answer, one at a time, with buttons for the one before and the next. */
+/** The pictures of an answer, each with its steps. */
 function steps(line, answer) {
-  const found = framesOf(line, answer);
-  if (!found || found.frames.length < 2 || found.frames.length > MOST_STEPS) return null;
-  const { title, frames } = found;
+  return framesOf(line, answer).filter((it) => it && it.frames.length > 1 && it.frames.length <= MOST_STEPS).map(stepper);
+}
+
+/** A picture, one step at a time, with buttons for the one before and the next. */
+function stepper({ title, frames }) {
   let number = 0;
-  const drawing = element("div", { class: "step-drawing" }), caption = element("p", { class: "step-caption" });
+  const drawing = element("div", { class: "step-drawing", tabindex: "0", role: "group", "aria-label": "Drawing of this step" }), caption = element("p", { class: "step-caption" });
   const place = element("input", { type: "range", min: "1", max: String(frames.length), value: "1", "aria-label": title });
   const show = (next) => {
     number = Math.min(Math.max(next, 0), frames.length - 1);
@@ -152,7 +155,49 @@ function readingOf(rows, inner, name) {
   return frames;
 }
 
-// ---- pipe dreams
+// ---- permutations
+
+/** The letters of a permutation without those at its end that are in their places. */
+function moved(w) {
+  const end = w.findLastIndex((it, i) => it !== i + 1) + 1;
+  return w.slice(0, end);
+}
+
+/** The exponents of a monomial, without zeros at the end. */
+function exponentsOf(counts) {
+  return counts.slice(0, counts.findLastIndex((it) => it > 0) + 1);
+}
+
+/** The picture of the first rows of the diagram of a permutation: in each row a dot, with lines to the right and down, and the cells that no line meets. */
+function diagramPicture(w, rows, cells, name) {
+  const side = 22, n = w.length, corner = (i) => i * side + 18, middle = (i) => corner(i) + side / 2;
+  const box = ([i, j]) => `M${corner(j)} ${corner(i)}h${side}v${side}h${-side}z`, size = corner(n) + 2;
+  const lines = w.slice(0, rows).map((a, i) => `M${corner(n)} ${middle(i)}H${middle(a - 1)}V${corner(n)}`).join("");
+  const dots = w.slice(0, rows).map((a, i) => `M${middle(a - 1) - 3} ${middle(i)}a3 3 0 1 0 6 0a3 3 0 1 0 -6 0z`).join("");
+  const svg = element("svg", { width: size, height: size, role: "img", "aria-label": name }, element("path", { class: "marked", d: cells.map(box).join("") }));
+  svg.append(element("path", { d: `M18 18h${n * side}v${n * side}h${-n * side}z` }), element("path", { class: "pipes", d: lines }));
+  svg.append(element("path", { d: cells.map(box).join("") }), element("path", { class: "dots", d: dots }));
+  for (let i = 0; i < n; i += 1) svg.append(element("text", { x: middle(i), y: 9 }, String(i + 1)), element("text", { x: 9, y: middle(i) }, String(i + 1)));
+  return svg;
+}
+
+/** The diagram of a permutation, row by row. Its rows have as many cells as the code of the permutation says: the exponents of a monomial of the polynomial. */
+function permutationDiagram(w, answer) {
+  if (w.length < 2 || answer.kind !== "terms") return null;
+  const frames = [], cells = [], code = [];
+  for (const [i, a] of w.entries()) {
+    const columns = w.slice(i + 1).filter((b) => b < a).sort((b, c) => b - c);
+    cells.push(...columns.map((b) => [i, b - 1]));
+    code.push(columns.length);
+    const [seen, counts] = [[...cells], [...code]];
+    const name = `diagram of ${w.join(" ")} with ${seen.map(([k, j]) => `row ${k + 1} column ${j + 1}`).join(", ") || "no cell"}`;
+    const whole = i + 1 < w.length ? "" : ` Its monomial is ${shownTerm({ first: counts }, "x") || "1"}.`;
+    const said = `Row ${i + 1} has a dot in column ${a} and ${countOfThings(columns.length, "cell", "cells")}: the smaller letters that come later. The code so far is (${counts.join(",")}).${whole}`;
+    frames.push(() => ({ drawings: [figure(diagramPicture(w, i + 1, seen, name))], said }));
+  }
+  const isPrinted = answer.terms.some((it) => it.c === "1" && it.first.join() === exponentsOf(code).join());
+  return isPrinted ? { title: `The diagram of ${w.join(" ")}: the lengths of its rows are the exponents of a monomial`, frames } : null;
+}
 
 /** The crosses of the reduced pipe dreams of a permutation, each a list of cells, read by rows from the top, each from the right. */
 function crossesOf(w) {
@@ -189,13 +234,11 @@ function pipePicture(n, crosses, name) {
 }
 
 function pipeDreams(w, answer) {
-  while (w.length > 1 && w[w.length - 1] === w.length) w.pop();
   if (w.length > MOST_PIPES || w.length < 2 || answer.kind !== "terms") return null;
   const weightOf = (crosses) => {
     const rows = Array(w.length).fill(0);
     for (const [i] of crosses) rows[i] += 1;
-    while (rows[rows.length - 1] === 0) rows.pop();
-    return rows;
+    return exponentsOf(rows);
   };
   const all = crossesOf(w).map((crosses) => ({ crosses, weight: weightOf(crosses) })), counts = new Map();
   for (const { weight } of all) counts.set(weight.join(), (counts.get(weight.join()) || 0) + 1);

@@ -13,11 +13,6 @@ const ROOM = 1 << 22;
 const GROWTH = 1 << 24;
 let module, exports, needed, begun, isFresh;
 
-/** The module of bytes that gzip has packed. */
-function unpacked(bytes) {
-  return new Response(new Blob([bytes]).stream().pipeThrough(new DecompressionStream("gzip"))).arrayBuffer();
-}
-
 /** A fresh instance: nothing of an earlier call is left in it. */
 function start() {
   exports = new WebAssembly.Instance(module, {}).exports;
@@ -81,10 +76,10 @@ function answered(line, input) {
   return { ...answer, grown };
 }
 
-onmessage = async ({ data }) => {
+onmessage = ({ data }) => {
   try {
-    if (data.wasm || data.packed) {
-      module = await WebAssembly.compile(data.wasm || (await unpacked(data.packed)));
+    if (data.module) {
+      module = data.module;
       start();
       postMessage({ ready: true });
       return;
