@@ -12,10 +12,10 @@ import tempfile
 
 TOP = os.path.abspath(os.path.join(os.path.dirname(os.path.abspath(__file__)), ".."))
 SOURCES = ("src", "specs", "proofs")
-# What each program and each library for C is linked with of the kit, beside its C library.
+# The objects of the kit with which each program and each library for C is linked, beside its C library.
 PROGRAM, LIBRARY = ("c/libos_c.a", "c/liblibc_c.a"), ("c/liblibc_c.a",)
 
-# What a program that is linked with the library asks for: its number changes where the call does (library/yorqanish.h).
+# The name by which a program that is linked with the library asks for it. Its number changes when the calls change (library/yorqanish.h).
 SONAME = "libyorqanish.so.0"
 
 # The kit's clang, in front of which the LLVM module is kept.
@@ -139,7 +139,7 @@ def note(sources, *made):
 
 
 def recorded(path):
-    """What MADE_OF, or the note beside a file that was built here, says by its words."""
+    """The entries of MADE_OF, or of the note beside a file that was built here, by their words."""
     with open(path, encoding="ascii") as file:
         return dict(line.rstrip("\n").split(" ", 1) for line in file)
 
@@ -166,7 +166,7 @@ def files_of_tool(name):
     return [path, *sorted(os.path.realpath(it) for it in listed if it.startswith("/"))]
 
 
-# How all is linked.
+# The sums of the ways in which the files are linked.
 THIS = os.path.abspath(__file__)
 
 

@@ -1,16 +1,16 @@
-"""Roots that hold a shell and a few small tools alone: for tests/prebuilt and tests/release."""
+"""Roots that contain only a shell and a few small tools: for tests/prebuilt and tests/release."""
 import contextlib
 import os
 import shutil
 import subprocess
 import tempfile
 
-# What ./calc uses, of which it needs the first two.
+# The tools that ./calc uses. It needs the first two.
 TOOLS = ("sh", "sha256sum", "ls", "cmp", "touch", "stat", "mkdir", "mv", "rm", "chmod")
 
 
 class Skipped(Exception):
-    """Why something cannot be tried here."""
+    """The reason why something cannot be tested here."""
 
 
 def path_of(tool):
@@ -18,7 +18,7 @@ def path_of(tool):
 
 
 def put(tool, root):
-    """Puts a tool into a root, with the libraries that it loads."""
+    """Copies a tool into a root, with the libraries that it loads."""
     path = os.path.realpath(path_of(tool))
     needed = subprocess.run([path_of("ldd"), path], capture_output=True, text=True).stdout.split()
     for file in [path, *(it for it in needed if it.startswith("/"))]:
@@ -54,7 +54,7 @@ def bare_root(of_busybox):
 
 
 def linked(one, other):
-    """Gives a file a second name, where that can be done, and else copies it."""
+    """Makes a hard link to a file if that is possible, and else a copy."""
     try:
         os.link(one, other)
     except OSError:

@@ -15,13 +15,14 @@ TOP = os.path.join(os.path.dirname(os.path.abspath(__file__)), "..")
 CASES = os.path.join(TOP, "tests/cases")
 # Longer than this no run takes, on however busy a machine: it hangs.
 SECONDS = 300
-# Whether times are held to their goals. They are the machine's as much as the program's, so that they are only printed unless that is asked for.
+# Whether the goals of times are checked. Times depend on the machine as much as on the program, so they are only printed unless this is asked
+# for.
 CLOCKS = os.environ.get("YORQANISH_CLOCKS") == "1"
 
 
 @dataclass
 class Case:
-    """What is typed, and what must come of it."""
+    """A command of a transcript, and the output and status that it must have."""
 
     name: str
     words: list  # of bytes
@@ -38,7 +39,7 @@ class Tally:
         self.passed = self.failed = 0
         self.wanted = collections.Counter()
         self.is_ended = False
-        # (what was counted is not lost where a script breaks off)
+        # (the counts are not lost if a script breaks off)
         atexit.register(self.break_off)
 
     def count(self, name, wrong):
@@ -49,7 +50,7 @@ class Tally:
             self.passed += 1
 
     def clock(self, name, seconds, goal):
-        """Counts a time where clocks are asked for, and else prints it."""
+        """Checks a time against its goal if clocks are asked for, and else prints it."""
         if CLOCKS:
             self.count(name, "" if seconds <= goal else f"{seconds:.2f} s, and the goal is {goal} s")
         else:
@@ -100,13 +101,14 @@ def is_prebuilt_of_sources():
 
 
 def made(name):
-    """What library/build or web/build made here of these sources, or else what prebuilt/ has of them. The path of a file that is not there, where
-    there is neither."""
+    """The file that library/build or web/build made here of these sources, or else the one in prebuilt/. If there is neither, the path of a file
+    that does not exist."""
     return genuine(name)[0] or os.path.join(TOP, "build/none", name)
 
 
 def module_in(room):
-    """The module of the page: that of build/, or else the one in the page of prebuilt/, put into the room; none, where neither is there."""
+    """The module of the page: the file in build/, or else the module of the page in prebuilt/, which is written into the room; None if there is
+    neither."""
     path, page = made("calc.wasm"), made("calc.html")
     if not os.path.exists(path) and os.path.exists(page):
         with open(page, encoding="utf-8") as file:
@@ -142,7 +144,7 @@ def expanded(line):
 
 
 def words_of(line):
-    """The words behind `$ calc`, as a shell reads them."""
+    """The words after `$ calc`, split as a shell splits them."""
     return [word.encode() for word in shlex.split(expanded(line))]
 
 
@@ -199,7 +201,7 @@ def case_in(folder):
 
 
 def as_batch(path, cases):
-    """The cases of a transcript that can stand in a line of a batch, as one batch."""
+    """The cases of a transcript that can be a line of a batch, as one batch."""
     def is_line(words):
         line = b" ".join(words)
         return line.split() == words and words and len(line) <= 4096 and words[0] not in (b"batch", b"work")
@@ -215,7 +217,7 @@ def as_batch(path, cases):
 
 
 def fronts(case):
-    """What a command may have put where memory is refused: nothing, or of a batch the text of its first lines."""
+    """The texts that a command may have written when memory is refused: nothing, or for a batch the text of its first lines."""
     if case.words != [b"batch"]:
         return [b""]
     blocks = case.written.split(b"--\n")
@@ -223,7 +225,7 @@ def fronts(case):
 
 
 def outcome(case):
-    """What is wrong with a run of the case: nothing is, where this is empty."""
+    """The faults of a run of the case, "" if there are none."""
     command = [program(), *case.words]
     try:
         status, written, told = run(command, case)
@@ -244,7 +246,7 @@ def short(text):
 
 
 def run(command, case):
-    """Status, standard output and standard error of the command, with standard output where the case wants it."""
+    """Status, standard output and standard error of the command, with standard output as the case asks for it."""
     if case.output == "file":
         done = subprocess.run(command, input=case.given, capture_output=True, timeout=SECONDS)
         return done.returncode, done.stdout, done.stderr

@@ -65,7 +65,7 @@ def random_partition(rng, size):
 
 
 def random_permutation(rng, greatest):
-    """A permutation of 1 to as many letters as the greatest number."""
+    """A random permutation of 1 to n, for a random n of at most `greatest`."""
     letters = rng.randint(1, greatest)
     return rng.sample(range(1, letters + 1), letters)
 

@@ -92,7 +92,7 @@ def multiplied_out(schurs, rows):
 
 
 def powers():
-    """The permutations of falling letters behind falling letters, with the staircase and how often it is taken."""
+    """The direct sums of `count` copies of the longest permutation of `size` letters, with the staircase of one copy and `count`."""
     for size, most in ((2, 6), (3, 5), (4, 4), (5, 3), (6, 2), (7, 2)):
         for count in range(2, most + 1):
             yield [block * size + letter for block in range(count) for letter in range(size, 0, -1)], list(range(size - 1, 0, -1)), count
